@@ -1,0 +1,11 @@
+//! Byte strings, their SHA-256 digests, and cross checksums.
+#![tactic(auto)]
+
+pub mod bytes;
+pub mod part;
+pub mod sum;
+
+pub use bytes::Bytes;
+pub use lists::NoMemory;
+pub use part::{Part, Shares};
+pub use sum::{CrossSum, Hash, sha};

@@ -1,0 +1,8 @@
+//! The words in which runs are told: lines, why one is refused, and how operations end.
+#![tactic(auto)]
+
+pub mod line;
+pub mod outcome;
+
+pub use line::{Line, StepFault};
+pub use outcome::{How, Nodes, Outcome};

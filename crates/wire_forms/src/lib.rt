@@ -1,0 +1,13 @@
+//! What clients and nodes say to each other.
+#![tactic(auto)]
+
+pub mod copies;
+pub mod device;
+pub mod message;
+pub mod op;
+pub mod rule;
+
+pub use device::DeviceOp;
+pub use message::{Ask, Body, Mail, Message, Reason, Reply, Request, Tag, Version};
+pub use op::Op;
+pub use rule::Rule;
