@@ -1,0 +1,12 @@
+pub mod Count
+pub mod Reach
+pub mod Messages
+pub mod Setting
+pub mod Nodes
+pub mod Operations
+pub mod World
+pub mod History
+pub mod Lines
+pub mod Bounds
+pub mod Report
+pub mod Example
