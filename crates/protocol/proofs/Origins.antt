@@ -121,7 +121,7 @@ module _ (s : Setting) where
   module _ (w : World) (safe : IsSafe s w) (origins : HasOrigins w) (place : ℕ) (later : w.place < place) (c block : ℕ) (work : Work)
       (number : IsClient s c) (correct : s.lying_client c ≡ false) (up : w.client_crashed c ≡ false) (idle : w.task c ≡ None) (few : w.started c < 2 ^ 32 - 1) (inside : block < s.blocks) (fits : Fits s work) where
     abbrev begins : Task
-    begins = begun s (last_op w c + 1) block work place
+    begins = begun (last_op w c + 1) block work place
 
     abbrev started : World
     started = happens s w place (Start c block work)

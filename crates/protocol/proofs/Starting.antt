@@ -38,7 +38,7 @@ first_aimed s stamp (Writes value) = tt
 module _ (s : Setting) (w : World) (safe : IsSafe s w) (place : ℕ) (later : w.place < place) (c block : ℕ) (work : Work)
     (number : IsClient s c) (correct : s.lying_client c ≡ false) (up : w.client_crashed c ≡ false) (idle : w.task c ≡ None) (few : w.started c < 2 ^ 32 - 1) (inside : block < s.blocks) (fits : Fits s work) where
   abbrev new : Task
-  new = begun s (last_op w c + 1) block work place
+  new = begun (last_op w c + 1) block work place
 
   abbrev after : World
   after = happens s w place (Start c block work)

@@ -9,4 +9,5 @@ pub mod History
 pub mod Lines
 pub mod Bounds
 pub mod Report
+pub mod Seen
 pub mod Example
