@@ -193,23 +193,31 @@ module _ (s : Setting) (good : IsValid s) (w : World) (safe : IsSafe s w) (place
   pub formed_next : (stage : Stage) → IsStage s task.work stage → (m : Message) → Contains (mail s c (goes_on full stage)) m → IsFormedBody m.body
   formed_next stage h m k = let r = in_mail s c (goes_on full stage) m k in rw r.2 (request_formed s good task.work stage h r.0)
 
+  -- the three ways on from an answer that was counted
+  pub going_move : (stage : Stage) → IsDecision task.work (GoesOn stage) → IsMove s w safe place later c task busy (Some (goes_on full stage)) (mail s c (goes_on full stage)) (open_record c (goes_on full stage))
+  going_move stage h =
+      open_move (goes_on full stage) (mail s c (goes_on full stage)) refl refl refl refl (inr refl) (λ i reply e. absurd (cc e)) (mailed_next stage) (formed_next stage h.0) h.0 h.1
+      (λ m k. let r = in_mail s c (goes_on full stage) m k in (r.0, r.2))
+
+  pub ending_move : (outcome : Outcome) → IsDecision task.work (Ends outcome) → IsMove s w safe place later c task busy None [] (closed_record c full place outcome)
+  ending_move outcome h = close_move outcome h.0 h.1 h.2
+
+  pub counting_move : IsMove s w safe place later c task busy (Some full) [] (open_record c full)
+  counting_move =
+      open_move full [] refl refl refl refl (inl (refl, refl)) heard mailed_same (λ m k. absurd (Contains-none m k)) (safe.tasks c task busy).stage
+      (λ apart x end stamp h e f b l. safe.aimed apart x end stamp c task h e f busy b l) (λ m k. absurd (Contains-none m k))
+
   decided_safe : (d : Decision) → IsDecision task.work d → IsSafe s (decided s w place c full d)
   decided_safe (GoesOn stage) h =
-      moved_safe s w safe place later c task busy (Some (goes_on full stage)) (mail s c (goes_on full stage)) (open_record c (goes_on full stage))
-      (open_move (goes_on full stage) (mail s c (goes_on full stage)) refl refl refl refl (inr refl) (λ i reply e. absurd (cc e)) (mailed_next stage) (formed_next stage h.0) h.0 h.1
-      (λ m k. let r = in_mail s c (goes_on full stage) m k in (r.0, r.2)))
-  decided_safe (Ends outcome) h =
-      moved_safe s w safe place later c task busy None [] (closed_record c full place outcome) (close_move outcome h.0 h.1 h.2)
+      moved_safe s w safe place later c task busy (Some (goes_on full stage)) (mail s c (goes_on full stage)) (open_record c (goes_on full stage)) (going_move stage h)
+  decided_safe (Ends outcome) h = moved_safe s w safe place later c task busy None [] (closed_record c full place outcome) (ending_move outcome h)
 
   -- an answer that doesn't end the phase
   counted_safe : IsSafe s (moved s w place c (Some full) [] (open_record c full))
-  counted_safe =
-      moved_safe s w safe place later c task busy (Some full) [] (open_record c full)
-      (open_move full [] refl refl refl refl (inl (refl, refl)) heard mailed_same (λ m k. absurd (Contains-none m k)) (safe.tasks c task busy).stage
-      (λ apart x end stamp h e f b l. safe.aimed apart x end stamp c task h e f busy b l) (λ m k. absurd (Contains-none m k)))
+  counted_safe = moved_safe s w safe place later c task busy (Some full) [] (open_record c full) counting_move
 
   -- the quorum of a record on the task's block
-  quorum_of : (x : Record) (end : ℕ) (stamp : Stamp) → Contains w.records x → x.end ≡ Some end → x.stamp ≡ Some stamp → task.block ≡ x.block → Quorum s w task.block stamp end
+  quorum_of : (x : Record) (end : ℕ) (stamp : Stamp) → Contains w.records x → x.end ≡ Some end → x.stamp ≡ Some stamp → task.block ≡ x.block → Quorum s s.qc w task.block stamp end
   quorum_of x end stamp h e f b = rw b ((safe.records x h).completed end stamp e f)
 
   module _ (enough : s.n ≤ answered s answers + s.t) where

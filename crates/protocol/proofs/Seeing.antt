@@ -92,7 +92,10 @@ module _ (s : Setting) (w : World) (place c start : ℕ) where
   node_below : (t : SeenTask) (m : Message) (given : Reply) → is_counted s t m.node m.tag given ≡ true → m.node < s.n
   node_below t m given h =
       let l : ltb m.node s.n ≡ true = (both_true _ _ (both_true _ _ (both_true _ _ h).0).0).1 in
-      grind (arith, nat_tests)
+      below m.node s.n l
+    where
+      below : (i n : ℕ) → ltb i n ≡ true → i < n
+      below i n l = grind (arith, nat_tests)
 
   -- an answer is heard: the four cases of `hearing`
   pub heard_by-seen : (t : SeenTask) → length t.answers ≡ s.n → (m : Message) (given : Reply) → heard_by s w place c (Some (task_at start t)) m given ≡ after_hearing t (hearing s c t m.node m.tag given)
