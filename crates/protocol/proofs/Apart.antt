@@ -90,7 +90,7 @@ module _ (s : Setting) (w : World) (safe : IsSafe s w) (origins : HasOrigins s w
     goes z st = replaced_apart w.records apart place early (open_record c task) (open_record c z) (origins.tasks c task busy).1 refl (sym st) (λ end e. absurd (cc e))
 
     decided_apart : (z : Task) → z.start ≡ task.start → (d : Decision) → Fine (decided s w place c z d)
-    decided_apart z st (GoesOn stage) = goes (Rattle.protocol.specs.Operations.goes_on s z stage) st
+    decided_apart z st (GoesOn stage) = goes (Rattle.protocol.specs.Operations.goes_on z stage) st
     decided_apart z st (Ends outcome) =
         replaced_apart w.records apart place early (open_record c task) (closed_record c z place outcome) (origins.tasks c task busy).1 refl (sym st) (λ end e. (let q : Some place ≡ Some end = e in cc))
 
@@ -101,8 +101,8 @@ module _ (s : Setting) (w : World) (safe : IsSafe s w) (origins : HasOrigins s w
         at true = goes z st
         at false = decided_apart z st (decide s c z z.stage)
 
-    counted_apart : (m : Message) (reply : Reply) (b : Bool) → Fine (cond b (advanced s w place c (counted s task m.node reply)) (only_place s w place))
-    counted_apart m reply true = advanced_apart (counted s task m.node reply) refl
+    counted_apart : (m : Message) (reply : Reply) (b : Bool) → Fine (cond b (advanced s w place c (counted task m.node reply)) (only_place s w place))
+    counted_apart m reply true = advanced_apart (counted task m.node reply) refl
     counted_apart m reply false = apart
 
   heard_apart : (c : ℕ) (m : Message) (o : Option Task) → w.client_crashed c ≡ false → w.task c ≡ o → (reply : Reply) → Fine (heard_by s w place c o m reply)
@@ -129,7 +129,7 @@ module _ (s : Setting) (w : World) (safe : IsSafe s w) (origins : HasOrigins s w
   pruned_records i block (Some stamp) = refl
 
   pub happens_apart : (e : Event) → Allowed s w place e → Fine (happens s w place e)
-  happens_apart (Start c block work) h = pushed_apart w.records apart place early (open_record c (begun s (last_op w c + 1) block work place)) refl refl
+  happens_apart (Start c block work) h = pushed_apart w.records apart place early (open_record c (begun (last_op w c + 1) block work place)) refl refl
   happens_apart (Resend c) h = rw (resent_records c (w.task c)) apart
   happens_apart (Give i m) h = rw (given_records i m m.body) apart
   happens_apart (Hear c m) h = hear_apart c m h.3 m.body

@@ -130,7 +130,7 @@ module _ (s : Setting) (c : ℕ) (task : Task) (answers : ℕ → Option Reply) 
   kept_at Reads stage e value t f g = absurd (cc)
   kept_at (Writes v) Times e value t f g = absurd (cc)
   kept_at (Writes v) (Versions bound) e value t f g = absurd (cc)
-  kept_at (Writes v) (Storing p u) e value t f g = subst (λ (k : Work). stamp_of_outcome (stored s k task.rounds p u) ≡ Some t) (sym e) g
+  kept_at (Writes v) (Storing p u) e value t f g = subst (λ (k : Work). stamp_of_outcome (stored k task.rounds p u) ≡ Some t) (sym e) g
 
   pub keeps_stamp : (value : List ℕ) (t : Stamp) → task.work ≡ Writes value → chosen_stamp task.work task.stage ≡ Some t → stamp_after task.work (decide s c (filled task answers) task.stage) ≡ Some t
   keeps_stamp value t e f = kept_at task.work task.stage refl value t e f

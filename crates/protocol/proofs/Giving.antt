@@ -294,8 +294,8 @@ module _ (s : Setting) (w : World) (safe : IsSafe s w) (place : ℕ) (later : w.
   fresh_as : (a b start : ℕ) (stamp : Stamp) (stage : Stage) (p q : Reply) → a ≡ b → p ≡ q → IsFresh s w b start stamp stage q → IsFresh s w a start stamp stage p
   fresh_as a b start stamp stage p q e f h = rw (e, f) h
 
-  quorum_after : (b : ℕ) (stamp : Stamp) (end : ℕ) → Quorum s w b stamp end → Quorum s after b stamp end
-  quorum_after b stamp end q = record {
+  pub quorum_after : (least b : ℕ) (stamp : Stamp) (end : ℕ) → Quorum s least w b stamp end → Quorum s least after b stamp end
+  quorum_after least b stamp end q = record {
     members = q.members;
     enough = q.enough;
     are_honest = q.are_honest;
@@ -324,7 +324,7 @@ module _ (s : Setting) (w : World) (safe : IsSafe s w) (place : ℕ) (later : w.
         open_end = k.open_end;
         closed_end = k.closed_end;
         running = k.running;
-        completed = λ end stamp e f. quorum_after r.block stamp end (k.completed end stamp e f);
+        completed = λ end stamp e f. quorum_after s.qc r.block stamp end (k.completed end stamp e f);
       }
 
   value_before : (x : List ℕ) → IsValue s w x → IsValue s after x

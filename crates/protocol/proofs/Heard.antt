@@ -25,7 +25,7 @@ AreSent w c task answers = (i : ℕ) (reply : Reply) → answers i ≡ Some repl
 module _ (s : Setting) (good : IsValid s) (w : World) (safe : IsSafe s w) (place : ℕ) (later : w.place ≤ place) (c : ℕ) (P : World → Type 0) (same : P (only_place s w place))
     (counting : (task : Task) (answers : ℕ → Option Reply) → under_way w c ≡ Some task → AreSent w c task answers → P (moved s w place c (Some (filled task answers)) [] (open_record c (filled task answers))))
     (going : (task : Task) (answers : ℕ → Option Reply) → under_way w c ≡ Some task → AreSent w c task answers → s.n ≤ answered s answers + s.t → (stage : Stage) → decide s c (filled task answers) task.stage ≡ GoesOn stage
-    → P (moved s w place c (Some (goes_on s (filled task answers) stage)) (mail s c (goes_on s (filled task answers) stage)) (open_record c (goes_on s (filled task answers) stage))))
+    → P (moved s w place c (Some (goes_on (filled task answers) stage)) (mail s c (goes_on (filled task answers) stage)) (open_record c (goes_on (filled task answers) stage))))
     (ending : (task : Task) (answers : ℕ → Option Reply) → under_way w c ≡ Some task → AreSent w c task answers → s.n ≤ answered s answers + s.t → (outcome : Outcome) → decide s c (filled task answers) task.stage ≡ Ends outcome
     → P (moved s w place c None [] (closed_record c (filled task answers) place outcome))) where
   decided_case : (task : Task) (answers : ℕ → Option Reply) → under_way w c ≡ Some task → AreSent w c task answers → s.n ≤ answered s answers + s.t → (d : Decision) → decide s c (filled task answers) task.stage ≡ d
@@ -42,7 +42,7 @@ module _ (s : Setting) (good : IsValid s) (w : World) (safe : IsSafe s w) (place
       at false e = decided_case task answers busy sent (grind (arith, nat_tests)) (decide s c (filled task answers) task.stage) refl
 
   counted_case : (task : Task) → under_way w c ≡ Some task → (m : Message) → Contains w.pool m → m.client ≡ c → (reply : Reply) → m.body ≡ Answers reply → (b : Bool) → counts s w place task m reply ≡ b
-      → P (cond b (advanced s w place c (counted s task m.node reply)) (only_place s w place))
+      → P (cond b (advanced s w place c (counted task m.node reply)) (only_place s w place))
   counted_case task busy m there of_c reply body false e = same
   counted_case task busy m there of_c reply body true e =
       advanced_case task (update task.answers m.node (Some reply)) busy (task_hears s good w safe place later c task busy m there of_c reply body e)

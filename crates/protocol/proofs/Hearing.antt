@@ -183,33 +183,41 @@ module _ (s : Setting) (good : IsValid s) (w : World) (safe : IsSafe s w) (place
       × ((last : Stamp) → stamp_of_outcome outcome ≡ Some last → Aims (λ stamp. IsAfter s stamp work last))
 
   -- what the next phase asks is sent, and what this one asks was
-  pub mailed_next : (stage : Stage) (i : ℕ) → i < s.n → Contains (w.pool ++ mail s c (goes_on s full stage)) (outstanding s c (goes_on s full stage) i)
+  pub mailed_next : (stage : Stage) (i : ℕ) → i < s.n → Contains (w.pool ++ mail s c (goes_on full stage)) (outstanding s c (goes_on full stage) i)
   mailed_next stage i l =
-      Contains-append_right w.pool (mail s c (goes_on s full stage)) _ (Contains-collected s.n (λ i. Some (outstanding s c (goes_on s full stage) i)) (outstanding s c (goes_on s full stage) i) i l refl)
+      Contains-append_right w.pool (mail s c (goes_on full stage)) _ (Contains-collected s.n (λ i. Some (outstanding s c (goes_on full stage) i)) (outstanding s c (goes_on full stage) i) i l refl)
 
   pub mailed_same : (i : ℕ) → i < s.n → Contains (w.pool ++ []) (outstanding s c full i)
   mailed_same i l = Contains-append_left w.pool [] _ ((safe.tasks c task busy).mailed i l)
 
-  pub formed_next : (stage : Stage) → IsStage s task.work stage → (m : Message) → Contains (mail s c (goes_on s full stage)) m → IsFormedBody m.body
-  formed_next stage h m k = let r = in_mail s c (goes_on s full stage) m k in rw r.2 (request_formed s good task.work stage h r.0)
+  pub formed_next : (stage : Stage) → IsStage s task.work stage → (m : Message) → Contains (mail s c (goes_on full stage)) m → IsFormedBody m.body
+  formed_next stage h m k = let r = in_mail s c (goes_on full stage) m k in rw r.2 (request_formed s good task.work stage h r.0)
+
+  -- the three ways on from an answer that was counted
+  pub going_move : (stage : Stage) → IsDecision task.work (GoesOn stage) → IsMove s w safe place later c task busy (Some (goes_on full stage)) (mail s c (goes_on full stage)) (open_record c (goes_on full stage))
+  going_move stage h =
+      open_move (goes_on full stage) (mail s c (goes_on full stage)) refl refl refl refl (inr refl) (λ i reply e. absurd (cc e)) (mailed_next stage) (formed_next stage h.0) h.0 h.1
+      (λ m k. let r = in_mail s c (goes_on full stage) m k in (r.0, r.2))
+
+  pub ending_move : (outcome : Outcome) → IsDecision task.work (Ends outcome) → IsMove s w safe place later c task busy None [] (closed_record c full place outcome)
+  ending_move outcome h = close_move outcome h.0 h.1 h.2
+
+  pub counting_move : IsMove s w safe place later c task busy (Some full) [] (open_record c full)
+  counting_move =
+      open_move full [] refl refl refl refl (inl (refl, refl)) heard mailed_same (λ m k. absurd (Contains-none m k)) (safe.tasks c task busy).stage
+      (λ apart x end stamp h e f b l. safe.aimed apart x end stamp c task h e f busy b l) (λ m k. absurd (Contains-none m k))
 
   decided_safe : (d : Decision) → IsDecision task.work d → IsSafe s (decided s w place c full d)
   decided_safe (GoesOn stage) h =
-      moved_safe s w safe place later c task busy (Some (goes_on s full stage)) (mail s c (goes_on s full stage)) (open_record c (goes_on s full stage))
-      (open_move (goes_on s full stage) (mail s c (goes_on s full stage)) refl refl refl refl (inr refl) (λ i reply e. absurd (cc e)) (mailed_next stage) (formed_next stage h.0) h.0 h.1
-      (λ m k. let r = in_mail s c (goes_on s full stage) m k in (r.0, r.2)))
-  decided_safe (Ends outcome) h =
-      moved_safe s w safe place later c task busy None [] (closed_record c full place outcome) (close_move outcome h.0 h.1 h.2)
+      moved_safe s w safe place later c task busy (Some (goes_on full stage)) (mail s c (goes_on full stage)) (open_record c (goes_on full stage)) (going_move stage h)
+  decided_safe (Ends outcome) h = moved_safe s w safe place later c task busy None [] (closed_record c full place outcome) (ending_move outcome h)
 
   -- an answer that doesn't end the phase
   counted_safe : IsSafe s (moved s w place c (Some full) [] (open_record c full))
-  counted_safe =
-      moved_safe s w safe place later c task busy (Some full) [] (open_record c full)
-      (open_move full [] refl refl refl refl (inl (refl, refl)) heard mailed_same (λ m k. absurd (Contains-none m k)) (safe.tasks c task busy).stage
-      (λ apart x end stamp h e f b l. safe.aimed apart x end stamp c task h e f busy b l) (λ m k. absurd (Contains-none m k)))
+  counted_safe = moved_safe s w safe place later c task busy (Some full) [] (open_record c full) counting_move
 
   -- the quorum of a record on the task's block
-  quorum_of : (x : Record) (end : ℕ) (stamp : Stamp) → Contains w.records x → x.end ≡ Some end → x.stamp ≡ Some stamp → task.block ≡ x.block → Quorum s w task.block stamp end
+  quorum_of : (x : Record) (end : ℕ) (stamp : Stamp) → Contains w.records x → x.end ≡ Some end → x.stamp ≡ Some stamp → task.block ≡ x.block → Quorum s s.qc w task.block stamp end
   quorum_of x end stamp h e f b = rw b ((safe.records x h).completed end stamp e f)
 
   module _ (enough : s.n ≤ answered s answers + s.t) where
@@ -255,7 +263,7 @@ module _ (s : Setting) (good : IsValid s) (w : World) (safe : IsSafe s w) (place
         turned : IsAimed s stamp task.work task.stage → IsAimed s stamp work (Storing p value)
         turned h = rw (e, f) at h
 
-    store_decided : (p : Stamp) (value : List ℕ) (work : Work) → task.work ≡ work → task.stage ≡ Storing p value → IsStage s work (Storing p value) → IsDecision work (Ends (stored s work task.rounds p value))
+    store_decided : (p : Stamp) (value : List ℕ) (work : Work) → task.work ≡ work → task.stage ≡ Storing p value → IsStage s work (Storing p value) → IsDecision work (Ends (stored work task.rounds p value))
     store_decided p value Reads e f h = (
       (refl, inr h),
       (λ stamp g. let q : p ≡ stamp = cc in rw (← q) (held_stored p value f)),
@@ -366,11 +374,11 @@ module _ (s : Setting) (good : IsValid s) (w : World) (safe : IsSafe s w) (place
     pub full_decided : (stage : Stage) → task.stage ≡ stage → (work : Work) → task.work ≡ work → IsStage s work stage → IsDecision work (decide s c full stage)
     full_decided Times e Reads f h = absurd h
     full_decided Times e (Writes value) f h =
-        subst (λ (v : List ℕ). IsDecision (Writes value) (decide_time s c v (drawn_from s answers))) (sym (ap (value_of s) f)) (time_decided value e h)
+        subst (λ (v : List ℕ). IsDecision (Writes value) (decide_time s c v (drawn_from s answers))) (sym (ap (value_of) f)) (time_decided value e h)
     full_decided (Versions bound) e Reads f h = round_decided bound e
     full_decided (Versions bound) e (Writes value) f h = absurd h
     full_decided (Storing p value) e work f h =
-        subst (λ (k : Work). IsDecision work (Ends (stored s k task.rounds p value))) (sym f) (store_decided p value work f e h)
+        subst (λ (k : Work). IsDecision work (Ends (stored k task.rounds p value))) (sym f) (store_decided p value work f e h)
 
   pub advanced_safe : IsSafe s (advanced s w place c full)
   advanced_safe = at (ltb (answered s answers) (s.n - s.t)) refl

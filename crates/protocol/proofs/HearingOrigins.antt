@@ -48,7 +48,7 @@ module _ (s : Setting) (good : IsValid s) (w : World) (safe : IsSafe s w) (origi
 
   module _ (stage : Stage) (h : IsRight (GoesOn stage)) (o : IsOriginal (GoesOn stage)) where
     abbrev z : Task
-    z = goes_on s now stage
+    z = goes_on now stage
 
     abbrev on : World
     on = moved s w place c (Some z) (mail s c z) (open_record c z)
@@ -141,10 +141,10 @@ module _ (s : Setting) (good : IsValid s) (w : World) (safe : IsSafe s w) (origi
         at true = ((λ t u a g. absurd (chosen_times task.work task.stage t e g)), λ t u how rounds g. absurd (cc g))
         at false = ((λ t u a g. chosen_times task.work task.stage t e g), inr (value, f))
 
-    store_stays : (p : Stamp) (value v : List ℕ) (stamp : Stamp) (work : Work) (stage : Stage) → stage ≡ Storing p value → work ≡ Writes v → chosen_stamp work stage ≡ Some stamp → stamp_of_outcome (stored s work task.rounds p value) ≡ Some stamp
+    store_stays : (p : Stamp) (value v : List ℕ) (stamp : Stamp) (work : Work) (stage : Stage) → stage ≡ Storing p value → work ≡ Writes v → chosen_stamp work stage ≡ Some stamp → stamp_of_outcome (stored work task.rounds p value) ≡ Some stamp
     store_stays p value v stamp work stage e f g = let k : chosen_stamp (Writes v) (Storing p value) ≡ Some stamp = rw (f, e) at g in rw f k
 
-    store_gave : (p : Stamp) (value v : List ℕ) (stamp : Stamp) (how : How) (rounds : ℕ) (work : Work) → stored s work task.rounds p value ≡ Gave stamp v how rounds → p ≡ stamp
+    store_gave : (p : Stamp) (value v : List ℕ) (stamp : Stamp) (how : How) (rounds : ℕ) (work : Work) → stored work task.rounds p value ≡ Gave stamp v how rounds → p ≡ stamp
     store_gave p value v stamp how rounds Reads e = cc
     store_gave p value v stamp how rounds (Writes w) e = absurd (cc)
 
@@ -155,7 +155,7 @@ module _ (s : Setting) (good : IsValid s) (w : World) (safe : IsSafe s w) (origi
     known_as p q e h = rw e at h
 
     original : (stage : Stage) → task.stage ≡ stage → (work : Work) → task.work ≡ work → IsStage s work stage → IsOriginal (decide s c now stage)
-    original Times e work f h = time_original (value_of s task.work) work f e h
+    original Times e work f h = time_original (value_of task.work) work f e h
     original (Versions bound) e Reads f h =
         let sp = some_pivot s good w safe c task busy answers heard enough bound e in
         subst (λ (o : Option Stamp). IsOriginal (decide_pivot s answers bound task.rounds o)) (sym sp.1) (at_original bound e sp.0 f)

@@ -17,14 +17,9 @@ use Rattle.protocol.specs.Operations.Stage.{Times, Versions, Storing}
 use Rattle.run_words.specs.declared.outcome.Outcome.TheVariants.{Wrote, Spent, Gave}
 use Rattle.protocol.specs.World.{Record, World, open_record, under_way, last_op, IsClient}
 use Rattle.protocol.specs.History.{NoClash}
+pub use Rattle.protocol.specs.Facts.{AtWork, HasAccepted as Accepts, IsOpen}
 
 module _ (s : Setting) where
-  -- the message belongs to what its client does now
-  pub record AtWork (w : World) (m : Message) (task : Task) : Type 0 where
-    pub client : under_way w m.client ≡ Some task
-    pub op : m.tag.op ≡ task.op
-    pub phase : m.tag.phase ≡ task.phase
-
   -- its sender doesn't lie
   abbrev pub IsOwned : Body → Message → Type 0
   IsOwned (Asks ask) m = s.lying_client m.client ≡ false
@@ -35,36 +30,28 @@ module _ (s : Setting) where
     pub begun : m.tag.op ≤ last_op w m.client
     pub phase : (task : Task) → under_way w m.client ≡ Some task → m.tag.op ≡ task.op → m.tag.phase ≤ task.phase
 
-  -- the stamp is the first, or node i accepted it
-  abbrev pub Accepts : World → ℕ → ℕ → Stamp → Type 0
-  Accepts w i block stamp = (stamp ≡ first_stamp s) ⊎ Contains w.accepted (record { node = i; block = block; stamp = stamp })
-
   -- what an honest node's answer to a stage's request says
   abbrev pub Fits : World → ℕ → ℕ → Stage → Reply → Type 0
-  Fits w i block Times (TimeIs time) = (stamp : Stamp) × Accepts w i block stamp × (time ≡ stamp.time)
-  Fits w i block (Versions bound) (Found v) = (is_valid s i bound v ≡ true) × Accepts w i block v.stamp
+  Fits w i block Times (TimeIs time) = (stamp : Stamp) × Accepts s w i block stamp × (time ≡ stamp.time)
+  Fits w i block (Versions bound) (Found v) = (is_valid s i bound v ≡ true) × Accepts s w i block v.stamp
   Fits w i block (Versions bound) _ = ⊥
-  Fits w i block (Storing stamp value) Ack = Accepts w i block stamp
+  Fits w i block (Storing stamp value) Ack = Accepts s w i block stamp
   Fits w i block _ _ = Unit {0}
-
-  -- the bound has what was completed on the block before this place
-  abbrev pub IsOpen : World → ℕ → ℕ → Bound → Type 0
-  IsOpen w block start bound = (x : Record) (end : ℕ) (stamp : Stamp) → Contains w.records x → x.block ≡ block → x.end ≡ Some end → x.stamp ≡ Some stamp → end < start → has bound stamp ≡ true
 
   -- the answer of a node that had accepted the stamp doesn't fall behind it
   abbrev pub IsFresh : World → ℕ → ℕ → Stamp → Stage → Reply → Type 0
   IsFresh w block start stamp Times (TimeIs time) = stamp.time ≤ time
-  IsFresh w block start stamp (Versions bound) (Found v) = has bound stamp ≡ true → IsOpen w block start bound → stamp ≼ v.stamp
+  IsFresh w block start stamp (Versions bound) (Found v) = has bound stamp ≡ true → IsOpen s w block start bound → stamp ≼ v.stamp
   IsFresh w block start stamp _ _ = Unit {0}
 
-  -- enough honest nodes have accepted the stamp, and answered nothing behind it to what began after this place
-  pub record Quorum (w : World) (block : ℕ) (stamp : Stamp) (end : ℕ) : Type 0 where
+  -- so many honest nodes have accepted the stamp, and answered nothing behind it to what began after this place
+  pub record Quorum (least : ℕ) (w : World) (block : ℕ) (stamp : Stamp) (end : ℕ) : Type 0 where
     pub members : ℕ → Bool
-    pub enough : s.qc ≤ count s.n members
+    pub enough : least ≤ count s.n members
     pub are_honest : (i : ℕ) → members i ≡ true → s.lying_node i ≡ false
-    pub kept : (i : ℕ) → i < s.n → members i ≡ true → Accepts w i block stamp
+    pub kept : (i : ℕ) → i < s.n → members i ≡ true → Accepts s w i block stamp
     pub fresh : (m : Message) (reply : Reply) (task : Task) → Contains w.pool m → m.body ≡ Answers reply → m.node < s.n → members m.node ≡ true
-        → s.lying_client m.client ≡ false → AtWork w m task → task.block ≡ block → end < task.start → IsFresh w block task.start stamp task.stage reply
+        → s.lying_client m.client ≡ false → AtWork s w m task → task.block ≡ block → end < task.start → IsFresh w block task.start stamp task.stage reply
 
   -- a completed operation of the block reached the stamp before all that is under way there
   pub record IsPassed (w : World) (block : ℕ) (stamp : Stamp) : Type 0 where
@@ -90,8 +77,8 @@ module _ (s : Setting) where
     pub first : keeps (w.versions i block) (first_stamp s) ≡ true
     pub whole : (v : Version) → Contains (w.versions i block) v → is_whole s i v ≡ true
     pub formed : (v : Version) → Contains (w.versions i block) v → IsFormed v
-    pub kept : (v : Version) → Contains (w.versions i block) v → Accepts w i block v.stamp
-    pub covered : (stamp : Stamp) → Accepts w i block stamp → IsCovered w i block stamp
+    pub kept : (v : Version) → Contains (w.versions i block) v → Accepts s w i block v.stamp
+    pub covered : (stamp : Stamp) → Accepts s w i block stamp → IsCovered w i block stamp
 
   -- a value that the stamp is for, and no zeros
   pub record IsGood (stamp : Stamp) (value : List ℕ) : Type 0 where
@@ -145,7 +132,7 @@ module _ (s : Setting) where
     pub open_end : r.end ≡ None → r.outcome ≡ None
     pub closed_end : (end : ℕ) → r.end ≡ Some end → (outcome : Outcome) × (r.outcome ≡ Some outcome)
     pub running : (task : Task) → under_way w r.client ≡ Some task → r.start ≡ task.start → r ≡ open_record r.client task
-    pub completed : (end : ℕ) (stamp : Stamp) → r.end ≡ Some end → r.stamp ≡ Some stamp → Quorum w r.block stamp end
+    pub completed : (end : ℕ) (stamp : Stamp) → r.end ≡ Some end → r.stamp ≡ Some stamp → Quorum s.qc w r.block stamp end
 
   -- an operation that began after the stamp was completed doesn't fall behind it
   abbrev pub IsAimed : Stamp → Work → Stage → Type 0
@@ -165,10 +152,10 @@ module _ (s : Setting) where
     pub formed : (m : Message) → Contains w.pool m → IsFormedBody m.body
     pub stored : (i block : ℕ) → i < s.n → s.lying_node i ≡ false → IsStored w i block
     pub tagged : (m : Message) → Contains w.pool m → IsOwned m.body m → s.lying_client m.client ≡ false → IsTagged w m
-    pub asked : (m : Message) (task : Task) (ask : Ask) → Contains w.pool m → m.body ≡ Asks ask → s.lying_client m.client ≡ false → AtWork w m task
+    pub asked : (m : Message) (task : Task) (ask : Ask) → Contains w.pool m → m.body ≡ Asks ask → s.lying_client m.client ≡ false → AtWork s w m task
         → (ask.block ≡ task.block) × (ask.request ≡ request_of s task.stage m.node)
     pub answered : (m : Message) (task : Task) (reply : Reply) → Contains w.pool m → m.body ≡ Answers reply → s.lying_client m.client ≡ false → m.node < s.n → s.lying_node m.node ≡ false
-        → AtWork w m task → Fits w m.node task.block task.stage reply
+        → AtWork s w m task → Fits w m.node task.block task.stage reply
     pub tasks : (c : ℕ) (task : Task) → under_way w c ≡ Some task → IsTask w c task
     pub records : (r : Record) → Contains w.records r → IsRecord w r
     -- under NoClash

@@ -17,6 +17,7 @@ use Rattle.protocol.specs.Operations.Stage.{Times, Versions, Storing}
 use Rattle.protocol.specs.World.{Record, World, Fits, moved, replaced_by, chosen_stamp, happens, handled, open_record, under_way, last_op, IsClient}
 use Rattle.protocol.specs.World.Event.{Start}
 use Rattle.protocol.specs.History.{HasWrite, HasLie}
+pub use Rattle.protocol.specs.Facts.{IsKnown}
 use Rattle.protocol.proofs.Lists.{Contains-map, Contains-one}
 use Rattle.protocol.proofs.Mails.{mail_asks}
 use Rattle.protocol.proofs.Giving.{accepted_cases}
@@ -26,27 +27,23 @@ use Rattle.protocol.proofs.Moving.{IsMove, record_after, pool_cases as moved_poo
 use Rattle.protocol.proofs.Invariant.{IsSafe}
 
 module _ (s : Setting) where
-  -- the stamp is the first, or a correct client's write on the block chose it, or a lying client sent it there
-  abbrev pub IsKnown : World → ℕ → Stamp → Type 0
-  IsKnown w block stamp = (stamp ≡ first_stamp s) ⊎ HasWrite w.records block stamp ⊎ HasLie s w block stamp
-
   abbrev pub IsKnownStage : World → ℕ → Stage → Type 0
-  IsKnownStage w block (Storing stamp value) = IsKnown w block stamp
+  IsKnownStage w block (Storing stamp value) = IsKnown s w block stamp
   IsKnownStage w block _ = Unit {0}
 
   abbrev pub IsKnownRequest : World → ℕ → Request → Type 0
-  IsKnownRequest w block (Write v) = IsKnown w block v.stamp
+  IsKnownRequest w block (Write v) = IsKnown s w block v.stamp
   IsKnownRequest w block _ = Unit {0}
 
   pub record HasOrigins (w : World) : Type 0 where
-    pub kept : (i block : ℕ) (stamp : Stamp) → Contains w.accepted (record { node = i; block = block; stamp = stamp }) → IsKnown w block stamp
+    pub kept : (i block : ℕ) (stamp : Stamp) → Contains w.accepted (record { node = i; block = block; stamp = stamp }) → IsKnown s w block stamp
     pub asked : (m : Message) (ask : Ask) → Contains w.pool m → m.body ≡ Asks ask → s.lying_client m.client ≡ false → IsKnownRequest w ask.block ask.request
     pub tasks : (c : ℕ) (task : Task) → under_way w c ≡ Some task → IsKnownStage w task.block task.stage × Contains w.records (open_record c task)
-    pub gave : (r : Record) (stamp : Stamp) (value : List ℕ) (how : How) (rounds : ℕ) → Contains w.records r → r.outcome ≡ Some (Gave stamp value how rounds) → IsKnown w r.block stamp
+    pub gave : (r : Record) (stamp : Stamp) (value : List ℕ) (how : How) (rounds : ℕ) → Contains w.records r → r.outcome ≡ Some (Gave stamp value how rounds) → IsKnown s w r.block stamp
 
   -- what is known stays known, where messages and records are only added
   module _ (w v : World) (pool : (m : Message) → Contains w.pool m → Contains v.pool m) (writes : (block : ℕ) (stamp : Stamp) → HasWrite w.records block stamp → HasWrite v.records block stamp) where
-    pub known-more : (block : ℕ) (stamp : Stamp) → IsKnown w block stamp → IsKnown v block stamp
+    pub known-more : (block : ℕ) (stamp : Stamp) → IsKnown s w block stamp → IsKnown s v block stamp
     known-more block stamp (inl e) = inl e
     known-more block stamp (inr (inl h)) = inr (inl (writes block stamp h))
     known-more block stamp (inr (inr h)) = inr (inr (record { message = h.message; there = pool h.message h.there; lies = h.lies; version = h.version; asks = h.asks; stamped = h.stamped }))
@@ -76,7 +73,7 @@ module _ (s : Setting) where
     pool_more x h = Contains-append_left w.pool _ x h
 
     -- what the ask writes is known
-    ask_known : (v : Version) → ask.request ≡ Write v → IsKnown w ask.block v.stamp
+    ask_known : (v : Version) → ask.request ≡ Write v → IsKnown s w ask.block v.stamp
     ask_known v e = at (s.lying_client m.client) refl
       where
         whole : ask ≡ record { block = ask.block; request = Write v }
@@ -85,7 +82,7 @@ module _ (s : Setting) where
             record_of : Request → Ask
             record_of r = record { block = ask.block; request = r }
 
-        at : (b : Bool) → s.lying_client m.client ≡ b → IsKnown w ask.block v.stamp
+        at : (b : Bool) → s.lying_client m.client ≡ b → IsKnown s w ask.block v.stamp
         at true l = inr (inr (record { message = m; there = there; lies = l; version = v; asks = asks ∙ ap Asks whole; stamped = refl }))
         at false l = let k = origins.asked m ask there asks l in (rw e at k)
 
@@ -121,7 +118,7 @@ module _ (s : Setting) where
   module _ (w : World) (safe : IsSafe s w) (origins : HasOrigins w) (place : ℕ) (later : w.place < place) (c block : ℕ) (work : Work)
       (number : IsClient s c) (correct : s.lying_client c ≡ false) (up : w.client_crashed c ≡ false) (idle : w.task c ≡ None) (few : w.started c < 2 ^ 32 - 1) (inside : block < s.blocks) (fits : Fits s work) where
     abbrev begins : Task
-    begins = begun s (last_op w c + 1) block work place
+    begins = begun (last_op w c + 1) block work place
 
     abbrev started : World
     started = happens s w place (Start c block work)
@@ -205,7 +202,7 @@ module _ (s : Setting) where
         same = rw (tests r.client c r.start task.start move.client move.start) refl
 
     module _ (known : (z : Task) → next ≡ Some z → Contains went.records r → IsKnownStage went z.block z.stage)
-        (gives : (stamp : Stamp) (value : List ℕ) (how : How) (rounds : ℕ) → r.outcome ≡ Some (Gave stamp value how rounds) → IsKnown w r.block stamp) where
+        (gives : (stamp : Stamp) (value : List ℕ) (how : How) (rounds : ℕ) → r.outcome ≡ Some (Gave stamp value how rounds) → IsKnown s w r.block stamp) where
       pub went_origins : HasOrigins went
       went_origins = record {
         kept = λ i b stamp h. known-more w went went_pool went_writes b stamp (origins.kept i b stamp h);
@@ -227,7 +224,7 @@ module _ (s : Setting) where
         ];
       }
         where
-          given_as : (x : Record) (stamp : Stamp) → x.block ≡ r.block → IsKnown w r.block stamp → IsKnown w x.block stamp
+          given_as : (x : Record) (stamp : Stamp) → x.block ≡ r.block → IsKnown s w r.block stamp → IsKnown s w x.block stamp
           given_as x stamp e h = rw e h
 
           pool_of : (m : Message) → Contains went.pool m → Contains w.pool m ⊎ ((z : Task) × (i : ℕ) × (next ≡ Some z) × (m ≡ outstanding s c z i))

@@ -22,8 +22,8 @@ module _ (s : Setting) (w : World) (place : ℕ) where
       at true = refl
       at false = decided_place c z (decide s c z z.stage)
 
-  counted_place : (c : ℕ) (task : Task) (m : Message) (reply : Reply) (b : Bool) → (cond b (advanced s w place c (counted s task m.node reply)) (only_place s w place)).place ≡ place
-  counted_place c task m reply true = advanced_place c (counted s task m.node reply)
+  counted_place : (c : ℕ) (task : Task) (m : Message) (reply : Reply) (b : Bool) → (cond b (advanced s w place c (counted task m.node reply)) (only_place s w place)).place ≡ place
+  counted_place c task m reply true = advanced_place c (counted task m.node reply)
   counted_place c task m reply false = refl
 
   heard_by_place : (c : ℕ) (o : Option Task) (m : Message) (reply : Reply) → (heard_by s w place c o m reply).place ≡ place

@@ -33,7 +33,7 @@ module _ (s : Setting) (good : IsValid s) (w : World) (safe : IsSafe s w) (origi
   give_origins i l h m there asks = rw asks.2 (given_origins s w safe origins place later i l h m there asks.0 asks.1 asks.2)
 
   hear_count : (c : ℕ) (task : Task) → under_way w c ≡ Some task → (m : Message) → Contains w.pool m → m.client ≡ c → (reply : Reply) → m.body ≡ Answers reply → (b : Bool) → counts s w place task m reply ≡ b
-      → HasOrigins s (cond b (advanced s w place c (counted s task m.node reply)) (only_place s w place))
+      → HasOrigins s (cond b (advanced s w place c (counted task m.node reply)) (only_place s w place))
   hear_count c task busy m there of_c reply body false e = only_origins
   hear_count c task busy m there of_c reply body true e =
       advanced_origins s good w safe origins place later c task busy (update task.answers m.node (Some reply)) (task_hears s good w safe place later c task busy m there of_c reply body e)

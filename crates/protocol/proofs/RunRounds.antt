@@ -97,7 +97,7 @@ module _ (s : Setting) (good : IsValid s) (w : World) (safe : IsSafe s w) (round
     now = rounds.tasks c task (working (w.client_crashed c) (w.task c) task busy).1
 
     abbrev IsRoundsDecision : Work → Decision → Type 0
-    IsRoundsDecision work (GoesOn stage) = RoundsOf w task.block (rounds_after s stage task.rounds) work stage
+    IsRoundsDecision work (GoesOn stage) = RoundsOf w task.block (rounds_after stage task.rounds) work stage
     IsRoundsDecision work (Ends outcome) = RoundsGiven w task.block (Some outcome)
 
     module _ (enough : s.n ≤ answered s answers + s.t) (bound : Bound) (stage : task.stage ≡ Versions bound) where
@@ -190,7 +190,7 @@ module _ (s : Setting) (good : IsValid s) (w : World) (safe : IsSafe s w) (round
         at true = tt
         at false = tt
 
-    stored_rounds : (work : Work) (p : Stamp) (value : List ℕ) → RoundsOf w task.block task.rounds work (Storing p value) → IsRoundsDecision work (Ends (stored s work task.rounds p value))
+    stored_rounds : (work : Work) (p : Stamp) (value : List ℕ) → RoundsOf w task.block task.rounds work (Storing p value) → IsRoundsDecision work (Ends (stored work task.rounds p value))
     stored_rounds Reads p value h = h
     stored_rounds (Writes v) p value h = tt
 
@@ -198,8 +198,8 @@ module _ (s : Setting) (good : IsValid s) (w : World) (safe : IsSafe s w) (round
         → IsRoundsDecision work (decide s c (filled task answers) stage)
     decided_rounds enough Reads e Times f h k = absurd h
     decided_rounds enough Reads e (Versions bound) f h k = round_rounds enough bound f h
-    decided_rounds enough work e (Storing p value) f h k = subst (λ (x : Work). IsRoundsDecision work (Ends (stored s x task.rounds p value))) (sym e) (stored_rounds work p value h)
-    decided_rounds enough (Writes value) e Times f h k = writes_rounds value (value_of s task.work) (drawn_from s answers)
+    decided_rounds enough work e (Storing p value) f h k = subst (λ (x : Work). IsRoundsDecision work (Ends (stored x task.rounds p value))) (sym e) (stored_rounds work p value h)
+    decided_rounds enough (Writes value) e Times f h k = writes_rounds value (value_of task.work) (drawn_from s answers)
     decided_rounds enough (Writes value) e (Versions bound) f h k = absurd k
 
     decision : s.n ≤ answered s answers + s.t → IsRoundsDecision task.work (decide s c (filled task answers) task.stage)
@@ -209,8 +209,8 @@ module _ (s : Setting) (good : IsValid s) (w : World) (safe : IsSafe s w) (round
   heard_rounds =
       heard_case s good w safe place later c (λ v. HasRounds v) (record { tasks = rounds.tasks; gave = rounds.gave })
       (λ task answers busy sent. went_rounds (Some (filled task answers)) [] (open_record c (filled task answers)) (λ z e. let q : filled task answers ≡ z = cc in rw (← q) (now task answers busy sent)) tt)
-      (λ task answers busy sent enough stage e. went_rounds (Some (goes_on s (filled task answers) stage)) (mail s c (goes_on s (filled task answers) stage)) (open_record c (goes_on s (filled task answers) stage))
-      (λ z f. let q : goes_on s (filled task answers) stage ≡ z = cc in rw (← q) (let d = decision task answers busy sent enough in rw e at d)) tt)
+      (λ task answers busy sent enough stage e. went_rounds (Some (goes_on (filled task answers) stage)) (mail s c (goes_on (filled task answers) stage)) (open_record c (goes_on (filled task answers) stage))
+      (λ z f. let q : goes_on (filled task answers) stage ≡ z = cc in rw (← q) (let d = decision task answers busy sent enough in rw e at d)) tt)
       (λ task answers busy sent enough outcome e. went_rounds None [] (closed_record c (filled task answers) place outcome) (λ z f. absurd (cc f)) (let d = decision task answers busy sent enough in rw e at d))
 
 module _ (s : Setting) (good : IsValid s) (w : World) (safe : IsSafe s w) (rounds : HasRounds w) (place : ℕ) where
@@ -220,13 +220,13 @@ module _ (s : Setting) (good : IsValid s) (w : World) (safe : IsSafe s w) (round
     gave = λ x h. RoundsGiven-more w v None a x.block x.outcome (rounds.gave x (rw r at h));
   }
 
-  first_rounds : (block : ℕ) (work : Work) → RoundsOf w block (rounds_after s (first_work work) 0) work (first_work work)
+  first_rounds : (block : ℕ) (work : Work) → RoundsOf w block (rounds_after (first_work work) 0) work (first_work work)
   first_rounds block Reads = inl (omega arith)
   first_rounds block (Writes value) = tt
 
   started_rounds : (c block : ℕ) (work : Work) → HasRounds (happens s w place (Start c block work))
   started_rounds c block work =
-      let new : Task = begun s (last_op w c + 1) block work place in
+      let new : Task = begun (last_op w c + 1) block work place in
       record {
         tasks = λ d z e. elim (update-cases w.task c (Some new) d) [
           | inl k ↦ (let q : new ≡ z = (let f : Some new ≡ Some z = sym k.1 ∙ e in cc) in rw (← q) (first_rounds block work))

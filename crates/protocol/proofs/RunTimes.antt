@@ -46,7 +46,7 @@ module _ (s : Setting) (good : IsValid s) (w : World) (safe : IsSafe s w) (origi
     newer_same : IsNewer old (open_record c (filled task answers))
     newer_same = record { client = refl; start = refl; block = refl; work = refl; stamp = λ value t e f. f }
 
-    newer_on : (stage : Stage) → decide s c (filled task answers) task.stage ≡ GoesOn stage → IsNewer old (open_record c (goes_on s (filled task answers) stage))
+    newer_on : (stage : Stage) → decide s c (filled task answers) task.stage ≡ GoesOn stage → IsNewer old (open_record c (goes_on (filled task answers) stage))
     newer_on stage d = record { client = refl; start = refl; block = refl; work = refl; stamp = λ value t e f. let k = keeps_stamp s c task answers value t e f in (rw d at k) }
 
     newer_end : (outcome : Outcome) → decide s c (filled task answers) task.stage ≡ Ends outcome → IsNewer old (closed_record c (filled task answers) place outcome)
@@ -65,7 +65,7 @@ module _ (s : Setting) (good : IsValid s) (w : World) (safe : IsSafe s w) (origi
   heard_writes =
       heard_case s good w safe place later c (λ v. KeepsWrites w.records v.records) (λ block stamp h. h)
       (λ task answers busy sent. kept task answers busy sent (open_record c (filled task answers)) (newer_same task answers busy sent))
-      (λ task answers busy sent enough stage e. kept task answers busy sent (open_record c (goes_on s (filled task answers) stage)) (newer_on task answers busy sent stage e))
+      (λ task answers busy sent enough stage e. kept task answers busy sent (open_record c (goes_on (filled task answers) stage)) (newer_on task answers busy sent stage e))
       (λ task answers busy sent enough outcome e. kept task answers busy sent (closed_record c (filled task answers) place outcome) (newer_end task answers busy sent outcome e))
 
   module _ (low : IsLow s w) where
@@ -137,14 +137,14 @@ module _ (s : Setting) (good : IsValid s) (w : World) (safe : IsSafe s w) (origi
         reads_low e (GoesOn stage) h = λ value t f g. absurd (cc f)
         reads_low e (Ends outcome) h = ((λ value t f g. absurd (cc f)), λ f. absurd (no_spent outcome (stamp_of_outcome outcome) h.0 f))
 
-        stored_low : (value v : List ℕ) (p : Stamp) → task.work ≡ Writes value → task.stage ≡ Storing p v → IsLowDecision (Writes value) (Ends (stored s (Writes value) task.rounds p v))
+        stored_low : (value v : List ℕ) (p : Stamp) → task.work ≡ Writes value → task.stage ≡ Storing p v → IsLowDecision (Writes value) (Ends (stored (Writes value) task.rounds p v))
         stored_low value v p e f = ((λ u t g h. low_open value t e (let k : chosen_stamp task.work task.stage ≡ Some p = rw (e, f) refl in k ∙ h)), λ g. absurd (cc g))
 
         decided_low : (work : Work) → task.work ≡ work → (stage : Stage) → task.stage ≡ stage → IsStage s work stage → IsLowDecision work (decide s c (filled task answers) stage)
         decided_low Reads e stage f h = reads_low e (decide s c (filled task answers) stage) (full_decided s good w safe place later c task busy answers sent enough stage f Reads e h)
-        decided_low (Writes value) e Times f h = subst (λ (v : List ℕ). IsLowDecision (Writes value) (decide_time s c v (drawn_from s answers))) (sym (ap (value_of s) e)) (time_low value e f)
+        decided_low (Writes value) e Times f h = subst (λ (v : List ℕ). IsLowDecision (Writes value) (decide_time s c v (drawn_from s answers))) (sym (ap (value_of) e)) (time_low value e f)
         decided_low (Writes value) e (Versions bound) f h = absurd h
-        decided_low (Writes value) e (Storing p v) f h = subst (λ (k : Work). IsLowDecision (Writes value) (Ends (stored s k task.rounds p v))) (sym e) (stored_low value v p e f)
+        decided_low (Writes value) e (Storing p v) f h = subst (λ (k : Work). IsLowDecision (Writes value) (Ends (stored k task.rounds p v))) (sym e) (stored_low value v p e f)
 
         decision : IsLowDecision task.work (decide s c (filled task answers) task.stage)
         decision = decided_low task.work refl task.stage refl (safe.tasks c task busy).stage
@@ -164,9 +164,9 @@ module _ (s : Setting) (good : IsValid s) (w : World) (safe : IsSafe s w) (origi
       }
 
       on_low : s.n ≤ answered s answers + s.t → (stage : Stage) (e : decide s c (filled task answers) task.stage ≡ GoesOn stage)
-          → IsLow s (moved s w place c (Some (goes_on s (filled task answers) stage)) (mail s c (goes_on s (filled task answers) stage)) (open_record c (goes_on s (filled task answers) stage)))
+          → IsLow s (moved s w place c (Some (goes_on (filled task answers) stage)) (mail s c (goes_on (filled task answers) stage)) (open_record c (goes_on (filled task answers) stage)))
       on_low enough stage e =
-          let z : Task = goes_on s (filled task answers) stage in
+          let z : Task = goes_on (filled task answers) stage in
           let r : Record = open_record c z in
           let n = newer_on task answers busy sent stage e in
           let d : IsLowDecision task.work (GoesOn stage) = (let k = decision enough in rw e at k) in
@@ -248,7 +248,7 @@ module _ (s : Setting) (good : IsValid s) (w : World) (safe : IsSafe s w) (origi
 
     started_low : (c block : ℕ) (work : Work) → IsLow s (happens s w place (Start c block work))
     started_low c block work =
-        let new : Task = begun s (last_op w c + 1) block work place in
+        let new : Task = begun (last_op w c + 1) block work place in
         let more = λ (b : ℕ). lied_push s b w.pool (mail s c new) in
         let chose = λ (b : ℕ). choices_push b w.records (open_record c new) in
         record {

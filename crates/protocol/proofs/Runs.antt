@@ -91,7 +91,7 @@ module _ (s : Setting) (good : IsValid s) (w : World) (safe : IsSafe s w) (place
       ]
 
   counted_heard : (c : ℕ) (task : Task) → under_way w c ≡ Some task → (m : Message) → Contains w.pool m → m.client ≡ c → (reply : Reply) → m.body ≡ Answers reply → (b : Bool) → counts s w place task m reply ≡ b
-      → IsSafe s (cond b (advanced s w place c (counted s task m.node reply)) (only_place s w place))
+      → IsSafe s (cond b (advanced s w place c (counted task m.node reply)) (only_place s w place))
   counted_heard c task busy m there of_c reply body false e = only_safe s w safe place later
   counted_heard c task busy m there of_c reply body true e =
       advanced_safe s good w safe place later c task busy (update task.answers m.node (Some reply)) (task_hears c task busy m there of_c reply body e)

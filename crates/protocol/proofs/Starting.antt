@@ -38,7 +38,7 @@ first_aimed s stamp (Writes value) = tt
 module _ (s : Setting) (w : World) (safe : IsSafe s w) (place : ℕ) (later : w.place < place) (c block : ℕ) (work : Work)
     (number : IsClient s c) (correct : s.lying_client c ≡ false) (up : w.client_crashed c ≡ false) (idle : w.task c ≡ None) (few : w.started c < 2 ^ 32 - 1) (inside : block < s.blocks) (fits : Fits s work) where
   abbrev new : Task
-  new = begun s (last_op w c + 1) block work place
+  new = begun (last_op w c + 1) block work place
 
   abbrev after : World
   after = happens s w place (Start c block work)
@@ -179,8 +179,8 @@ module _ (s : Setting) (w : World) (safe : IsSafe s w) (place : ℕ) (later : w.
         record { version = v.version; there = v.there; above = v.above; how = elim v.how [ inl e ↦ inl e | inr p ↦ inr (passed_after b v.version.stamp p) ] };
   }
 
-  quorum_after : (b : ℕ) (stamp : Stamp) (end : ℕ) → Quorum s w b stamp end → Quorum s after b stamp end
-  quorum_after b stamp end q = record {
+  pub quorum_after : (least b : ℕ) (stamp : Stamp) (end : ℕ) → Quorum s least w b stamp end → Quorum s least after b stamp end
+  quorum_after least b stamp end q = record {
     members = q.members;
     enough = q.enough;
     are_honest = q.are_honest;
@@ -207,7 +207,7 @@ module _ (s : Setting) (w : World) (safe : IsSafe s w) (place : ℕ) (later : w.
                 | inl q ↦ absurd (let o : r.start ≡ place = f ∙ ap (λ (t : Task). t.start) q.1 in omega (arith, o, i.start, later))
                 | inr q ↦ i.running task q.1 f
               ];
-              completed = λ end stamp e f. quorum_after r.block stamp end (i.completed end stamp e f);
+              completed = λ end stamp e f. quorum_after s.qc r.block stamp end (i.completed end stamp e f);
             })
         | inr k ↦ rw k (record {
           start = omega arith;

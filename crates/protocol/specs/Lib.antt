@@ -6,7 +6,10 @@ pub mod Nodes
 pub mod Operations
 pub mod World
 pub mod History
+pub mod Facts
 pub mod Lines
 pub mod Bounds
 pub mod Report
+pub mod Seen
+pub mod Instance
 pub mod Example

@@ -106,6 +106,36 @@ numbered i (Some v) = Some (i, v)
 abbrev pub part_of : ℕ × Version → ℕ × List ℕ
 part_of p = (p.0, p.1.fragment)
 
+-- what an operation ends with when its stamp is stored
+abbrev pub stored : Work → ℕ → Stamp → List ℕ → Outcome
+stored Reads rounds stamp value = Gave stamp value Repaired rounds
+stored (Writes written) rounds stamp value = Wrote stamp
+
+-- what a write is to write
+abbrev pub value_of : Work → List ℕ
+value_of Reads = []
+value_of (Writes value) = value
+
+-- a phase that asks for versions is one more round
+abbrev pub rounds_after : Stage → ℕ → ℕ
+rounds_after (Versions bound) rounds = rounds + 1
+rounds_after _ rounds = rounds
+
+-- the task in its next phase
+abbrev pub goes_on : Task → Stage → Task
+goes_on task stage =
+    record { op = task.op; block = task.block; work = task.work; start = task.start; phase = task.phase + 1; rounds = rounds_after stage task.rounds; stage = stage; answers = no_answers }
+
+-- the task of a new operation
+abbrev pub begun : ℕ → ℕ → Work → ℕ → Task
+begun op block work start =
+    record { op = op; block = block; work = work; start = start; phase = 1; rounds = rounds_after (first_work work) 0; stage = first_work work; answers = no_answers }
+
+-- the task with one more answer counted
+abbrev pub counted : Task → ℕ → Reply → Task
+counted task node reply =
+    record { op = task.op; block = task.block; work = task.work; start = task.start; phase = task.phase; rounds = task.rounds; stage = task.stage; answers = update task.answers node (Some reply) }
+
 module _ (s : Setting) where
   -- the version is one that node i may keep: its lengths, its verifier and its digest are right, and its time isn't 0 or its stamp is the first
   abbrev pub is_whole : ℕ → Version → Bool
@@ -183,16 +213,6 @@ module _ (s : Setting) where
       if x == 2 ^ 64 - 1 then Ends Spent
       else GoesOn (Storing (record { time = x + 1; client = client; verifier = verifier_of s value }) value)
 
-  -- what an operation ends with when its stamp is stored
-  abbrev pub stored : Work → ℕ → Stamp → List ℕ → Outcome
-  stored Reads rounds stamp value = Gave stamp value Repaired rounds
-  stored (Writes written) rounds stamp value = Wrote stamp
-
-  -- what a write is to write
-  abbrev pub value_of : Work → List ℕ
-  value_of Reads = []
-  value_of (Writes value) = value
-
   -- how the phase ends when wait answers are counted
   abbrev pub decide : ℕ → Task → Stage → Decision
   decide client task Times = decide_time client (value_of task.work) (drawn_from task.answers)
@@ -216,23 +236,3 @@ module _ (s : Setting) where
   -- the messages of the present phase, to all nodes in order
   abbrev pub mail : ℕ → Task → List Message
   mail client task = collect s.n (λ i. Some (outstanding client task i))
-
-  -- a phase that asks for versions is one more round
-  abbrev pub rounds_after : Stage → ℕ → ℕ
-  rounds_after (Versions bound) rounds = rounds + 1
-  rounds_after _ rounds = rounds
-
-  -- the task in its next phase
-  abbrev pub goes_on : Task → Stage → Task
-  goes_on task stage =
-      record { op = task.op; block = task.block; work = task.work; start = task.start; phase = task.phase + 1; rounds = rounds_after stage task.rounds; stage = stage; answers = no_answers }
-
-  -- the task of a new operation
-  abbrev pub begun : ℕ → ℕ → Work → ℕ → Task
-  begun op block work start =
-      record { op = op; block = block; work = work; start = start; phase = 1; rounds = rounds_after (first_work work) 0; stage = first_work work; answers = no_answers }
-
-  -- the task with one more answer counted
-  abbrev pub counted : Task → ℕ → Reply → Task
-  counted task node reply =
-      record { op = task.op; block = task.block; work = task.work; start = task.start; phase = task.phase; rounds = task.rounds; stage = task.stage; answers = update task.answers node (Some reply) }

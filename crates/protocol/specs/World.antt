@@ -188,7 +188,7 @@ module _ (s : Setting) where
 
     -- the phase has ended, by a next one or with the operation
     abbrev pub decided : ℕ → Task → Decision → World
-    decided c task (GoesOn stage) = moved c (Some (goes_on s task stage)) (mail s c (goes_on s task stage)) (open_record c (goes_on s task stage))
+    decided c task (GoesOn stage) = moved c (Some (goes_on task stage)) (mail s c (goes_on task stage)) (open_record c (goes_on task stage))
     decided c task (Ends outcome) = moved c None [] (closed_record c task place outcome)
 
     -- the answer was counted, and the phase ends when n-t answers are
@@ -205,7 +205,7 @@ module _ (s : Setting) where
     -- a client hears an answer, which changes nothing if it isn't counted
     abbrev pub heard_by : ℕ → Option Task → Message → Reply → World
     heard_by c None m given = only_place
-    heard_by c (Some task) m given = if counts task m given then advanced c (counted s task m.node given) else only_place
+    heard_by c (Some task) m given = if counts task m given then advanced c (counted task m.node given) else only_place
 
     -- a client hears a message
     abbrev pub heard : ℕ → Message → Body → World
@@ -239,7 +239,7 @@ module _ (s : Setting) where
 
     -- the world after an event that is allowed
     abbrev pub happens : Event → World
-    happens (Start c block work) = started_by c (begun s (last_op w c + 1) block work place)
+    happens (Start c block work) = started_by c (begun (last_op w c + 1) block work place)
     happens (Resend c) = resent_by c (w.task c)
     happens (Give i m) = given i m m.body
     happens (Hear c m) = heard c m m.body
