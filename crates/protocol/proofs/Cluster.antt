@@ -1,7 +1,7 @@
 -- The setting of a cluster is valid: the real code and the real digest keep the laws.
-use Rattle.std.proofs.Common.{◌≡◌, ◌⊎◌, ℕ, zero, suc, ◌+◌, ◌<◌, ◌≤◌, Bool, List, [], ◌∷◌, length, get_or, map, refl, sym, ap, subst, ◌∙◌, inl, inr, arith, All}
+use Rattle.std.proofs.Common.{◌≡◌, ℕ, ◌<◌, Bool, List, [], ◌∷◌, length, get_or, map, sym, ap, subst, ◌∙◌, inl, inr, arith}
 use Rattle.std.specs.Prelude.{slice_index_or}
-use Rattle.std.specs.List.{Contains, AllPairs, AllByRecursion}
+use Rattle.std.specs.List.{Contains, AllByRecursion}
 use Rattle.std.proofs.lemmas.Bool.{cases_lt}
 use Rattle.std.proofs.lemmas.List.{length-map, get_or-map, get_or_default, get_or_past}
 use Rattle.std.proofs.lemmas.List.Elements.{All-from_recursion, recursion_from_All}
@@ -13,7 +13,7 @@ use Rattle.gf_field.specs.Fragments.{IsShape, AreParts, string_len, string, frag
 use Rattle.gf_field.proofs.Blocks.{length-fragments_of, length-fragment, fragment_bytes, decoded_is_block, decoded-fragments_of}
 use Rattle.cross_sum.specs.Digest.{digest}
 use Rattle.protocol.specs.Messages.{IsBytes}
-use Rattle.protocol.specs.Setting.{Setting, IsValid, IsBlock, IsFragment, IsAscending, digest_at}
+use Rattle.protocol.specs.Setting.{Setting, IsValid, IsAscending}
 use Rattle.protocol.specs.Instance.{setting_of, part_numbers, part_strings, IsCluster}
 use Rattle.protocol.proofs.Lists.{Contains-head, Contains-rest}
 

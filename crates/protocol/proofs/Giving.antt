@@ -26,7 +26,7 @@ use Rattle.protocol.proofs.Lists.{Contains-one, one_more_cases, one_more_left, o
 use Rattle.protocol.proofs.Order.{≼-refl, ≼-trans, ≼-time}
 use Rattle.protocol.proofs.Seen.{NoClash-before}
 use Rattle.protocol.proofs.Keeping.{time_at_least, time_of_one, keeps-Contains, keeps-append, greatest_in_is, greatest_in_above, accepts_is, whole_if_taken, taken, keeps_is, has-down}
-use Rattle.protocol.proofs.Invariant.{AtWork, IsOwned, IsTagged, Quorum, IsTask, IsStage, IsRecord, IsSafe, IsFresh, Fits, Accepts, IsStored, IsCovered, IsPassed}
+use Rattle.protocol.proofs.Invariant.{AtWork, IsOwned, IsTagged, Quorum, IsQuorum, IsTask, IsStage, IsRecord, IsSafe, IsFresh, Fits, Accepts, IsStored, IsCovered, IsPassed}
 
 -- what an honest node answers
 module _ (s : Setting) (w : World) (i block : ℕ) (stored : IsStored s w i block) where
@@ -221,6 +221,10 @@ module _ (s : Setting) (w : World) (safe : IsSafe s w) (place : ℕ) (later : w.
       ]
   fits_write u value l e (Some reason) f = tt
 
+  -- what it doesn't refuse it has accepted
+  pub wrote_there : (u : Version) → ask.request ≡ Write u → ask.block < s.blocks → refusal s i u ≡ None → Accepts s after i ask.block u.stamp
+  wrote_there u e l f = fits_write u [] l e None f
+
   fits_in : (work : Work) (stage : Stage) → IsStage s work stage → ask.block < s.blocks → ask.request ≡ request_of s stage i → Fits s after i ask.block stage (reply_in s i old (request_of s stage i))
   fits_in work Times h l e = Fits-more s w after i ask.block (accepted_more i ask.block) Times (TimeIs (greatest_time old)) (fits_time s w i ask.block was_stored)
   fits_in Reads (Versions bound) h l e = Fits-more s w after i ask.block (accepted_more i ask.block) (Versions bound) (found (greatest_in bound old)) (fits_read s w i ask.block was_stored bound h)
@@ -294,8 +298,8 @@ module _ (s : Setting) (w : World) (safe : IsSafe s w) (place : ℕ) (later : w.
   fresh_as : (a b start : ℕ) (stamp : Stamp) (stage : Stage) (p q : Reply) → a ≡ b → p ≡ q → IsFresh s w b start stamp stage q → IsFresh s w a start stamp stage p
   fresh_as a b start stamp stage p q e f h = rw (e, f) h
 
-  pub quorum_after : (least b : ℕ) (stamp : Stamp) (end : ℕ) → Quorum s least w b stamp end → Quorum s least after b stamp end
-  quorum_after least b stamp end q = record {
+  pub quorum_after : (Enough : (ℕ → Bool) → Type 0) (b : ℕ) (stamp : Stamp) (end : ℕ) → Quorum s Enough w b stamp end → Quorum s Enough after b stamp end
+  quorum_after Enough b stamp end q = record {
     members = q.members;
     enough = q.enough;
     are_honest = q.are_honest;
@@ -324,7 +328,7 @@ module _ (s : Setting) (w : World) (safe : IsSafe s w) (place : ℕ) (later : w.
         open_end = k.open_end;
         closed_end = k.closed_end;
         running = k.running;
-        completed = λ end stamp e f. quorum_after s.qc r.block stamp end (k.completed end stamp e f);
+        completed = λ end stamp e f. quorum_after (IsQuorum s) r.block stamp end (k.completed end stamp e f);
       }
 
   value_before : (x : List ℕ) → IsValue s w x → IsValue s after x

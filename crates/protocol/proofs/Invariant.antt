@@ -4,7 +4,6 @@ use Rattle.std.specs.declared.option.Option.TheVariants.{None, Some}
 use Rattle.std.specs.List.{Contains}
 use Rattle.protocol.specs.Count.{count}
 use Rattle.stamp_order.specs.declared.Stamp.{Stamp}
-use Rattle.stamp_order.specs.declared.Bound.{Bound}
 use Rattle.stamp_order.specs.Stamps.{has, ◌≼◌}
 use Rattle.protocol.specs.Messages.{IsFormed, IsFormedBody, Version, Ask, Reply, Body, Message}
 use Rattle.wire_forms.specs.declared.Reply.TheVariants.{TimeIs, Found, Ack}
@@ -44,10 +43,14 @@ module _ (s : Setting) where
   IsFresh w block start stamp (Versions bound) (Found v) = has bound stamp ≡ true → IsOpen s w block start bound → stamp ≼ v.stamp
   IsFresh w block start stamp _ _ = Unit {0}
 
-  -- so many honest nodes have accepted the stamp, and answered nothing behind it to what began after this place
-  pub record Quorum (least : ℕ) (w : World) (block : ℕ) (stamp : Stamp) (end : ℕ) : Type 0 where
+  -- at least qc nodes
+  abbrev pub IsQuorum : (ℕ → Bool) → Type 0
+  IsQuorum members = s.qc ≤ count s.n members
+
+  -- enough honest nodes have accepted the stamp, and answered nothing behind it to what began after this place
+  pub record Quorum (Enough : (ℕ → Bool) → Type 0) (w : World) (block : ℕ) (stamp : Stamp) (end : ℕ) : Type 0 where
     pub members : ℕ → Bool
-    pub enough : least ≤ count s.n members
+    pub enough : Enough members
     pub are_honest : (i : ℕ) → members i ≡ true → s.lying_node i ≡ false
     pub kept : (i : ℕ) → i < s.n → members i ≡ true → Accepts s w i block stamp
     pub fresh : (m : Message) (reply : Reply) (task : Task) → Contains w.pool m → m.body ≡ Answers reply → m.node < s.n → members m.node ≡ true
@@ -132,7 +135,7 @@ module _ (s : Setting) where
     pub open_end : r.end ≡ None → r.outcome ≡ None
     pub closed_end : (end : ℕ) → r.end ≡ Some end → (outcome : Outcome) × (r.outcome ≡ Some outcome)
     pub running : (task : Task) → under_way w r.client ≡ Some task → r.start ≡ task.start → r ≡ open_record r.client task
-    pub completed : (end : ℕ) (stamp : Stamp) → r.end ≡ Some end → r.stamp ≡ Some stamp → Quorum s.qc w r.block stamp end
+    pub completed : (end : ℕ) (stamp : Stamp) → r.end ≡ Some end → r.stamp ≡ Some stamp → Quorum IsQuorum w r.block stamp end
 
   -- an operation that began after the stamp was completed doesn't fall behind it
   abbrev pub IsAimed : Stamp → Work → Stage → Type 0

@@ -8,7 +8,7 @@ use Rattle.stamp_order.specs.declared.Stamp.{Stamp}
 use Rattle.protocol.specs.Messages.{Version, Ask, Request, Message}
 use Rattle.wire_forms.specs.declared.Request.TheVariants.{Time, Read, Write}
 use Rattle.wire_forms.specs.declared.Body.TheVariants.{Ask as Asks}
-use Rattle.protocol.specs.Setting.{Setting, first_stamp}
+use Rattle.protocol.specs.Setting.{Setting}
 use Rattle.protocol.proofs.Keeping.{accepts_is}
 use Rattle.protocol.specs.Operations.{Task, Work, Stage, How, first_work, begun, request_of, outstanding}
 use Rattle.protocol.specs.Operations.Work.{Reads, Writes}
@@ -16,7 +16,7 @@ use Rattle.run_words.specs.declared.outcome.Outcome.TheVariants.{Gave}
 use Rattle.protocol.specs.Operations.Stage.{Times, Versions, Storing}
 use Rattle.protocol.specs.World.{Record, World, Fits, moved, replaced_by, chosen_stamp, happens, handled, open_record, under_way, last_op, IsClient}
 use Rattle.protocol.specs.World.Event.{Start}
-use Rattle.protocol.specs.History.{HasWrite, HasLie}
+use Rattle.protocol.specs.History.{HasWrite}
 pub use Rattle.protocol.specs.Facts.{IsKnown}
 use Rattle.protocol.proofs.Lists.{Contains-map, Contains-one}
 use Rattle.protocol.proofs.Mails.{mail_asks}

@@ -24,7 +24,7 @@ use Rattle.protocol.proofs.Keeping.{pruned_was, pruned_first, pruned_above, prun
 use Rattle.protocol.proofs.Mails.{in_mail, mail_asks, mail_answers}
 use Rattle.protocol.proofs.Seen.{NoClash-before}
 use Rattle.protocol.proofs.Given.{IsGreatest, greatest_is}
-use Rattle.protocol.proofs.Invariant.{AtWork, IsOwned, IsTagged, Quorum, IsStored, IsCovered, IsPassed, IsSafe}
+use Rattle.protocol.proofs.Invariant.{AtWork, IsOwned, IsTagged, Quorum, IsQuorum, IsStored, IsCovered, IsPassed, IsSafe}
 
 -- what a client does that hasn't crashed
 pub working : (b : Bool) (o : Option Task) (task : Task) → unless b o ≡ Some task → (b ≡ false) × (o ≡ Some task)
@@ -93,8 +93,8 @@ module _ (s : Setting) (w : World) where
       not_now : (m : Message) (reply : Reply) → IsSentNow m → m.body ≡ Answers reply → ⊥
       not_now m reply now body = mail_answers s m.client now.0 m now.1 reply now.3 body
 
-      pub quorum_after : (least b : ℕ) (stamp : Stamp) (end : ℕ) → Quorum s least w b stamp end → Quorum s least changed b stamp end
-      quorum_after least b stamp end q = record {
+      pub quorum_after : (Enough : (ℕ → Bool) → Type 0) (b : ℕ) (stamp : Stamp) (end : ℕ) → Quorum s Enough w b stamp end → Quorum s Enough changed b stamp end
+      quorum_after Enough b stamp end q = record {
         members = q.members;
         enough = q.enough;
         are_honest = q.are_honest;
@@ -141,7 +141,7 @@ module _ (s : Setting) (w : World) where
           open_end = k.open_end;
           closed_end = k.closed_end;
           running = λ z e f. k.running z (less.fewer r.client z e) f;
-          completed = λ end stamp e f. quorum_after s.qc r.block stamp end (k.completed end stamp e f);
+          completed = λ end stamp e f. quorum_after (IsQuorum s) r.block stamp end (k.completed end stamp e f);
         };
         aimed = λ apart x end stamp c z h e f g. safe.aimed (apart_before apart) x end stamp c z h e f (less.fewer c z g);
         ordered = λ apart. safe.ordered (apart_before apart);

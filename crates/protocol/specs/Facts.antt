@@ -1,5 +1,5 @@
 -- What holds in every world of a run, fact by fact.
-use Rattle.std.specs.Prelude.{◌≡◌, ◌⊎◌, ℕ, ◌<◌, ◌≤◌, true, false, Bool, List, Option, slice_get}
+use Rattle.std.specs.Prelude.{◌≡◌, ◌⊎◌, ℕ, ◌<◌, ◌≤◌, true, false, Bool, slice_get}
 use Rattle.std.specs.declared.option.Option.TheVariants.{Some}
 use Rattle.std.specs.List.{Contains}
 use Rattle.stamp_order.specs.declared.Stamp.{Stamp}
@@ -8,7 +8,7 @@ use Rattle.stamp_order.specs.Stamps.{has, ◌≼◌}
 use Rattle.protocol.specs.Messages.{Version, Ask, Reply, Message}
 use Rattle.wire_forms.specs.declared.Request.TheVariants.{Write}
 use Rattle.wire_forms.specs.declared.Reply.TheVariants.{TimeIs, Found, Ack}
-use Rattle.wire_forms.specs.declared.Body.TheVariants.{Ask as Asks, Answer as Answers}
+use Rattle.wire_forms.specs.declared.Body.TheVariants.{Ask as Asks}
 use Rattle.protocol.specs.Count.{count}
 use Rattle.protocol.specs.Setting.{Setting, first_stamp}
 use Rattle.protocol.specs.Operations.{Task, Stage}

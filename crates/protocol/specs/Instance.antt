@@ -1,11 +1,13 @@
 -- The setting of a cluster: its code, its digests, and who lies.
-use Rattle.std.specs.Prelude.{◌≡◌, ℕ, ◌<◌, ◌≤◌, Bool, true, false, List, [], map, slice_index_or}
+use Rattle.std.specs.Prelude.{ℕ, ◌≤◌, Bool, false, List, [], map, slice_index_or}
 use Rattle.quorum_rules.specs.Limits.{Numbers, IsValid as IsValidConfig}
 use Rattle.gf_field.specs.Fragments.{string_len, fragments_of, decoded}
 use Rattle.cross_sum.specs.Digest.{digest}
 use Rattle.block_rows.specs.Sums.{sum_of}
 use Rattle.protocol.specs.Count.{count}
 use Rattle.protocol.specs.Setting.{Setting}
+use Rattle.protocol.specs.World.{World}
+use Rattle.protocol.specs.Lines.{Line, IsRun}
 
 -- the numbers of parts, and their strings
 abbrev pub part_numbers : List (ℕ × List ℕ) → List ℕ
@@ -42,8 +44,13 @@ nobody i = false
 abbrev pub setting : Numbers → Setting
 setting c = setting_of c nobody nobody
 
--- a valid configuration, with at most b lying nodes among its own
+-- a valid configuration, of whose nodes at most b lie
 pub record IsCluster (c : Numbers) (lying_node : ℕ → Bool) : Type 0 where
   pub config : IsValidConfig c
-  pub nodes : (i : ℕ) → lying_node i ≡ true → i < c.n
   pub few : count c.n lying_node ≤ c.b
+
+-- the law holds of each cluster, and of the last world of each of its runs
+abbrev pub InEachRun : (Setting → World → Type 0) → Type 0
+InEachRun law =
+    (c : Numbers) (lying_node lying_client : ℕ → Bool) → IsCluster c lying_node
+    → (lines : List (ℕ × Line)) (w : World) → IsRun (setting_of c lying_node lying_client) lines w → law (setting_of c lying_node lying_client) w

@@ -12,7 +12,7 @@ use Rattle.protocol.specs.Setting.{Setting, IsBlock, verifier_of}
 use Rattle.protocol.specs.Nodes.{first_version}
 use Rattle.protocol.specs.Operations.{Task, outstanding, ask_of}
 use Rattle.protocol.specs.Operations.Work.{Reads, Writes}
-use Rattle.protocol.specs.World.{World, Event, all_happen, AllAllowed, answer_of, only_place, under_way, greatest_given}
+use Rattle.protocol.specs.World.{World, Event, start_world, all_happen, AllAllowed, answer_of, only_place, under_way, greatest_given}
 use Rattle.protocol.specs.World.Event.{Start, Resend as Resends, Give as Gives, Hear as Hears, CrashNode as NodeCrashes, CrashClient as ClientCrashes, Lie as Lies, Prune as Prunes, Back as ComesBack}
 pub use Rattle.wire_forms.specs.declared.rule.Rule.{Rule}
 use Rattle.wire_forms.specs.declared.rule.Rule.TheVariants.{Silent, Old, Top, Bad}
@@ -354,3 +354,7 @@ module _ (s : Setting) where
   abbrev pub Run : World → List (ℕ × Line) → World → Type 0
   Run w [] end = end ≡ w
   Run w (l ∷ ls) end = (w.place < l.0) × FitsLine l.1 × (fault w l.1 ≡ None) × Run (plays w l.0 l.1) ls end
+
+  -- the world that lines lead to from the beginning
+  abbrev pub IsRun : List (ℕ × Line) → World → Type 0
+  IsRun lines w = Run (start_world s) lines w
