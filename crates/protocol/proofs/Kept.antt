@@ -1,5 +1,5 @@
 -- The facts on every run.
-use Rattle.std.proofs.Common.{◌≡◌, ◌⊎◌, ◌↔◌, ℕ, ◌<◌, Bool, true, false, List, [], ◌∷◌, ◌++◌, refl, inl, inr, arith, eqb}
+use Rattle.std.proofs.Common.{◌≡◌, ◌⊎◌, ◌↔◌, ℕ, ◌+◌, ◌<◌, length, map, count_by, Bool, true, false, List, [], ◌∷◌, ◌++◌, refl, inl, inr, arith, eqb}
 use Rattle.std.specs.Prelude.{slice_get}
 use Rattle.std.specs.declared.option.Option.TheVariants.{Some}
 use Rattle.std.specs.List.{Contains}
@@ -26,6 +26,10 @@ use Rattle.protocol.proofs.Origins.{IsKnownRequest}
 use Rattle.protocol.proofs.Plays.{IsRight, start_right, run_right}
 use Rattle.protocol.proofs.Ahead.{quorum_happens}
 use Rattle.protocol.proofs.Inductions.{run_keeps}
+use Rattle.protocol.specs.History.{Entry, IsHistory}
+use Rattle.protocol.specs.Report.{Ascend, counts_of, spent_writes, is_ended}
+use Rattle.protocol.proofs.Starts.{starts, happens_in_order}
+use Rattle.protocol.proofs.Counts.{done_count, total_count, spent_count, spent_ascend}
 use Rattle.protocol.proofs.Hosts.{AreHosted, happens_hosted, start_hosted}
 
 module _ (s : Setting) (w : World) where
@@ -160,6 +164,22 @@ module _ (s : Setting) (lines : List (ℕ × Line)) (w : World) (good : IsValid 
   pub run_up : NoClash s w → (x y : Record) (end : ℕ) (stamp later : Stamp) → Contains w.records x → Contains w.records y → x.end ≡ Some end → x.stamp ≡ Some stamp → y.work ≡ Reads → y.stamp ≡ Some later → y.block ≡ x.block
       → end < y.start → stamp ≼ later
   run_up apart x y end stamp later h k e f work g b l = read_after s w stamp later y.work work (right.safe.ordered apart x y end stamp later h k e f g b l)
+
+module _ (s : Setting) (lines : List (ℕ × Line)) (w : World) (good : IsValid s) (run : Run s (start_world s) lines w) where
+  pub run_in_order : Ascend (starts w.records)
+  run_in_order = run_keeps s good (λ v. Ascend (starts v.records)) (λ v safe h place x a. happens_in_order s good v safe h place x a) (λ v place h. h) lines (start_world s) w (start_right s good) run tt
+
+  pub run_done : (h : List Entry) → IsHistory s w h → (counts_of w.records).done ≡ count_by is_ended h
+  run_done h hist = let r = right s lines w good run in done_count s w r.safe r.apart h hist run_in_order
+
+  pub run_total : (counts_of w.records).done + (counts_of w.records).spent + (counts_of w.records).pending ≡ length w.records
+  run_total = total_count s w (right s lines w good run).safe
+
+  pub run_spent : (counts_of w.records).spent ≡ length (spent_writes w.records)
+  run_spent = spent_count s w (right s lines w good run).safe
+
+  pub run_spent_ascend : Ascend (map (λ x. x.start) (spent_writes w.records))
+  run_spent_ascend = spent_ascend w.records run_in_order
 
 module _ (s : Setting) (last : World) (more : List (ℕ × Line)) where
   run_splits : (lines : List (ℕ × Line)) (w : World) → Run s w (lines ++ more) last → (middle : World) × Run s w lines middle × Run s middle more last
