@@ -1,6 +1,7 @@
 //! The top call: words, an input that is read to its end, a text that is written whole, and a status.
 #![tactic(auto)]
 
+mod first_path;
 pub mod gate;
 pub mod status;
 pub mod text;
@@ -12,3 +13,6 @@ pub use status::Status;
 pub use text::Refusal;
 pub use top::pasis;
 pub use words::Command;
+
+#[cfg(test)]
+mod tests;
