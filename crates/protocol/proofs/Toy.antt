@@ -2,7 +2,7 @@
 use Rattle.std.proofs.Common.{◌≡◌, ℕ, zero, suc, ◌<◌, List, [], ◌∷◌, length, refl, arith}
 use Rattle.std.specs.List.{Contains}
 use Rattle.protocol.specs.Setting.{IsValid, IsBlock, digest_at}
-use Rattle.protocol.specs.Example.{toy, second_of_first}
+use Rattle.protocol.proofs.Example.{toy, second_of_first}
 use Rattle.protocol.proofs.Lists.{Contains-head}
 
 one_part : (value : List ℕ) (parts : List (ℕ × List ℕ)) → length parts ≡ 1 → ((q : ℕ × List ℕ) → Contains parts q → q.1 ≡ value) → second_of_first parts ≡ value

@@ -56,17 +56,17 @@ world_from w place [] = w
 world_from w place (l ∷ ls) = world_from (plays toy w place l) (place + 1) ls
 
 -- a write of 1 0 and a read, whole
-abbrev row_one : List Line
-row_one =
+abbrev write_and_read : List Line
+write_and_read =
     Write 1 0 (1 ∷ 0 ∷ []) ∷ Call 1 0 ∷ Call 1 1 ∷ Call 1 2 ∷ Call 1 0 ∷ Call 1 1 ∷ Call 1 2
     ∷ Read 2 0 ∷ Call 2 0 ∷ Call 2 1 ∷ Call 2 2 ∷ []
 
 abbrev outcomes : List Record → List (Option Outcome)
 outcomes rs = map (λ r. r.outcome) rs
 
-row_one_gives : outcomes (world_from (start_world toy) 1 row_one).records ≡ Some (Wrote (record { time = 1; client = 1; verifier = toy_digest (flat (toy_sum (1 ∷ 0 ∷ []))) })) ∷ Some (Gave (record { time = 1; client = 1; verifier = toy_digest (flat (toy_sum (1 ∷ 0 ∷ []))) }) (1 ∷ 0 ∷ []) Plain 1) ∷ []
+write_and_read_gives : outcomes (world_from (start_world toy) 1 write_and_read).records ≡ Some (Wrote (record { time = 1; client = 1; verifier = toy_digest (flat (toy_sum (1 ∷ 0 ∷ []))) })) ∷ Some (Gave (record { time = 1; client = 1; verifier = toy_digest (flat (toy_sum (1 ∷ 0 ∷ []))) }) (1 ∷ 0 ∷ []) Plain 1) ∷ []
 unfolding up_to before same_stamp same same_digests stamp_cmp
-row_one_gives = refl
+write_and_read_gives = refl
 
 -- a line through two numbers modulo 257, and the number of it at i
 abbrev at_number : ℕ → ℕ → ℕ → ℕ
@@ -141,45 +141,45 @@ abbrev calls : ℕ → ℕ → ℕ → List Line
 calls c i k = Call c i ∷ Call c (i + 1) ∷ Call c (i + 2) ∷ Call c (i + 3) ∷ []
 
 -- an incomplete write is repaired by two reads
-abbrev row_nine : List Line
-row_nine =
+abbrev repaired_twice : List Line
+repaired_twice =
     Write 1 0 (1 ∷ 0 ∷ []) ∷ calls 1 0 3 ++ Call 1 0 ∷ Call 1 1 ∷ CrashClient 1 ∷ Read 2 0 ∷ calls 2 0 3 ++ calls 2 0 3 ++ Read 3 0 ∷ calls 3 1 4 ++ calls 3 1 4
 
-row_nine_gives : outcomes_of (five nobody nobody) row_nine ≡ None ∷ Some (Gave (stamp_at 1 1 (1 ∷ 0 ∷ [])) (1 ∷ 0 ∷ []) Repaired 1) ∷ Some (Gave (stamp_at 1 1 (1 ∷ 0 ∷ [])) (1 ∷ 0 ∷ []) Repaired 1) ∷ []
+repaired_twice_gives : outcomes_of (five nobody nobody) repaired_twice ≡ None ∷ Some (Gave (stamp_at 1 1 (1 ∷ 0 ∷ [])) (1 ∷ 0 ∷ []) Repaired 1) ∷ Some (Gave (stamp_at 1 1 (1 ∷ 0 ∷ [])) (1 ∷ 0 ∷ []) Repaired 1) ∷ []
 unfolding up_to before same_stamp same same_digests stamp_cmp
-row_nine_gives = refl
+repaired_twice_gives = refl
 
 abbrev is_nine : ℕ → Bool
 is_nine c = c == 9
 
 -- fragments of two blocks under one stamp are poison, and the read steps back
-abbrev row_thirteen : List Line
-row_thirteen =
+abbrev poison_stepped_back : List Line
+poison_stepped_back =
     Write 1 0 (1 ∷ 0 ∷ []) ∷ calls 1 0 3 ++ calls 1 0 3
     ++ Mix 9 0 0 5 (10 ∷ 10 ∷ []) (11 ∷ 11 ∷ []) ∷ Mix 9 1 0 5 (10 ∷ 10 ∷ []) (11 ∷ 11 ∷ []) ∷ Mix 9 2 0 5 (10 ∷ 10 ∷ []) (11 ∷ 11 ∷ []) ∷ Mix 9 3 0 5 (10 ∷ 10 ∷ []) (11 ∷ 11 ∷ []) ∷ Mix 9 4 0 5 (10 ∷ 10 ∷ []) (11 ∷ 11 ∷ [])
     ∷ Read 2 0 ∷ calls 2 0 3 ++ calls 2 0 3
 
-row_thirteen_gives : outcomes_of (five nobody is_nine) row_thirteen ≡ Some (Wrote (stamp_at 1 1 (1 ∷ 0 ∷ []))) ∷ Some (Gave (stamp_at 1 1 (1 ∷ 0 ∷ [])) (1 ∷ 0 ∷ []) Plain 2) ∷ []
+poison_stepped_back_gives : outcomes_of (five nobody is_nine) poison_stepped_back ≡ Some (Wrote (stamp_at 1 1 (1 ∷ 0 ∷ []))) ∷ Some (Gave (stamp_at 1 1 (1 ∷ 0 ∷ [])) (1 ∷ 0 ∷ []) Plain 2) ∷ []
 unfolding up_to before same_stamp same same_digests stamp_cmp
-row_thirteen_gives = refl
+poison_stepped_back_gives = refl
 
 -- of two writes that crashed the lower one is found at the second round, and repaired
-abbrev row_ten : List Line
-row_ten =
+abbrev lower_write_found : List Line
+lower_write_found =
     Write 1 0 (1 ∷ 0 ∷ []) ∷ calls 1 0 3 ++ Call 1 0 ∷ Call 1 1 ∷ CrashClient 1 ∷ Write 2 0 (2 ∷ 0 ∷ []) ∷ Call 2 0 ∷ Call 2 2 ∷ Call 2 3 ∷ Call 2 4 ∷ Call 2 0 ∷ CrashClient 2
     ∷ Read 3 0 ∷ calls 3 0 3 ++ calls 3 0 3 ++ calls 3 0 3
 
-row_ten_gives : outcomes_of (five nobody nobody) row_ten ≡ None ∷ None ∷ Some (Gave (stamp_at 1 1 (1 ∷ 0 ∷ [])) (1 ∷ 0 ∷ []) Repaired 2) ∷ []
+lower_write_found_gives : outcomes_of (five nobody nobody) lower_write_found ≡ None ∷ None ∷ Some (Gave (stamp_at 1 1 (1 ∷ 0 ∷ [])) (1 ∷ 0 ∷ []) Repaired 2) ∷ []
 unfolding up_to before same_stamp same same_digests stamp_cmp
-row_ten_gives = refl
+lower_write_found_gives = refl
 
 -- no time is left
-abbrev row_twelve : List Line
-row_twelve = Sound 9 0 0 18446744073709551615 (255 ∷ 255 ∷ []) ∷ Sound 9 1 0 18446744073709551615 (255 ∷ 255 ∷ []) ∷ Write 1 0 (1 ∷ 0 ∷ []) ∷ calls 1 0 3
+abbrev no_time_left : List Line
+no_time_left = Sound 9 0 0 18446744073709551615 (255 ∷ 255 ∷ []) ∷ Sound 9 1 0 18446744073709551615 (255 ∷ 255 ∷ []) ∷ Write 1 0 (1 ∷ 0 ∷ []) ∷ calls 1 0 3
 
-row_twelve_gives : outcomes_of (five nobody is_nine) row_twelve ≡ Some Spent ∷ []
+no_time_left_gives : outcomes_of (five nobody is_nine) no_time_left ≡ Some Spent ∷ []
 unfolding up_to before same_stamp same same_digests stamp_cmp
-row_twelve_gives = refl
+no_time_left_gives = refl
 
 -- a read after a prune
 abbrev before_prune : List Line
