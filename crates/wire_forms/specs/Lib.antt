@@ -1,3 +1,5 @@
 pub mod Firsts
 pub mod Liars
+pub mod Longest
 pub mod Ops
+pub mod Texts

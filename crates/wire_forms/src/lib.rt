@@ -7,6 +7,7 @@ pub mod first;
 pub mod liars;
 pub mod message;
 pub mod op;
+mod printing;
 pub mod rule;
 
 pub use device::DeviceOp;
@@ -14,4 +15,5 @@ pub use first::First;
 pub use liars::Liars;
 pub use message::{Ask, Body, Mail, Message, Reason, Reply, Request, Tag, Version};
 pub use op::Op;
+pub use printing::print;
 pub use rule::Rule;
