@@ -3,3 +3,4 @@ pub mod Liars
 pub mod Longest
 pub mod Ops
 pub mod Texts
+pub mod Words

@@ -27,12 +27,16 @@ use Rattle.wire_forms.specs.declared.message.Message.{Message}
 abbrev pub IsBytes : List ℕ → Type 0
 IsBytes bytes = All (λ b. b < 256) bytes
 
+-- 32 bytes
+pub record IsDigest (digest : List ℕ) : Type 0 where
+  pub count : length digest ≡ 32
+  pub bytes : IsBytes digest
+
 -- the numbers of a stamp are in their types' ranges
 pub record IsStamp (s : Stamp) : Type 0 where
   pub time : s.time < 2 ^ 64
   pub client : s.client < 2 ^ 32
-  pub length : length s.verifier ≡ 32
-  pub verifier : IsBytes s.verifier
+  pub verifier : IsDigest s.verifier
 
 -- at most 32 digests
 pub record IsSum (sum : List (List ℕ)) : Type 0 where
@@ -65,6 +69,10 @@ IsRequest (Write v) = IsVersion v
 pub record IsAsk (ask : Ask) : Type 0 where
   pub block : ask.block < 2 ^ 32
   pub request : IsRequest ask.request
+
+-- each reason has a text
+abbrev pub IsReason : Reason → Type 0
+IsReason reason = Unit {0}
 
 -- what a reply carries is one
 abbrev pub IsReply : Reply → Type 0

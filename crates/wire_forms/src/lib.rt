@@ -4,11 +4,14 @@
 pub mod copies;
 pub mod device;
 pub mod first;
+pub mod laws;
 pub mod liars;
 pub mod message;
 pub mod op;
 mod printing;
+mod reading;
 pub mod rule;
+mod word;
 
 pub use device::DeviceOp;
 pub use first::First;
