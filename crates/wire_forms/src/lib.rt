@@ -3,11 +3,15 @@
 
 pub mod copies;
 pub mod device;
+pub mod first;
+pub mod liars;
 pub mod message;
 pub mod op;
 pub mod rule;
 
 pub use device::DeviceOp;
+pub use first::First;
+pub use liars::Liars;
 pub use message::{Ask, Body, Mail, Message, Reason, Reply, Request, Tag, Version};
 pub use op::Op;
 pub use rule::Rule;

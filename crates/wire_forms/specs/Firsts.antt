@@ -1,0 +1,25 @@
+-- The version that each block has from the beginning.
+use Rattle.std.specs.Prelude.{ℕ, ◌+◌, ◌-◌, ◌/◌, List, map, replicate}
+use Rattle.cross_sum.specs.Digest.{digest, verifier}
+use Rattle.quorum_rules.specs.Limits.{Numbers}
+use Rattle.wire_forms.specs.declared.first.First.{First}
+
+-- how many bytes a fragment has: size / m rounded up
+abbrev pub share_of : Numbers → ℕ
+share_of c = (c.size + c.m - 1) / c.m
+
+-- n strings of zero bytes, as long as a fragment
+abbrev pub zero_fragments : Numbers → List (List ℕ)
+zero_fragments c = replicate c.n (replicate (share_of c) 0)
+
+-- their cross checksum
+abbrev pub first_sum : Numbers → List (List ℕ)
+first_sum c = map digest (zero_fragments c)
+
+-- the first version: time 0, client 0, the verifier of that cross checksum, and zero bytes
+abbrev pub first_of : Numbers → First
+first_of c = record {
+  stamp = record { time = 0; client = 0; verifier = verifier (first_sum c) };
+  sum = first_sum c;
+  fragment = replicate (share_of c) 0;
+}

@@ -1,0 +1,48 @@
+ghost use Rattle.std.specs.Prelude.{◌≡◌, IfOk, replicate};
+
+use cross_sum::{Bytes, CrossSum, Hash, sha};
+use lists::NoMemory;
+use quorum_rules::Config;
+use stamp_order::Stamp;
+use std::alloc::Global;
+
+/// The version that each node keeps of each block from the beginning.
+#[derive(Drop)]
+pub struct First {
+    pub stamp: Stamp,
+    pub sum: CrossSum,
+    pub fragment: Bytes,
+}
+
+impl First {
+    ghost use Rattle.wire_forms.specs.Firsts.{first_of};
+
+    /// The first version in a cluster: fragments of zeros, and the one stamp of time 0.
+    pub fn of(alloc: Global, config: &Config) -> Result<First, NoMemory>
+        ensures { IfOk result (λ first. first ≡ first_of config.now) }
+    {
+        let fragment = Bytes::zeros(alloc, config.share() as usize)?;
+        let sum = sum_of_equal(alloc, sha(fragment.as_slice()), config.n())?;
+        let stamp = Stamp {
+            time: 0,
+            client: 0,
+            verifier: sum.verifier(),
+        };
+        Ok(First {
+            stamp,
+            sum,
+            fragment,
+        })
+    }
+}
+
+/// The cross checksum of so many fragments that all have one digest.
+fn sum_of_equal(alloc: Global, digest: Hash, count: u32) -> Result<CrossSum, NoMemory>
+    ensures { IfOk result (λ sum. sum ≡ replicate count digest) }
+{
+    let mut digests = Vec::new(alloc);
+    for _ in 0..count {
+        digests.push(digest)?;
+    }
+    CrossSum::of_hashes(alloc, digests.as_slice())
+}
