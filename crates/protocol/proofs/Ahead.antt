@@ -17,7 +17,7 @@ use Rattle.protocol.proofs.Sending as sending
 use Rattle.protocol.proofs.Starting as starting
 use Rattle.protocol.proofs.Giving as giving
 use Rattle.protocol.proofs.Moving as moving
-use Rattle.protocol.proofs.Hearing.{IsDecision, going_move, ending_move, counting_move, full_decided}
+use Rattle.protocol.proofs.Hearing.{IsDecision, going_move, ending_move, counting_move, full_decided, decision_keeps}
 use Rattle.protocol.proofs.Heard.{filled, AreSent, heard_case}
 
 module _ (s : Setting) (good : IsValid s) (w : World) (safe : IsSafe s w) (Enough : (ℕ → Bool) → Type 0) (b : ℕ) (stamp : Stamp) (end : ℕ) (q : Quorum s Enough w b stamp end) where
@@ -47,12 +47,12 @@ module _ (s : Setting) (good : IsValid s) (w : World) (safe : IsSafe s w) (Enoug
             → Quorum s Enough (moved s w place c (Some (goes_on (filled task answers) stage)) (mail s c (goes_on (filled task answers) stage)) (open_record c (goes_on (filled task answers) stage))) b stamp end
         going stage e =
             moving.quorum_after s w safe place later c task busy (Some (goes_on (filled task answers) stage)) (mail s c (goes_on (filled task answers) stage)) (open_record c (goes_on (filled task answers) stage))
-            (going_move s good w safe place later c task busy answers sent stage (rw e at decision)) Enough b stamp end q
+            (going_move s good w safe place later c task busy answers sent stage (rw e at decision) (rw e at (decision_keeps s good w safe place later c task busy answers sent task.stage refl))) Enough b stamp end q
 
         ending : (outcome : Outcome) → decide s c (filled task answers) task.stage ≡ Ends outcome → Quorum s Enough (moved s w place c None [] (closed_record c (filled task answers) place outcome)) b stamp end
         ending outcome e =
             moving.quorum_after s w safe place later c task busy None [] (closed_record c (filled task answers) place outcome)
-            (ending_move s good w safe place later c task busy answers sent outcome (rw e at decision)) Enough b stamp end q
+            (ending_move s good w safe place later c task busy answers sent outcome (rw e at decision) (rw e at (decision_keeps s good w safe place later c task busy answers sent task.stage refl))) Enough b stamp end q
 
     hears : (c : ℕ) (m : Message) → Contains w.pool m → w.client_crashed c ≡ false → IsAnswerTo s c m → Quorum s Enough (heard s w place c m m.body) b stamp end
     hears c m there up h =

@@ -1,5 +1,5 @@
 -- The setting of a cluster is valid: the real code and the real digest keep the laws.
-use Rattle.std.proofs.Common.{◌≡◌, ℕ, ◌<◌, Bool, List, [], ◌∷◌, length, get_or, map, sym, ap, subst, ◌∙◌, inl, inr, arith}
+use Rattle.std.proofs.Common.{◌≡◌, ℕ, ◌<◌, Bool, List, [], ◌∷◌, length, get_or, map, refl, sym, ap, subst, ◌∙◌, inl, inr, arith}
 use Rattle.std.specs.Prelude.{slice_index_or}
 use Rattle.std.specs.List.{Contains, AllByRecursion}
 use Rattle.std.proofs.lemmas.Bool.{cases_lt}
@@ -12,9 +12,14 @@ use Rattle.gf_field.specs.Polynomials.{AreElements, AreDistinct}
 use Rattle.gf_field.specs.Fragments.{IsShape, AreParts, string_len, string, fragments_of, decoded}
 use Rattle.gf_field.proofs.Blocks.{length-fragments_of, length-fragment, fragment_bytes, decoded_is_block, decoded-fragments_of}
 use Rattle.cross_sum.specs.Digest.{digest}
-use Rattle.protocol.specs.Messages.{IsBytes}
+use Rattle.stamp_order.specs.declared.Stamp.{Stamp}
+use Rattle.protocol.specs.Messages.{IsBytes, Version, Ask, Reply, Tag}
+use Rattle.protocol.specs.Nodes.{reply, after, accepts, pruned}
+use Rattle.protocol.specs.Operations.{Task, Stage, decide, mail}
+use Rattle.protocol.specs.Operations.Stage.{Times, Versions, Storing}
+use Rattle.protocol.specs.Seen.{SeenTask, hearing}
 use Rattle.protocol.specs.Setting.{Setting, IsValid, IsAscending}
-use Rattle.protocol.specs.Instance.{setting_of, part_numbers, part_strings, IsCluster}
+use Rattle.protocol.specs.Instance.{setting, setting_of, part_numbers, part_strings, IsCluster}
 use Rattle.protocol.proofs.Lists.{Contains-head, Contains-rest}
 
 all_map : {X Y : Type 0} (P : Y → Type 0) (f : X → Y) (xs : List X) → ((x : X) → Contains xs x → P (f x)) → AllByRecursion P (map f xs)
@@ -102,3 +107,28 @@ module _ (c : Numbers) (nodes clients : ℕ → Bool) (good : IsCluster c nodes)
     decodes = λ value parts h len up each. decodes_to value parts (h.0, h.1) len up each;
     decoded-block = λ parts len up each. decoded_to_block parts len up (λ q k. let e = each q k in (e.0, e.1.0, e.1.1));
   }
+
+-- what a single node or client does hangs on no liar
+module _ (c : Numbers) (nodes clients : ℕ → Bool) where
+  pub alone_reply : (i : ℕ) (vs : List Version) (ask : Ask) → reply (setting_of c nodes clients) i vs ask ≡ reply (setting c) i vs ask
+  alone_reply i vs ask = refl
+
+  pub alone_after : (i : ℕ) (vs : List Version) (ask : Ask) → after (setting_of c nodes clients) i vs ask ≡ after (setting c) i vs ask
+  alone_after i vs ask = refl
+
+  pub alone_accepts : (i : ℕ) (vs : List Version) (ask : Ask) → accepts (setting_of c nodes clients) i vs ask ≡ accepts (setting c) i vs ask
+  alone_accepts i vs ask = refl
+
+  pub alone_pruned : (stamp : Stamp) (vs : List Version) → pruned (setting_of c nodes clients) stamp vs ≡ pruned (setting c) stamp vs
+  alone_pruned stamp vs = refl
+
+  pub alone_decides : (client : ℕ) (task : Task) (stage : Stage) → decide (setting_of c nodes clients) client task stage ≡ decide (setting c) client task stage
+  alone_decides client task Times = refl
+  alone_decides client task (Versions bound) = refl
+  alone_decides client task (Storing stamp value) = refl
+
+  pub alone_mail : (client : ℕ) (task : Task) → mail (setting_of c nodes clients) client task ≡ mail (setting c) client task
+  alone_mail client task = refl
+
+  pub alone_hears : (client : ℕ) (t : SeenTask) (node : ℕ) (tag : Tag) (told : Reply) → hearing (setting_of c nodes clients) client t node tag told ≡ hearing (setting c) client t node tag told
+  alone_hears client t node tag told = refl

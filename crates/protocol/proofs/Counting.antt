@@ -1,5 +1,6 @@
 -- Counts of the numbers below n.
-use Rattle.std.proofs.Common.{◌≡◌, ℕ, zero, suc, ◌+◌, ◌<◌, ◌≤◌, Bool, true, false, cond, not, ◌&&◌, refl, arith, ◌⊎◌, inl, inr}
+use Rattle.std.proofs.Common.{◌≡◌, ℕ, zero, suc, ◌+◌, ◌<◌, ◌≤◌, Bool, true, false, cond, not, ◌&&◌, ◌||◌, List, [], ◌∷◌, length, refl, arith, ◌⊎◌, inl, inr, eqb}
+use Rattle.std.specs.List.{list_any}
 use Rattle.std.proofs.lemmas.Bool.Decides.{eqb_tells}
 use Rattle.protocol.specs.Count.{count, update}
 
@@ -58,3 +59,31 @@ update-cases f k v j =
 
 pub update-same : {A : Type 0} (f : ℕ → A) (k : ℕ) (v : A) → update f k v k ≡ v
 update-same f k v = elim (update-cases f k v k) [ inl h ↦ h.1 | inr h ↦ absurd (h.0 refl) ]
+
+-- a list names at most as many numbers as it is long
+or_bits : (a c : Bool) → cond {A = ℕ} (a || c) 1 0 ≤ 1
+or_bits true c = omega arith
+or_bits false true = omega arith
+or_bits false false = omega arith
+
+one_more_named : (n x : ℕ) (p : ℕ → Bool) → count n (λ i. eqb i x || p i) ≤ suc (count n p)
+one_more_named zero x p = omega arith
+one_more_named (suc k) x p =
+    let rest = one_more_named k x p in
+    elim (eqb_tells k x) [
+      | inl h ↦ (let b = or_bits (eqb k x) (p k) in
+          let same = count_within k (λ i. eqb i x || p i) p (λ i l t. others i (p i) (λ e. let q = h.1 in omega (arith, l, e, q)) t) in
+          omega (arith, b, same))
+      | inr h ↦ (let e : cond {A = ℕ} (eqb k x || p k) 1 0 ≡ cond (p k) 1 0 = rw h.0 refl in omega (arith, rest, e))
+    ]
+  where
+    others : (i : ℕ) (c : Bool) → (i ≡ x → ⊥) → eqb i x || c ≡ true → c ≡ true
+    others i c n t = elim (eqb_tells i x) [ inl h ↦ absurd (n h.1) | inr h ↦ (let g : false || c ≡ true = rw h.0 at t in g) ]
+
+pub count_named : (n : ℕ) (xs : List ℕ) → count n (λ i. list_any (λ x. eqb i x) xs) ≤ length xs
+count_named n [] = none n
+  where
+    none : (n : ℕ) → count n (λ i. false) ≤ 0
+    none zero = omega arith
+    none (suc k) = omega (arith, none k)
+count_named n (x ∷ xs) = omega (arith, one_more_named n x (λ i. list_any (λ y. eqb i y) xs), count_named n xs)

@@ -333,7 +333,7 @@ module _ (s : Setting) (w : World) (safe : IsSafe s w) (place : ℕ) (later : w.
 
   value_before : (x : List ℕ) → IsValue s w x → IsValue s after x
   value_before x zeros_value = zeros_value
-  value_before x (written {r = r} {value = v} h k) = written {r = r} {value = v} h k
+  value_before x (written {r = r} {value = v} {stamp = t} h k e) = written {r = r} {value = v} {stamp = t} h k e
   value_before x (given {block = b} {end = e} {stamp = t} {value = v} h) = given {block = b} {end = e} {stamp = t} {value = v} h
 
   apart_before : NoClash s after → NoClash s w

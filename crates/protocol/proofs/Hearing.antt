@@ -80,7 +80,7 @@ done_as s w x end stamp Reads Spent h e work f o k = absurd k
 done_as s w x end stamp Reads (Outvoted nodes) h e work f o k = absurd k
 done_as s w x end stamp (Writes value) (Wrote g) h e work f o k =
     let q : g ≡ stamp = (let p = k.0 in cc) in
-    record { value = value; of_run = written {r = x} {value = value} h work; size = k.1.whole; sound = ap (λ (t : Stamp). t.verifier) (sym q) ∙ k.1.sound }
+    record { value = value; of_run = written {r = x} {value = value} {stamp = stamp} h work f; size = k.1.whole; sound = ap (λ (t : Stamp). t.verifier) (sym q) ∙ k.1.sound }
 done_as s w x end stamp (Writes value) (Gave g v how rounds) h e work f o k = absurd k
 done_as s w x end stamp (Writes value) Spent h e work f o k = absurd (cc k)
 done_as s w x end stamp (Writes value) (Outvoted nodes) h e work f o k = absurd k
@@ -114,8 +114,9 @@ module _ (s : Setting) (good : IsValid s) (w : World) (safe : IsSafe s w) (place
       → ((i : ℕ) → i < s.n → Contains (w.pool ++ more) (outstanding s c z i)) → ((m : Message) → Contains more m → IsFormedBody m.body)
       → IsStage s z.work z.stage → Aims (λ stamp. IsAimed s stamp z.work z.stage)
       → ((m : Message) → Contains more m → (i : ℕ) × (m ≡ outstanding s c z i))
+      → ((stamp : Stamp) (value : List ℕ) → task.work ≡ Writes value → chosen_stamp task.work task.stage ≡ Some stamp → chosen_stamp z.work z.stage ≡ Some stamp)
       → IsMove s w safe place later c task busy (Some z) more (open_record c z)
-  open_move z more op block work start phase hears mails forms stage aims sends =
+  open_move z more op block work start phase hears mails forms stage aims sends keeps =
       let t = safe.tasks c task busy in
       let valid : IsTask s (moved s w place c (Some z) more (open_record c z)) c z =
       record {
@@ -152,13 +153,15 @@ module _ (s : Setting) (good : IsValid s) (w : World) (safe : IsSafe s w) (place
         open_end = λ e. refl;
         closed_end = λ end e. absurd (cc e);
         completed = λ end stamp e f. absurd (cc e);
+        keeps = keeps;
         orders = λ apart x end stamp last h e f g b l. after_as s stamp z.work task.work last work (open_after s stamp last z.work z.stage g (aims apart x end stamp h e f b l));
       }
 
   pub close_move : (outcome : Outcome) → IsOutcome s task.work (stamp_of_outcome outcome) (Some outcome) → ((stamp : Stamp) → stamp_of_outcome outcome ≡ Some stamp → IsHeld s w task.block stamp)
       → ((last : Stamp) → stamp_of_outcome outcome ≡ Some last → Aims (λ stamp. IsAfter s stamp task.work last))
+      → ((stamp : Stamp) (value : List ℕ) → task.work ≡ Writes value → chosen_stamp task.work task.stage ≡ Some stamp → stamp_of_outcome outcome ≡ Some stamp)
       → IsMove s w safe place later c task busy None [] (closed_record c full place outcome)
-  close_move outcome right held orders =
+  close_move outcome right held orders keeps =
       record {
         nexts = λ y e. absurd (cc e);
         sends = λ m h. absurd (Contains-none m h);
@@ -172,6 +175,7 @@ module _ (s : Setting) (good : IsValid s) (w : World) (safe : IsSafe s w) (place
         open_end = λ e. absurd (cc e);
         closed_end = λ end e. (outcome, refl);
         completed = λ end stamp e f. held stamp f;
+        keeps = keeps;
         orders = λ apart x end stamp last h e f g b l. orders last g apart x end stamp h e f b l;
       }
 
@@ -181,6 +185,23 @@ module _ (s : Setting) (good : IsValid s) (w : World) (safe : IsSafe s w) (place
   IsDecision work (Ends outcome) =
       IsOutcome s work (stamp_of_outcome outcome) (Some outcome) × ((stamp : Stamp) → stamp_of_outcome outcome ≡ Some stamp → IsHeld s w task.block stamp)
       × ((last : Stamp) → stamp_of_outcome outcome ≡ Some last → Aims (λ stamp. IsAfter s stamp work last))
+
+  -- a write that chose a stamp goes on no more, and ends with it
+  abbrev pub Keeps : Decision → Type 0
+  Keeps (GoesOn stage) = (stamp : Stamp) (value : List ℕ) → task.work ≡ Writes value → chosen_stamp task.work task.stage ≡ Some stamp → ⊥
+  Keeps (Ends outcome) = (stamp : Stamp) (value : List ℕ) → task.work ≡ Writes value → chosen_stamp task.work task.stage ≡ Some stamp → stamp_of_outcome outcome ≡ Some stamp
+
+  not_chosen : (d : Decision) → ((stamp : Stamp) (value : List ℕ) → task.work ≡ Writes value → chosen_stamp task.work task.stage ≡ Some stamp → ⊥) → Keeps d
+  not_chosen (GoesOn stage) h = h
+  not_chosen (Ends outcome) h = λ stamp value e f. absurd (h stamp value e f)
+
+  pub decision_keeps : (stage : Stage) → task.stage ≡ stage → Keeps (decide s c full stage)
+  decision_keeps Times e = not_chosen (decide s c full Times) (λ stamp value f g. let k : chosen_stamp (Writes value) Times ≡ Some stamp = rw (f, e) at g in cc)
+  decision_keeps (Versions bound) e = not_chosen (decide s c full (Versions bound)) (λ stamp value f g. let k : chosen_stamp (Writes value) (Versions bound) ≡ Some stamp = rw (f, e) at g in cc)
+  decision_keeps (Storing p v) e = λ stamp value f g.
+      let k : chosen_stamp (Writes value) (Storing p v) ≡ Some stamp = rw (f, e) at g in
+      let d : stamp_of_outcome (stored task.work task.rounds p v) ≡ Some p = rw f refl in
+      d ∙ k
 
   -- what the next phase asks is sent, and what this one asks was
   pub mailed_next : (stage : Stage) (i : ℕ) → i < s.n → Contains (w.pool ++ mail s c (goes_on full stage)) (outstanding s c (goes_on full stage) i)
@@ -194,23 +215,23 @@ module _ (s : Setting) (good : IsValid s) (w : World) (safe : IsSafe s w) (place
   formed_next stage h m k = let r = in_mail s c (goes_on full stage) m k in rw r.2 (request_formed s good task.work stage h r.0)
 
   -- the three ways on from an answer that was counted
-  pub going_move : (stage : Stage) → IsDecision task.work (GoesOn stage) → IsMove s w safe place later c task busy (Some (goes_on full stage)) (mail s c (goes_on full stage)) (open_record c (goes_on full stage))
-  going_move stage h =
+  pub going_move : (stage : Stage) → IsDecision task.work (GoesOn stage) → Keeps (GoesOn stage) → IsMove s w safe place later c task busy (Some (goes_on full stage)) (mail s c (goes_on full stage)) (open_record c (goes_on full stage))
+  going_move stage h keeps =
       open_move (goes_on full stage) (mail s c (goes_on full stage)) refl refl refl refl (inr refl) (λ i reply e. absurd (cc e)) (mailed_next stage) (formed_next stage h.0) h.0 h.1
-      (λ m k. let r = in_mail s c (goes_on full stage) m k in (r.0, r.2))
+      (λ m k. let r = in_mail s c (goes_on full stage) m k in (r.0, r.2)) (λ stamp value e f. absurd (keeps stamp value e f))
 
-  pub ending_move : (outcome : Outcome) → IsDecision task.work (Ends outcome) → IsMove s w safe place later c task busy None [] (closed_record c full place outcome)
-  ending_move outcome h = close_move outcome h.0 h.1 h.2
+  pub ending_move : (outcome : Outcome) → IsDecision task.work (Ends outcome) → Keeps (Ends outcome) → IsMove s w safe place later c task busy None [] (closed_record c full place outcome)
+  ending_move outcome h keeps = close_move outcome h.0 h.1 h.2 keeps
 
   pub counting_move : IsMove s w safe place later c task busy (Some full) [] (open_record c full)
   counting_move =
       open_move full [] refl refl refl refl (inl (refl, refl)) heard mailed_same (λ m k. absurd (Contains-none m k)) (safe.tasks c task busy).stage
-      (λ apart x end stamp h e f b l. safe.aimed apart x end stamp c task h e f busy b l) (λ m k. absurd (Contains-none m k))
+      (λ apart x end stamp h e f b l. safe.aimed apart x end stamp c task h e f busy b l) (λ m k. absurd (Contains-none m k)) (λ stamp value e f. f)
 
-  decided_safe : (d : Decision) → IsDecision task.work d → IsSafe s (decided s w place c full d)
-  decided_safe (GoesOn stage) h =
-      moved_safe s w safe place later c task busy (Some (goes_on full stage)) (mail s c (goes_on full stage)) (open_record c (goes_on full stage)) (going_move stage h)
-  decided_safe (Ends outcome) h = moved_safe s w safe place later c task busy None [] (closed_record c full place outcome) (ending_move outcome h)
+  decided_safe : (d : Decision) → IsDecision task.work d → Keeps d → IsSafe s (decided s w place c full d)
+  decided_safe (GoesOn stage) h keeps =
+      moved_safe s w safe place later c task busy (Some (goes_on full stage)) (mail s c (goes_on full stage)) (open_record c (goes_on full stage)) (going_move stage h keeps)
+  decided_safe (Ends outcome) h keeps = moved_safe s w safe place later c task busy None [] (closed_record c full place outcome) (ending_move outcome h keeps)
 
   -- an answer that doesn't end the phase
   counted_safe : IsSafe s (moved s w place c (Some full) [] (open_record c full))
@@ -387,4 +408,4 @@ module _ (s : Setting) (good : IsValid s) (w : World) (safe : IsSafe s w) (place
       at true e = counted_safe
       at false e =
           let enough : s.n ≤ answered s answers + s.t = grind (arith, nat_tests) in
-          decided_safe (decide s c full task.stage) (full_decided enough task.stage refl task.work refl (safe.tasks c task busy).stage)
+          decided_safe (decide s c full task.stage) (full_decided enough task.stage refl task.work refl (safe.tasks c task busy).stage) (decision_keeps task.stage refl)

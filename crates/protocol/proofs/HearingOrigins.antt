@@ -56,7 +56,7 @@ module _ (s : Setting) (good : IsValid s) (w : World) (safe : IsSafe s w) (origi
     on_move : IsMove s w safe place later c task busy (Some z) (mail s c z) (open_record c z)
     on_move =
         open_move s good w safe place later c task busy answers heard z (mail s c z) refl refl refl refl (inr refl) (λ i reply e. absurd (cc e)) (mailed_next s good w safe place later c task busy answers heard stage) (formed_next s good w safe place later c task busy answers heard stage h.0) h.0 h.1
-        (λ m k. let r = in_mail s c z m k in (r.0, r.2))
+        (λ m k. let r = in_mail s c z m k in (r.0, r.2)) (λ stamp value e f. absurd (o.0 stamp value e f))
 
     stays : (stamp : Stamp) (value : List ℕ) → task.work ≡ Writes value → chosen_stamp task.work task.stage ≡ Some stamp → (open_record c z).stamp ≡ Some stamp
     stays stamp value e f = absurd (o.0 stamp value e f)
@@ -80,7 +80,7 @@ module _ (s : Setting) (good : IsValid s) (w : World) (safe : IsSafe s w) (origi
   end_origins : (outcome : Outcome) → IsRight (Ends outcome) → IsOriginal (Ends outcome) → HasOrigins s (moved s w place c None [] (closed_record c now place outcome))
   end_origins outcome h o =
       went_origins s w safe origins place later c task busy None [] (closed_record c now place outcome)
-      (close_move s good w safe place later c task busy answers heard outcome h.0 h.1 h.2) o.0
+      (close_move s good w safe place later c task busy answers heard outcome h.0 h.1 h.2 o.0) o.0
       (λ y e there. absurd (cc e)) (λ stamp value how rounds e. o.1 stamp value how rounds (cc e))
 
   decided_origins : (d : Decision) → IsRight d → IsOriginal d → HasOrigins s (decided s w place c now d)
@@ -90,7 +90,7 @@ module _ (s : Setting) (good : IsValid s) (w : World) (safe : IsSafe s w) (origi
   counted_origins : HasOrigins s (moved s w place c (Some now) [] (open_record c now))
   counted_origins =
       let move = open_move s good w safe place later c task busy answers heard now [] refl refl refl refl (inl (refl, refl)) heard (mailed_same s good w safe place later c task busy answers heard) (λ m k. absurd (Contains-none m k)) (safe.tasks c task busy).stage
-      (λ apart x end stamp h e f b l. safe.aimed apart x end stamp c task h e f busy b l) (λ m k. absurd (Contains-none m k)) in
+      (λ apart x end stamp h e f b l. safe.aimed apart x end stamp c task h e f busy b l) (λ m k. absurd (Contains-none m k)) (λ stamp value e f. f) in
       went_origins s w safe origins place later c task busy (Some now) [] (open_record c now) move (λ stamp value e f. f)
       (λ y e there. let q : y ≡ now = cc in rw q
       (stage-more s w (moved s w place c (Some now) [] (open_record c now))

@@ -84,7 +84,7 @@ module _ (s : Setting) (good : IsValid s) (w : World) (safe : IsSafe s w) where
   write_stamped : (e : Entry) → IsWrite w.records e → IsStamped e.stamp e.value
   write_stamped e h =
       let g = write_good h.0 e.value e.stamp h.1 h.2 h.3 in
-      record { of_run = written {r = h.0} {value = e.value} h.1 h.2; size = g.whole; sound = g.sound }
+      record { of_run = written {r = h.0} {value = e.value} {stamp = e.stamp} h.1 h.2 h.3; size = g.whole; sound = g.sound }
 
   foreign_stamped : (e : Entry) → IsForeign w.records e → IsStamped e.stamp e.value
   foreign_stamped e h = from_given e.block h.0 e.stamp e.value h.1 (has_read_given e.block h.0 e.stamp e.value h.1)

@@ -11,7 +11,8 @@ use Rattle.protocol.specs.Messages.{IsFormedBody, Ask, Reply, Message}
 use Rattle.wire_forms.specs.declared.Body.TheVariants.{Ask as Asks, Answer as Answers}
 use Rattle.protocol.specs.Setting.{Setting}
 use Rattle.protocol.specs.Operations.{Task, Stage, Outcome, outstanding, request_of}
-use Rattle.protocol.specs.World.{Record, World, moved, replaced_by, open_record, unless, under_way, last_op}
+use Rattle.protocol.specs.Operations.Work.{Writes}
+use Rattle.protocol.specs.World.{Record, World, chosen_stamp, moved, replaced_by, open_record, unless, under_way, last_op}
 use Rattle.protocol.specs.History.{NoClash, IsValue}
 use Rattle.protocol.specs.History.IsValue.{zeros_value, written, given}
 use Rattle.protocol.proofs.Counting.{update-cases}
@@ -60,6 +61,8 @@ module _ (s : Setting) (w : World) (safe : IsSafe s w) (place : ℕ) (later : w.
     pub open_end : r.end ≡ None → r.outcome ≡ None
     pub closed_end : (end : ℕ) → r.end ≡ Some end → (outcome : Outcome) × (r.outcome ≡ Some outcome)
     pub completed : (end : ℕ) (stamp : Stamp) → r.end ≡ Some end → r.stamp ≡ Some stamp → IsHeld s w r.block stamp
+    -- a write that chose a stamp keeps it
+    pub keeps : (stamp : Stamp) (value : List ℕ) → task.work ≡ Writes value → chosen_stamp task.work task.stage ≡ Some stamp → r.stamp ≡ Some stamp
     pub orders : NoClash s w → (x : Record) (end : ℕ) (stamp last : Stamp) → Contains w.records x → x.end ≡ Some end → x.stamp ≡ Some stamp → r.stamp ≡ Some last → task.block ≡ x.block → end < task.start → IsAfter s stamp task.work last
 
   module _ (move : IsMove) where
@@ -290,10 +293,12 @@ module _ (s : Setting) (w : World) (safe : IsSafe s w) (place : ℕ) (later : w.
 
     value_before : (x : List ℕ) → IsValue s w x → IsValue s after x
     value_before x zeros_value = zeros_value
-    value_before x (written {r = y} {value = v} h k) =
+    value_before x (written {r = y} {value = v} {stamp = t} h k f) =
         elim (record_after y h) [
-          | inl l ↦ written {r = y} {value = v} l k
-          | inr e ↦ written {r = r} {value = v} e.1 (move.work ∙ sym (ap (λ (z : Record). z.work) e.0) ∙ k)
+          | inl l ↦ written {r = y} {value = v} {stamp = t} l k f
+          | inr e ↦
+              (let work : task.work ≡ Writes v = sym (ap (λ (z : Record). z.work) e.0) ∙ k in
+              written {r = r} {value = v} {stamp = t} e.1 (move.work ∙ work) (move.keeps t v work (sym (ap (λ (z : Record). z.stamp) e.0) ∙ f)))
         ]
     value_before x (given {block = b} {end = e} {stamp = t} {value = v} h) =
         elim (record_after h.read h.there) [

@@ -1,18 +1,19 @@
 -- The code's states, seen as first-order data, move as those of the definitions do.
-use Rattle.std.proofs.Common.{◌≡◌, ℕ, ◌-◌, ◌<◌, Bool, true, false, cond, List, [], length, replicate, Option, refl, sym, ◌∙◌, ap, inl, inr, arith, ltb}
+use Rattle.std.proofs.Common.{◌≡◌, ◌⊎◌, ◌∷◌, eqb, ℕ, ◌-◌, ◌<◌, Bool, true, false, cond, List, [], length, replicate, Option, refl, sym, ◌∙◌, ap, inl, inr, arith, ltb}
 use Rattle.std.specs.Prelude.{slice_index_or, slice_set}
 use Rattle.std.specs.declared.option.Option.TheVariants.{None, Some}
 use Rattle.std.proofs.lemmas.Bool.{cases_lt}
 use Rattle.std.proofs.lemmas.Bool.Decides.{nat_tests}
 use Rattle.std.proofs.lemmas.List.{get_or-set_same, get_or-set_other, get_or-replicate, get_or_past, length-replicate, length-set}
 use Rattle.protocol.specs.Count.{update}
-use Rattle.protocol.specs.Messages.{Reply, Message}
+use Rattle.protocol.specs.Messages.{Version, Reply, Message}
 use Rattle.protocol.specs.Setting.{Setting}
 use Rattle.protocol.specs.Operations.{Task, Work, Stage, Decision, decide, mail, goes_on, begun, counted, answered}
 use Rattle.protocol.specs.Operations.Stage.{Times, Versions, Storing}
 use Rattle.protocol.specs.Operations.Decision.{GoesOn, Ends}
-use Rattle.protocol.specs.World.{World, moved, only_place, decided, advanced, heard_by, open_record, closed_record}
-use Rattle.protocol.specs.Seen.{SeenTask, Hearing, answers_of, task_at, seen_begun, seen_goes_on, seen_counted, is_counted, by_decision, after_counting, hearing}
+use Rattle.protocol.specs.Nodes.{first_version}
+use Rattle.protocol.specs.World.{World, start_world, moved, only_place, decided, advanced, heard_by, open_record, closed_record}
+use Rattle.protocol.specs.Seen.{SeenClient, SeenWorld, client_at, new_client, started_task, world_of, SeenTask, Hearing, answers_of, task_at, seen_begun, seen_goes_on, seen_counted, is_counted, by_decision, after_counting, hearing}
 use Rattle.protocol.specs.Seen.Hearing.{Ignored, Counted, Begins, Ended}
 use Rattle.protocol.proofs.Counting.{update-cases, both_true}
 
@@ -108,3 +109,90 @@ module _ (s : Setting) (w : World) (place c start : ℕ) where
           let l = node_below t m given e in
           ap (λ (z : Task). advanced s w place c z) (sym (counted-seen start t m.node given (omega (arith, l, full))))
           ∙ counting-seen t (seen_counted t m.node given) refl refl
+
+-- ---- one change of the seen world is that change of the world
+
+field_update : {A B : Type 0} (f : A → B) (g : ℕ → A) (c : ℕ) (v : A) (d : ℕ) → f (update g c v d) ≡ update (λ j. f (g j)) c (f v) d
+field_update {A} {B} f g c v d = at (eqb d c)
+  where
+    at : (b : Bool) → f (cond b v (g d)) ≡ cond b (f v) (f (g d))
+    at true = refl
+    at false = refl
+
+module _ (s : Setting) (w : SeenWorld) where
+  -- a client, its operation and where that began
+  module _ (c : ℕ) (k : SeenClient) (inside : c < length w.clients) where
+    abbrev with_client : ℕ → SeenClient
+    with_client d = slice_index_or (slice_set w.clients c k) d new_client
+
+    client-set : (d : ℕ) → with_client d ≡ update (client_at w) c k d
+    client-set d = at_list w.clients new_client k c inside d
+
+    pub life-set : (λ d. (with_client d).life) ≡ update (world_of s w).life c k.life
+    life-set = funext _ _ (λ d. ap (λ (x : SeenClient). x.life) (client-set d) ∙ field_update (λ (x : SeenClient). x.life) (client_at w) c k d)
+
+    pub started-set : (λ d. (with_client d).started) ≡ update (world_of s w).started c k.started
+    started-set = funext _ _ (λ d. ap (λ (x : SeenClient). x.started) (client-set d) ∙ field_update (λ (x : SeenClient). x.started) (client_at w) c k d)
+
+    -- where the start changes too
+    pub task-begun : (start : ℕ) → c < length w.starts → (λ d. started_task (slice_index_or (slice_set w.starts c start) d 0) (with_client d).task) ≡ update (world_of s w).task c (started_task start k.task)
+    task-begun start l = funext _ _ (λ d.
+        ap (λ (x : ℕ × SeenClient). started_task x.0 x.1.task) (pair (at_list w.starts 0 start c l d) (client-set d))
+        ∙ both (eqb d c) (slice_index_or w.starts d 0) (client_at w d))
+      where
+        pair : {a b : ℕ} {x y : SeenClient} → a ≡ b → x ≡ y → ◌≡◌ {A = ℕ × SeenClient} (a, x) (b, y)
+        pair e f j = (e j, f j)
+
+        both : (b : Bool) (n : ℕ) (x : SeenClient) → started_task (cond b start n) (cond b k x).task ≡ cond b (started_task start k.task) (started_task n x.task)
+        both true n x = refl
+        both false n x = refl
+
+    -- where it stays
+    pub task-set : (λ d. started_task (slice_index_or w.starts d 0) (with_client d).task) ≡ update (world_of s w).task c (started_task (slice_index_or w.starts c 0) k.task)
+    task-set = funext _ _ (λ d. ap (λ (x : SeenClient). started_task (slice_index_or w.starts d 0) x.task) (client-set d) ∙ at d (update-cases (client_at w) c k d) (update-cases (world_of s w).task c (started_task (slice_index_or w.starts c 0) k.task) d))
+      where
+        at : (d : ℕ) → ((d ≡ c) × (update (client_at w) c k d ≡ k)) ⊎ ((d ≡ c → ⊥) × (update (client_at w) c k d ≡ client_at w d))
+            → ((d ≡ c) × (update (world_of s w).task c (started_task (slice_index_or w.starts c 0) k.task) d ≡ started_task (slice_index_or w.starts c 0) k.task)) ⊎ ((d ≡ c → ⊥) × (update (world_of s w).task c (started_task (slice_index_or w.starts c 0) k.task) d ≡ (world_of s w).task d))
+            → started_task (slice_index_or w.starts d 0) (update (client_at w) c k d).task ≡ update (world_of s w).task c (started_task (slice_index_or w.starts c 0) k.task) d
+        at d (inl e) (inl f) = ap (λ (x : SeenClient). started_task (slice_index_or w.starts d 0) x.task) e.1 ∙ ap (λ (j : ℕ). started_task (slice_index_or w.starts j 0) k.task) e.0 ∙ sym f.1
+        at d (inl e) (inr f) = absurd (f.0 e.0)
+        at d (inr e) (inl f) = absurd (e.0 f.0)
+        at d (inr e) (inr f) = ap (λ (x : SeenClient). started_task (slice_index_or w.starts d 0) x.task) e.1 ∙ sym f.1
+
+  -- who has crashed
+  pub node_crashed-set : (i : ℕ) (b : Bool) → i < length w.node_crashed → (λ j. slice_index_or (slice_set w.node_crashed i b) j false) ≡ update (world_of s w).node_crashed i b
+  node_crashed-set i b l = funext _ _ (λ j. at_list w.node_crashed false b i l j)
+
+  pub client_crashed-set : (c : ℕ) (b : Bool) → c < length w.client_crashed → (λ d. slice_index_or (slice_set w.client_crashed c b) d false) ≡ update (world_of s w).client_crashed c b
+  client_crashed-set c b l = funext _ _ (λ d. at_list w.client_crashed false b c l d)
+
+  -- what node i keeps of a block
+  pub versions-set : (i block : ℕ) (vs : List Version) → i < length w.versions → block < length (slice_index_or w.versions i [])
+      → (λ j b. slice_index_or (slice_index_or (slice_set w.versions i (slice_set (slice_index_or w.versions i []) block vs)) j []) b (first_version s j ∷ []))
+      ≡ update (world_of s w).versions i (update ((world_of s w).versions i) block vs)
+  versions-set i block vs l m = funext _ _ (λ j. at j (update-cases (world_of s w).versions i (update ((world_of s w).versions i) block vs) j))
+    where
+      row : List (List Version)
+      row = slice_set (slice_index_or w.versions i []) block vs
+
+      at : (j : ℕ) → ((j ≡ i) × (update (world_of s w).versions i (update ((world_of s w).versions i) block vs) j ≡ update ((world_of s w).versions i) block vs))
+          ⊎ ((j ≡ i → ⊥) × (update (world_of s w).versions i (update ((world_of s w).versions i) block vs) j ≡ (world_of s w).versions j))
+          → (λ b. slice_index_or (slice_index_or (slice_set w.versions i (slice_set (slice_index_or w.versions i []) block vs)) j []) b (first_version s j ∷ []))
+          ≡ update (world_of s w).versions i (update ((world_of s w).versions i) block vs) j
+      at j (inl e) =
+          funext _ _ (λ b.
+          ap (λ (r : List (List Version)). slice_index_or r b (first_version s j ∷ [])) (rw (e.0) (get_or-set_same w.versions i (slice_set (slice_index_or w.versions i []) block vs) [] l))
+          ∙ ap (λ (k : ℕ). slice_index_or (slice_set (slice_index_or w.versions i []) block vs) b (first_version s k ∷ [])) e.0
+          ∙ at_list (slice_index_or w.versions i []) (first_version s i ∷ []) vs block m b)
+          ∙ sym e.1
+      at j (inr e) =
+          funext _ _ (λ b. ap (λ (r : List (List Version)). slice_index_or r b (first_version s j ∷ [])) (get_or-set_other w.versions i j (slice_set (slice_index_or w.versions i []) block vs) [] e.0))
+          ∙ sym e.1
+
+-- the world before anything took place, if each row and each client is as new
+module _ (s : Setting) (w : SeenWorld) (rows : (i block : ℕ) → i < length w.versions → block < length (slice_index_or w.versions i []) → slice_index_or (slice_index_or w.versions i []) block (first_version s i ∷ []) ≡ first_version s i ∷ []) where
+  pub versions-new : (world_of s w).versions ≡ (start_world s).versions
+  versions-new = funext _ _ (λ i. funext _ _ (λ block. elim (cases_lt i (length w.versions)) [
+    | inl l ↦ elim (cases_lt block (length (slice_index_or w.versions i []))) [ inl m ↦ rows i block l m | inr m ↦ get_or_past (slice_index_or w.versions i []) block (first_version s i ∷ []) m ]
+    | inr l ↦ ap (λ (r : List (List Version)). slice_index_or r block (first_version s i ∷ [])) (get_or_past w.versions i [] l) ∙ get_or_past {X = List Version} [] block (first_version s i ∷ []) (omega arith)
+  ]))

@@ -110,7 +110,7 @@ module _ (s : Setting) (w : World) where
         where
           value : (x : List ℕ) → IsValue s w x → IsValue s changed x
           value x zeros_value = zeros_value
-          value x (written {r = r} {value = v} h k) = written {r = r} {value = v} h k
+          value x (written {r = r} {value = v} {stamp = t} h k e) = written {r = r} {value = v} {stamp = t} h k e
           value x (given {block = b} {end = e} {stamp = t} {value = v} h) = given {block = b} {end = e} {stamp = t} {value = v} h
 
       pub changed_safe : ((i block : ℕ) → i < s.n → s.lying_node i ≡ false → IsStored s changed i block) → IsSafe s changed

@@ -80,7 +80,7 @@ module _ (s : Setting) (w : World) (safe : IsSafe s w) (place : ℕ) (later : w.
 
   value_before : (x : List ℕ) → IsValue s w x → IsValue s after x
   value_before x zeros_value = zeros_value
-  value_before x (written {r = r} {value = v} h k) = written {r = r} {value = v} (Contains-append_left w.records (open_record c new ∷ []) r h) k
+  value_before x (written {r = r} {value = v} {stamp = t} h k e) = written {r = r} {value = v} {stamp = t} (Contains-append_left w.records (open_record c new ∷ []) r h) k e
   value_before x (given {block = b} {end = e} {stamp = t} {value = v} h) =
       given {block = b} {end = e} {stamp = t} {value = v} (record { read = h.read; there = Contains-append_left w.records (open_record c new ∷ []) h.read h.there; of_block = h.of_block; ended = h.ended; how = h.how; rounds = h.rounds; gave = h.gave })
 

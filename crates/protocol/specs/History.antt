@@ -132,7 +132,7 @@ InTime h =
     (i j : ℕ) (d : Entry) → i < length h → j < length h → (slice_index_or h i d).block ≡ (slice_index_or h j d).block
     → (end start : ℕ) → (slice_index_or h i d).end ≡ Some end → (slice_index_or h j d).start ≡ Some start → end < start → i < j
 
--- the strings that were seen: in messages, and of values that records wrote or gave
+-- the strings that were seen: in messages, and of values that were written or given
 abbrev pub in_version : Version → List (List ℕ)
 in_version v = flat v.sum ∷ v.fragment ∷ []
 
@@ -153,10 +153,10 @@ in_body (Asks ask) = in_request ask.request
 in_body (Answers reply) = in_reply reply
 
 module _ (s : Setting) where
-  -- a value that a record wrote or gave, or zeros
+  -- a value that a read gave or a write chose a stamp for, or zeros
   pub data IsValue (w : World) : List ℕ → Type 0 where
     zeros_value : IsValue w (zeros s)
-    written : {r : Record} {value : List ℕ} → Contains w.records r → r.work ≡ Writes value → IsValue w value
+    written : {r : Record} {value : List ℕ} {stamp : Stamp} → Contains w.records r → r.work ≡ Writes value → r.stamp ≡ Some stamp → IsValue w value
     given : {block end : ℕ} {stamp : Stamp} {value : List ℕ} → HasRead w.records block stamp value end → IsValue w value
 
   -- a string that was seen

@@ -12,4 +12,3 @@ pub mod Bounds
 pub mod Report
 pub mod Seen
 pub mod Instance
-pub mod Example

@@ -4,6 +4,7 @@ use Rattle.std.specs.declared.option.Option.TheVariants.{None, Some}
 use Rattle.protocol.specs.Messages.{Version, Message, Reply, Tag}
 use Rattle.wire_forms.specs.declared.op.Op.{Op}
 use Rattle.wire_forms.specs.declared.op.Op.TheVariants.{Read as ReadOp, Write as WriteOp}
+use Rattle.quorum_rules.specs.Limits.{Numbers}
 use Rattle.protocol.specs.Setting.{Setting}
 use Rattle.protocol.specs.Nodes.{first_version}
 use Rattle.protocol.specs.Operations.{Task, Work, Stage, Outcome, Decision, first_work, rounds_after, is_of_kind, is_answered, answered, decide}
@@ -28,6 +29,12 @@ answers_of t i = slice_index_or t.answers i None
 -- the operation, which began at this place
 abbrev pub task_at : ℕ → SeenTask → Task
 task_at start t = record { op = t.op; block = t.block; work = t.work; start = start; phase = t.phase; rounds = t.rounds; stage = t.stage; answers = λ i. answers_of t i }
+
+-- a client's operation, in a cluster of these numbers; no task once it is over
+pub record SeenOperation : Type 0 where
+  pub config : Numbers
+  pub client : ℕ
+  pub task : Option SeenTask
 
 -- what an answer does to an operation: nothing; it is counted; a next phase begins; the operation ends
 pub data Hearing : Type 0 where

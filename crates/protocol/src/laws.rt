@@ -3,19 +3,19 @@
 //! A law speaks of every cluster: any valid configuration, at most `b` of its nodes lying and any of its clients, with the real
 //! code and SHA-256; and of the last world of every run of it, whatever lines it has. A run's beginning is a run, so what is
 //! said of the last world holds in every world of the run.
-ghost use Rattle.std.specs.Prelude.{◌≡◌, ◌≢◌, ◌↔◌, ◌⊎◌, ◌<◌, ℕ, List, ◌++◌, Option, true, false, Bool, slice_get};
+ghost use Rattle.std.specs.Prelude.{◌≡◌, ◌≢◌, ◌↔◌, ◌⊎◌, ◌<◌, ◌+◌, ℕ, List, length, map, count_by, ◌++◌, Option, true, false, Bool, slice_get};
 ghost use Rattle.std.specs.declared.option.Option.TheVariants.{Some, None};
 ghost use Rattle.std.specs.declared.cmp.Ordering.TheVariants.{Equal};
 ghost use Rattle.std.specs.List.{Contains};
 ghost use Rattle.quorum_rules.specs.Limits.{Numbers};
 ghost use Rattle.stamp_order.specs.declared.Stamp.{Stamp};
 ghost use Rattle.stamp_order.specs.declared.Bound.{Bound};
-ghost use Rattle.stamp_order.specs.Stamps.{has, ◌≼◌};
+ghost use Rattle.stamp_order.specs.Stamps.{has, before, ◌≼◌};
 ghost use Rattle.run_words.specs.declared.outcome.Outcome.TheVariants.{Outvoted};
 ghost use Rattle.wire_forms.specs.declared.Request.TheVariants.{Write as WriteRequest};
 ghost use Rattle.wire_forms.specs.declared.Body.TheVariants.{Ask as Asks, Answer as Answers};
 ghost use Rattle.protocol.specs.Messages.{Message, Reply, Ask, Version};
-ghost use Rattle.protocol.specs.Setting.{Setting, IsValid, Sound, first_stamp};
+ghost use Rattle.protocol.specs.Setting.{Setting, IsValid, IsBlock, Sound, first_stamp};
 ghost use Rattle.protocol.specs.Instance.{setting_of, IsCluster, InEachRun};
 ghost use Rattle.protocol.specs.Operations.{Task};
 ghost use Rattle.protocol.specs.Operations.Work.{Reads, Writes};
@@ -25,7 +25,8 @@ ghost use Rattle.protocol.specs.Lines.{Line, Run, FitsLine, fault, IsPlayable};
 ghost use Rattle.protocol.specs.History.{Entry, IsHistory, IsEntry, Legal, InTime, NoClash, HasRead, HasLie, entry_cmp};
 ghost use Rattle.protocol.specs.History.Kind.{Read, Foreign};
 ghost use Rattle.protocol.specs.Bounds.{IsBounded, IsLow};
-ghost use Rattle.protocol.specs.Facts.{IsHonest, HasAccepted, IsHosted, IsKnown, IsComplete, AtWork, IsNotBehind};
+ghost use Rattle.protocol.specs.Report.{Ascend, AreRivals, SpentWrite, IsSpentWrite, spent_writes, mark, line_cmp, counts_of, is_ended};
+ghost use Rattle.protocol.specs.Facts.{IsTold, IsHonest, HasAccepted, IsHosted, IsKnown, IsComplete, AtWork, IsNotBehind};
 
 /// The code and the digest of a cluster keep what the proofs ask of them: lengths, bytes, digests, and that any `m` fragments
 /// of a block decode to it.
@@ -43,11 +44,12 @@ pub fn safety()
     ensures never_outvoted { InEachRun (λ s w. (r : Record) (nodes : List ℕ) → Contains w.records r → r.outcome ≢ Some (Outvoted nodes)) }
 {}
 
-/// A run has exactly one history, and no two of its entries have one key.
+/// A run has exactly one history. No two of its entries have one key, and each value is a block.
 pub fn one_history()
     ensures some { InEachRun (λ s w. (h : List Entry) × IsHistory s w h) }
     ensures one { InEachRun (λ s w. (h k : List Entry) → IsHistory s w h → IsHistory s w k → h ≡ k) }
     ensures keys { InEachRun (λ s w. (e f : Entry) → IsEntry w.records (first_stamp s) e → IsEntry w.records (first_stamp s) f → entry_cmp e f ≡ Equal → e ≡ f) }
+    ensures blocks { InEachRun (λ s w. (e : Entry) → IsEntry w.records (first_stamp s) e → IsBlock s e.value) }
 {}
 
 /// Reads ask few rounds, times rise by no more than one a write, and a write that no correct client made was lied before a
@@ -102,4 +104,35 @@ pub fn order()
     ensures aim { InEachRun (λ s w. NoClash s w → (x : Record) (end : ℕ) (stamp : Stamp) (client : ℕ) (task : Task) (bound : Bound) → Contains w.records x → x.end ≡ Some end → x.stamp ≡ Some stamp → under_way w client ≡ Some task → task.block ≡ x.block → end < task.start → task.stage ≡ Versions bound → has bound stamp ≡ true) }
     ensures writes_above { InEachRun (λ s w. NoClash s w → (x y : Record) (end : ℕ) (stamp later : Stamp) (value : List ℕ) → Contains w.records x → Contains w.records y → x.end ≡ Some end → x.stamp ≡ Some stamp → y.work ≡ Writes value → y.stamp ≡ Some later → y.block ≡ x.block → end < y.start → stamp.time < later.time) }
     ensures reads_up { InEachRun (λ s w. NoClash s w → (x y : Record) (end : ℕ) (stamp later : Stamp) → Contains w.records x → Contains w.records y → x.end ≡ Some end → x.stamp ≡ Some stamp → y.work ≡ Reads → y.stamp ≡ Some later → y.block ≡ x.block → end < y.start → stamp ≼ later) }
+{}
+
+/// Records stand in order of start, and no two operations start at one place. Each tells its places in order, and an outcome
+/// of its kind exactly where it has ended.
+pub fn records()
+    ensures starts { InEachRun (λ s w. Ascend (map (λ r. r.start) w.records)) }
+    ensures told { InEachRun (λ s w. (r : Record) → Contains w.records r → IsTold w r) }
+{}
+
+/// Marks number the verifiers of one block, time and writer from 1 upward, in their order: one stamp has one mark, a greater
+/// verifier a greater mark, and a mark that isn't 1 has the one before it. So the lines of a report stand in the order of the
+/// entries.
+pub fn marks()
+    ensures one { (h : List Entry) (e f : Entry) → e.block ≡ f.block → e.stamp ≡ f.stamp → mark h e ≡ mark h f }
+    ensures ascend { (h : List Entry) (e f : Entry) → Contains h e → AreRivals e f → before e.stamp f.stamp ≡ true → mark h e < mark h f }
+    ensures from_one { (h : List Entry) (e : Entry) → (mark h e ≡ 1) ⊎ ((f : Entry) × Contains h f × AreRivals e f × (mark h f + 1 ≡ mark h e)) }
+    ensures lines { (h : List Entry) (e f : Entry) → Contains h e → Contains h f → line_cmp h e f ≡ entry_cmp e f }
+{}
+
+/// What the counts count: the operations that are done are the entries of the history that have an end, those that are spent
+/// are the spent writes, and each operation is done, spent or pending.
+pub fn counts()
+    ensures done { InEachRun (λ s w. (h : List Entry) → IsHistory s w h → (counts_of w.records).done ≡ count_by is_ended h) }
+    ensures spent { InEachRun (λ s w. (counts_of w.records).spent ≡ length (spent_writes w.records)) }
+    ensures all { InEachRun (λ s w. (counts_of w.records).done + (counts_of w.records).spent + (counts_of w.records).pending ≡ length w.records) }
+{}
+
+/// The spent writes are those that ended as spent, by start.
+pub fn spent()
+    ensures are { (records : List Record) (x : SpentWrite) → Contains (spent_writes records) x ↔ IsSpentWrite records x }
+    ensures ascend { InEachRun (λ s w. Ascend (map (λ x. x.start) (spent_writes w.records))) }
 {}

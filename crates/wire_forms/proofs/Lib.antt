@@ -1,1 +1,5 @@
 pub mod Firsts
+pub mod Printed
+pub mod Spelling
+pub mod Fields
+pub mod Unique

@@ -4,14 +4,19 @@
 pub mod copies;
 pub mod device;
 pub mod first;
+pub mod laws;
 pub mod liars;
 pub mod message;
 pub mod op;
+mod printing;
+mod reading;
 pub mod rule;
+mod word;
 
 pub use device::DeviceOp;
 pub use first::First;
 pub use liars::Liars;
 pub use message::{Ask, Body, Mail, Message, Reason, Reply, Request, Tag, Version};
 pub use op::Op;
+pub use printing::print;
 pub use rule::Rule;
