@@ -1,7 +1,7 @@
 -- The facts on every run.
-use Rattle.std.proofs.Common.{◌≡◌, ◌⊎◌, ◌↔◌, ℕ, ◌+◌, ◌<◌, length, map, count_by, Bool, true, false, List, [], ◌∷◌, ◌++◌, refl, inl, inr, arith, eqb}
+use Rattle.std.proofs.Common.{Option, ◌≡◌, ◌⊎◌, ◌↔◌, ℕ, ◌+◌, ◌<◌, length, map, count_by, Bool, true, false, List, [], ◌∷◌, ◌++◌, refl, inl, inr, arith, eqb}
 use Rattle.std.specs.Prelude.{slice_get}
-use Rattle.std.specs.declared.option.Option.TheVariants.{Some}
+use Rattle.std.specs.declared.option.Option.TheVariants.{None, Some}
 use Rattle.std.specs.List.{Contains}
 use Rattle.std.proofs.lemmas.Bool.Decides.{nat_tests}
 use Rattle.stamp_order.specs.declared.Stamp.{Stamp}
@@ -11,22 +11,24 @@ use Rattle.protocol.specs.Messages.{Version, Ask, Request, Reply, Message}
 use Rattle.wire_forms.specs.declared.Request.TheVariants.{Write}
 use Rattle.wire_forms.specs.declared.Reply.TheVariants.{TimeIs, Found, Nothing, Ack, Refused}
 use Rattle.wire_forms.specs.declared.Body.TheVariants.{Ask as Asks, Answer as Answers}
-use Rattle.protocol.specs.Setting.{Setting, IsValid, first_stamp}
-use Rattle.protocol.specs.Operations.{Task, Work, Stage}
+use Rattle.protocol.specs.Setting.{Setting, IsValid, IsBlock, first_stamp}
+use Rattle.protocol.specs.Operations.{Task, Work, Stage, Outcome}
 use Rattle.protocol.specs.Operations.Work.{Reads, Writes}
 use Rattle.protocol.specs.Operations.Stage.{Times, Versions, Storing}
 use Rattle.protocol.specs.World.{World, Record, start_world, only_place, under_way}
 use Rattle.protocol.specs.Lines.{Line, Run, plays}
 use Rattle.protocol.specs.History.{NoClash}
-use Rattle.protocol.specs.Facts.{IsHonest, HasAccepted, IsHosted, IsKnown, IsComplete, AtWork, IsNotBehind}
+use Rattle.protocol.specs.Facts.{IsTold, IsOutcomeOf, IsHonest, HasAccepted, IsHosted, IsKnown, IsComplete, AtWork, IsNotBehind}
 use Rattle.protocol.proofs.Counting.{cases_bool}
 use Rattle.protocol.proofs.Order.{same_stamp-≡, same_stamp-refl}
-use Rattle.protocol.proofs.Invariant.{IsSafe, Quorum, IsQuorum, Fits, IsFresh, IsAimed, IsAfter}
+use Rattle.protocol.proofs.Invariant.{IsSafe, IsRecord, IsOutcome, Quorum, IsQuorum, Fits, IsFresh, IsAimed, IsAfter}
 use Rattle.protocol.proofs.Origins.{IsKnownRequest}
 use Rattle.protocol.proofs.Plays.{IsRight, start_right, run_right}
 use Rattle.protocol.proofs.Ahead.{quorum_happens}
 use Rattle.protocol.proofs.Inductions.{run_keeps}
-use Rattle.protocol.specs.History.{Entry, IsHistory}
+use Rattle.protocol.specs.History.{Entry, IsHistory, IsEntry}
+use Rattle.run_words.specs.declared.outcome.Outcome.TheVariants.{Wrote, Spent, Gave, Outvoted}
+use Rattle.protocol.proofs.Histories.{entry_stamped}
 use Rattle.protocol.specs.Report.{Ascend, counts_of, spent_writes, is_ended}
 use Rattle.protocol.proofs.Starts.{starts, happens_in_order}
 use Rattle.protocol.proofs.Counts.{done_count, total_count, spent_count, spent_ascend}
@@ -102,6 +104,30 @@ module _ (s : Setting) (w : World) where
       same (Versions bound) (Found v) start h = h
       same _ _ start h = tt
 
+told_outcome : (s : Setting) (work : Work) (stamp : Option Stamp) (o : Option Outcome) → IsOutcome s work stamp o → IsOutcomeOf work stamp o
+told_outcome s Reads stamp None h = h
+told_outcome s Reads stamp (Some (Gave given value how rounds)) h = h.0
+told_outcome s Reads stamp (Some (Wrote t)) h = absurd h
+told_outcome s Reads stamp (Some Spent) h = absurd h
+told_outcome s Reads stamp (Some (Outvoted nodes)) h = absurd h
+told_outcome s (Writes v) stamp None h = tt
+told_outcome s (Writes v) stamp (Some (Gave given value how rounds)) h = absurd h
+told_outcome s (Writes v) stamp (Some (Wrote t)) h = h.0
+told_outcome s (Writes v) stamp (Some Spent) h = h
+told_outcome s (Writes v) stamp (Some (Outvoted nodes)) h = absurd h
+
+told_of : (s : Setting) (w : World) (r : Record) → IsRecord s w r → IsTold w r
+told_of s w r k = record {
+  start = k.start;
+  end = λ end e. (k.in_order end e, k.ended end e);
+  ended = (k.open_end, no_outcome r.end refl);
+  outcome = told_outcome s r.work r.stamp r.outcome k.outcome;
+}
+  where
+    no_outcome : (z : Option ℕ) → r.end ≡ z → r.outcome ≡ None → r.end ≡ None
+    no_outcome None e h = e
+    no_outcome (Some end) e h = absurd (let c = k.closed_end end e in let g = c.1 in cc)
+
 module _ (s : Setting) (lines : List (ℕ × Line)) (w : World) (good : IsValid s) (run : Run s (start_world s) lines w) where
   right : IsRight s good w
   right = run_right s good lines (start_world s) w (start_right s good) run
@@ -168,6 +194,12 @@ module _ (s : Setting) (lines : List (ℕ × Line)) (w : World) (good : IsValid 
 module _ (s : Setting) (lines : List (ℕ × Line)) (w : World) (good : IsValid s) (run : Run s (start_world s) lines w) where
   pub run_in_order : Ascend (starts w.records)
   run_in_order = run_keeps s good (λ v. Ascend (starts v.records)) (λ v safe h place x a. happens_in_order s good v safe h place x a) (λ v place h. h) lines (start_world s) w (start_right s good) run tt
+
+  pub run_told : (r : Record) → Contains w.records r → IsTold w r
+  run_told r h = told_of s w r ((right s lines w good run).safe.records r h)
+
+  pub run_blocks : (e : Entry) → IsEntry w.records (first_stamp s) e → IsBlock s e.value
+  run_blocks e h = (entry_stamped s good w (right s lines w good run).safe e h).size
 
   pub run_done : (h : List Entry) → IsHistory s w h → (counts_of w.records).done ≡ count_by is_ended h
   run_done h hist = let r = right s lines w good run in done_count s w r.safe r.apart h hist run_in_order

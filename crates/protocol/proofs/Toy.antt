@@ -1,7 +1,9 @@
 -- The premises can be met: the example's setting is valid, and its run is one.
-use Rattle.std.proofs.Common.{◌≡◌, ℕ, zero, suc, ◌<◌, List, [], ◌∷◌, length, refl, arith}
+use Rattle.std.proofs.Common.{◌≡◌, ℕ, zero, suc, ◌<◌, List, [], ◌∷◌, length, refl, arith, eqb}
 use Rattle.std.specs.List.{Contains}
 use Rattle.protocol.specs.Setting.{IsValid, IsBlock, digest_at}
+use Rattle.quorum_rules.specs.Limits.{Numbers}
+use Rattle.protocol.specs.Instance.{IsCluster}
 use Rattle.protocol.proofs.Example.{toy, second_of_first}
 use Rattle.protocol.proofs.Lists.{Contains-head}
 
@@ -34,4 +36,14 @@ toy_valid = record {
   bytes-fragment = λ value i h. h.1;
   decodes = λ value parts h k a each. one_part value parts k (λ q r. (each q r).1);
   decoded-block = λ parts k a each. one_block parts k (λ q r. (each q r).1);
+}
+
+-- five nodes, of which one may fail or lie
+abbrev five_numbers : Numbers
+five_numbers = record { n = 5; t = 1; b = 1; qc = 3; m = 2; size = 2; blocks = 2 }
+
+pub five_cluster : IsCluster five_numbers (λ i. eqb i 4)
+five_cluster = record {
+  config = record { nodes = (omega arith, omega arith); liars = omega arith; low = omega arith; high = omega arith; shares = (omega arith, omega arith); size = (omega arith, omega arith); blocks = (omega arith, omega arith) };
+  few = omega arith;
 }

@@ -1,6 +1,6 @@
 -- What holds in every world of a run, fact by fact.
-use Rattle.std.specs.Prelude.{◌≡◌, ◌⊎◌, ℕ, ◌<◌, ◌≤◌, true, false, Bool, slice_get}
-use Rattle.std.specs.declared.option.Option.TheVariants.{Some}
+use Rattle.std.specs.Prelude.{Option, ◌≡◌, ◌⊎◌, ◌↔◌, ℕ, ◌<◌, ◌≤◌, true, false, Bool, slice_get}
+use Rattle.std.specs.declared.option.Option.TheVariants.{None, Some}
 use Rattle.std.specs.List.{Contains}
 use Rattle.stamp_order.specs.declared.Stamp.{Stamp}
 use Rattle.stamp_order.specs.declared.Bound.{Bound}
@@ -11,7 +11,9 @@ use Rattle.wire_forms.specs.declared.Reply.TheVariants.{TimeIs, Found, Ack}
 use Rattle.wire_forms.specs.declared.Body.TheVariants.{Ask as Asks}
 use Rattle.protocol.specs.Count.{count}
 use Rattle.protocol.specs.Setting.{Setting, first_stamp}
-use Rattle.protocol.specs.Operations.{Task, Stage}
+use Rattle.protocol.specs.Operations.{Task, Work, Stage, Outcome}
+use Rattle.protocol.specs.Operations.Work.{Reads, Writes}
+use Rattle.run_words.specs.declared.outcome.Outcome.TheVariants.{Wrote, Spent, Gave}
 use Rattle.protocol.specs.Operations.Stage.{Times, Versions}
 use Rattle.protocol.specs.World.{Record, World, under_way}
 use Rattle.protocol.specs.History.{HasWrite, HasLie}
@@ -71,3 +73,19 @@ module _ (s : Setting) where
   IsNotBehind w task stamp Times (TimeIs time) = stamp.time ≤ time
   IsNotBehind w task stamp (Versions bound) reply = has bound stamp ≡ true → IsOpen w task.block task.start bound → (v : Version) × (reply ≡ Found v) × (stamp ≼ v.stamp)
   IsNotBehind w task stamp _ _ = Unit {0}
+
+-- how an operation can have ended so far, and which stamp its record has then: a read as given, a write as written or spent
+abbrev pub IsOutcomeOf : Work → Option Stamp → Option Outcome → Type 0
+IsOutcomeOf Reads stamp None = stamp ≡ None
+IsOutcomeOf Reads stamp (Some (Gave given value how rounds)) = stamp ≡ Some given
+IsOutcomeOf (Writes value) stamp None = Unit {0}
+IsOutcomeOf (Writes value) stamp (Some (Wrote wrote)) = stamp ≡ Some wrote
+IsOutcomeOf (Writes value) stamp (Some Spent) = stamp ≡ None
+IsOutcomeOf _ _ _ = ⊥
+
+-- what every record tells: it starts and ends by now, in this order, has an outcome exactly where it has ended, and one of its kind
+pub record IsTold (w : World) (r : Record) : Type 0 where
+  pub start : r.start ≤ w.place
+  pub end : (end : ℕ) → r.end ≡ Some end → (r.start ≤ end) × (end ≤ w.place)
+  pub ended : (r.end ≡ None) ↔ (r.outcome ≡ None)
+  pub outcome : IsOutcomeOf r.work r.stamp r.outcome

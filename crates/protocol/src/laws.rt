@@ -15,7 +15,7 @@ ghost use Rattle.run_words.specs.declared.outcome.Outcome.TheVariants.{Outvoted}
 ghost use Rattle.wire_forms.specs.declared.Request.TheVariants.{Write as WriteRequest};
 ghost use Rattle.wire_forms.specs.declared.Body.TheVariants.{Ask as Asks, Answer as Answers};
 ghost use Rattle.protocol.specs.Messages.{Message, Reply, Ask, Version};
-ghost use Rattle.protocol.specs.Setting.{Setting, IsValid, Sound, first_stamp};
+ghost use Rattle.protocol.specs.Setting.{Setting, IsValid, IsBlock, Sound, first_stamp};
 ghost use Rattle.protocol.specs.Instance.{setting_of, IsCluster, InEachRun};
 ghost use Rattle.protocol.specs.Operations.{Task};
 ghost use Rattle.protocol.specs.Operations.Work.{Reads, Writes};
@@ -26,7 +26,7 @@ ghost use Rattle.protocol.specs.History.{Entry, IsHistory, IsEntry, Legal, InTim
 ghost use Rattle.protocol.specs.History.Kind.{Read, Foreign};
 ghost use Rattle.protocol.specs.Bounds.{IsBounded, IsLow};
 ghost use Rattle.protocol.specs.Report.{Ascend, AreRivals, SpentWrite, IsSpentWrite, spent_writes, mark, line_cmp, counts_of, is_ended};
-ghost use Rattle.protocol.specs.Facts.{IsHonest, HasAccepted, IsHosted, IsKnown, IsComplete, AtWork, IsNotBehind};
+ghost use Rattle.protocol.specs.Facts.{IsTold, IsHonest, HasAccepted, IsHosted, IsKnown, IsComplete, AtWork, IsNotBehind};
 
 /// The code and the digest of a cluster keep what the proofs ask of them: lengths, bytes, digests, and that any `m` fragments
 /// of a block decode to it.
@@ -44,11 +44,12 @@ pub fn safety()
     ensures never_outvoted { InEachRun (λ s w. (r : Record) (nodes : List ℕ) → Contains w.records r → r.outcome ≢ Some (Outvoted nodes)) }
 {}
 
-/// A run has exactly one history, and no two of its entries have one key.
+/// A run has exactly one history. No two of its entries have one key, and each value is a block.
 pub fn one_history()
     ensures some { InEachRun (λ s w. (h : List Entry) × IsHistory s w h) }
     ensures one { InEachRun (λ s w. (h k : List Entry) → IsHistory s w h → IsHistory s w k → h ≡ k) }
     ensures keys { InEachRun (λ s w. (e f : Entry) → IsEntry w.records (first_stamp s) e → IsEntry w.records (first_stamp s) f → entry_cmp e f ≡ Equal → e ≡ f) }
+    ensures blocks { InEachRun (λ s w. (e : Entry) → IsEntry w.records (first_stamp s) e → IsBlock s e.value) }
 {}
 
 /// Reads ask few rounds, times rise by no more than one a write, and a write that no correct client made was lied before a
@@ -105,9 +106,11 @@ pub fn order()
     ensures reads_up { InEachRun (λ s w. NoClash s w → (x y : Record) (end : ℕ) (stamp later : Stamp) → Contains w.records x → Contains w.records y → x.end ≡ Some end → x.stamp ≡ Some stamp → y.work ≡ Reads → y.stamp ≡ Some later → y.block ≡ x.block → end < y.start → stamp ≼ later) }
 {}
 
-/// Records stand in order of start, and no two operations start at one place.
+/// Records stand in order of start, and no two operations start at one place. Each tells its places in order, and an outcome
+/// of its kind exactly where it has ended.
 pub fn records()
-    ensures { InEachRun (λ s w. Ascend (map (λ r. r.start) w.records)) }
+    ensures starts { InEachRun (λ s w. Ascend (map (λ r. r.start) w.records)) }
+    ensures told { InEachRun (λ s w. (r : Record) → Contains w.records r → IsTold w r) }
 {}
 
 /// Marks number the verifiers of one block, time and writer from 1 upward, in their order: one stamp has one mark, a greater
