@@ -1,4 +1,4 @@
-ghost use Rattle.std.specs.Prelude.{◌≡◌, ◌<◌, ◌↔◌, ℕ, None, length};
+ghost use Rattle.std.specs.Prelude.{◌≡◌, ◌<◌, ◌≤◌, ◌↔◌, ℕ, None, length};
 ghost use Rattle.std.specs.List.{slice_index_or};
 ghost use Rattle.quorum_rules.specs.Limits.{repairable_of};
 ghost use Rattle.protocol.specs.Count.{count};
@@ -28,8 +28,9 @@ pub fn pivot(config: &Config, first: &Stamp, bound: &Bound, answers: &[Answer]) 
     ensures value { result ≡ pivot (setting config.now) (by_node answers.now) bound.now }
     ensures none { (result ≡ None) ↔ (count config.now.n (λ i. is_there (stamps (setting config.now) (by_node answers.now) bound.now i)) < repairable_of config.now) }
 {
+    let n = config.n() as usize;
     let stamps = stamps_of(config, first, bound, answers);
-    pivot_of(&stamps[..config.n() as usize], config.repairable())
+    pivot_of(&stamps[..n], config.repairable())
 }
 
 /// How many valid answers carry exactly this stamp. The answers are those of different nodes, and `first` is the first
@@ -45,8 +46,9 @@ pub fn support(
     requires nodes { AreOfNodes config.now.n answers.now }
     ensures { result ≡ support (setting config.now) (by_node answers.now) bound.now stamp.now }
 {
+    let n = config.n() as usize;
     let stamps = stamps_of(config, first, bound, answers);
-    support_of(&stamps[..config.n() as usize], stamp)
+    support_of(&stamps[..n], stamp)
 }
 
 // The stamps of the valid answers, by node.
@@ -56,12 +58,12 @@ fn stamps_of(
     bound: &Bound,
     answers: &[Answer],
 ) -> [Option<Stamp>; 16]
+    requires few { config.now.n ≤ 16 }
     requires first { first.now ≡ first_stamp (setting config.now) }
     requires nodes { AreOfNodes config.now.n answers.now }
     ensures places { length result ≡ 16 }
     ensures stamps { (i : ℕ) → slice_index_or result i None ≡ stamps (setting config.now) (by_node answers.now) bound.now i }
 {
-    let _n = config.n();
     let mut stamps = [None; 16];
     for answer in answers {
         stamps[usize::from(answer.node)] = valid_stamp(

@@ -17,11 +17,11 @@ returns-clause-value c =
     let f : ℕ → Option Stamp = stamps (setting c.args.config.now) (by_node c.args.answers.now) c.args.bound.now in
     let xs = c.stamps_of-stamps.result in
     let places = c.stamps_of-stamps.ensures.places in
-    let most = c.n.ensures.valid.nodes.1 in
+    let most = c.n-n.ensures.valid.nodes.1 in
     let room : n ≤ length xs = omega (arith, places, most) in
-    let taken = stamps_taken (setting c.args.config.now) c.args.bound.now n c.args.answers.now c.requires.nodes xs room c.stamps_of-stamps.ensures.stamps c.n.result c.n.ensures.is in
+    let taken = stamps_taken (setting c.args.config.now) c.args.bound.now n c.args.answers.now c.requires.nodes xs room c.stamps_of-stamps.ensures.stamps c.n-n.result c.n-n.ensures.is in
     c.pivot_of.ensures.value
-    ∙ ap (λ k. highest up_to k (stamp_at (take c.n.result xs)) c.repairable.result) taken.0
+    ∙ ap (λ k. highest up_to k (stamp_at (take c.n-n.result xs)) c.repairable.result) taken.0
     ∙ ap (λ g. highest up_to n g c.repairable.result) taken.1
     ∙ ap (λ k. highest up_to n f k) c.repairable.ensures.is
 

@@ -15,10 +15,10 @@ returns c =
     let stamp = c.args.stamp.now in
     let xs = c.stamps_of-stamps.result in
     let places = c.stamps_of-stamps.ensures.places in
-    let most = c.n.ensures.valid.nodes.1 in
+    let most = c.n-n.ensures.valid.nodes.1 in
     let room : n ≤ length xs = omega (arith, places, most) in
-    let taken = stamps_taken s c.args.bound.now n c.args.answers.now c.requires.nodes xs room c.stamps_of-stamps.ensures.stamps c.n.result c.n.ensures.is in
+    let taken = stamps_taken s c.args.bound.now n c.args.answers.now c.requires.nodes xs room c.stamps_of-stamps.ensures.stamps c.n-n.result c.n-n.ensures.is in
     c.support_of.ensures
-    ∙ ap (λ k. count k (λ i. is_stamp stamp (stamp_at (take c.n.result xs) i))) taken.0
+    ∙ ap (λ k. count k (λ i. is_stamp stamp (stamp_at (take c.n-n.result xs) i))) taken.0
     ∙ ap (λ g. count n (λ i. is_stamp stamp (g i))) taken.1
     ∙ ap (λ (p : ℕ → Bool). count n p) (funext _ _ (λ i. is_stamp-stamp_of stamp (valid s i c.args.bound.now (by_node c.args.answers.now i))))
