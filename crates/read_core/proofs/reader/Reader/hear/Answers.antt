@@ -1,0 +1,41 @@
+use Rattle.std.proofs.Common.{inr, sym, ◌∙◌, ap}
+use Rattle.protocol.specs.Instance.{setting}
+use Rattle.protocol.specs.Seen.{Hearing, seen_goes_on}
+use Rattle.read_core.specs.Stages.{stage_of}
+use Rattle.read_core.specs.Readers.{with_task, with_answers, task_after}
+use Rattle.read_core.specs.declared.phase_end.PhaseEnd.TheVariants.{GoesOn}
+use Rattle.read_core.proofs.Hearing.{heard_more, heard_end, same_at_end}
+use Rattle.read_core.proofs.reader.Reader.hear.Goals as goal
+
+pub returns-in-None-clause-reading : goal.returns-in-None-clause-reading
+returns-in-None-clause-reading c =
+    let counts = sym c.counts.ensures ∙ c.if-not-counts.false in
+    let k = rw c.in-None.is at c.in_ok-count.ensures.ok in
+    inr (with_answers k.task k.answers, heard_more c.args.self.now c.count.new.self c.args.node c.args.tag c.args.reply.now counts k)
+
+pub returns-in-None-clause-after : goal.returns-in-None-clause-after
+returns-in-None-clause-after c =
+    let counts = sym c.counts.ensures ∙ c.if-not-counts.false in
+    let k = rw c.in-None.is at c.in_ok-count.ensures.ok in
+    let e = heard_more c.args.self.now c.count.new.self c.args.node c.args.tag c.args.reply.now counts k in
+    k.now ∙ ap (λ (h : Hearing). with_task c.args.self.now (task_after c.args.self.now.task h)) (sym e)
+
+pub returns-in_ok-go_on-in-Some-GoesOn-clause-reading : goal.returns-in_ok-go_on-in-Some-GoesOn-clause-reading
+returns-in_ok-go_on-in-Some-GoesOn-clause-reading c =
+    let counts = sym c.counts.ensures ∙ c.if-not-counts.false in
+    let next = c.in-Some-GoesOn.next in
+    let k = rw (c.in-Some-GoesOn.is, c.in-Some-GoesOn.field-0-is) at c.in_ok-count.ensures.ok in
+    let e = heard_end c.args.self.now c.count.new.self c.args.node c.args.tag c.args.reply.now counts (GoesOn next) k in
+    let same = same_at_end c.args.self.now c.count.new.self c.args.node c.args.tag c.args.reply.now counts (GoesOn next) k in
+    let mail = rw (same, k.was) at c.in_ok-go_on-in-Some-GoesOn.ensures.mail in
+    (seen_goes_on (setting c.args.self.now.config) k.task (stage_of next), e, mail)
+
+pub returns-in_ok-go_on-in-Some-GoesOn-clause-after : goal.returns-in_ok-go_on-in-Some-GoesOn-clause-after
+returns-in_ok-go_on-in-Some-GoesOn-clause-after c =
+    let counts = sym c.counts.ensures ∙ c.if-not-counts.false in
+    let next = c.in-Some-GoesOn.next in
+    let k = rw (c.in-Some-GoesOn.is, c.in-Some-GoesOn.field-0-is) at c.in_ok-count.ensures.ok in
+    let e = heard_end c.args.self.now c.count.new.self c.args.node c.args.tag c.args.reply.now counts (GoesOn next) k in
+    let same = same_at_end c.args.self.now c.count.new.self c.args.node c.args.tag c.args.reply.now counts (GoesOn next) k in
+    let after = rw (same, k.was) at c.in_ok-go_on-in-Some-GoesOn.ensures.after in
+    after ∙ ap (λ (h : Hearing). with_task c.args.self.now (task_after c.args.self.now.task h)) (sym e)

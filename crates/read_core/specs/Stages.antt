@@ -1,0 +1,40 @@
+-- The phases of a read, as stages of the definitions with the answers counted.
+use Rattle.std.specs.Prelude.{◌≡◌, ℕ, Bool, not, ◌&&◌, nat_lt, List, Option, map, replicate}
+use Rattle.std.specs.declared.option.Option.TheVariants.{None}
+use Rattle.quorum_rules.specs.Limits.{Numbers}
+use Rattle.wire_forms.specs.declared.message.Reply.{Reply}
+use Rattle.protocol.specs.Operations.{is_of_kind, is_answered, Stage as ModelStage}
+use Rattle.protocol.specs.Operations.Stage.{Versions, Storing as StoringOf}
+use Rattle.read_core.specs.Rounds.{answer_at}
+use Rattle.read_core.specs.Repairs.{ack_of}
+use Rattle.read_core.specs.declared.stage.Stage.{Stage}
+use Rattle.read_core.specs.declared.stage.Stage.TheVariants.{Asking, Storing}
+
+-- what it asks for
+abbrev pub stage_of : Stage → ModelStage
+stage_of (Asking round) = Versions round.bound
+stage_of (Storing repair) = StoringOf repair.stamp repair.value
+
+-- for each node its answer, if one was counted
+abbrev pub answers_in : Stage → List (Option Reply)
+answers_in (Asking round) = round.answers
+answers_in (Storing repair) = map ack_of repair.acks
+
+-- the cluster that it takes place in
+abbrev pub config_of : Stage → Numbers
+config_of (Asking round) = round.config
+config_of (Storing repair) = repair.config
+
+-- the reply is of the kind that the stage counts, from a node that is there and hasn't answered
+abbrev pub counts_in : Numbers → ModelStage → List (Option Reply) → ℕ → Reply → Bool
+counts_in c stage answers node reply = nat_lt node c.n && is_of_kind stage reply && not (is_answered (answer_at answers node))
+
+-- at most the answers differ
+pub record IsSameBut (old new : Stage) : Type 0 where
+  pub config : config_of new ≡ config_of old
+  pub stage : stage_of new ≡ stage_of old
+
+-- a stage of this cluster that has heard no node
+pub record IsNew (c : Numbers) (stage : Stage) : Type 0 where
+  pub config : config_of stage ≡ c
+  pub answers : answers_in stage ≡ replicate c.n None
