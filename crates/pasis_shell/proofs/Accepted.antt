@@ -1,10 +1,9 @@
 -- An input that is accepted, and meets no fault, is answered.
 use Rattle.std.proofs.Common.{◌≡◌, ℕ, ◌≤◌, ◌+◌, List, [], ◌∷◌, ◌++◌, length, ap, sym, subst, ◌∙◌, refl, arith, inl, inr, append-nil, length-append}
 use Rattle.std.specs.Prelude.{Option, Some, None, ◌⊎◌}
-use Rattle.std.specs.Io.KnownBytes.{Consumes, IsAtEnd}
 use Rattle.outside_io.specs.Given.{GaveExactly}
 use Rattle.pasis_shell.specs.Words.{words_of}
-use Rattle.pasis_shell.specs.Texts.{Refuses, IsAccepted, IsRefusedFor}
+use Rattle.pasis_shell.specs.Texts.{Refuses, IsAccepted, IsRefusedFor, GivesAll}
 use Rattle.pasis_shell.specs.Statuses.{CanStopBefore}
 use Rattle.pasis_shell.specs.declared.status.Status.{Status}
 use Rattle.pasis_shell.specs.declared.status.Status.TheVariants.{Done, BadWords, ReadFault, WriteFault, NoMemory, TooLong, NotBuilt}
@@ -14,7 +13,7 @@ use Rattle.pasis_shell.specs.declared.text.Refusal.{Refusal}
 use Rattle.pasis_shell.specs.declared.text.Refusal.TheVariants as refusals
 
 -- what was read to the end is all that there was
-all_read : (before after : Option (List ℕ)) (input given : List ℕ) → before ≡ Some input → Consumes before after given × IsAtEnd after → given ≡ input
+all_read : (before after : Option (List ℕ)) (input given : List ℕ) → before ≡ Some input → GivesAll before after given → given ≡ input
 all_read None after input given e h = absurd cc
 all_read (Some xs) None input given e h = absurd h.0
 all_read (Some xs) (Some ys) input given e h =

@@ -1,6 +1,7 @@
 -- What a command writes for an input, and when it writes nothing.
-use Rattle.std.specs.Prelude.{ℕ, ◌≡◌, ⊤, List, [], Option}
+use Rattle.std.specs.Prelude.{ℕ, ◌≡◌, ◌≤◌, ⊤, List, [], length, Option}
 use Rattle.std.specs.Io.KnownBytes.{Consumes, IsAtEnd}
+use Rattle.outside_io.specs.declared.reading.TheConstants.{LIMIT}
 use Rattle.pasis_shell.specs.Words.{words_of}
 use Rattle.pasis_shell.specs.declared.words.Command.{Command}
 use Rattle.pasis_shell.specs.declared.words.Command.TheVariants.{Replay, Run, Trace, Check, Sum, Soak}
@@ -21,14 +22,18 @@ abbrev pub Refuses : Command → List ℕ → Refusal → Type 0
 Refuses command input NoMemory = ⊤
 Refuses command input (NotBuilt line) = line ≡ 1
 
+-- the source gave this input, which is within the limit, and has none left
+abbrev pub GivesAll : Option (List ℕ) → Option (List ℕ) → List ℕ → Type 0
+GivesAll before after input = Consumes before after input × IsAtEnd after × (length input ≤ LIMIT)
+
 -- what a command works on: all that the source had, and nothing for `soak`, which leaves the source as it was
 abbrev pub IsGiven : Command → Option (List ℕ) → Option (List ℕ) → List ℕ → Type 0
 IsGiven (Soak number) before after input = (after ≡ before) × (input ≡ [])
-IsGiven Replay before after input = Consumes before after input × IsAtEnd after
-IsGiven Run before after input = Consumes before after input × IsAtEnd after
-IsGiven Trace before after input = Consumes before after input × IsAtEnd after
-IsGiven Check before after input = Consumes before after input × IsAtEnd after
-IsGiven Sum before after input = Consumes before after input × IsAtEnd after
+IsGiven Replay before after input = GivesAll before after input
+IsGiven Run before after input = GivesAll before after input
+IsGiven Trace before after input = GivesAll before after input
+IsGiven Check before after input = GivesAll before after input
+IsGiven Sum before after input = GivesAll before after input
 
 -- the text is what the command writes for what it was given
 abbrev pub AnswersFor : Command → Option (List ℕ) → Option (List ℕ) → List ℕ → Type 0

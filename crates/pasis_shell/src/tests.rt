@@ -154,3 +154,19 @@ fn an_input_of_one_byte_too_many_is_too_long(rt: HostRuntime) -> Result<(), Fail
     assert_eq!(rt; sink.taken().len(), 0);
     Ok(())
 }
+
+#[test]
+fn each_status_has_its_line(rt: HostRuntime) -> Result<(), Fail> {
+    let lines = [
+        (Status::BadWords, "pasis: bad words"),
+        (Status::ReadFault, "pasis: read fault"),
+        (Status::WriteFault, "pasis: write fault"),
+        (Status::NoMemory, "pasis: no memory"),
+        (Status::TooLong, "pasis: input too long"),
+        (Status::NotBuilt { line: 12 }, "pasis: line 12: not built"),
+    ];
+    for (status, line) in lines {
+        assert_eq!(rt; format!(in rt.alloc(); "{status}")?.as_str(), line);
+    }
+    Ok(())
+}

@@ -78,6 +78,7 @@ pub fn pasis<S: Source, K: Sink, G: Gate>(
     ensures prefix { result ≡ Status.WriteFault → (text : List ℕ)
         × Answers (texts words.now) (S.left source.old) (S.left source.new) text
         × TakesPrefix (K.taken sink.old) (K.taken sink.new) text }
+    ensures unflushed { result ≡ Status.WriteFault → K.flushed sink.new ≡ K.flushed sink.old }
     ensures done { result ≡ Status.Done → (text : List ℕ)
         × Answers (texts words.now) (S.left source.old) (S.left source.new) text
         × Adds (K.taken sink.old) (K.taken sink.new) text }
