@@ -1,4 +1,5 @@
-ghost use Rattle.std.specs.Prelude.{◌≡◌, ◌<◌, ◌↔◌, [], length, map, slice_get, slice_index, IfOk, IsTrue, Some};
+ghost use Rattle.std.specs.Prelude.{◌≡◌, ◌<◌, ◌↔◌, [], length, map, slice_get, IfOk, IsTrue, Some, All};
+ghost use Rattle.std.specs.List.{AllByRecursion};
 ghost use Rattle.cross_sum.specs.Digest.{digest, flat, verifier};
 
 use crate::bytes::Bytes;
@@ -7,86 +8,147 @@ use sha2::{Digest, Sha256};
 use std::alloc::Global;
 use std::marker::Model;
 
+/// A SHA-256 digest, of 32 bytes.
 pub type Hash = [u8; 32];
 
+/// The SHA-256 of a string (FIPS 180-4).
 pub fn sha(bytes: &[u8]) -> Hash
     ensures { result ≡ digest bytes.now }
 {
     Sha256::digest(bytes)
 }
 
-/// The digests of fragments, one each.
+/// A cross checksum: the digests of fragments, one each. Contracts see the list of them.
+///
+/// It keeps its verifier, the SHA-256 of all digests in one string, so that it's computed once.
 #[derive(Drop)]
 pub struct CrossSum {
     digests: Vec<Hash>,
+    verifier: Hash,
 }
 
 impl Model for CrossSum {
-    ghost use Rattle.std.specs.Prelude.{List, ℕ};
+    ghost use Rattle.std.specs.Prelude.{◌≡◌, List, ℕ};
+    ghost use Rattle.cross_sum.specs.Digest.{verifier as verifier_word};
 
     ghost Value = { List (List ℕ) };
 
     ghost view = { λ s. s.digests.items };
+
+    ghost invariant = { λ s. s.verifier ≡ verifier_word s.digests.items };
 }
 
 impl CrossSum {
+    /// The digests of the strings, in order.
     pub fn of_fragments(alloc: Global, parts: &[Bytes]) -> Result<CrossSum, NoMemory>
         ensures { IfOk result (λ s. s ≡ map digest parts.now) }
     {
-        let mut digests = Vec::new(alloc);
+        let mut digests = Vec::with_capacity(alloc, parts.len())?;
         for part in parts {
             digests.push(sha(part.as_slice()))?;
         }
-        Ok(CrossSum { digests })
+        let verifier = verifier_of(digests.as_slice());
+        Ok(CrossSum { digests, verifier })
     }
 
+    /// The cross checksum that has these digests.
     pub fn of_hashes(alloc: Global, list: &[Hash]) -> Result<CrossSum, NoMemory>
         ensures { IfOk result (λ s. s ≡ list.now) }
     {
+        let digests = Vec::from_slice(alloc, list)?;
         Ok(CrossSum {
-            digests: Vec::from_slice(alloc, list)?,
+            digests,
+            verifier: verifier_of(list),
         })
     }
 
+    /// How many digests there are.
     pub fn len(&self) -> usize
         ensures { result ≡ length self.now }
     {
         self.digests.len()
     }
 
+    /// Whether there is no digest.
     pub fn is_empty(&self) -> bool
         ensures { IsTrue result ↔ (self.now ≡ []) }
     {
         self.digests.is_empty()
     }
 
+    /// Digest `i`.
     pub fn entry(&self, i: usize) -> Hash
         requires { i < length self.now }
-        ensures { slice_get self.now i ≡ Some result }
+        ensures value { slice_get self.now i ≡ Some result }
+        ensures bytes { length result ≡ 32 }
     {
-        self.digests[i]
+        hash_at(self.digests.as_slice(), i)
     }
 
+    /// All digests, lent.
+    pub fn hashes(&self) -> &[Hash]
+        ensures value { result.now ≡ self.now }
+        ensures bytes { AllByRecursion (λ d. length d ≡ 32) self.now }
+    {
+        of_32_bytes(self.digests.as_slice())
+    }
+
+    /// The SHA-256 of all digests in one string. It was computed when the cross checksum was made.
     pub fn verifier(&self) -> Hash
         ensures { result ≡ verifier self.now }
     {
-        let mut hasher = Sha256::new();
-        for digest in &self.digests {
-            hasher.update(digest.as_slice());
-        }
-        hasher.finalize()
+        self.verifier
     }
 
+    /// Whether digest `i` is the fragment's.
     pub fn matches(&self, i: usize, fragment: &[u8]) -> bool
         requires { i < length self.now }
         ensures { IsTrue result ↔ (slice_get self.now i ≡ Some (digest fragment.now)) }
     {
         self.entry(i) == sha(fragment)
     }
+
+    /// Whether the digests of both are the same.
+    pub fn same(&self, other: &CrossSum) -> bool
+        ensures { IsTrue result ↔ (self.now ≡ other.now) }
+    {
+        self.digests == other.digests
+    }
+}
+
+fn verifier_of(digests: &[Hash]) -> Hash
+    ensures { result ≡ verifier digests.now }
+{
+    let mut hasher = Sha256::new();
+    for digest in digests {
+        hasher.update(digest.as_slice());
+    }
+    hasher.finalize()
+}
+
+// The type says that a digest has 32 bytes.
+fn hash_at(digests: &[Hash], i: usize) -> Hash
+    requires { i < length digests.now }
+    ensures value { slice_get digests.now i ≡ Some result }
+    ensures bytes { length result ≡ 32 }
+{
+    digests[i]
+}
+
+// The type says that each digest has 32 bytes.
+fn of_32_bytes(digests: &[Hash]) -> &[Hash]
+    ensures value { result.now ≡ digests.now }
+    ensures bytes { AllByRecursion (λ d. length d ≡ 32) digests.now }
+{
+    digests
 }
 
 impl Copied for CrossSum {
     fn copy(&self) -> Result<CrossSum, NoMemory> {
-        CrossSum::of_hashes(*self.digests.allocator(), self.digests.as_slice())
+        let digests = Vec::from_slice(*self.digests.allocator(), self.digests.as_slice())?;
+        Ok(CrossSum {
+            digests,
+            verifier: self.verifier,
+        })
     }
 }

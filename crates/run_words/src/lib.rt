@@ -3,6 +3,8 @@
 
 pub mod line;
 pub mod outcome;
+pub mod record;
 
 pub use line::{Line, StepFault};
 pub use outcome::{How, Nodes, Outcome};
+pub use record::{Accepted, Record};

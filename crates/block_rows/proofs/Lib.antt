@@ -1,0 +1,5 @@
+pub mod Cut
+pub mod Lending
+pub mod Summed
+pub mod Weights
+pub mod Whole

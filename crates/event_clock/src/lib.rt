@@ -1,0 +1,10 @@
+//! Numbers that several threads draw, each number once.
+#![tactic(auto)]
+
+pub mod clock;
+mod rule;
+
+pub use clock::{Clock, Drawn, Pass, Passes};
+
+#[cfg(test)]
+mod tests;

@@ -1,0 +1,13 @@
+//! Blocks with the cross checksums of their fragments: made together for a writer, and compared for
+//! a reader.
+#![tactic(auto)]
+
+mod summed;
+mod verdict;
+
+pub use ida_lanes::{Code, Part, Shares};
+pub use summed::{Summed, summed_block};
+pub use verdict::{Checked, Verdict, checked_block, verdict_of};
+
+#[cfg(test)]
+mod tests;

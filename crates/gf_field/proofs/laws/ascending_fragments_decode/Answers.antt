@@ -1,0 +1,5 @@
+use Rattle.gf_field.proofs.Blocks as lemmas
+use Rattle.gf_field.proofs.laws.ascending_fragments_decode.Goals as goal
+
+pub returns : goal.returns
+returns c = lemmas.ascending_fragments_decode

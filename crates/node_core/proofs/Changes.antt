@@ -1,0 +1,175 @@
+-- What a version more, and fewer, do to the list of versions.
+use Rattle.std.proofs.Common.{◌≡◌, ◌⊎◌, ◌≤◌, Bool, true, false, cond, ◌||◌, List, [], ◌∷◌, ◌++◌, filter, refl, sym, ◌∙◌, ap, inl, inr}
+use Rattle.std.specs.declared.option.Option.TheVariants.{None, Some}
+use Rattle.std.specs.Ordering.{is_eq}
+use Rattle.std.specs.List.{Contains, filter_map}
+use Rattle.std.specs.BTreeMap.{BTreeMap}
+use Rattle.std.proofs.lemmas.Map.Entries.{lookup-filter-keys}
+use Rattle.std.proofs.lemmas.List.Elements.{Contains-append_left, Contains-push, Contains-push_cases}
+use Rattle.stamp_order.specs.declared.Stamp.{Stamp}
+use Rattle.stamp_order.specs.declared.Bound.TheVariants.{AtMost}
+use Rattle.stamp_order.specs.Stamps.{stamp_cmp, before, same_stamp, ◌≼◌}
+use Rattle.stamp_order.proofs.Orders.{up_to_by_fields}
+use Rattle.wire_forms.specs.declared.message.Version.{Version}
+use Rattle.protocol.specs.Nodes.{carries, greatest_in}
+use Rattle.protocol.proofs.Order.{≼-refl, ≼-trans, ≼-antisym, before-≼, before_false, same_stamp-≡, same_stamp-refl}
+use Rattle.protocol.proofs.Counting.{cases_bool}
+use Rattle.protocol.proofs.Lists.{Contains-head, Contains-rest, Contains-none, Contains-cons_cases}
+use Rattle.protocol.proofs.Keeping.{keeps-Contains, greatest_in_is, greatest_in_above}
+use Rattle.node_core.specs.Index.{compared, is_up_to, version_at, versions_of, IsIndex}
+use Rattle.node_core.proofs.Listing.{listed-push, listed-same, listed-filter}
+use Rattle.node_core.proofs.Finding.{some_is}
+
+pub same_by_fields : (s t : Stamp) → is_eq (compared s t) ≡ same_stamp s t
+unfolding same_stamp stamp_cmp
+same_by_fields s t = refl
+
+-- a filter keeps what passes
+pub filtered_is : {X : Type 0} (p : X → Bool) (xs : List X) (x : X) → Contains (filter p xs) x → Contains xs x × (p x ≡ true)
+filtered_is p [] x h = absurd (Contains-none x h)
+filtered_is p (y ∷ ys) x h = at (p y) refl h (filtered_is p ys x)
+  where
+    at : (b : Bool) → p y ≡ b → Contains (cond b (y ∷ filter p ys) (filter p ys)) x → (Contains (filter p ys) x → Contains ys x × (p x ≡ true)) → Contains (y ∷ ys) x × (p x ≡ true)
+    at true e k rest = elim (Contains-cons_cases x y (filter p ys) k) [ inl f ↦ (rw f (Contains-head y ys), rw f e) | inr f ↦ (let r = rest f in (Contains-rest x y ys r.0, r.1)) ]
+    at false e k rest = let r = rest k in (Contains-rest x y ys r.0, r.1)
+
+pub filtered_has : {X : Type 0} (p : X → Bool) (xs : List X) (x : X) → Contains xs x → p x ≡ true → Contains (filter p xs) x
+filtered_has p [] x h e = absurd (Contains-none x h)
+filtered_has p (y ∷ ys) x h e = elim (Contains-cons_cases x y ys h) [ inl f ↦ here (p y) (rw f at e) f | inr f ↦ at (p y) (filtered_has p ys x f e) ]
+  where
+    here : (b : Bool) → b ≡ true → x ≡ y → Contains (cond b (y ∷ filter p ys) (filter p ys)) x
+    here true g f = rw f (Contains-head y (filter p ys))
+    here false g f = absurd (cc)
+
+    at : (b : Bool) → Contains (filter p ys) x → Contains (cond b (y ∷ filter p ys) (filter p ys)) x
+    at true k = Contains-rest x y (filter p ys) k
+    at false k = k
+
+pub filter-same : {X : Type 0} (p q : X → Bool) (xs : List X) → ((x : X) → Contains xs x → p x ≡ q x) → filter p xs ≡ filter q xs
+filter-same p q [] h = refl
+filter-same p q (x ∷ xs) h = let rest = filter-same p q xs (λ y k. h y (Contains-rest y x xs k)) in rw (h x (Contains-head x xs), rest) refl
+
+pub filter-all : {X : Type 0} (p : X → Bool) (xs : List X) → ((x : X) → Contains xs x → p x ≡ true) → filter p xs ≡ xs
+filter-all p [] h = refl
+filter-all p (x ∷ xs) h = let rest = filter-all p xs (λ y k. h y (Contains-rest y x xs k)) in rw (h x (Contains-head x xs), rest) refl
+
+bool_eq : (a b : Bool) → (a ≡ true → b ≡ true) → (b ≡ true → a ≡ true) → a ≡ b
+bool_eq true b h k = sym (h refl)
+bool_eq false true h k = k refl
+bool_eq false false h k = refl
+
+or_is : (a b : Bool) → a || b ≡ true → (a ≡ true) ⊎ (b ≡ true)
+or_is true b h = inl refl
+or_is false b h = inr h
+
+or_by : (a b : Bool) → (a ≡ true) ⊎ (b ≡ true) → a || b ≡ true
+or_by true b h = refl
+or_by false b (inl h) = absurd (cc)
+or_by false b (inr h) = h
+
+module _ (order : List Stamp) (m n : BTreeMap Stamp Version) (h : IsIndex order m) where
+  -- one version more
+  module _ (v : Version) (new : version_at m v.stamp ≡ None) (later : 1 ≤ v.stamp.time) (updates : (q : Stamp) → version_at n q ≡ cond (is_eq (compared v.stamp q)) (Some v) (version_at m q)) where
+    at_new : version_at n v.stamp ≡ Some v
+    at_new = updates v.stamp ∙ ap (λ b. cond b (Some v) (version_at m v.stamp)) (same_by_fields v.stamp v.stamp ∙ same_stamp-refl v.stamp)
+
+    -- what is found was found before, or is the new one
+    found_then : (q : Stamp) (u : Version) → version_at n q ≡ Some u → (version_at m q ≡ Some u) ⊎ ((v.stamp ≡ q) × (v ≡ u))
+    found_then q u e = at (is_eq (compared v.stamp q)) refl (sym (updates q) ∙ e)
+      where
+        at : (b : Bool) → is_eq (compared v.stamp q) ≡ b → cond b (Some v) (version_at m q) ≡ Some u → (version_at m q ≡ Some u) ⊎ ((v.stamp ≡ q) × (v ≡ u))
+        at true same f = inr (same_stamp-≡ v.stamp q (sym (same_by_fields v.stamp q) ∙ same), cc)
+        at false same f = inl f
+
+    still : (q : Stamp) (u : Version) → version_at m q ≡ Some u → version_at n q ≡ Some u
+    still q u e = updates q ∙ at (is_eq (compared v.stamp q)) refl
+      where
+        at : (b : Bool) → is_eq (compared v.stamp q) ≡ b → cond b (Some v) (version_at m q) ≡ Some u
+        at true same =
+            let f : v.stamp ≡ q = same_stamp-≡ v.stamp q (sym (same_by_fields v.stamp q) ∙ same) in
+            let g : version_at m v.stamp ≡ Some u = rw f e in
+            absurd (cc)
+        at false same = e
+
+    pub added_index : IsIndex (order ++ v.stamp ∷ []) n
+    added_index = record {
+      there = λ q k. elim (Contains-push_cases order v.stamp q k) [
+        | inl l ↦ (let u = some_is (version_at m q) (h.there q l) in rw (still q u.0 u.1) refl)
+        | inr e ↦ (rw (← e, at_new) refl)
+      ];
+      accepted = λ q u e. elim (found_then q u e) [
+        | inl f ↦ Contains-append_left order (v.stamp ∷ []) q (h.accepted q u f)
+        | inr f ↦ (rw (← f.0) (Contains-push order v.stamp))
+      ];
+      own = λ q u e. elim (found_then q u e) [ inl f ↦ h.own q u f | inr f ↦ ap (λ (x : Version). x.stamp) (sym f.1) ∙ f.0 ];
+      later = λ q u e. elim (found_then q u e) [ inl f ↦ h.later q u f | inr f ↦ (rw (← f.0) later) ];
+    }
+
+    pub added_list : versions_of (order ++ v.stamp ∷ []) n ≡ versions_of order m ++ v ∷ []
+    added_list =
+        let same : filter_map (version_at n) order ≡ filter_map (version_at m) order =
+        listed-same (version_at n) (version_at m) order (λ q k. let u = some_is (version_at m q) (h.there q k) in still q u.0 u.1 ∙ sym u.1) in
+        listed-push (version_at n) order v.stamp v at_new ∙ ap (λ xs. xs ++ v ∷ []) same
+
+  -- the versions of lower stamps dropped
+  module _ (least : Stamp) (dropped : n.entries ≡ filter (λ e. is_up_to least e.0) m.entries) where
+    at_dropped : (q : Stamp) → version_at n q ≡ cond (is_up_to least q) (version_at m q) None
+    at_dropped q =
+        rw dropped (lookup-filter-keys (λ k. is_eq (compared q k)) (is_up_to least) (is_up_to least q) (λ k e. ap (is_up_to least) (sym (same_stamp-≡ q k (sym (same_by_fields q k) ∙ e)))) m.entries)
+
+    kept_then : (q : Stamp) (u : Version) → version_at n q ≡ Some u → (version_at m q ≡ Some u) × (is_up_to least q ≡ true)
+    kept_then q u e = at (is_up_to least q) refl (sym (at_dropped q) ∙ e)
+      where
+        at : (b : Bool) → is_up_to least q ≡ b → cond b (version_at m q) None ≡ Some u → (version_at m q ≡ Some u) × (is_up_to least q ≡ true)
+        at true same f = (f, same)
+        at false same f = absurd (cc)
+
+    stays : (q : Stamp) → is_up_to least q ≡ true → version_at n q ≡ version_at m q
+    stays q e = at_dropped q ∙ ap (λ b. cond b (version_at m q) None) e
+
+    pub dropped_index : IsIndex (filter (is_up_to least) order) n
+    dropped_index = record {
+      there = λ q k. let r = filtered_is (is_up_to least) order q k in rw (stays q r.1) (h.there q r.0);
+      accepted = λ q u e. let r = kept_then q u e in filtered_has (is_up_to least) order q (h.accepted q u r.0) r.1;
+      own = λ q u e. h.own q u (kept_then q u e).0;
+      later = λ q u e. h.later q u (kept_then q u e).0;
+    }
+
+    pub dropped_list : versions_of (filter (is_up_to least) order) n ≡ filter (λ v. is_up_to least v.stamp) (versions_of order m)
+    dropped_list =
+        listed-same (version_at n) (version_at m) (filter (is_up_to least) order) (λ q k. stays q (filtered_is (is_up_to least) order q k).1)
+        ∙ listed-filter (version_at m) (is_up_to least) (λ v. is_up_to least v.stamp) order (λ q u k e. ap (is_up_to least) (h.own q u e)) (λ q k. some_is (version_at m q) (h.there q k))
+
+-- which versions a prune keeps after the first
+module _ (stamp : Stamp) (vs : List Version) where
+  pub kept_by : Version → Bool
+  kept_by v = carries v.stamp (greatest_in (AtMost stamp) vs) || before stamp v.stamp
+
+  -- they are the greatest up to the stamp, and all above it
+  pub kept_from : (g : Version) → greatest_in (AtMost stamp) vs ≡ Some g → filter (λ v. is_up_to g.stamp v.stamp) vs ≡ filter (λ v. carries v.stamp (greatest_in (AtMost stamp) vs) || before stamp v.stamp) vs
+  kept_from g e = rw e (filter-same (λ v. is_up_to g.stamp v.stamp) (λ v. same_stamp g.stamp v.stamp || before stamp v.stamp) vs (λ v k. bool_eq _ _ (λ low. to v k (sym (up_to_by_fields g.stamp v.stamp) ∙ low)) (λ b. up_to_by_fields g.stamp v.stamp ∙ from v (or_is _ _ b))))
+    where
+      to : (v : Version) → Contains vs v → g.stamp ≼ v.stamp → same_stamp g.stamp v.stamp || before stamp v.stamp ≡ true
+      to v k low =
+          elim (cases_bool (before stamp v.stamp)) [
+            | inl b ↦ or_by _ _ (inr b)
+            | inr b ↦ (
+                let above = greatest_in_above (AtMost stamp) vs v.stamp (before_false v.stamp stamp b) (keeps-Contains vs v k) in
+                let f = above.1 in
+                let is : above.0 ≡ g = cc in
+                let eq : g.stamp ≡ v.stamp = ≼-antisym g.stamp v.stamp low (rw is at above.2) in
+                (let same : same_stamp g.stamp v.stamp ≡ true = rw eq (same_stamp-refl v.stamp) in or_by _ _ (inl same)))
+          ]
+
+      from : (v : Version) → (same_stamp g.stamp v.stamp ≡ true) ⊎ (before stamp v.stamp ≡ true) → g.stamp ≼ v.stamp
+      from v (inl s) = rw (same_stamp-≡ g.stamp v.stamp s) (≼-refl v.stamp)
+      from v (inr b) = ≼-trans g.stamp stamp v.stamp (greatest_in_is (AtMost stamp) vs g e).1 (before-≼ stamp v.stamp b)
+
+  -- all, where none is up to the stamp
+  pub kept_all : greatest_in (AtMost stamp) vs ≡ None → vs ≡ filter (λ v. carries v.stamp (greatest_in (AtMost stamp) vs) || before stamp v.stamp) vs
+  kept_all e =
+      rw e (sym (filter-all (λ v. before stamp v.stamp) vs (λ v k.
+      elim (cases_bool (before stamp v.stamp)) [
+        | inl b ↦ b
+        | inr b ↦ absurd (let above = greatest_in_above (AtMost stamp) vs v.stamp (before_false v.stamp stamp b) (keeps-Contains vs v k) in let f = above.1 in cc)
+      ])))

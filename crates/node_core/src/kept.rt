@@ -1,0 +1,152 @@
+ghost use Rattle.std.specs.Prelude.{◌≡◌, ◌≤◌, ◌↔◌, ◌||◌, true, false, IsTrue, [], ◌∷◌, ◌++◌, map, filter, OnOk, OnErr, IfOk, IfSome, IfNone, option_copied};
+ghost use Rattle.stamp_order.specs.Stamps.{before};
+ghost use Rattle.protocol.specs.Nodes.{keeps, carries, greatest_in, greatest_time};
+ghost use Rattle.std.specs.List.{Contains};
+ghost use Rattle.wire_forms.specs.declared.message.Version.{Version};
+ghost use Rattle.node_core.specs.Index.{is_up_to, IsLastIn, IsNoneIn};
+ghost use Rattle.stamp_order.specs.declared.Bound.TheVariants.{AtMost};
+
+use lists::{ItemList, NoMemory};
+use stamp_order::{Bound, Stamp};
+use std::alloc::Global;
+use std::collections::BTreeMap;
+use std::marker::Model;
+use wire_forms::Version;
+
+/// The versions of a block that were accepted after the first, in order of acceptance. None has the time 0.
+#[derive(Drop)]
+pub(crate) struct Kept {
+    /// Their stamps, in order of acceptance.
+    order: Vec<Stamp>,
+    by_stamp: BTreeMap<Stamp, Version>,
+}
+
+impl Model for Kept {
+    ghost use Rattle.std.specs.Prelude.{List};
+    ghost use Rattle.wire_forms.specs.declared.message.Version.{Version};
+    ghost use Rattle.node_core.specs.Index.{versions_of, IsIndex};
+
+    ghost Value = { List Version };
+
+    ghost view = { λ k. versions_of k.order.items k.by_stamp };
+
+    ghost invariant = { λ k. IsIndex k.order.items k.by_stamp };
+}
+
+impl Kept {
+    pub(crate) fn new(alloc: Global) -> Kept
+        ensures { result ≡ [] }
+    {
+        Kept {
+            order: Vec::new(alloc),
+            by_stamp: BTreeMap::new(alloc),
+        }
+    }
+
+    /// Whether there is a version of this stamp.
+    pub(crate) fn has(&self, stamp: &Stamp) -> bool
+        ensures { IsTrue result ↔ (keeps self.now stamp.now ≡ true) }
+    {
+        self.by_stamp.contains_key(stamp)
+    }
+
+    /// The version of greatest stamp in the bound.
+    pub(crate) fn greatest_in(&self, bound: &Bound) -> Option<&Version>
+        ensures greatest { option_copied result ≡ greatest_in bound.now self.now }
+        ensures later { IfSome result (λ v. 1 ≤ v.now.stamp.time) }
+    {
+        match last_in(&self.by_stamp, bound) {
+            Some((_, version)) => Some(version),
+            None => None,
+        }
+    }
+
+    /// The greatest time, or 0 where there are no versions.
+    pub(crate) fn greatest_time(&self) -> u64
+        ensures { result ≡ greatest_time self.now }
+    {
+        match self.greatest_in(&Bound::All) {
+            Some(version) => version.stamp.time,
+            None => 0,
+        }
+    }
+
+    /// Adds a version whose stamp isn't there.
+    pub(crate) fn add(&mut self, version: Version) -> Result<(), NoMemory>
+        requires new { keeps self.old version.stamp ≡ false }
+        requires later { 1 ≤ version.stamp.time }
+        ensures ok { OnOk result (self.new ≡ self.old ++ version ∷ []) }
+        ensures err { OnErr result (self.new ≡ self.old) }
+    {
+        let stamp = version.stamp;
+        self.order.reserve(1)?;
+        self.by_stamp.insert(stamp, version)?;
+        let _ = self.order.push(stamp);
+        Ok(())
+    }
+
+    /// The stamps, after that of the first version.
+    pub(crate) fn stamps(&self, first: &Stamp) -> Result<ItemList<Stamp>, NoMemory>
+        ensures { IfOk result (λ stamps. stamps ≡ first.now ∷ map (λ v. v.stamp) self.now) }
+    {
+        let mut stamps = ItemList::new(*self.order.allocator());
+        stamps.push(*first)?;
+        for stamp in &self.order {
+            stamps.push(*stamp)?;
+        }
+        Ok(stamps)
+    }
+
+    /// Drops the versions below the greatest one up to the stamp.
+    pub(crate) fn prune(&mut self, stamp: &Stamp)
+        ensures later { (v : Version) → Contains self.old v → 1 ≤ v.stamp.time }
+        ensures kept { self.new ≡ filter (λ v. carries v.stamp (greatest_in (AtMost stamp.now) self.old) || before stamp.now v.stamp) self.old }
+    {
+        match self.greatest_in(&Bound::AtMost(*stamp)) {
+            Some(greatest) => {
+                let least = greatest.stamp;
+                drop_stamps(&mut self.order, least);
+                drop_versions(&mut self.by_stamp, least);
+            }
+            None => {}
+        }
+    }
+}
+
+// The last entry whose stamp is in the bound.
+fn last_in<'a>(
+    by_stamp: &'a BTreeMap<Stamp, Version>,
+    bound: &Bound,
+) -> Option<(&'a Stamp, &'a Version)>
+    ensures some { IfSome result (λ e. IsLastIn by_stamp.now bound.now e.0.now e.1.now) }
+    ensures none { IfNone result (IsNoneIn by_stamp.now bound.now) }
+{
+    match bound {
+        Bound::All => by_stamp.last_key_value(),
+        Bound::AtMost(most) => by_stamp.range(..=*most).next_back(),
+        Bound::Below(limit) => by_stamp.range(..*limit).next_back(),
+    }
+}
+
+// Drops the stamps below one.
+fn drop_stamps(order: &mut Vec<Stamp>, least: Stamp)
+    ensures { order.new.items ≡ filter (is_up_to least) order.old.items }
+{
+    order.retain(
+        |stamp: &Stamp| -> bool
+            ensures { result ≡ is_up_to least stamp.now }
+        { least.cmp(stamp).is_le() },
+    );
+}
+
+// Drops the versions of stamps below one.
+fn drop_versions(by_stamp: &mut BTreeMap<Stamp, Version>, least: Stamp)
+    ensures { by_stamp.new.entries ≡ filter (λ e. is_up_to least e.0) by_stamp.old.entries }
+{
+    by_stamp.retain(
+        |stamp: &Stamp, _version: &mut Version| -> bool
+            ensures passes { result ≡ is_up_to least stamp.now }
+            ensures same { _version.new ≡ _version.old }
+        { least.cmp(stamp).is_le() },
+    );
+}

@@ -1,0 +1,4 @@
+pub mod Causes
+pub mod Given
+pub mod Memory
+pub mod Written

@@ -1,0 +1,75 @@
+ghost use Rattle.std.specs.Prelude.{◌≡◌, ◌<◌, ◌≤◌, ◌+◌, length, IfOk, OnOk, IsErrOf};
+ghost use Rattle.std.specs.Io.KnownBytes.{Consumes, IsAtEnd};
+ghost use Rattle.outside_io.specs.Causes.{Rose};
+ghost use Rattle.outside_io.specs.Given.{GaveAtMost, GaveExactly};
+
+use crate::source::Source;
+use cross_sum::Bytes;
+use std::alloc::{AllocError, Global};
+
+/// How many bytes an input has at most.
+pub const LIMIT: usize = 4_194_304;
+
+/// How many bytes are asked for at once.
+const ROOM: usize = 16_384;
+
+/// Why an input was not read.
+#[derive(Clone, Copy, Debug, PartialEq, Eq)]
+pub enum ReadRefusal {
+    /// No memory was found.
+    NoMemory,
+    /// The source failed.
+    ReadFault,
+    /// The source gave more bytes than an input may have.
+    TooLong,
+}
+
+impl From<AllocError> for ReadRefusal {
+    ghost use Rattle.outside_io.specs.declared.reading.ReadRefusal.TheVariants.{NoMemory};
+
+    ghost from_gives = { λ _ e. e ≡ NoMemory };
+
+    fn from(_: AllocError) -> ReadRefusal {
+        ReadRefusal::NoMemory
+    }
+}
+
+// How many bytes are asked for after so many: no more than one above the limit in all.
+fn wanted_at(have: usize) -> usize
+    requires { have ≤ LIMIT }
+    ensures some { 0 < result }
+    ensures fits { result ≤ ROOM }
+    ensures most { have + result ≤ LIMIT + 1 }
+{
+    ROOM.min(LIMIT + 1 - have)
+}
+
+/// Reads a source to its end. It takes at most one byte more than the limit, and each turn takes at least one.
+pub fn read_all<S: Source>(alloc: Global, source: &mut S) -> Result<Bytes, ReadRefusal>
+    ensures bytes { IfOk result (λ input. Consumes (S.left source.old) (S.left source.new) input) }
+    ensures ended { OnOk result (IsAtEnd (S.left source.new)) }
+    ensures short { IfOk result (λ input. length input ≤ LIMIT) }
+    // a fault comes only where the count rose, and before the limit was passed
+    ensures fault { IsErrOf result ReadRefusal.ReadFault → Rose S.last (S.faults source.old) (S.faults source.new) }
+    ensures first { IsErrOf result ReadRefusal.ReadFault → GaveAtMost LIMIT (S.left source.old) (S.left source.new) }
+    ensures long { IsErrOf result ReadRefusal.TooLong → GaveExactly (LIMIT + 1) (S.left source.old) (S.left source.new) }
+    ensures most { GaveAtMost (LIMIT + 1) (S.left source.old) (S.left source.new) }
+    ensures later { S.faults source.old ≤ S.faults source.new }
+{
+    let mut input = Vec::new(alloc);
+    let mut room = [0u8; ROOM];
+    for _ in 0..LIMIT + 1 {
+        let wanted = wanted_at(input.len());
+        match source.read(&mut room[..wanted]) {
+            Err(_) => return Err(ReadRefusal::ReadFault),
+            Ok(0) => return Ok(Bytes::from_vec(input)),
+            Ok(count) => {
+                input.extend_from_slice(&room[..count])?;
+                if input.len() > LIMIT {
+                    return Err(ReadRefusal::TooLong);
+                }
+            }
+        }
+    }
+    Err(ReadRefusal::TooLong)
+}

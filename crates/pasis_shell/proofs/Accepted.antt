@@ -1,0 +1,54 @@
+-- An input that is accepted, and meets no fault, is answered.
+use Rattle.std.proofs.Common.{◌≡◌, ℕ, ◌≤◌, ◌+◌, List, [], ◌∷◌, ◌++◌, length, ap, sym, subst, ◌∙◌, refl, arith, inl, inr, append-nil, length-append}
+use Rattle.std.specs.Prelude.{Option, Some, None, ◌⊎◌}
+use Rattle.outside_io.specs.Given.{GaveExactly}
+use Rattle.pasis_shell.specs.Words.{words_of}
+use Rattle.pasis_shell.specs.Texts.{Refuses, IsAccepted, IsRefusedFor, GivesAll}
+use Rattle.pasis_shell.specs.Statuses.{CanStopBefore}
+use Rattle.pasis_shell.specs.declared.status.Status.{Status}
+use Rattle.pasis_shell.specs.declared.status.Status.TheVariants.{Done, BadWords, ReadFault, WriteFault, NoMemory, TooLong, NotBuilt}
+use Rattle.pasis_shell.specs.declared.words.Command.{Command}
+use Rattle.pasis_shell.specs.declared.words.Command.TheVariants.{Replay, Run, Trace, Check, Sum, Soak}
+use Rattle.pasis_shell.specs.declared.text.Refusal.{Refusal}
+use Rattle.pasis_shell.specs.declared.text.Refusal.TheVariants as refusals
+
+-- what was read to the end is all that there was
+all_read : (before after : Option (List ℕ)) (input given : List ℕ) → before ≡ Some input → GivesAll before after given → given ≡ input
+all_read None after input given e h = absurd cc
+all_read (Some xs) None input given e h = absurd h.0
+all_read (Some xs) (Some ys) input given e h =
+    let same : xs ≡ input = cc in
+    sym (sym same ∙ h.0 ∙ ap (λ z. given ++ z) h.1 ∙ append-nil given)
+
+-- a source gives no more than it had
+too_much : (before after : Option (List ℕ)) (input : List ℕ) (most : ℕ) → before ≡ Some input → length input ≤ most → GaveExactly (most + 1) before after → ⊥
+too_much None after input most e small h = absurd cc
+too_much (Some xs) None input most e small h = absurd h.1
+too_much (Some xs) (Some ys) input most e small h =
+    let same : xs ≡ input = cc in
+    let size = ap length (sym same ∙ h.1) in
+    omega (arith, size, length-append h.0 ys, h.2)
+
+refused_by : (command : Command) (words : List (List ℕ)) (input given : List ℕ) (line : ℕ) → words ≡ words_of command → IsAccepted words input → given ≡ input → Refuses command given (refusals.NotBuilt line) → ⊥
+refused_by command words input given line w accepted e h =
+    let P : List ℕ → Type 0 = λ i. Refuses command i (refusals.NotBuilt line) in
+    let none : refusals.NotBuilt line ≡ refusals.NoMemory = accepted command w (refusals.NotBuilt line) (subst P e h) in
+    cc
+
+not_refused : (command : Command) (words : List (List ℕ)) (before after : Option (List ℕ)) (input : List ℕ) (line : ℕ) → words ≡ words_of command → before ≡ Some input → IsAccepted words input → IsRefusedFor command before after (refusals.NotBuilt line) → ⊥
+not_refused Replay words before after input line w e accepted h = refused_by Replay words input h.0 line w accepted (all_read before after input h.0 e h.1) h.2
+not_refused Run words before after input line w e accepted h = refused_by Run words input h.0 line w accepted (all_read before after input h.0 e h.1) h.2
+not_refused Trace words before after input line w e accepted h = refused_by Trace words input h.0 line w accepted (all_read before after input h.0 e h.1) h.2
+not_refused Check words before after input line w e accepted h = refused_by Check words input h.0 line w accepted (all_read before after input h.0 e h.1) h.2
+not_refused Sum words before after input line w e accepted h = refused_by Sum words input h.0 line w accepted (all_read before after input h.0 e h.1) h.2
+not_refused (Soak n) words before after input line w e accepted h = refused_by (Soak n) words input input line w accepted refl h.2
+
+-- of the statuses without a text, want of memory alone is left
+pub memory_alone : (status : Status) (command : Command) (words : List (List ℕ)) (before after : Option (List ℕ)) (input : List ℕ) (most : ℕ) → CanStopBefore status → words ≡ words_of command → before ≡ Some input → length input ≤ most → IsAccepted words input → (status ≡ ReadFault → ⊥) → (status ≡ TooLong → GaveExactly (most + 1) before after) → ((line : ℕ) → status ≡ NotBuilt line → IsRefusedFor command before after (refusals.NotBuilt line)) → (status ≡ Done) ⊎ (status ≡ NoMemory)
+memory_alone NoMemory command words before after input most can w e small accepted no_fault long refused = inr refl
+memory_alone ReadFault command words before after input most can w e small accepted no_fault long refused = absurd (no_fault refl)
+memory_alone TooLong command words before after input most can w e small accepted no_fault long refused = absurd (too_much before after input most e small (long refl))
+memory_alone (NotBuilt line) command words before after input most can w e small accepted no_fault long refused = absurd (not_refused command words before after input line w e accepted (refused line refl))
+memory_alone Done command words before after input most can w e small accepted no_fault long refused = absurd can
+memory_alone BadWords command words before after input most can w e small accepted no_fault long refused = absurd can
+memory_alone WriteFault command words before after input most can w e small accepted no_fault long refused = absurd can

@@ -1,0 +1,42 @@
+-- The words of `soak`.
+use Rattle.std.proofs.Common.{◌≡◌, ℕ, ◌<◌, ◌^◌, Bool, true, false, List, [], ◌∷◌, ap, sym, ◌∙◌, refl, lit≤}
+use Rattle.std.specs.Prelude.{codes, decimal, not, Option, Some, None}
+use Rattle.std.specs.Str.{bytes_eq}
+use Rattle.std.proofs.lemmas.Slice.Eq.{bytes_eq-Decides}
+use Rattle.text_lines.specs.Fields.{number_of}
+use Rattle.text_lines.proofs.Numbers.{number_of-some, number_of-text}
+use Rattle.pasis_shell.specs.Words.{words_of, IsForm, IsCommand}
+use Rattle.pasis_shell.specs.declared.words.Command.{Command}
+use Rattle.pasis_shell.specs.declared.words.Command.TheVariants.{Replay, Run, Trace, Check, Sum, Soak}
+
+no_command : (command : Command) (digits : List ℕ) → number_of (2 ^ 64) digits ≡ None → IsCommand command → codes "soak" ∷ digits ∷ [] ≡ words_of command → ⊥
+no_command Replay digits none ok e = absurd cc
+no_command Run digits none ok e = absurd cc
+no_command Trace digits none ok e = absurd cc
+no_command Check digits none ok e = absurd cc
+no_command Sum digits none ok e = absurd cc
+no_command (Soak n) digits none ok e =
+    let same : digits ≡ decimal n = cc in
+    let found : None ≡ Some n = sym none ∙ number_of-text (2 ^ 64) digits n same (lit≤ tt) ok in
+    absurd cc
+
+not_other : (b : Bool) → false ≡ not b → b ≡ true
+not_other true e = refl
+not_other false e = absurd cc
+
+-- a word that isn't another one is it
+pub is_word : (word name : List ℕ) → false ≡ not (bytes_eq word name) → word ≡ name
+is_word word name e = (bytes_eq-Decides word name).0 (not_other (bytes_eq word name) e)
+
+-- digits that spell no number are no command's
+pub no_number_no_form : (word digits bytes : List ℕ) → word ≡ codes "soak" → bytes ≡ digits → None ≡ number_of (2 ^ 64) bytes → IsForm (word ∷ digits ∷ []) → ⊥
+no_number_no_form word digits bytes w same none form =
+    let here : number_of (2 ^ 64) digits ≡ None = ap (λ d. number_of (2 ^ 64) d) (sym same) ∙ sym none in
+    no_command form.0 digits here form.1 (ap (λ z. z ∷ digits ∷ []) (sym w) ∙ form.2)
+
+-- digits that spell a number are that number's
+pub number_form : (word digits bytes : List ℕ) (n : ℕ) → word ≡ codes "soak" → bytes ≡ digits → Some n ≡ number_of (2 ^ 64) bytes → (n < 2 ^ 64) × (words_of (Soak n) ≡ word ∷ digits ∷ [])
+number_form word digits bytes n w same found =
+    let parts = number_of-some (2 ^ 64) bytes n (sym found) in
+    let spelled : decimal n ≡ digits = sym parts.0 ∙ same in
+    (parts.1, ap (λ z. z ∷ decimal n ∷ []) (sym w) ∙ ap (λ d. word ∷ d ∷ []) spelled)

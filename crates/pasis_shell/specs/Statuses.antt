@@ -1,0 +1,46 @@
+-- The statuses and their numbers.
+use Rattle.std.specs.Prelude.{ℕ, ⊤}
+use Rattle.outside_io.specs.declared.reading.ReadRefusal.{ReadRefusal}
+use Rattle.outside_io.specs.declared.reading.ReadRefusal.TheVariants as reading
+use Rattle.pasis_shell.specs.declared.status.Status.{Status}
+use Rattle.pasis_shell.specs.declared.status.Status.TheVariants.{Done, BadWords, ReadFault, WriteFault, NoMemory, TooLong, NotBuilt}
+use Rattle.pasis_shell.specs.declared.text.Refusal.{Refusal}
+use Rattle.pasis_shell.specs.declared.text.Refusal.TheVariants as refusals
+
+abbrev pub number_of : Status → ℕ
+number_of Done = 0
+number_of BadWords = 2
+number_of ReadFault = 4
+number_of WriteFault = 5
+number_of NoMemory = 6
+number_of TooLong = 8
+number_of (NotBuilt line) = 9
+
+abbrev pub status_of_read : ReadRefusal → Status
+status_of_read reading.NoMemory = NoMemory
+status_of_read reading.ReadFault = ReadFault
+status_of_read reading.TooLong = TooLong
+
+abbrev pub status_of_refusal : Refusal → Status
+status_of_refusal refusals.NoMemory = NoMemory
+status_of_refusal (refusals.NotBuilt line) = NotBuilt line
+
+-- the status can come before the input was read to its end
+abbrev pub CanStopReading : Status → Type 0
+CanStopReading NoMemory = ⊤
+CanStopReading ReadFault = ⊤
+CanStopReading TooLong = ⊤
+CanStopReading Done = ⊥
+CanStopReading BadWords = ⊥
+CanStopReading WriteFault = ⊥
+CanStopReading (NotBuilt line) = ⊥
+
+-- the status can come before anything was written
+abbrev pub CanStopBefore : Status → Type 0
+CanStopBefore NoMemory = ⊤
+CanStopBefore ReadFault = ⊤
+CanStopBefore TooLong = ⊤
+CanStopBefore (NotBuilt line) = ⊤
+CanStopBefore Done = ⊥
+CanStopBefore BadWords = ⊥
+CanStopBefore WriteFault = ⊥

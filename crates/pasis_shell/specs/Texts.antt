@@ -1,0 +1,56 @@
+-- What a command writes for an input, and when it writes nothing.
+use Rattle.std.specs.Prelude.{ℕ, ◌≡◌, ◌≤◌, ⊤, List, [], length, Option}
+use Rattle.std.specs.Io.KnownBytes.{Consumes, IsAtEnd}
+use Rattle.outside_io.specs.declared.reading.TheConstants.{LIMIT}
+use Rattle.pasis_shell.specs.Words.{words_of}
+use Rattle.pasis_shell.specs.declared.words.Command.{Command}
+use Rattle.pasis_shell.specs.declared.words.Command.TheVariants.{Replay, Run, Trace, Check, Sum, Soak}
+use Rattle.pasis_shell.specs.declared.text.Refusal.{Refusal}
+use Rattle.pasis_shell.specs.declared.text.Refusal.TheVariants.{NoMemory, NotBuilt}
+
+-- the command writes this text for the input
+abbrev pub Writes : Command → List ℕ → List ℕ → Type 0
+Writes Replay input text = ⊤
+Writes Run input text = ⊥
+Writes Trace input text = ⊥
+Writes Check input text = ⊥
+Writes Sum input text = ⊥
+Writes (Soak number) input text = ⊥
+
+-- the command writes nothing for the input, for this reason
+abbrev pub Refuses : Command → List ℕ → Refusal → Type 0
+Refuses command input NoMemory = ⊤
+Refuses command input (NotBuilt line) = line ≡ 1
+
+-- the source gave this input, which is within the limit, and has none left
+abbrev pub GivesAll : Option (List ℕ) → Option (List ℕ) → List ℕ → Type 0
+GivesAll before after input = Consumes before after input × IsAtEnd after × (length input ≤ LIMIT)
+
+-- what a command works on: all that the source had, and nothing for `soak`, which leaves the source as it was
+abbrev pub IsGiven : Command → Option (List ℕ) → Option (List ℕ) → List ℕ → Type 0
+IsGiven (Soak number) before after input = (after ≡ before) × (input ≡ [])
+IsGiven Replay before after input = GivesAll before after input
+IsGiven Run before after input = GivesAll before after input
+IsGiven Trace before after input = GivesAll before after input
+IsGiven Check before after input = GivesAll before after input
+IsGiven Sum before after input = GivesAll before after input
+
+-- the text is what the command writes for what it was given
+abbrev pub AnswersFor : Command → Option (List ℕ) → Option (List ℕ) → List ℕ → Type 0
+AnswersFor command before after text = (input : List ℕ) × IsGiven command before after input × Writes command input text
+
+-- the command refuses what it was given
+abbrev pub IsRefusedFor : Command → Option (List ℕ) → Option (List ℕ) → Refusal → Type 0
+IsRefusedFor command before after refusal = (input : List ℕ) × IsGiven command before after input × Refuses command input refusal
+
+-- the text is what the command of these words writes for what it was given
+abbrev pub Answers : List (List ℕ) → Option (List ℕ) → Option (List ℕ) → List ℕ → Type 0
+Answers words before after text = (command : Command) × (words ≡ words_of command) × AnswersFor command before after text
+
+-- the command of these words refuses what it was given
+abbrev pub IsRefused : List (List ℕ) → Option (List ℕ) → Option (List ℕ) → Refusal → Type 0
+IsRefused words before after refusal = (command : Command) × (words ≡ words_of command) × IsRefusedFor command before after refusal
+
+-- the command of these words refuses the input for want of memory alone
+abbrev pub IsAccepted : List (List ℕ) → List ℕ → Type 0
+IsAccepted words input = (command : Command) → words ≡ words_of command → (refusal : Refusal) → Refuses command input refusal → refusal ≡ NoMemory

@@ -1,0 +1,20 @@
+//! Replays whole operations on nodes without faults: a write with the answers of all nodes in both of its phases, a read with
+//! the answers of all nodes. This is the form of scripts that is built so far, for clusters without faults and with one
+//! share. A plain simulation, which the world of all runs will replace.
+
+pub mod nodes;
+pub mod report;
+pub mod script;
+
+use cross_sum::Bytes;
+use lists::NoMemory;
+use std::alloc::Global;
+
+/// The report of a script; None where it isn't of the form that is built.
+pub fn replay(alloc: Global, input: &[u8]) -> Result<Option<Bytes>, NoMemory> {
+    let Some(script) = script::read(alloc, input)? else {
+        return Ok(None);
+    };
+    let entries = nodes::run(alloc, &script)?;
+    Ok(Some(report::print(alloc, &script, entries)?))
+}

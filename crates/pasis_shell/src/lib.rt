@@ -1,0 +1,18 @@
+//! The top call: words, an input that is read to its end, a text that is written whole, and a status.
+#![tactic(auto)]
+
+mod first_path;
+pub mod gate;
+pub mod status;
+pub mod text;
+pub mod top;
+pub mod words;
+
+pub use gate::{Edge, Gate, OpenGate};
+pub use status::Status;
+pub use text::Refusal;
+pub use top::pasis;
+pub use words::Command;
+
+#[cfg(test)]
+mod tests;

@@ -1,0 +1,80 @@
+ghost use Rattle.std.specs.Prelude.{◌≡◌};
+ghost use Rattle.pasis_shell.specs.Statuses.{number_of, status_of_read, status_of_refusal};
+
+use crate::text::Refusal;
+use outside_io::ReadRefusal;
+use std::fmt;
+
+/// How a call of the program ended.
+#[derive(Clone, Copy, Debug, PartialEq, Eq)]
+pub enum Status {
+    /// The text was written whole and flushed.
+    Done,
+    /// The words are those of no command. Nothing was read.
+    BadWords,
+    /// The source failed.
+    ReadFault,
+    /// The sink failed. What it took in this call is a beginning of the text.
+    WriteFault,
+    /// No memory was found. Nothing was written.
+    NoMemory,
+    /// The source gave more than 4,194,304 bytes.
+    TooLong,
+    /// The command, or what this line asks for, isn't built yet. Lines count from 1.
+    NotBuilt { line: u64 },
+}
+
+impl Status {
+    /// The number with which the program ends.
+    pub fn number(&self) -> u8
+        ensures { result ≡ number_of self.now }
+    {
+        match self {
+            Status::Done => 0,
+            Status::BadWords => 2,
+            Status::ReadFault => 4,
+            Status::WriteFault => 5,
+            Status::NoMemory => 6,
+            Status::TooLong => 8,
+            Status::NotBuilt { .. } => 9,
+        }
+    }
+}
+
+/// What stands of a status on standard error.
+impl fmt::Display for Status {
+    fn fmt<W: fmt::Write>(&self, f: &mut fmt::Formatter<W>) -> fmt::Result {
+        match self {
+            Status::Done => write!(f, "pasis: done"),
+            Status::BadWords => write!(f, "pasis: bad words"),
+            Status::ReadFault => write!(f, "pasis: read fault"),
+            Status::WriteFault => write!(f, "pasis: write fault"),
+            Status::NoMemory => write!(f, "pasis: no memory"),
+            Status::TooLong => write!(f, "pasis: input too long"),
+            Status::NotBuilt { line } => write!(f, "pasis: line {line}: not built"),
+        }
+    }
+}
+
+impl Status {
+    /// The status of an input that was not read.
+    pub fn of_read(refusal: ReadRefusal) -> Status
+        ensures { result ≡ status_of_read refusal }
+    {
+        match refusal {
+            ReadRefusal::NoMemory => Status::NoMemory,
+            ReadRefusal::ReadFault => Status::ReadFault,
+            ReadRefusal::TooLong => Status::TooLong,
+        }
+    }
+
+    /// The status of an input for which no text is written.
+    pub fn of_refusal(refusal: Refusal) -> Status
+        ensures { result ≡ status_of_refusal refusal }
+    {
+        match refusal {
+            Refusal::NoMemory => Status::NoMemory,
+            Refusal::NotBuilt { line } => Status::NotBuilt { line },
+        }
+    }
+}

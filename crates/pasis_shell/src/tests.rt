@@ -1,0 +1,172 @@
+use crate::{OpenGate, Status, pasis};
+use cross_sum::Bytes;
+use lists::NoMemory;
+use outside_io::{Calls, MemorySink, MemorySource};
+use std::alloc::Global;
+use std::test::Fail;
+
+// A write and a read by two clients, on three nodes.
+const WRITE_AND_READ: &str = "pasis 1
+cluster 3 0 0 2 1 2 1
+write 1 0 x0100
+call 1 0
+call 1 1
+call 1 2
+call 1 0
+call 1 1
+call 1 2
+read 2 0
+call 2 0
+call 2 1
+call 2 2
+";
+
+const REPORT: &str = "0 1.1.1 write 1 1 7 x0100
+0 1.1.1 read 2 8 11 x0100
+end done=2 spent=0 pending=0 repaired=0 rounds=1
+";
+
+fn words_of(alloc: Global, words: &[&str]) -> Result<Vec<String>, NoMemory> {
+    let mut list = Vec::new(alloc);
+    for word in words {
+        list.push(String::from_str(alloc, word)?)?;
+    }
+    Ok(list)
+}
+
+fn calls_of(alloc: Global, number: Option<u64>) -> Result<Calls, NoMemory> {
+    let mut calls = Calls::new(alloc);
+    if let Some(number) = number {
+        calls.push(number)?;
+    }
+    Ok(calls)
+}
+
+// Does what the words ask for, with a byte for each read and 8 for each write, and with a call of the source and one of the
+// sink that fail.
+fn outcome_of(
+    alloc: Global,
+    words: &[&str],
+    input: Bytes,
+    failing_read: Option<u64>,
+    failing_write: Option<u64>,
+) -> Result<(Status, MemorySink), NoMemory> {
+    let words = words_of(alloc, words)?;
+    let mut source = MemorySource::new(input, 1, calls_of(alloc, failing_read)?);
+    let mut sink = MemorySink::new(alloc, 8, calls_of(alloc, failing_write)?);
+    let status = pasis(alloc, words.as_slice(), &mut source, &mut sink, &OpenGate);
+    Ok((status, sink))
+}
+
+fn replayed(
+    alloc: Global,
+    script: &str,
+    failing_read: Option<u64>,
+    failing_write: Option<u64>,
+) -> Result<(Status, MemorySink), NoMemory> {
+    let input = Bytes::of(alloc, script.as_bytes())?;
+    outcome_of(alloc, &["replay"], input, failing_read, failing_write)
+}
+
+fn status_of(alloc: Global, words: &[&str]) -> Result<Status, NoMemory> {
+    let input = Bytes::of(alloc, WRITE_AND_READ.as_bytes())?;
+    Ok(outcome_of(alloc, words, input, None, None)?.0)
+}
+
+#[test]
+fn replays_a_write_and_a_read(rt: HostRuntime) -> Result<(), Fail> {
+    let (status, sink) = replayed(rt.alloc(), WRITE_AND_READ, None, None)?;
+    assert_eq!(rt; status, Status::Done);
+    assert_eq!(rt; sink.taken(), REPORT.as_bytes());
+    Ok(())
+}
+
+#[test]
+fn a_cluster_alone_has_an_empty_history(rt: HostRuntime) -> Result<(), Fail> {
+    let (status, sink) = replayed(rt.alloc(), "pasis 1\ncluster 3 0 0 2 1 2 1\n", None, None)?;
+    assert_eq!(rt; status, Status::Done);
+    assert_eq!(rt;
+        sink.taken(),
+        b"end done=0 spent=0 pending=0 repaired=0 rounds=0\n".as_slice()
+    );
+    Ok(())
+}
+
+#[test]
+fn a_script_without_its_last_call_is_not_built(rt: HostRuntime) -> Result<(), Fail> {
+    let script = WRITE_AND_READ.strip_suffix("call 2 2\n").unwrap_or("");
+    let (status, sink) = replayed(rt.alloc(), script, None, None)?;
+    assert_eq!(rt; status, Status::NotBuilt { line: 1 });
+    assert_eq!(rt; sink.taken().len(), 0);
+    Ok(())
+}
+
+#[test]
+fn each_read_that_fails_is_a_read_fault(rt: HostRuntime) -> Result<(), Fail> {
+    for call in 0..137u64 {
+        let (status, sink) = replayed(rt.alloc(), WRITE_AND_READ, Some(call), None)?;
+        assert_eq!(rt; status, Status::ReadFault, "at {call}");
+        assert_eq!(rt; sink.taken().len(), 0);
+    }
+    let (status, _) = replayed(rt.alloc(), WRITE_AND_READ, Some(137), None)?;
+    assert_eq!(rt; status, Status::Done);
+    Ok(())
+}
+
+#[test]
+fn each_write_that_fails_is_a_write_fault(rt: HostRuntime) -> Result<(), Fail> {
+    for call in 0..13u64 {
+        let (status, sink) = replayed(rt.alloc(), WRITE_AND_READ, None, Some(call))?;
+        assert_eq!(rt; status, Status::WriteFault, "at {call}");
+        assert_eq!(rt; sink.taken().len() as u64, 8 * call);
+        assert!(rt; REPORT.as_bytes().starts_with(sink.taken()));
+    }
+    Ok(())
+}
+
+#[test]
+fn a_flush_that_fails_is_a_write_fault(rt: HostRuntime) -> Result<(), Fail> {
+    let (status, sink) = replayed(rt.alloc(), WRITE_AND_READ, None, Some(13))?;
+    assert_eq!(rt; status, Status::WriteFault);
+    assert_eq!(rt; sink.taken(), REPORT.as_bytes());
+    let (status, _) = replayed(rt.alloc(), WRITE_AND_READ, None, Some(14))?;
+    assert_eq!(rt; status, Status::Done);
+    Ok(())
+}
+
+#[test]
+fn words_of_no_command_are_bad_words(rt: HostRuntime) -> Result<(), Fail> {
+    assert_eq!(rt; status_of(rt.alloc(), &["replay", "x"])?, Status::BadWords);
+    assert_eq!(rt; status_of(rt.alloc(), &[])?, Status::BadWords);
+    assert_eq!(rt; status_of(rt.alloc(), &["soak", "07"])?, Status::BadWords);
+    assert_eq!(rt;
+        status_of(rt.alloc(), &["soak", "7"])?,
+        Status::NotBuilt { line: 1 }
+    );
+    Ok(())
+}
+
+#[test]
+fn an_input_of_one_byte_too_many_is_too_long(rt: HostRuntime) -> Result<(), Fail> {
+    let input = Bytes::zeros(rt.alloc(), 4_194_305)?;
+    let (status, sink) = outcome_of(rt.alloc(), &["replay"], input, None, None)?;
+    assert_eq!(rt; status, Status::TooLong);
+    assert_eq!(rt; sink.taken().len(), 0);
+    Ok(())
+}
+
+#[test]
+fn each_status_has_its_line(rt: HostRuntime) -> Result<(), Fail> {
+    let lines = [
+        (Status::BadWords, "pasis: bad words"),
+        (Status::ReadFault, "pasis: read fault"),
+        (Status::WriteFault, "pasis: write fault"),
+        (Status::NoMemory, "pasis: no memory"),
+        (Status::TooLong, "pasis: input too long"),
+        (Status::NotBuilt { line: 12 }, "pasis: line 12: not built"),
+    ];
+    for (status, line) in lines {
+        assert_eq!(rt; format!(in rt.alloc(); "{status}")?.as_str(), line);
+    }
+    Ok(())
+}

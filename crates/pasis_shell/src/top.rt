@@ -1,0 +1,103 @@
+ghost use Rattle.std.specs.Prelude.{◌≡◌, ◌≢◌, ◌≤◌, ◌+◌, ◌⊎◌, ◌↔◌, ℕ, List, Some, length, IfOk, IfErr, IsErrOf};
+ghost use Rattle.outside_io.specs.Causes.{Rose};
+ghost use Rattle.outside_io.specs.Given.{GaveAtMost, GaveExactly};
+ghost use Rattle.outside_io.specs.Written.{Adds, AllFlushed, TakesPrefix};
+ghost use Rattle.pasis_shell.specs.declared.text.Refusal.{Refusal};
+ghost use Rattle.pasis_shell.specs.Statuses.{CanStopReading, CanStopBefore};
+ghost use Rattle.pasis_shell.specs.Words.{texts, IsForm};
+ghost use Rattle.pasis_shell.specs.Texts.{Answers, AnswersFor, IsAccepted, IsGiven, IsRefused, IsRefusedFor};
+
+use crate::gate::Gate;
+use crate::status::Status;
+use crate::text::text_of;
+use crate::words::{Command, command_of};
+use cross_sum::Bytes;
+use outside_io::{LIMIT, Sink, Source, read_all, write_all};
+use std::alloc::Global;
+
+// What a command works on: all of the source, or nothing for `soak`.
+fn input_of<S: Source>(alloc: Global, command: Command, source: &mut S) -> Result<Bytes, Status>
+    ensures given { IfOk result (λ input. IsGiven command (S.left source.old) (S.left source.new) input) }
+    ensures read_fault { IsErrOf result Status.ReadFault → Rose S.last (S.faults source.old) (S.faults source.new) }
+    ensures first { IsErrOf result Status.ReadFault → GaveAtMost LIMIT (S.left source.old) (S.left source.new) }
+    ensures too_long { IsErrOf result Status.TooLong → GaveExactly (LIMIT + 1) (S.left source.old) (S.left source.new) }
+    ensures causes { IfErr result CanStopReading }
+    ensures later { S.faults source.old ≤ S.faults source.new }
+{
+    if let Command::Soak(_) = command {
+        return Ok(Bytes::from_vec(Vec::new(alloc)));
+    }
+    match read_all(alloc, source) {
+        Ok(input) => Ok(input),
+        Err(refusal) => Err(Status::of_read(refusal)),
+    }
+}
+
+// Reads what the command works on, and makes the text that it writes.
+fn answer<S: Source>(alloc: Global, command: Command, source: &mut S) -> Result<Bytes, Status>
+    ensures text { IfOk result (λ text. AnswersFor command (S.left source.old) (S.left source.new) text) }
+    ensures read_fault { IsErrOf result Status.ReadFault → Rose S.last (S.faults source.old) (S.faults source.new) }
+    ensures first { IsErrOf result Status.ReadFault → GaveAtMost LIMIT (S.left source.old) (S.left source.new) }
+    ensures too_long { IsErrOf result Status.TooLong → GaveExactly (LIMIT + 1) (S.left source.old) (S.left source.new) }
+    ensures not_built { (line : ℕ) → IsErrOf result (Status.NotBuilt line)
+        → IsRefusedFor command (S.left source.old) (S.left source.new) (Refusal.NotBuilt line) }
+    ensures causes { IfErr result CanStopBefore }
+    ensures later { S.faults source.old ≤ S.faults source.new }
+{
+    match input_of(alloc, command, source) {
+        Ok(input) => match text_of(alloc, command, &input) {
+            Ok(text) => Ok(text),
+            Err(refusal) => Err(Status::of_refusal(refusal)),
+        },
+        Err(status) => Err(status),
+    }
+}
+
+/// Does what the words ask for: reads the source to its end, makes the whole text, and only then writes and flushes it.
+/// `soak` reads nothing. No contract speaks of what a gate does.
+pub fn pasis<S: Source, K: Sink, G: Gate>(
+    alloc: Global,
+    words: &[String],
+    source: &mut S,
+    sink: &mut K,
+    _gate: &G,
+) -> Status
+    // the words
+    ensures bad_words { result ≡ Status.BadWords ↔ (IsForm (texts words.now) → ⊥) }
+    ensures unread { result ≡ Status.BadWords → source.new ≡ source.old }
+    // reading
+    ensures read_fault { result ≡ Status.ReadFault → Rose S.last (S.faults source.old) (S.faults source.new) }
+    ensures first { result ≡ Status.ReadFault → GaveAtMost LIMIT (S.left source.old) (S.left source.new) }
+    ensures too_long { result ≡ Status.TooLong → GaveExactly (LIMIT + 1) (S.left source.old) (S.left source.new) }
+    // what isn't built
+    ensures not_built { (line : ℕ) → result ≡ Status.NotBuilt line
+        → IsRefused (texts words.now) (S.left source.old) (S.left source.new) (Refusal.NotBuilt line) }
+    // writing
+    ensures unwritten { result ≢ Status.Done → result ≢ Status.WriteFault → sink.new ≡ sink.old }
+    ensures write_fault { result ≡ Status.WriteFault → Rose K.last (K.faults sink.old) (K.faults sink.new) }
+    ensures prefix { result ≡ Status.WriteFault → (text : List ℕ)
+        × Answers (texts words.now) (S.left source.old) (S.left source.new) text
+        × TakesPrefix (K.taken sink.old) (K.taken sink.new) text }
+    ensures unflushed { result ≡ Status.WriteFault → K.flushed sink.new ≡ K.flushed sink.old }
+    ensures done { result ≡ Status.Done → (text : List ℕ)
+        × Answers (texts words.now) (S.left source.old) (S.left source.new) text
+        × Adds (K.taken sink.old) (K.taken sink.new) text }
+    ensures flushed { result ≡ Status.Done → AllFlushed (K.taken sink.new) (K.flushed sink.new) }
+    // an input that is accepted and meets no fault
+    ensures complete { IsForm (texts words.now) → (input : List ℕ) → S.left source.old ≡ Some input → length input ≤ LIMIT
+        → IsAccepted (texts words.now) input
+        → (Rose S.last (S.faults source.old) (S.faults source.new) → ⊥)
+        → (Rose K.last (K.faults sink.old) (K.faults sink.new) → ⊥)
+        → (result ≡ Status.Done) ⊎ (result ≡ Status.NoMemory) }
+{
+    let Some(command) = command_of(words) else {
+        return Status::BadWords;
+    };
+    match answer(alloc, command, source) {
+        Ok(text) => match write_all(sink, text.as_slice()) {
+            Ok(()) => Status::Done,
+            Err(_) => Status::WriteFault,
+        },
+        Err(status) => status,
+    }
+}

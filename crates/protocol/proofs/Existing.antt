@@ -1,0 +1,247 @@
+-- Each world of a run has a history.
+use Rattle.std.proofs.Common.{◌≡◌, ◌⊎◌, ◌≢◌, ◌↔◌, ℕ, ◌≤◌, false, List, [], ◌∷◌, ◌++◌, Option, refl, sym, ◌∙◌, ap, inl, inr, arith}
+use Rattle.std.specs.declared.option.Option.TheVariants.{None, Some}
+use Rattle.std.specs.declared.cmp.Ordering.{Ordering}
+use Rattle.std.specs.declared.cmp.Ordering.TheVariants.{Less, Equal, Greater}
+use Rattle.std.specs.Ordering.{ordering_reverse}
+use Rattle.std.specs.List.{Contains, AllByRecursion}
+use Rattle.std.proofs.lemmas.List.Elements.{Contains-append_cases, Contains-append_left, Contains-append_right}
+use Rattle.stamp_order.specs.declared.Stamp.{Stamp}
+use Rattle.stamp_order.specs.Stamps.{same_stamp}
+use Rattle.protocol.specs.Setting.{Setting, first_stamp}
+use Rattle.protocol.specs.Operations.{Work, Outcome, How}
+use Rattle.protocol.specs.Operations.Work.{Reads, Writes}
+use Rattle.run_words.specs.declared.outcome.Outcome.TheVariants.{Wrote, Spent, Gave, Outvoted}
+use Rattle.protocol.specs.World.{World, Record}
+use Rattle.protocol.specs.History.{Entry, entry_cmp, IsSorted, IsEntry, IsForeign, HasRead, HasWrite, IsHistory}
+use Rattle.protocol.specs.History.Kind.{Write, Foreign, Read}
+use Rattle.protocol.proofs.Counting.{cases_bool}
+use Rattle.protocol.proofs.Order.{same_stamp-≡, same_stamp-refl}
+use Rattle.protocol.proofs.Lists.{Contains-none, Contains-head, Contains-rest, Contains-cons_cases, Contains-one}
+use Rattle.protocol.proofs.Entries.{entry_total, member_of}
+use Rattle.protocol.proofs.Searches.{find_write, find_read, FirstRead}
+use Rattle.protocol.proofs.Invariant.{IsSafe}
+use Rattle.protocol.proofs.Apart.{IsApart}
+use Rattle.protocol.proofs.Keys.{one_key}
+
+-- all entries of which P holds, in a list
+abbrev HasAll : (Entry → Type 0) → Type 0
+HasAll P = (xs : List Entry) × ((e : Entry) → Contains xs e ↔ P e)
+
+none_all : (P : Entry → Type 0) → ((e : Entry) → P e → ⊥) → HasAll P
+none_all P h = ([], λ e. ((λ k. absurd (Contains-none e k)), (λ k. absurd (h e k))))
+
+one_all : (P : Entry → Type 0) (x : Entry) → P x → ((e : Entry) → P e → e ≡ x) → HasAll P
+one_all P x p h = (x ∷ [], λ e. ((λ k. let q = Contains-one e x k in rw q p), (λ k. let q = h e k in rw q (Contains-head x []))))
+
+both_all : (P Q : Entry → Type 0) → HasAll P → HasAll Q → HasAll (λ e. P e ⊎ Q e)
+both_all P Q a b = (
+  a.0 ++ b.0,
+  λ e. (
+    (λ k. elim (Contains-append_cases a.0 b.0 e k) [ inl l ↦ inl ((a.1 e).0 l) | inr l ↦ inr ((b.1 e).0 l) ]),
+    (λ k. elim k [ inl l ↦ Contains-append_left a.0 b.0 e ((a.1 e).1 l) | inr l ↦ Contains-append_right a.0 b.0 e ((b.1 e).1 l) ]),
+  ),
+)
+
+abbrev OfSome : (Record → Entry → Type 0) → List Record → Entry → Type 0
+OfSome F rs e = (r : Record) × Contains rs r × F r e
+
+list_all : (F : Record → Entry → Type 0) → ((r : Record) → HasAll (F r)) → (rs : List Record) → HasAll (OfSome F rs)
+list_all F each [] = none_all (OfSome F []) (λ e h. Contains-none h.0 h.1)
+list_all F each (r ∷ rs) =
+    let rest = list_all F each rs in
+    let both = both_all (F r) (OfSome F rs) (each r) rest in (
+      both.0,
+      λ e. (
+        (λ k. elim ((both.1 e).0 k) [ inl l ↦ (r, Contains-head r rs, l) | inr l ↦ (l.0, Contains-rest l.0 r rs l.1, l.2) ]),
+        (λ k. (both.1 e).1 (elim (Contains-cons_cases k.0 r rs k.1) [ inl q ↦ inl (let f = k.2 in rw q at f) | inr l ↦ inr (k.0, l, k.2) ])),
+      ),
+    )
+
+-- the elements of a list
+all_of : {X : Type 0} (P : X → Type 0) (xs : List X) → ((x : X) → Contains xs x → P x) → AllByRecursion P xs
+all_of P [] h = tt
+all_of P (x ∷ xs) h = (h x (Contains-head x xs), all_of P xs (λ y k. h y (Contains-rest y x xs k)))
+
+-- sorting
+module _ (P : Entry → Type 0) (one : (e f : Entry) → P e → P f → entry_cmp e f ≡ Equal → e ≡ f) where
+  abbrev IsPut : Entry → List Entry → Type 0
+  IsPut x ys = (zs : List Entry) × IsSorted zs × ((e : Entry) → Contains zs e ↔ ((e ≡ x) ⊎ Contains ys e))
+
+  put : (x : Entry) (ys : List Entry) → P x → ((y : Entry) → Contains ys y → P y) → IsSorted ys → IsPut x ys
+  put x [] p h s = (x ∷ [], (tt, tt), λ e. ((λ k. inl (Contains-one e x k)), (λ k. elim k [ inl q ↦ rw q (Contains-head x []) | inr l ↦ absurd (Contains-none e l) ])))
+  put x (y ∷ ys) p h s = at (entry_cmp x y) refl (put x ys p (λ z k. h z (Contains-rest z y ys k)) s.1)
+    where
+      at : (o : Ordering) → entry_cmp x y ≡ o → IsPut x ys → IsPut x (y ∷ ys)
+      at Less e rest = (
+        x ∷ y ∷ ys,
+        (
+          all_of (λ f. entry_cmp x f ≡ Less) (y ∷ ys) (λ f k. elim (Contains-cons_cases f y ys k)
+              [ inl q ↦ rw q e | inr l ↦ entry_total.trans x y f e (member_of (λ g. entry_cmp y g ≡ Less) ys f s.0 l) ]),
+          s,
+        ),
+        λ f. ((λ k. Contains-cons_cases f x (y ∷ ys) k), (λ k. elim k [ inl q ↦ rw q (Contains-head x (y ∷ ys)) | inr l ↦ Contains-rest f x (y ∷ ys) l ])),
+      )
+      at Equal e rest = let q = one x y p (h y (Contains-head y ys)) e in (
+        y ∷ ys,
+        s,
+        λ f. ((λ k. inr k), (λ k. elim k [ inl g ↦ rw (g ∙ q) (Contains-head y ys) | inr l ↦ l ])),
+      )
+      at Greater e rest =
+          let less : entry_cmp y x ≡ Less = entry_total.antisymm y x ∙ ap ordering_reverse e in (
+            y ∷ rest.0,
+            (all_of (λ f. entry_cmp y f ≡ Less) rest.0 (λ f k. elim ((rest.2 f).0 k) [ inl q ↦ rw q less | inr l ↦ member_of (λ g. entry_cmp y g ≡ Less) ys f s.0 l ]), rest.1),
+            λ f. (
+              (λ k. elim (Contains-cons_cases f y rest.0 k) [ inl q ↦ inr (rw q (Contains-head y ys)) | inr l ↦ elim ((rest.2 f).0 l) [ inl g ↦ inl g | inr g ↦ inr (Contains-rest f y ys g) ] ]),
+              (λ k. elim k [
+                | inl q ↦ Contains-rest f y rest.0 ((rest.2 f).1 (inl q))
+                | inr l ↦ elim (Contains-cons_cases f y ys l) [ inl q ↦ rw q (Contains-head y rest.0) | inr g ↦ Contains-rest f y rest.0 ((rest.2 f).1 (inr g)) ]
+              ]),
+            ),
+          )
+
+  sorted_all : (xs : List Entry) → ((e : Entry) → Contains xs e → P e) → (zs : List Entry) × IsSorted zs × ((e : Entry) → Contains zs e ↔ Contains xs e)
+  sorted_all [] h = ([], tt, λ e. ((λ k. k), (λ k. k)))
+  sorted_all (x ∷ xs) h =
+      let rest = sorted_all xs (λ e k. h e (Contains-rest e x xs k)) in
+      let r = put x rest.0 (h x (Contains-head x xs)) (λ y k. h y (Contains-rest y x xs ((rest.2 y).0 k))) rest.1 in (
+        r.0,
+        r.1,
+        λ e. (
+          (λ k. elim ((r.2 e).0 k) [ inl q ↦ rw q (Contains-head x xs) | inr l ↦ Contains-rest e x xs ((rest.2 e).0 l) ]),
+          (λ k. (r.2 e).1 (elim (Contains-cons_cases e x xs k) [ inl q ↦ inl q | inr l ↦ inr ((rest.2 e).1 l) ])),
+        ),
+      )
+
+same_entry : (e f : Entry) → e.block ≡ f.block → e.stamp ≡ f.stamp → e.kind ≡ f.kind → e.client ≡ f.client → e.start ≡ f.start → e.end ≡ f.end → e.value ≡ f.value → e ≡ f
+same_entry e f a b c d g h k i = record { block = a i; stamp = b i; kind = c i; client = d i; start = g i; end = h i; value = k i }
+
+module _ (s : Setting) (w : World) (safe : IsSafe s w) (apart : IsApart w.records) where
+  abbrev rs : List Record
+  rs = w.records
+
+  abbrev ReadOf : Record → Entry → Type 0
+  ReadOf r e = (how : How) × (rounds : ℕ) × (r.outcome ≡ Some (Gave e.stamp e.value how rounds)) × (e.kind ≡ Read) × (e.block ≡ r.block) × (e.client ≡ r.client) × (e.start ≡ Some r.start) × (e.end ≡ r.end)
+
+  read_of : (r : Record) (o : Option Outcome) → r.outcome ≡ o → HasAll (ReadOf r)
+  read_of r None q = none_all (ReadOf r) (λ e h. let k = h.2 in cc)
+  read_of r (Some (Wrote t)) q = none_all (ReadOf r) (λ e h. let k = h.2 in cc)
+  read_of r (Some Spent) q = none_all (ReadOf r) (λ e h. let k = h.2 in cc)
+  read_of r (Some (Outvoted nodes)) q = none_all (ReadOf r) (λ e h. let k = h.2 in cc)
+  read_of r (Some (Gave t v how n)) q =
+      let x : Entry = record { block = r.block; stamp = t; kind = Read; client = r.client; start = Some r.start; end = r.end; value = v } in
+      one_all (ReadOf r) x (how, n, q, refl, refl, refl, refl, refl)
+      (λ e h. let k : Some (Gave e.stamp e.value h.0 h.1) ≡ Some (Gave t v how n) = sym h.2 ∙ q in
+      same_entry e x h.4 (cc k) h.3 h.5 h.6 h.7 (cc k))
+
+  abbrev IsDue : Record → ℕ → Stamp → Type 0
+  IsDue r block t = (r.outcome ≡ Some (Wrote t)) ⊎ ((r.end ≡ None) × (value : List ℕ) × (end : ℕ) × HasRead rs block t value end)
+
+  abbrev WriteOf : Record → Entry → Type 0
+  WriteOf r e = (r.work ≡ Writes e.value) × (r.stamp ≡ Some e.stamp) × (e.kind ≡ Write) × (e.block ≡ r.block) × (e.client ≡ r.client) × (e.start ≡ Some r.start) × (e.end ≡ r.end) × IsDue r e.block e.stamp
+
+  wrote_at : (o : Option Outcome) (t : Stamp) → (o ≡ Some (Wrote t)) ⊎ (o ≡ Some (Wrote t) → ⊥)
+  wrote_at None t = inr (λ e. cc)
+  wrote_at (Some (Wrote u)) t = elim (cases_bool (same_stamp u t)) [
+    | inl e ↦ inl (ap (λ (x : Stamp). Some (Wrote x)) (same_stamp-≡ u t e))
+    | inr e ↦ inr (λ q. let p : u ≡ t = cc in let k : same_stamp t t ≡ false = rw p at e in let l = same_stamp-refl t in cc)
+  ]
+  wrote_at (Some Spent) t = inr (λ e. cc)
+  wrote_at (Some (Gave u v how n)) t = inr (λ e. cc)
+  wrote_at (Some (Outvoted nodes)) t = inr (λ e. cc)
+
+  due_at : (r : Record) (t : Stamp) (end : Option ℕ) → r.end ≡ end → IsDue r r.block t ⊎ (IsDue r r.block t → ⊥)
+  due_at r t end e = elim (wrote_at r.outcome t) [
+    | inl h ↦ inl (inl h)
+    | inr n ↦ pending end e (find_read r.block t rs) n
+  ]
+    where
+      pending : (end : Option ℕ) → r.end ≡ end → FirstRead r.block t rs ⊎ ((value : List ℕ) (end : ℕ) → HasRead rs r.block t value end → ⊥) → (r.outcome ≡ Some (Wrote t) → ⊥) → IsDue r r.block t ⊎ (IsDue r r.block t → ⊥)
+      pending None e (inl h) n = inl (inr (e, h.value, h.end, h.is))
+      pending None e (inr m) n = inr (λ d. elim d [ inl k ↦ n k | inr k ↦ m k.1 k.2 k.3 ])
+      pending (Some x) e h n = inr (λ d. elim d [ inl k ↦ n k | inr k ↦ (let q = k.0 in cc) ])
+
+  write_of : (r : Record) (work : Work) → r.work ≡ work → (stamp : Option Stamp) → r.stamp ≡ stamp → HasAll (WriteOf r)
+  write_of r Reads e stamp f = none_all (WriteOf r) (λ x h. let k = h.0 in cc)
+  write_of r (Writes v) e None f = none_all (WriteOf r) (λ x h. let k = h.1 in cc)
+  write_of r (Writes v) e (Some t) f = elim (due_at r t r.end refl) [
+    | inl d ↦
+        (let x : Entry = record { block = r.block; stamp = t; kind = Write; client = r.client; start = Some r.start; end = r.end; value = v } in
+        one_all (WriteOf r) x (e, f, refl, refl, refl, refl, refl, d)
+        (λ y h. let p : Writes y.value ≡ Writes v = sym h.0 ∙ e in let q : Some y.stamp ≡ Some t = sym h.1 ∙ f in same_entry y x h.3 (cc q) h.2 h.4 h.5 h.6 (cc p)))
+    | inr n ↦ none_all (WriteOf r) (λ y h. n (let q : Some y.stamp ≡ Some t = sym h.1 ∙ f in let st : y.stamp ≡ t = cc q in let d = h.7 in rw (h.3, st) at d))
+  ]
+
+  abbrev ForeignOf : Record → Entry → Type 0
+  ForeignOf r e = (r.block ≡ e.block) × (v : List ℕ) × (how : How) × (n : ℕ) × (r.outcome ≡ Some (Gave e.stamp v how n)) × (e.stamp ≢ first_stamp s) × IsForeign rs e
+
+  none_foreign : (r : Record) → ((t : Stamp) (v : List ℕ) (how : How) (n : ℕ) → r.outcome ≡ Some (Gave t v how n) → ⊥) → HasAll (ForeignOf r)
+  none_foreign r h = none_all (ForeignOf r) (λ e k. h e.stamp k.1 k.2 k.3 k.4)
+
+  gave_value : (o p : Option Outcome) (t : Stamp) (u v : List ℕ) (h k : How) (m n : ℕ) → o ≡ p → o ≡ Some (Gave t u h m) → p ≡ Some (Gave t v k n) → u ≡ v
+  gave_value o p t u v h k m n e f g = let q : Some (Gave t u h m) ≡ Some (Gave t v k n) = sym f ∙ e ∙ g in cc
+
+  first_values : (block : ℕ) (t : Stamp) (a : FirstRead block t rs) (value : List ℕ) (place : ℕ) → HasRead rs block t value place → ((v : List ℕ) (other : ℕ) → HasRead rs block t v other → place ≤ other) → value ≡ a.value
+  first_values block t a value place h least =
+      let same : place ≡ a.end = omega (arith, least a.value a.end a.is, a.first value place h) in
+      let r = apart.ends h.read a.is.read place h.there a.is.there h.ended (a.is.ended ∙ ap Some (sym same)) in
+      gave_value h.read.outcome a.is.read.outcome t value a.value h.how a.is.how h.rounds a.is.rounds (ap (λ (x : Record). x.outcome) r) h.gave a.is.gave
+
+  foreign_as : (e : Entry) (block : ℕ) (t : Stamp) → e.block ≡ block → e.stamp ≡ t → (a : FirstRead block t rs) → IsForeign rs e → e.value ≡ a.value
+  foreign_as e block t p q a h =
+      first_values block t a e.value h.0 (let k = h.1 in rw (p, q) at k) (λ v other k. h.2 v other (rw (p, q) k))
+
+  write_as : (e : Entry) (block : ℕ) (t : Stamp) → e.block ≡ block → e.stamp ≡ t → HasWrite rs block t → HasWrite rs e.block e.stamp
+  write_as e block t p q h = rw (p, q) h
+
+  foreign_of : (r : Record) (o : Option Outcome) → r.outcome ≡ o → HasAll (ForeignOf r)
+  foreign_of r None q = none_foreign r (λ t v how n e. cc)
+  foreign_of r (Some (Wrote t)) q = none_foreign r (λ t v how n e. cc)
+  foreign_of r (Some Spent) q = none_foreign r (λ t v how n e. cc)
+  foreign_of r (Some (Outvoted nodes)) q = none_foreign r (λ t v how n e. cc)
+  foreign_of r (Some (Gave t v how n)) q = elim (cases_bool (same_stamp t (first_stamp s))) [
+    | inl f ↦ none_all (ForeignOf r) (λ e h. h.5 (stamp_of e h.4 ∙ same_stamp-≡ t (first_stamp s) f))
+    | inr f ↦ elim (find_write r.block t rs) [
+      | inl k ↦ none_all (ForeignOf r) (λ e h. h.6.3 (write_as e r.block t (sym h.0) (stamp_of e h.4) k))
+      | inr k ↦ elim (find_read r.block t rs) [
+        | inl a ↦
+            (let x : Entry = record { block = r.block; stamp = t; kind = Foreign; client = t.client; start = None; end = None; value = a.value } in
+            one_all (ForeignOf r) x (refl, v, how, n, q, (λ g. let l : same_stamp t t ≡ false = rw (← g) at f in let m = same_stamp-refl t in cc), (a.end, a.is, a.first, k, refl, refl, refl, refl))
+            (λ e h. let st = stamp_of e h.4 in same_entry e x (sym h.0) st h.6.4 (h.6.5 ∙ ap (λ (y : Stamp). y.client) st) h.6.6 h.6.7 (foreign_as e r.block t (sym h.0) st a h.6)))
+        | inr m ↦ none_all (ForeignOf r) (λ e h. m e.value h.6.0 (let st = stamp_of e h.4 in let z = h.6.1 in rw (← h.0, st) at z))
+      ]
+    ]
+  ]
+    where
+      stamp_of : (e : Entry) {u : List ℕ} {h : How} {m : ℕ} → r.outcome ≡ Some (Gave e.stamp u h m) → e.stamp ≡ t
+      stamp_of e {u} {h} {m} k = let g : Some (Gave e.stamp u h m) ≡ Some (Gave t v how n) = sym k ∙ q in cc
+
+  abbrev EntryOf : Record → Entry → Type 0
+  EntryOf r e = ReadOf r e ⊎ (WriteOf r e ⊎ ForeignOf r e)
+
+  entry_of : (r : Record) → HasAll (EntryOf r)
+  entry_of r = both_all (ReadOf r) (λ e. WriteOf r e ⊎ ForeignOf r e) (read_of r r.outcome refl) (both_all (WriteOf r) (ForeignOf r) (write_of r r.work refl r.stamp refl) (foreign_of r r.outcome refl))
+
+  to_entry : (e : Entry) → OfSome EntryOf rs e → IsEntry rs (first_stamp s) e
+  to_entry e (r, there, inl h) = inl (r, there, h.0, h.1, h.2, h.3, h.4, h.5, h.6, h.7)
+  to_entry e (r, there, inr (inl h)) = inr (inl (r, there, h.0, h.1, h.2, h.3, h.4, h.5, h.6, h.7))
+  to_entry e (r, there, inr (inr h)) = inr (inr (h.5, h.6))
+
+  from_entry : (e : Entry) → IsEntry rs (first_stamp s) e → OfSome EntryOf rs e
+  from_entry e (inl h) = (h.0, h.1, inl (h.2, h.3, h.4, h.5, h.6, h.7, h.8, h.9))
+  from_entry e (inr (inl h)) = (h.0, h.1, inr (inl (h.2, h.3, h.4, h.5, h.6, h.7, h.8, h.9)))
+  from_entry e (inr (inr h)) = let r = h.1.1 in (r.read, r.there, inr (inr (r.of_block, e.value, r.how, r.rounds, r.gave, h.0, h.1)))
+
+  pub has_history : (h : List Entry) × IsHistory s w h
+  has_history =
+      let all = list_all EntryOf entry_of rs in
+      let sorted = sorted_all (IsEntry rs (first_stamp s)) (one_key s w apart) all.0 (λ e k. to_entry e ((all.1 e).0 k)) in (
+        sorted.0,
+        (
+          sorted.1,
+          λ e. (
+            (λ k. to_entry e ((all.1 e).0 ((sorted.2 e).0 k))),
+            (λ k. (sorted.2 e).1 ((all.1 e).1 (from_entry e k))),
+          ),
+        ),
+      )

@@ -1,0 +1,68 @@
+-- What the code sends is well formed, and the digests of a well formed sum can be told from their string.
+use Rattle.std.proofs.Common.{◌≡◌, ℕ, zero, suc, ◌<◌, List, [], ◌∷◌, ◌++◌, length, replicate, get_or, Option, refl, sym, ◌∙◌, ap, arith}
+use Rattle.std.specs.declared.option.Option.TheVariants.{None, Some}
+use Rattle.std.specs.List.{AllByRecursion}
+use Rattle.std.proofs.lemmas.List.{length-replicate}
+use Rattle.protocol.specs.Count.{collect, one_more}
+use Rattle.protocol.specs.Messages.{flat, IsBytes, AreDigests, IsFormedRequest}
+use Rattle.protocol.specs.Setting.{Setting, IsValid, IsBlock, zeros}
+use Rattle.protocol.specs.Operations.{Work, Stage, request_of, first_work}
+use Rattle.protocol.specs.Operations.Work.{Reads, Writes}
+use Rattle.protocol.specs.Operations.Stage.{Times, Versions, Storing}
+use Rattle.protocol.proofs.Invariant.{IsStage}
+
+all_at : {X : Type 0} (P : X → Type 0) (d : X) (xs : List X) → ((i : ℕ) → i < length xs → P (get_or xs i d)) → AllByRecursion P xs
+all_at P d [] h = tt
+all_at P d (x ∷ xs) h = (h 0 (omega arith), all_at P d xs (λ i l. h (suc i) (omega (arith, l))))
+
+all_one_more : {X : Type 0} (P : X → Type 0) (xs : List X) (o : Option X) → AllByRecursion P xs → ((x : X) → o ≡ Some x → P x) → AllByRecursion P (one_more xs o)
+all_one_more P xs None h k = h
+all_one_more P [] (Some x) h k = (k x refl, tt)
+all_one_more P (y ∷ ys) (Some x) h k = (h.0, all_one_more P ys (Some x) h.1 k)
+
+pub all_collect : {X : Type 0} (P : X → Type 0) (n : ℕ) (f : ℕ → Option X) → ((i : ℕ) (x : X) → f i ≡ Some x → P x) → AllByRecursion P (collect n f)
+all_collect P zero f h = tt
+all_collect P (suc k) f h = all_one_more P (collect k f) (f k) (all_collect P k f h) (h k)
+
+all_replicate : (n x : ℕ) → x < 256 → IsBytes (replicate n x)
+all_replicate zero x h = tt
+all_replicate (suc n) x h = (h, all_replicate n x h)
+
+pub filled_block : (s : Setting) (x : ℕ) → x < 256 → IsBlock s (replicate s.size x)
+filled_block s x h = (length-replicate s.size x, all_replicate s.size x h)
+
+pub zeros_block : (s : Setting) → IsBlock s (zeros s)
+zeros_block s = filled_block s 0 (omega arith)
+
+module _ (s : Setting) (good : IsValid s) where
+  pub sum_formed : (value : List ℕ) → IsBlock s value → AreDigests (s.sum_of value)
+  sum_formed value h = all_at (λ d. length d ≡ 32) [] (s.sum_of value) (λ i l. let e = good.digests value i h (omega (arith, good.length-sum value h, l)) in ap length e ∙ good.length-digest (s.fragment_of value i))
+
+  pub request_formed : (work : Work) (stage : Stage) → IsStage s work stage → (i : ℕ) → IsFormedRequest (request_of s stage i)
+  request_formed work Times h i = tt
+  request_formed work (Versions bound) h i = tt
+  request_formed Reads (Storing stamp value) h i = (sum_formed value h.whole, good.bytes-fragment value i h.whole)
+  request_formed (Writes w) (Storing stamp value) h i = (sum_formed value h.1.whole, good.bytes-fragment value i h.1.whole)
+
+pub first_formed : (s : Setting) (work : Work) (i : ℕ) → IsFormedRequest (request_of s (first_work work) i)
+first_formed s Reads i = tt
+first_formed s (Writes value) i = tt
+
+append_inj : (x y a b : List ℕ) → length x ≡ length y → x ++ a ≡ y ++ b → (x ≡ y) × (a ≡ b)
+append_inj [] [] a b l e = (refl, e)
+append_inj [] (c ∷ ys) a b l e = absurd (omega (arith, l))
+append_inj (c ∷ xs) [] a b l e = absurd (omega (arith, l))
+append_inj (c ∷ xs) (d ∷ ys) a b l e =
+    let heads : c ≡ d = cc in
+    let tails : xs ++ a ≡ ys ++ b = cc in
+    let rest = append_inj xs ys a b (omega (arith, l)) tails in
+    (rw (heads, rest.0) refl, rest.1)
+
+pub flat_inj : (xs ys : List (List ℕ)) → AreDigests xs → AreDigests ys → length xs ≡ length ys → flat xs ≡ flat ys → xs ≡ ys
+flat_inj [] [] h k l e = refl
+flat_inj [] (y ∷ ys) h k l e = absurd (omega (arith, l))
+flat_inj (x ∷ xs) [] h k l e = absurd (omega (arith, l))
+flat_inj (x ∷ xs) (y ∷ ys) h k l e =
+    let q = append_inj x y (flat xs) (flat ys) (h.0 ∙ sym k.0) e in
+    let rest = flat_inj xs ys h.1 k.1 (omega (arith, l)) q.1 in
+    rw (q.0, rest) refl

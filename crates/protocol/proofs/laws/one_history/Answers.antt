@@ -1,0 +1,14 @@
+-- The law's clauses are lemmas of `Theorem` and `Kept`, at the setting of a cluster.
+use Rattle.protocol.proofs.Theorem.{run_has, run_keys, run_one}
+use Rattle.protocol.proofs.Kept.{run_blocks}
+use Rattle.protocol.proofs.Cluster.{cluster_valid}
+use Rattle.protocol.specs.Instance.{setting_of}
+use Rattle.protocol.proofs.laws.one_history.Goals as goal
+
+pub returns : goal.returns
+returns a = record {
+  some = λ c nodes clients good lines w run. run_has (setting_of c nodes clients) lines w (cluster_valid c nodes clients good) run;
+  one = λ c nodes clients good lines w run. run_one (setting_of c nodes clients) lines w (cluster_valid c nodes clients good) run;
+  blocks = λ c nodes clients good lines w run. run_blocks (setting_of c nodes clients) lines w (cluster_valid c nodes clients good) run;
+  keys = λ c nodes clients good lines w run. run_keys (setting_of c nodes clients) lines w (cluster_valid c nodes clients good) run;
+}

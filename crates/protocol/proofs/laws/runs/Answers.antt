@@ -1,0 +1,6 @@
+-- The law is a lemma of `Kept`.
+use Rattle.protocol.proofs.Kept.{run_parts}
+use Rattle.protocol.proofs.laws.runs.Goals as goal
+
+pub returns : goal.returns
+returns a = λ s w last lines more. run_parts s last more lines w

@@ -1,0 +1,9 @@
+-- The law's clauses are lemmas, at the setting of a cluster.
+use Rattle.protocol.proofs.Cluster.{cluster_valid}
+use Rattle.protocol.specs.Instance.{setting_of}
+use Rattle.protocol.proofs.Kept.{run_spent_ascend}
+use Rattle.protocol.proofs.Counts.{spent_writes_are}
+use Rattle.protocol.proofs.laws.spent.Goals as goal
+
+pub returns : goal.returns
+returns a = record { are = spent_writes_are; ascend = λ c nodes clients good lines w run. run_spent_ascend (setting_of c nodes clients) lines w (cluster_valid c nodes clients good) run }

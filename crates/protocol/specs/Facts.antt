@@ -1,0 +1,91 @@
+-- What holds in every world of a run, fact by fact.
+use Rattle.std.specs.Prelude.{Option, ◌≡◌, ◌⊎◌, ◌↔◌, ℕ, ◌<◌, ◌≤◌, true, false, Bool, slice_get}
+use Rattle.std.specs.declared.option.Option.TheVariants.{None, Some}
+use Rattle.std.specs.List.{Contains}
+use Rattle.stamp_order.specs.declared.Stamp.{Stamp}
+use Rattle.stamp_order.specs.declared.Bound.{Bound}
+use Rattle.stamp_order.specs.Stamps.{has, ◌≼◌}
+use Rattle.protocol.specs.Messages.{Version, Ask, Reply, Message}
+use Rattle.wire_forms.specs.declared.Request.TheVariants.{Write}
+use Rattle.wire_forms.specs.declared.Reply.TheVariants.{TimeIs, Found, Ack}
+use Rattle.wire_forms.specs.declared.Body.TheVariants.{Ask as Asks}
+use Rattle.protocol.specs.Count.{count}
+use Rattle.protocol.specs.Setting.{Setting, first_stamp}
+use Rattle.protocol.specs.Operations.{Task, Work, Stage, Outcome}
+use Rattle.protocol.specs.Operations.Work.{Reads, Writes}
+use Rattle.run_words.specs.declared.outcome.Outcome.TheVariants.{Wrote, Spent, Gave}
+use Rattle.protocol.specs.Operations.Stage.{Times, Versions}
+use Rattle.protocol.specs.World.{Record, World, under_way}
+use Rattle.protocol.specs.History.{HasWrite, HasLie}
+
+module _ (s : Setting) where
+  -- a node of the cluster that isn't declared lying
+  abbrev pub IsHonest : ℕ → Type 0
+  IsHonest i = (i < s.n) × (s.lying_node i ≡ false)
+
+  -- the stamp is the block's first, or the node accepted it there
+  abbrev pub HasAccepted : World → ℕ → ℕ → Stamp → Type 0
+  HasAccepted w i block stamp = (stamp ≡ first_stamp s) ⊎ Contains w.accepted (record { node = i; block = block; stamp = stamp })
+
+  -- the time that node i told, the version that it found, or the write that it acknowledged goes back to a stamp that it accepted
+  abbrev pub IsGrounded : World → ℕ → Ask → Reply → Type 0
+  IsGrounded w i ask (TimeIs time) = (stamp : Stamp) × HasAccepted w i ask.block stamp × (time ≡ stamp.time)
+  IsGrounded w i ask (Found v) = HasAccepted w i ask.block v.stamp
+  IsGrounded w i ask Ack = (v : Version) × (ask.request ≡ Write v) × HasAccepted w i ask.block v.stamp
+  IsGrounded w i ask _ = Unit {0}
+
+  -- message k of the pool, a node's answer, was made from an ask that was sent before it, with its client, node and tag
+  pub record IsHosted (w : World) (k : ℕ) (m : Message) (reply : Reply) : Type 0 where
+    pub asked : ℕ
+    pub earlier : asked < k
+    pub message : Message
+    pub there : slice_get w.pool asked ≡ Some message
+    pub client : message.client ≡ m.client
+    pub node : message.node ≡ m.node
+    pub tag : message.tag ≡ m.tag
+    pub ask : Ask
+    pub asks : message.body ≡ Asks ask
+    pub grounded : IsGrounded w m.node ask reply
+
+  -- the stamp is the block's first, or a correct client's write chose it there, or a lying client sent a Write of it there
+  abbrev pub IsKnown : World → ℕ → Stamp → Type 0
+  IsKnown w block stamp = (stamp ≡ first_stamp s) ⊎ HasWrite w.records block stamp ⊎ HasLie s w block stamp
+
+  -- at least qc honest nodes have accepted the stamp
+  pub record IsComplete (w : World) (block : ℕ) (stamp : Stamp) : Type 0 where
+    pub nodes : ℕ → Bool
+    pub enough : s.qc ≤ count s.n nodes
+    pub honest : (i : ℕ) → nodes i ≡ true → s.lying_node i ≡ false
+    pub accepted : (i : ℕ) → i < s.n → nodes i ≡ true → Contains w.accepted (record { node = i; block = block; stamp = stamp })
+
+  -- the message is of the phase that its client's operation is in now
+  pub record AtWork (w : World) (m : Message) (task : Task) : Type 0 where
+    pub client : under_way w m.client ≡ Some task
+    pub op : m.tag.op ≡ task.op
+    pub phase : m.tag.phase ≡ task.phase
+
+  -- the bound has the stamp of each operation on the block that ended before this place
+  abbrev pub IsOpen : World → ℕ → ℕ → Bound → Type 0
+  IsOpen w block start bound = (x : Record) (end : ℕ) (stamp : Stamp) → Contains w.records x → x.block ≡ block → x.end ≡ Some end → x.stamp ≡ Some stamp → end < start → has bound stamp ≡ true
+
+  -- an answer to what a task asks tells a time of at least the stamp's, or finds a stamp of at least this one where the bound has it and all that was completed before the task began
+  abbrev pub IsNotBehind : World → Task → Stamp → Stage → Reply → Type 0
+  IsNotBehind w task stamp Times (TimeIs time) = stamp.time ≤ time
+  IsNotBehind w task stamp (Versions bound) reply = has bound stamp ≡ true → IsOpen w task.block task.start bound → (v : Version) × (reply ≡ Found v) × (stamp ≼ v.stamp)
+  IsNotBehind w task stamp _ _ = Unit {0}
+
+-- how an operation can have ended so far, and which stamp its record has then: a read as given, a write as written or spent
+abbrev pub IsOutcomeOf : Work → Option Stamp → Option Outcome → Type 0
+IsOutcomeOf Reads stamp None = stamp ≡ None
+IsOutcomeOf Reads stamp (Some (Gave given value how rounds)) = stamp ≡ Some given
+IsOutcomeOf (Writes value) stamp None = Unit {0}
+IsOutcomeOf (Writes value) stamp (Some (Wrote wrote)) = stamp ≡ Some wrote
+IsOutcomeOf (Writes value) stamp (Some Spent) = stamp ≡ None
+IsOutcomeOf _ _ _ = ⊥
+
+-- what every record tells: it starts and ends by now, in this order, has an outcome exactly where it has ended, and one of its kind
+pub record IsTold (w : World) (r : Record) : Type 0 where
+  pub start : r.start ≤ w.place
+  pub end : (end : ℕ) → r.end ≡ Some end → (r.start ≤ end) × (end ≤ w.place)
+  pub ended : (r.end ≡ None) ↔ (r.outcome ≡ None)
+  pub outcome : IsOutcomeOf r.work r.stamp r.outcome

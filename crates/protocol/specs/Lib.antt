@@ -1,0 +1,14 @@
+pub mod Count
+pub mod Reach
+pub mod Messages
+pub mod Setting
+pub mod Nodes
+pub mod Operations
+pub mod World
+pub mod History
+pub mod Facts
+pub mod Lines
+pub mod Bounds
+pub mod Report
+pub mod Seen
+pub mod Instance
