@@ -1,3 +1,4 @@
+pub mod Causes
 pub mod Words
 pub mod Statuses
 pub mod Texts

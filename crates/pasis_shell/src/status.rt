@@ -1,7 +1,9 @@
 ghost use Rattle.std.specs.Prelude.{◌≡◌};
 ghost use Rattle.pasis_shell.specs.Statuses.{number_of, status_of_read, status_of_refusal};
 
+use crate::cause::CauseNumber;
 use crate::text::Refusal;
+use line_forms::Cause;
 use outside_io::ReadRefusal;
 use std::fmt;
 
@@ -12,6 +14,8 @@ pub enum Status {
     Done,
     /// The words are those of no command. Nothing was read.
     BadWords,
+    /// The text is refused: the first line that has a cause, counted from 1, and its first cause.
+    BadScript { line: u64, cause: Cause },
     /// The source failed.
     ReadFault,
     /// The sink failed. What it took in this call is a beginning of the text.
@@ -32,6 +36,7 @@ impl Status {
         match self {
             Status::Done => 0,
             Status::BadWords => 2,
+            Status::BadScript { .. } => 3,
             Status::ReadFault => 4,
             Status::WriteFault => 5,
             Status::NoMemory => 6,
@@ -47,6 +52,10 @@ impl fmt::Display for Status {
         match self {
             Status::Done => write!(f, "pasis: done"),
             Status::BadWords => write!(f, "pasis: bad words"),
+            Status::BadScript { line, cause } => {
+                let cause = CauseNumber::of(cause);
+                write!(f, "pasis: line {line}: cause {cause}")
+            }
             Status::ReadFault => write!(f, "pasis: read fault"),
             Status::WriteFault => write!(f, "pasis: write fault"),
             Status::NoMemory => write!(f, "pasis: no memory"),
@@ -75,6 +84,10 @@ impl Status {
         match refusal {
             Refusal::NoMemory => Status::NoMemory,
             Refusal::NotBuilt { line } => Status::NotBuilt { line },
+            Refusal::BadScript(fault) => Status::BadScript {
+                line: fault.line,
+                cause: fault.cause,
+            },
         }
     }
 }

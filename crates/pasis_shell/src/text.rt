@@ -4,8 +4,11 @@ ghost use Rattle.pasis_shell.specs.Texts.{Writes, Refuses};
 use crate::first_path;
 use crate::words::Command;
 use cross_sum::Bytes;
+use line_forms::{ScriptFault, ScriptRefusal};
 use lists::NoMemory;
+use script_text::read_sum;
 use std::alloc::Global;
+use sum_text::print_sum;
 
 /// Why a command writes no text for an input.
 #[derive(Clone, Copy, Debug, PartialEq, Eq)]
@@ -14,6 +17,8 @@ pub enum Refusal {
     NoMemory,
     /// The command, or what this line of the input asks for, isn't built yet.
     NotBuilt { line: u64 },
+    /// The input is refused at the line and for the cause that the fault has.
+    BadScript(ScriptFault),
 }
 
 // The report of a script.
@@ -27,6 +32,21 @@ fn replay_of(alloc: Global, input: &Bytes) -> Result<Bytes, Refusal>
     }
 }
 
+// The fragments, digests and verifier of a value.
+fn sum_of(alloc: Global, input: &Bytes) -> Result<Bytes, Refusal>
+    ensures text { IfOk result (λ text. Writes Command.Sum input.now text) }
+    ensures refused { IfErr result (λ refusal. Refuses Command.Sum input.now refusal) }
+{
+    match read_sum(alloc, input.as_slice()) {
+        Ok((config, value)) => match print_sum(alloc, &config, &value) {
+            Ok(text) => Ok(text),
+            Err(NoMemory) => Err(Refusal::NoMemory),
+        },
+        Err(ScriptRefusal::NoMemory) => Err(Refusal::NoMemory),
+        Err(ScriptRefusal::Fault(fault)) => Err(Refusal::BadScript(fault)),
+    }
+}
+
 /// The text that a command writes for an input.
 pub fn text_of(alloc: Global, command: Command, input: &Bytes) -> Result<Bytes, Refusal>
     ensures text { IfOk result (λ text. Writes command input.now text) }
@@ -34,6 +54,7 @@ pub fn text_of(alloc: Global, command: Command, input: &Bytes) -> Result<Bytes, 
 {
     match command {
         Command::Replay => replay_of(alloc, input),
+        Command::Sum => sum_of(alloc, input),
         _ => Err(Refusal::NotBuilt { line: 1 }),
     }
 }
