@@ -1,5 +1,5 @@
 -- An input that is accepted, and meets no fault, is answered.
-use Rattle.std.proofs.Common.{◌≡◌, ℕ, ◌≤◌, ◌+◌, List, [], ◌∷◌, ◌++◌, length, ap, sym, subst, ◌∙◌, refl, arith, inl, inr, append-nil, length-append}
+use Rattle.std.proofs.Common.{◌≡◌, ℕ, ◌≤◌, ◌+◌, List, ◌++◌, length, ap, sym, subst, ◌∙◌, refl, arith, inr, append-nil, length-append}
 use Rattle.std.specs.Prelude.{Option, Some, None, ◌⊎◌}
 use Rattle.outside_io.specs.Given.{GaveExactly}
 use Rattle.pasis_shell.specs.Words.{words_of}
@@ -9,7 +9,6 @@ use Rattle.pasis_shell.specs.declared.status.Status.{Status}
 use Rattle.pasis_shell.specs.declared.status.Status.TheVariants.{Done, BadWords, ReadFault, WriteFault, NoMemory, TooLong, NotBuilt}
 use Rattle.pasis_shell.specs.declared.words.Command.{Command}
 use Rattle.pasis_shell.specs.declared.words.Command.TheVariants.{Replay, Run, Trace, Check, Sum, Soak}
-use Rattle.pasis_shell.specs.declared.text.Refusal.{Refusal}
 use Rattle.pasis_shell.specs.declared.text.Refusal.TheVariants as refusals
 
 -- what was read to the end is all that there was
