@@ -1,12 +1,8 @@
 -- The version that each block has from the beginning.
-use Rattle.std.specs.Prelude.{ℕ, ◌+◌, ◌-◌, ◌/◌, List, map, replicate}
+use Rattle.std.specs.Prelude.{ℕ, List, map, replicate}
 use Rattle.cross_sum.specs.Digest.{digest, verifier}
-use Rattle.quorum_rules.specs.Limits.{Numbers}
+pub use Rattle.quorum_rules.specs.Limits.{Numbers, share_of}
 use Rattle.wire_forms.specs.declared.first.First.{First}
-
--- how many bytes a fragment has: size / m rounded up
-abbrev pub share_of : Numbers → ℕ
-share_of c = (c.size + c.m - 1) / c.m
 
 -- n strings of zero bytes, as long as a fragment
 abbrev pub zero_fragments : Numbers → List (List ℕ)

@@ -7,7 +7,7 @@ use Rattle.wire_forms.proofs.first.First.of.Goals as goal
 pub returns : goal.returns
 returns c =
     let zeros : List ℕ = replicate (share_of c.args.config.now) 0 in
-    let fragment : c.in_ok-fragment.fragment ≡ zeros = c.in_ok-fragment.ensures ∙ ap (λ (n : ℕ). replicate n 0) c.share.ensures in
+    let fragment : c.in_ok-fragment.fragment ≡ zeros = c.in_ok-fragment.ensures ∙ ap (λ (n : ℕ). replicate n 0) c.share.ensures.is in
     let one : c.sha.result ≡ digest zeros = c.sha.ensures ∙ ap digest (c.as_slice.ensures.value ∙ fragment) in
     let each = map-replicate digest c.args.config.now.n zeros in
     let count = c.n.ensures.is in
