@@ -1,17 +1,16 @@
 -- The head lines of a valid configuration have no cause.
-use Rattle.std.proofs.Common.{◌≡◌, ℕ, ◌+◌, ◌^◌, ◌≤◌, ◌<◌, Bool, true, false, ◌||◌, eqb, List, [], ◌∷◌, ◌++◌, length, map, is_none, Some, None, refl, sym, ap, ◌∙◌, arith, append_assoc, lit≤}
+use Rattle.std.proofs.Common.{◌≡◌, ℕ, ◌^◌, ◌<◌, false, eqb, List, [], ◌∷◌, ◌++◌, length, map, None, refl, sym, ap, ◌∙◌, arith, append_assoc, lit≤}
 use Rattle.std.specs.Prelude.{codes, decimal}
 use Rattle.std.specs.List.{list_any, AllByRecursion}
 use Rattle.std.proofs.lemmas.Fmt.{decimal_nonempty}
 use Rattle.std.proofs.lemmas.List.{append-nil}
 use Rattle.quorum_rules.specs.Limits.{Numbers, IsValid}
-use Rattle.quorum_rules.specs.Faults.{fault}
 use Rattle.quorum_rules.proofs.FaultLaws.{none_of_valid}
 use Rattle.text_lines.specs.Lines.{parts_of, fields_of, line_of_fields, Lacks, AllLack}
 use Rattle.text_lines.proofs.Numbers.{number_of-decimal}
 use Rattle.text_lines.proofs.Joined.{parts-joined, part_before, Lacks-append, Lacks-decimal}
 use Rattle.line_forms.specs.Kinds.{has_empty_field}
-use Rattle.line_forms.specs.Texts.{Grammar, ReadsTo}
+use Rattle.line_forms.specs.Texts.{ReadsTo}
 use Rattle.line_forms.specs.Heads.{Body, script, header, head_lines, head_text, cluster_fields, cluster_cause, config_cause, numbers_at, numbers_in, u32_of, is_no_u32}
 use Rattle.line_forms.proofs.Clusters.{spelled}
 use Rattle.line_forms.proofs.Heads.{header_read, head_read}

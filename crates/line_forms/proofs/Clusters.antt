@@ -1,5 +1,5 @@
 -- What is wrong with a cluster line.
-use Rattle.std.proofs.Common.{◌≡◌, ◌≢◌, ℕ, suc, eqb, ◌^◌, ◌<◌, ◌⊎◌, Bool, true, false, ◌||◌, List, [], ◌∷◌, length, map, get_or, Option, Some, None, is_none, unwrap_or, refl, sym, ap, ◌∙◌, arith, inl, inr}
+use Rattle.std.proofs.Common.{◌≡◌, ◌≢◌, ℕ, suc, eqb, ◌^◌, ◌<◌, ◌⊎◌, Bool, true, false, ◌||◌, List, [], ◌∷◌, length, map, Option, Some, None, is_none, unwrap_or, refl, sym, ap, arith, inl, inr}
 use Rattle.std.specs.Prelude.{codes, decimal}
 use Rattle.std.specs.List.{list_any, AllByRecursion}
 use Rattle.std.specs.Str.{bytes_eq}
@@ -9,7 +9,7 @@ use Rattle.quorum_rules.specs.Limits.{Numbers}
 use Rattle.text_lines.specs.Fields.{number_of}
 use Rattle.text_lines.proofs.Numbers.{number_of-some}
 use Rattle.line_forms.specs.Kinds.{Kind, some_field, is_other_word, is_outside, is_bad_value, is_beyond, any_u32, has_empty_field, has_wrong_count}
-use Rattle.line_forms.specs.Heads.{cluster_cause, cluster_fields, config_cause, cluster_form, numbers_at, numbers_in, u32_of, is_no_u32}
+use Rattle.line_forms.specs.Heads.{cluster_cause, cluster_fields, config_cause, numbers_at, u32_of, is_no_u32}
 use Rattle.line_forms.specs.declared.cause.Cause.TheVariants.{UnknownWord, WrongCount, BadNumber}
 
 -- a test that no kind of the form can pass holds of no field

@@ -1,5 +1,5 @@
 -- A text from its first line to its last.
-use Rattle.std.proofs.Common.{◌≡◌, ◌≢◌, ℕ, ◌+◌, ◌-◌, ◌<◌, true, false, not, List, [], ◌∷◌, ◌++◌, length, take, drop, Option, Some, None, refl, sym, ap, ◌∙◌, append_assoc, arith, inl, inr}
+use Rattle.std.proofs.Common.{◌≡◌, ◌≢◌, ℕ, ◌+◌, ◌-◌, ◌<◌, true, false, List, [], ◌∷◌, ◌++◌, length, take, drop, Some, None, refl, sym, ap, ◌∙◌, append_assoc, arith, inl, inr}
 use Rattle.std.proofs.lemmas.List.{take_at, drop_at, drop_all, length-append}
 use Rattle.std.specs.List.{join_with_byte}
 use Rattle.std.proofs.lemmas.List.Splits.{join_with_byte-slice_split}
@@ -9,7 +9,7 @@ use Rattle.text_lines.proofs.Joined.{some_part, text_from_parts}
 use Rattle.line_forms.specs.Texts.{Grammar, part_cause, cause_after, end_causes, ended, IsFault, IsFaultless, ReadsTo}
 use Rattle.line_forms.specs.Tables.{first_of}
 use Rattle.line_forms.specs.declared.cause.Cause.{Cause}
-use Rattle.line_forms.specs.declared.cause.Cause.TheVariants.{Cut, MissingLine}
+use Rattle.line_forms.specs.declared.cause.Cause.TheVariants.{MissingLine}
 
 -- what is wrong after the lines so far
 pub cause_here : (g : Grammar) (text : List ℕ) (ls ps : List (List ℕ)) → parts_of text ≡ ls ++ ps → cause_after g text (length ls) ≡ part_cause g ls ps

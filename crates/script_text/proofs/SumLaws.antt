@@ -1,16 +1,16 @@
 -- The text of a configuration and a value is accepted, and is the text of no others.
-use Rattle.std.proofs.Common.{◌≡◌, ◌<◌, ℕ, eqb, suc, List, [], ◌∷◌, ◌++◌, length, drop, get_or, Option, Some, None, refl, sym, ap, ◌∙◌, arith, append_assoc}
+use Rattle.std.proofs.Common.{◌≡◌, ℕ, List, [], ◌∷◌, ◌++◌, length, drop, get_or, Some, None, refl, sym, ap, ◌∙◌, arith}
 use Rattle.std.specs.Prelude.{codes}
 use Rattle.std.proofs.lemmas.Bool.{eq-eqb}
 use Rattle.std.proofs.lemmas.List.{append-nil}
 use Rattle.quorum_rules.specs.Limits.{Numbers}
-use Rattle.text_lines.specs.Lines.{parts_of, fields_of, line_of_fields, text_of_lines, AllLack}
+use Rattle.text_lines.specs.Lines.{parts_of, fields_of, line_of_fields, AllLack}
 use Rattle.text_lines.specs.Fields.{value_of, value_text}
 use Rattle.text_lines.proofs.Values.{value_of-text}
 use Rattle.text_lines.proofs.Joined.{parts-joined, Lacks-value_text}
-use Rattle.line_forms.specs.Kinds.{form_cause, has_other_length}
+use Rattle.line_forms.specs.Kinds.{form_cause}
 use Rattle.line_forms.specs.Texts.{IsFaultless, ReadsTo}
-use Rattle.line_forms.specs.Heads.{head_text, head_lines, numbers_in, cluster_fields, header}
+use Rattle.line_forms.specs.Heads.{head_text, numbers_in, cluster_fields, header}
 use Rattle.line_forms.proofs.Accepted.{head_accepted, line_apart, numbers_back}
 use Rattle.script_text.specs.Sum.{IsSum, sum_text, sum_lines, sum_script, sum_body, value_fields, value_form}
 use Rattle.script_text.proofs.Sums.{HeadRead, value_cause, value_line_read, sum_faultless}

@@ -1,5 +1,5 @@
 -- The value line, and a text of `sum` from its first line to its last.
-use Rattle.std.proofs.Common.{◌≡◌, ◌≢◌, ℕ, ◌-◌, ◌<◌, false, eqb, List, [], ◌∷◌, ◌++◌, length, take, drop, get_or, Option, Some, None, refl, sym, ap, subst, ◌∙◌, arith}
+use Rattle.std.proofs.Common.{◌≡◌, ◌≢◌, ℕ, ◌-◌, ◌<◌, false, eqb, List, [], ◌∷◌, ◌++◌, length, take, drop, get_or, Some, None, refl, sym, ap, subst, ◌∙◌, arith}
 use Rattle.std.specs.Prelude.{codes}
 use Rattle.std.specs.Borrow.{Bor}
 use Rattle.std.proofs.Math.Bool.{or-false}
@@ -10,7 +10,7 @@ use Rattle.text_lines.proofs.Cuts.{rest_part}
 use Rattle.text_lines.proofs.Joined.{line_from_fields}
 use Rattle.line_forms.specs.Kinds.{form_cause, has_other_length}
 use Rattle.line_forms.specs.Tables.{first_of}
-use Rattle.line_forms.specs.Texts.{ended, end_causes, IsFault, IsFaultless, ReadsTo}
+use Rattle.line_forms.specs.Texts.{ended, IsFault, IsFaultless, ReadsTo}
 use Rattle.line_forms.specs.Heads.{header, head_lines, cluster_fields}
 use Rattle.line_forms.specs.declared.cause.Cause.{Cause}
 use Rattle.line_forms.specs.declared.cause.Cause.TheVariants.{BadValue, UnknownWord, MissingLine}

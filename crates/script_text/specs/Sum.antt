@@ -1,5 +1,5 @@
 -- The input of `sum`: the head lines of a script, and then one line with a value.
-use Rattle.std.specs.Prelude.{ℕ, ◌≡◌, Bool, true, false, List, [], ◌∷◌, ◌++◌, length, codes, Option, Some, None}
+use Rattle.std.specs.Prelude.{ℕ, ◌≡◌, Bool, true, false, List, [], ◌∷◌, ◌++◌, length, codes, Option, Some}
 use Rattle.quorum_rules.specs.Limits.{Numbers, IsValid}
 use Rattle.text_lines.specs.Lines.{fields_of, line_of_fields, text_of_lines}
 use Rattle.text_lines.specs.Fields.{value_text, IsBytes}

@@ -1,12 +1,12 @@
-use Rattle.std.proofs.Common.{◌≡◌, ◌≢◌, ◌∷◌, ◌⊎◌, length, true, ℕ, List, ap, sym, ◌∙◌, inl, inr}
+use Rattle.std.proofs.Common.{◌≡◌, ◌≢◌, ◌∷◌, ◌⊎◌, length, true, ap, sym, ◌∙◌, inl, inr}
 use Rattle.std.specs.Prelude.{codes}
 use Rattle.std.proofs.lemmas.Bool.{not-false}
 use Rattle.std.proofs.lemmas.List.{length-map}
 use Rattle.std.proofs.lemmas.Slice.Eq.{bytes_eq-Decides}
-use Rattle.quorum_rules.specs.Limits.{Numbers, IsValid}
+use Rattle.quorum_rules.specs.Limits.{IsValid}
 use Rattle.text_lines.specs.Lines.{texts}
 use Rattle.line_forms.specs.Kinds.{has_empty_field}
-use Rattle.line_forms.specs.Heads.{cluster_cause, cluster_fields, config_cause}
+use Rattle.line_forms.specs.Heads.{cluster_fields}
 use Rattle.line_forms.proofs.Clusters.{wrong_count, bad_number, spelled}
 use Rattle.line_forms.specs.declared.cause.Cause.TheVariants.{BadNumber}
 use Rattle.line_forms.proofs.Tables.{gives_same, gives_cause}

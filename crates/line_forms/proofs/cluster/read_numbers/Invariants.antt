@@ -1,4 +1,4 @@
-use Rattle.std.proofs.Common.{◌≡◌, take, drop, map, length}
+use Rattle.std.proofs.Common.{◌≡◌, take, drop, map}
 use Rattle.std.specs.List.{list_any}
 use Rattle.text_lines.specs.Lines.{texts}
 use Rattle.line_forms.specs.Heads.{u32_of, is_no_u32}

@@ -1,10 +1,8 @@
-use Rattle.std.proofs.Common.{◌≡◌, ◌≢◌, ℕ, List, [], length, sym, ap, ◌∙◌, arith}
+use Rattle.std.proofs.Common.{◌≡◌, ◌≢◌, ℕ, List, [], length, arith}
 use Rattle.std.proofs.lemmas.Grind.{common_steps}
 use Rattle.text_lines.specs.Fields.{IsBytes}
 use Rattle.text_lines.specs.Lines.{fields_of}
-use Rattle.line_forms.specs.Texts.{IsRefusal, ended}
-use Rattle.line_forms.specs.declared.cause.Cause.TheVariants.{MissingLine}
-use Rattle.line_forms.specs.declared.refusal.ScriptRefusal.TheVariants.{Fault}
+use Rattle.line_forms.specs.Texts.{IsRefusal}
 use Rattle.line_forms.proofs.Tables.{err_is, refusal_here}
 use Rattle.script_text.specs.Sum.{sum_script, sum_body, value_fields}
 use Rattle.script_text.proofs.Sums.{head_at, no_value_line, value_fault, value_line_read, sum_read, sum_faultless, further_cut, further_line}
