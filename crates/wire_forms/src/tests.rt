@@ -1,5 +1,6 @@
 use crate::{
-    Ask, Body, First, Liars, Message, Op, Reason, Reply, Request, Tag, TextRefusal, Version, print, read,
+    Ask, Body, First, Liars, Message, Op, Reason, Reply, Request, Tag, TextRefusal, Version, print,
+    read,
 };
 use cross_sum::{Bytes, CrossSum, sha};
 use quorum_rules::Config;
@@ -29,7 +30,10 @@ fn message(body: Body) -> Message {
 }
 
 fn asked(request: Request) -> Message {
-    message(Body::Ask(Ask { block: 4095, request }))
+    message(Body::Ask(Ask {
+        block: 4095,
+        request,
+    }))
 }
 
 fn answered(reply: Reply) -> Message {
