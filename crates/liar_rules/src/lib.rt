@@ -8,3 +8,6 @@ mod versions;
 pub use answers::false_answer;
 pub use asks::{mix_ask, sound_ask};
 pub use wire_forms::Rule;
+
+#[cfg(test)]
+mod tests;
