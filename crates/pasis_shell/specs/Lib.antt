@@ -1,4 +1,3 @@
-pub mod Causes
 pub mod Words
 pub mod Statuses
 pub mod Texts

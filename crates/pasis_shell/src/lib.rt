@@ -1,7 +1,6 @@
 //! The top call: words, an input that is read to its end, a text that is written whole, and a status.
 #![tactic(auto)]
 
-pub mod cause;
 mod first_path;
 pub mod gate;
 pub mod status;
@@ -9,7 +8,6 @@ pub mod text;
 pub mod top;
 pub mod words;
 
-pub use cause::CauseNumber;
 pub use gate::{Edge, Gate, OpenGate};
 pub use status::Status;
 pub use text::Refusal;

@@ -1,7 +1,6 @@
 ghost use Rattle.std.specs.Prelude.{◌≡◌};
 ghost use Rattle.pasis_shell.specs.Statuses.{number_of, status_of_read, status_of_refusal};
 
-use crate::cause::CauseNumber;
 use crate::text::Refusal;
 use line_forms::Cause;
 use outside_io::ReadRefusal;
@@ -52,16 +51,22 @@ impl fmt::Display for Status {
         match self {
             Status::Done => write!(f, "pasis: done"),
             Status::BadWords => write!(f, "pasis: bad words"),
-            Status::BadScript { line, cause } => {
-                let cause = CauseNumber::of(cause);
-                write!(f, "pasis: line {line}: cause {cause}")
-            }
+            Status::BadScript { line, cause } => write_refusal(f, *line, *cause),
             Status::ReadFault => write!(f, "pasis: read fault"),
             Status::WriteFault => write!(f, "pasis: write fault"),
             Status::NoMemory => write!(f, "pasis: no memory"),
             Status::TooLong => write!(f, "pasis: input too long"),
             Status::NotBuilt { line } => write!(f, "pasis: line {line}: not built"),
         }
+    }
+}
+
+// The numbers of a cause, and of the fault that it carries.
+fn write_refusal<W: fmt::Write>(f: &mut fmt::Formatter<W>, line: u64, cause: Cause) -> fmt::Result {
+    let number = cause.number();
+    match cause.fault_number() {
+        Some(fault) => write!(f, "pasis: line {line}: cause {number}.{fault}"),
+        None => write!(f, "pasis: line {line}: cause {number}"),
     }
 }
 
