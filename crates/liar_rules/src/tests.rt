@@ -50,7 +50,10 @@ fn found(reply: Option<Reply>) -> Result<Version, Fail> {
 fn top_tells_the_greatest_time(rt: HostRuntime) -> Result<(), Fail> {
     let alloc = rt.alloc();
     let top = found(reply_of(alloc, Rule::Top, Request::Read(Bound::All))?)?;
-    assert_eq!(rt; (top.stamp.time, top.stamp.client), (18446744073709551615, 4));
+    assert_eq!(rt;
+        (top.stamp.time, top.stamp.client),
+        (18446744073709551615, 4)
+    );
     assert_eq!(rt; top.fragment.as_slice(), [0xff].as_slice());
     let first = First::of(alloc, &small()?)?;
     let bounded = Request::Read(Bound::AtMost(first.stamp));
@@ -63,7 +66,12 @@ fn top_tells_the_greatest_time(rt: HostRuntime) -> Result<(), Fail> {
 #[test]
 fn old_and_bad_tell_the_first_version(rt: HostRuntime) -> Result<(), Fail> {
     let alloc = rt.alloc();
-    assert!(rt; matches!(reply_of(alloc, Rule::Old, Request::Time)?, Some(Reply::TimeIs(0))));
+    assert!(rt;
+        matches!(
+            reply_of(alloc, Rule::Old, Request::Time)?,
+            Some(Reply::TimeIs(0))
+        )
+    );
     assert!(rt; reply_of(alloc, Rule::Silent, Request::Time)?.is_none());
     let old = found(reply_of(alloc, Rule::Old, Request::Read(Bound::All))?)?;
     assert_eq!(rt; old.fragment.as_slice(), [0].as_slice());
@@ -75,10 +83,12 @@ fn old_and_bad_tell_the_first_version(rt: HostRuntime) -> Result<(), Fail> {
 
 fn written(message: Message) -> Result<Version, Fail> {
     match message.body {
-        Body::Ask(Ask {
-            block: 1,
-            request: Request::Write(version),
-        }) => Ok(version),
+        Body::Ask(
+            Ask {
+                block: 1,
+                request: Request::Write(version),
+            },
+        ) => Ok(version),
         _ => Err(Fail::from("a version of block 1 is written")),
     }
 }
