@@ -11,6 +11,7 @@ use Rattle.pasis_shell.specs.declared.status.Status.{Status}
 use Rattle.pasis_shell.specs.declared.status.Status.TheVariants.{Done, BadWords, BadScript, ReadFault, WriteFault, NoMemory, TooLong, NotBuilt}
 use Rattle.pasis_shell.specs.declared.words.Command.{Command}
 use Rattle.pasis_shell.specs.declared.words.Command.TheVariants.{Replay, Run, Trace, Check, Sum, Soak}
+use Rattle.pasis_shell.specs.declared.text.Refusal.{Refusal}
 use Rattle.pasis_shell.specs.declared.text.Refusal.TheVariants as refusals
 
 -- what was read to the end is all that there was

@@ -1,4 +1,5 @@
 pub mod Causes
 pub mod Words
 pub mod Statuses
+pub mod FirstPath
 pub mod Texts
