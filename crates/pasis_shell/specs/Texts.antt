@@ -2,6 +2,7 @@
 use Rattle.std.specs.Prelude.{ℕ, ◌≡◌, ◌≤◌, ⊤, List, [], length, Option}
 use Rattle.std.specs.Io.KnownBytes.{Consumes, IsAtEnd}
 use Rattle.outside_io.specs.declared.reading.TheConstants.{LIMIT}
+use Rattle.pasis_shell.specs.FirstPath.{IsBuilt}
 use Rattle.pasis_shell.specs.Words.{words_of}
 use Rattle.pasis_shell.specs.declared.words.Command.{Command}
 use Rattle.pasis_shell.specs.declared.words.Command.TheVariants.{Replay, Run, Trace, Check, Sum, Soak}
@@ -24,21 +25,21 @@ pub record Shows (input text : List ℕ) : Type 0 where
 
 -- the command writes this text for the input
 abbrev pub Writes : Command → List ℕ → List ℕ → Type 0
-Writes Replay input text = ⊤
+Writes Replay input text = IsBuilt input
 Writes Run input text = ⊥
 Writes Trace input text = ⊥
 Writes Check input text = ⊥
 Writes Sum input text = Shows input text
 Writes (Soak number) input text = ⊥
 
--- the command, or some form of its input, isn't built yet
-abbrev pub IsUnbuilt : Command → Type 0
-IsUnbuilt Replay = ⊤
-IsUnbuilt Run = ⊤
-IsUnbuilt Trace = ⊤
-IsUnbuilt Check = ⊤
-IsUnbuilt Sum = ⊥
-IsUnbuilt (Soak number) = ⊤
+-- the command, or this form of its input, isn't built yet
+abbrev pub IsUnbuilt : Command → List ℕ → Type 0
+IsUnbuilt Replay input = IsBuilt input → ⊥
+IsUnbuilt Run input = ⊤
+IsUnbuilt Trace input = ⊤
+IsUnbuilt Check input = ⊤
+IsUnbuilt Sum input = ⊥
+IsUnbuilt (Soak number) input = ⊤
 
 -- the fault is the input's: its first line that has a cause, and that line's first cause
 abbrev pub HasFault : Command → List ℕ → ScriptFault → Type 0
@@ -52,7 +53,7 @@ HasFault (Soak number) input fault = ⊥
 -- the command writes nothing for the input, for this reason
 abbrev pub Refuses : Command → List ℕ → Refusal → Type 0
 Refuses command input NoMemory = ⊤
-Refuses command input (NotBuilt line) = IsUnbuilt command × (line ≡ 1)
+Refuses command input (NotBuilt line) = IsUnbuilt command input × (line ≡ 1)
 Refuses command input (BadScript fault) = HasFault command input fault
 
 -- the source gave this input, which is within the limit, and has none left

@@ -23,6 +23,7 @@ pub enum Refusal {
 
 // The report of a script.
 fn replay_of(alloc: Global, input: &Bytes) -> Result<Bytes, Refusal>
+    ensures text { IfOk result (λ text. Writes Command.Replay input.now text) }
     ensures refused { IfErr result (λ refusal. Refuses Command.Replay input.now refusal) }
 {
     match first_path::replay(alloc, input.as_slice()) {
