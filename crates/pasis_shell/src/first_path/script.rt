@@ -61,11 +61,7 @@ fn limit_of(config: &Config) -> u64
     MOST_LINES.min(1_000_000_000 / (n * (size + 32 * n + 128)))
 }
 
-fn read_operations(
-    alloc: Global,
-    config: Config,
-    events: &[u8],
-) -> Result<Option<Script>, NoMemory>
+fn read_operations(alloc: Global, config: Config, events: &[u8]) -> Result<Option<Script>, NoMemory>
     ensures { IfOk result (IsThereWhere (IsEvents config 0 events.now)) }
 {
     let mut operations = Vec::new(alloc);
