@@ -1,7 +1,7 @@
 -- The version that each block has from the beginning.
 use Rattle.std.specs.Prelude.{ℕ, List, map, replicate}
 use Rattle.cross_sum.specs.Digest.{digest, verifier}
-use Rattle.quorum_rules.specs.Limits.{Numbers, share_of}
+pub use Rattle.quorum_rules.specs.Limits.{Numbers, share_of}
 use Rattle.wire_forms.specs.declared.first.First.{First}
 
 -- n strings of zero bytes, as long as a fragment

@@ -1,7 +1,6 @@
 use Rattle.std.proofs.Common.{◌≡◌, ℕ, List, replicate, ap, ◌∙◌}
 use Rattle.cross_sum.specs.Digest.{digest, verifier}
-use Rattle.quorum_rules.specs.Limits.{share_of}
-use Rattle.wire_forms.specs.Firsts.{first_sum}
+use Rattle.wire_forms.specs.Firsts.{share_of, first_sum}
 use Rattle.wire_forms.proofs.Firsts.{map-replicate}
 use Rattle.wire_forms.proofs.first.First.of.Goals as goal
 
