@@ -1,5 +1,5 @@
 -- What a writer does with the time that it draws.
-use Rattle.std.proofs.Common.{◌≡◌, ◌⊎◌, ℕ, ◌+◌, ◌-◌, ◌^◌, Bool, true, false, cond, List, [], map, length, replicate, Option, IsSome, refl, sym, ◌∙◌, ap, eqb, arith}
+use Rattle.std.proofs.Common.{◌≡◌, ℕ, ◌+◌, ◌-◌, ◌^◌, Bool, true, false, cond, List, [], map, length, replicate, Option, IsSome, refl, sym, ◌∙◌, ap, eqb, arith}
 use Rattle.std.specs.declared.option.Option.TheVariants.{None, Some}
 use Rattle.std.specs.Prelude.{slice_index_or, nat_le, IsSomeAnd}
 use Rattle.std.proofs.lemmas.Bool.Decides.{nat_tests}
@@ -8,9 +8,9 @@ use Rattle.gf_field.specs.Fragments.{fragments_of}
 use Rattle.quorum_rules.specs.Limits.{Numbers}
 use Rattle.protocol.specs.Messages.{Stamp, Reply, Message}
 use Rattle.protocol.specs.Reach.{highest}
-use Rattle.protocol.specs.Operations.{Stage, Decision, time_of, time_or_zero, mail, decide_time}
-use Rattle.protocol.specs.Operations.Stage.{Times, Storing}
-use Rattle.protocol.specs.Seen.{SeenTask, SeenOperation, Hearing, task_at, seen_goes_on, by_decision}
+use Rattle.protocol.specs.Operations.{time_of, time_or_zero, mail, decide_time}
+use Rattle.protocol.specs.Operations.Stage.{Times}
+use Rattle.protocol.specs.Seen.{SeenTask, SeenOperation, Hearing, task_at, by_decision}
 use Rattle.protocol.specs.Seen.Hearing.{Begins, Ended}
 use Rattle.protocol.specs.Instance.{setting}
 use Rattle.run_words.specs.declared.outcome.Outcome.TheVariants.{Spent as SpentIt}
@@ -19,7 +19,7 @@ use Rattle.write_core.specs.declared.parcel.Parcel.{Parcel}
 use Rattle.write_core.specs.declared.writer.Writing.TheVariants.{Send, Spent}
 use Rattle.write_core.specs.Tasks.{IsParcel, write_of}
 use Rattle.write_core.specs.Views.{operation_of}
-use Rattle.write_core.specs.Writers.{with_task, ended_of, said_of, after_hearing}
+use Rattle.write_core.specs.Writers.{ended_of, said_of, after_hearing}
 
 -- a task that asks for times is one that has chosen no stamp, and isn't over
 pub asks : (op block : ℕ) (value : List ℕ) (stamp : Option Stamp) (over : Bool) (answers : List (Option Reply))

@@ -1,5 +1,5 @@
 -- What hearing an answer does to a writer.
-use Rattle.std.proofs.Common.{◌≡◌, ◌⊎◌, ℕ, ◌-◌, ◌<◌, ◌≤◌, Bool, true, false, cond, not, ◌&&◌, List, length, Option, IsSome, refl, sym, ◌∙◌, ap, inl, inr, arith, ltb}
+use Rattle.std.proofs.Common.{◌≡◌, ℕ, ◌<◌, ◌≤◌, Bool, true, false, cond, not, ◌&&◌, List, length, Option, IsSome, refl, sym, ◌∙◌, ap, arith, ltb}
 use Rattle.std.specs.declared.option.Option.TheVariants.{None, Some}
 use Rattle.std.specs.Prelude.{slice_index_or, slice_set}
 use Rattle.std.proofs.lemmas.Bool.Decides.{nat_tests}
@@ -13,7 +13,6 @@ use Rattle.protocol.specs.Seen.{SeenTask, SeenOperation, Hearing, task_at, is_co
 use Rattle.protocol.specs.Seen.Hearing.{Ignored, Counted, Begins, Ended}
 use Rattle.protocol.specs.Instance.{setting}
 use Rattle.write_core.specs.declared.parcel.Head.{Head}
-use Rattle.write_core.specs.declared.writer.Writing.{Writing}
 use Rattle.write_core.specs.declared.writer.Writing.TheVariants.{More}
 use Rattle.write_core.specs.Tasks.{stage_at, write_of}
 use Rattle.write_core.specs.Views.{operation_of}
@@ -114,7 +113,7 @@ pub taken_back : (config other : Numbers) (head head' : Head) (value value' : Li
     → operation_of other head' value' stamp' over' (slice_set answers' node None) ≡ operation_of config head value stamp over answers
 taken_back config other head head' value value' stamp stamp' over over' answers answers' node reply same none =
     let back : slice_set (slice_set answers node (Some reply)) node None ≡ answers =
-            set-set answers node (Some reply) None ∙ ap (λ o. slice_set answers node o) (sym none) ∙ set-get_or answers node None in
+    set-set answers node (Some reply) None ∙ ap (λ o. slice_set answers node o) (sym none) ∙ set-get_or answers node None in
     sym (without_is other head' value' stamp' over' answers' node)
     ∙ ap (without node) same
     ∙ without_is config head value stamp over (slice_set answers node (Some reply)) node

@@ -1,8 +1,8 @@
 -- How a writer's parts are seen.
-use Rattle.std.specs.Prelude.{◌≡◌, ℕ, Bool, true, false, cond, List, length, Option, None, Some}
+use Rattle.std.specs.Prelude.{◌≡◌, ℕ, Bool, cond, List, length, Option, None, Some}
 use Rattle.quorum_rules.specs.Limits.{Numbers, IsValid}
 use Rattle.protocol.specs.Messages.{Stamp, Reply}
-use Rattle.protocol.specs.Seen.{SeenTask, SeenOperation}
+use Rattle.protocol.specs.Seen.{SeenOperation}
 use Rattle.write_core.specs.declared.parcel.Head.{Head}
 use Rattle.write_core.specs.declared.parcel.Parcel.{Parcel}
 use Rattle.write_core.specs.Tasks.{IsParcel, write_of}

@@ -1,9 +1,11 @@
 -- What a writer says to an answer, and what it is then.
-use Rattle.std.specs.Prelude.{ℕ, Bool, false, Option, None, Some}
-use Rattle.quorum_rules.specs.Limits.{Numbers}
-use Rattle.protocol.specs.Messages.{Reply, Tag}
-use Rattle.protocol.specs.Operations.{Outcome, mail, decide}
-use Rattle.protocol.specs.Seen.{SeenTask, SeenOperation, Hearing, task_at, is_counted, hearing, by_decision}
+use Rattle.std.specs.Prelude.{◌≡◌, ℕ, ◌-◌, ◌^◌, Bool, true, false, if◌then◌else◌, not, ◌&&◌, nat_lt, Option, None, Some, IsSomeAnd}
+use Rattle.quorum_rules.specs.Limits.{Numbers, wait_of}
+use Rattle.protocol.specs.Messages.{Stamp, Reply, Tag, Message}
+use Rattle.protocol.specs.Operations.{Outcome, answered, drawn_from, mail, outstanding, is_answered, decide}
+use Rattle.protocol.specs.Operations.Stage.{Times}
+use Rattle.protocol.specs.World.{chosen_stamp}
+use Rattle.protocol.specs.Seen.{SeenTask, SeenOperation, Hearing, task_at, answers_of, seen_counted, is_counted, hearing, by_decision}
 use Rattle.protocol.specs.Seen.Hearing.{Ignored, Counted, Begins, Ended}
 use Rattle.protocol.specs.Instance.{setting}
 use Rattle.run_words.specs.declared.outcome.Outcome.TheVariants.{Wrote as WroteIt, Spent as SpentIt}
@@ -18,6 +20,17 @@ with_task o task = record { config = o.config; client = o.client; task = task }
 abbrev pub counts_of : Numbers → Option SeenTask → ℕ → Tag → Reply → Bool
 counts_of config None node tag reply = false
 counts_of config (Some t) node tag reply = is_counted (setting config) t node tag reply
+
+-- whether the answer ends the task's phase: it is counted, and then as many are as the phase waits for
+abbrev pub ends_phase : Numbers → Option SeenTask → ℕ → Tag → Reply → Bool
+ends_phase config None node tag reply = false
+ends_phase config (Some t) node tag reply =
+    is_counted (setting config) t node tag reply && not (nat_lt (answered (setting config) (λ i. answers_of (seen_counted t node reply) i)) (wait_of config))
+
+-- the answer ends a phase that asks for times, and the time that is then drawn has none after it
+abbrev pub FindsLastTime : Numbers → Option SeenTask → ℕ → Tag → Reply → Type 0
+FindsLastTime config task node tag reply =
+    IsSomeAnd task (λ t. (t.stage ≡ Times) × (ends_phase config task node tag reply ≡ true) × (drawn_from (setting config) (λ i. answers_of (seen_counted t node reply) i) ≡ 2 ^ 64 - 1))
 
 -- what the answer does to a client's task, if there is one
 abbrev pub heard_of : Numbers → ℕ → Option SeenTask → ℕ → Tag → Reply → Hearing
@@ -53,3 +66,22 @@ said_of o (Ended outcome) = ended_as outcome
 abbrev pub phase_of : Option SeenTask → ℕ
 phase_of None = 0
 phase_of (Some t) = t.phase
+
+-- the message of a task's phase to a node, if there is such a node
+abbrev pub message_in : Numbers → ℕ → Option SeenTask → ℕ → Option Message
+message_in config client None node = None
+message_in config client (Some t) node = if nat_lt node config.n then Some (outstanding (setting config) client (task_at 0 t) node) else None
+
+-- the message of the operation's present phase to a node
+abbrev pub outstanding_of : SeenOperation → ℕ → Option Message
+outstanding_of o node = message_in o.config o.client o.task node
+
+-- whether node's answer is counted
+abbrev pub has_answered_of : Option SeenTask → ℕ → Bool
+has_answered_of None node = false
+has_answered_of (Some t) node = is_answered (answers_of t node)
+
+-- the stamp that a task has chosen
+abbrev pub chosen_of : Option SeenTask → Option Stamp
+chosen_of None = None
+chosen_of (Some t) = chosen_stamp t.work t.stage

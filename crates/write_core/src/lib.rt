@@ -6,3 +6,6 @@ mod parcel;
 pub mod writer;
 
 pub use writer::{Writer, Writing};
+
+#[cfg(test)]
+mod tests;

@@ -86,10 +86,7 @@ pub(crate) fn message(
     Ok(Message {
         client: head.client,
         node,
-        tag: Tag {
-            op: head.op,
-            phase,
-        },
+        tag: Tag { op: head.op, phase },
         body: Body::Ask(Ask {
             block: head.block,
             request,

@@ -1,11 +1,12 @@
-ghost use Rattle.std.specs.Prelude.{◌≡◌, ◌<◌, ◌↔◌, true, replicate, length, IsTrue, IsSome, IsSomeAnd, IfOk, OnOk, OnErr, Some, None};
+ghost use Rattle.std.specs.Prelude.{◌≡◌, ◌<◌, ◌↔◌, true, false, replicate, length, IsTrue, IsSome, IsSomeAnd, IfSome, IfOk, OnOk, OnErr, Some, None};
 ghost use Rattle.protocol.specs.Operations.Work.{Writes};
 ghost use Rattle.protocol.specs.Operations.Stage.{Times};
 ghost use Rattle.protocol.specs.Operations.{mail};
 ghost use Rattle.protocol.specs.Seen.{seen_begun, task_at};
 ghost use Rattle.protocol.specs.Instance.{setting};
 ghost use Rattle.wire_forms.specs.Ops.{Fits};
-ghost use Rattle.write_core.specs.Writers.{after_hearing, said_of, heard_of, ended_of, counts_of, phase_of};
+ghost use Rattle.write_core.specs.declared.writer.Writing.TheVariants.{More, Spent};
+ghost use Rattle.write_core.specs.Writers.{after_hearing, said_of, heard_of, ended_of, counts_of, ends_phase, FindsLastTime, phase_of, outstanding_of, has_answered_of, chosen_of};
 
 use crate::answers::{answered, copied, drawn, no_answers};
 use crate::parcel::{Head, Parcel, letters, message, packed};
@@ -86,6 +87,8 @@ impl Writer {
     pub fn hear(&mut self, node: u8, tag: Tag, reply: &Reply) -> Result<Writing, NoMemory>
         requires { IsSome self.old.task }
         ensures said { IfOk result (λ said. said ≡ said_of self.old (heard_of self.old.config self.old.client self.old.task node tag reply.now)) }
+        ensures more { IfOk result (λ said. (said ≡ More) ↔ (ends_phase self.old.config self.old.task node tag reply.now ≡ false)) }
+        ensures spent { IfOk result (λ said. (said ≡ Spent) ↔ FindsLastTime self.old.config self.old.task node tag reply.now) }
         ensures ok { OnOk result (self.new ≡ after_hearing self.old (heard_of self.old.config self.old.client self.old.task node tag reply.now)) }
         ensures err { OnErr result (self.new ≡ self.old) }
     {
@@ -141,6 +144,38 @@ impl Writer {
         }
     }
 
+    /// The present phase's message to a node: none where the write is over or there is no such node.
+    pub fn outstanding(&self, node: u8) -> Result<Option<Message>, NoMemory>
+        ensures { IfOk result (λ m. m ≡ outstanding_of self.now node) }
+    {
+        if self.over || u32::from(node) >= self.config.n() {
+            return Ok(None);
+        }
+        let message = message(&self.config, self.head, &self.parcel, self.stamp, node)?;
+        Ok(Some(message))
+    }
+
+    /// Whether the present phase has counted an answer of this node.
+    pub fn has_answered(&self, node: u8) -> bool
+        ensures { result ≡ has_answered_of self.now.task node }
+    {
+        !self.over && matches!(self.answers.get(usize::from(node)), Some(Some(_)))
+    }
+
+    /// The stamp under which the value is being stored: none where it isn't chosen yet, or the write is over.
+    pub fn chosen_stamp(&self) -> Option<Stamp>
+        ensures { result ≡ chosen_of self.now.task }
+    {
+        if self.over { None } else { self.stamp }
+    }
+
+    /// The block that is written.
+    pub fn block(&self) -> u32
+        ensures { IfSome self.now.task (λ t. result ≡ t.block) }
+    {
+        self.head.block
+    }
+
     /// Ends the phase: a stamp that is chosen is stored; else the next time is drawn, if there is one.
     fn end_phase(&mut self) -> Result<Writing, NoMemory>
         requires { IsSome self.old.task }
@@ -179,5 +214,18 @@ impl Writer {
         self.answers = no_answers(alloc, self.config.n())?;
         self.stamp = Some(stamp);
         Ok(Writing::Send(letters))
+    }
+}
+
+impl Copied for Writer {
+    fn copy(&self) -> Result<Writer, NoMemory> {
+        Ok(Writer {
+            config: self.config,
+            head: self.head,
+            parcel: self.parcel.copy()?,
+            stamp: self.stamp,
+            over: self.over,
+            answers: copied(&self.answers)?,
+        })
     }
 }

@@ -1,4 +1,4 @@
-use Rattle.std.proofs.Common.{◌≡◌, ◌+◌, sym, ◌∙◌, ap, arith}
+use Rattle.std.proofs.Common.{◌+◌, ap}
 use Rattle.write_core.proofs.Drawing.{asks, says_spent, is_spent, says_storing, is_storing}
 use Rattle.write_core.proofs.writer.Writer.draw.Goals as goal
 
