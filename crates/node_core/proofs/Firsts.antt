@@ -1,13 +1,12 @@
 -- The first version of a node, made of zero bytes, is that of the definitions.
-use Rattle.std.proofs.Common.{◌≡◌, ℕ, zero, suc, ◌+◌, ◌-◌, ◌*◌, ◌/◌, ◌%◌, ◌<◌, ◌≤◌, List, [], ◌∷◌, map, replicate, refl, sym, ◌∙◌, ap, min, arith}
+use Rattle.std.proofs.Common.{◌≡◌, ℕ, ◌<◌, List, [], ◌∷◌, map, replicate, sym, ◌∙◌, ap, arith}
 use Rattle.std.specs.List.{slice_index_or}
-use Rattle.std.proofs.lemmas.Nat.{div-mul-add}
 use Rattle.std.proofs.lemmas.List.{get_or-replicate, length-replicate}
 use Rattle.cross_sum.specs.Digest.{digest, verifier}
-use Rattle.gf_field.specs.Fragments.{IsShape, string_len, fragments_of}
+use Rattle.gf_field.specs.Fragments.{IsShape, fragments_of}
 use Rattle.gf_field.proofs.Blocks.{fragments_of-zeros}
-use Rattle.quorum_rules.specs.Limits.{Numbers, IsValid}
-use Rattle.wire_forms.specs.Firsts.{share_of, zero_fragments, first_of}
+use Rattle.quorum_rules.specs.Limits.{Numbers, IsValid, share_of}
+use Rattle.wire_forms.specs.Firsts.{zero_fragments, first_of}
 use Rattle.protocol.specs.Messages.{Version}
 use Rattle.protocol.specs.Nodes.{first_version}
 use Rattle.protocol.specs.Instance.{setting}
@@ -15,31 +14,12 @@ use Rattle.wire_forms.specs.declared.first.First.{First}
 use Rattle.wire_forms.proofs.Firsts.{map-replicate}
 use Rattle.node_core.specs.Seen.{from_first, new_node, IsNode}
 
-quotient : (m q r : ℕ) → 1 ≤ m → r < m → (q * m + r + m - 1) / m ≡ q + min 1 r
-quotient m q r h l = at r l
-  where
-    at : (r : ℕ) → r < m → (q * m + r + m - 1) / m ≡ q + min 1 r
-    at zero l = let e : q * m + 0 + m - 1 ≡ q * m + (m - 1) = omega arith in let f = div-mul-add q m (m - 1) (omega arith) in rw (e, f) (omega arith)
-    at (suc k) l =
-        let e : q * m + suc k + m - 1 ≡ (q + 1) * m + k = omega arith in
-        let f = div-mul-add (q + 1) m k (omega arith) in
-        let g : min 1 (suc k) ≡ 1 = grind arith in
-        rw (e, f, g) refl
-
--- how many bytes a fragment has
-pub share_is : (size m : ℕ) → 1 ≤ m → (size + m - 1) / m ≡ string_len m size
-share_is size m h =
-    let l : size % m < m = omega arith in
-    let e : size / m * m + size % m ≡ size = omega arith in
-    let q = quotient m (size / m) (size % m) h l in
-    rw e at q
-
 module _ (c : Numbers) (h : IsValid c) where
   shape : IsShape c.n c.m
   shape = record { some = h.shares.0; enough = (let a = h.shares.1 in let b = h.high in omega arith); few = h.nodes.1 }
 
   zeros_are : fragments_of c.n c.m (replicate c.size 0) ≡ zero_fragments c
-  zeros_are = fragments_of-zeros c.n c.m c.size shape ∙ ap (λ l. replicate c.n (replicate l 0)) (sym (share_is c.size c.m h.shares.0))
+  zeros_are = fragments_of-zeros c.n c.m c.size shape
 
   version_of : ℕ → List (List ℕ) → Version
   version_of i fs = record { stamp = record { time = 0; client = 0; verifier = verifier (map digest fs) }; sum = map digest fs; fragment = slice_index_or fs i [] }

@@ -1,6 +1,6 @@
 -- The words of `soak`.
 use Rattle.std.proofs.Common.{◌≡◌, ℕ, ◌<◌, ◌^◌, Bool, true, false, List, [], ◌∷◌, ap, sym, ◌∙◌, refl, lit≤}
-use Rattle.std.specs.Prelude.{codes, decimal, not, Option, Some, None}
+use Rattle.std.specs.Prelude.{codes, decimal, not, Some, None}
 use Rattle.std.specs.Str.{bytes_eq}
 use Rattle.std.proofs.lemmas.Slice.Eq.{bytes_eq-Decides}
 use Rattle.text_lines.specs.Fields.{number_of}

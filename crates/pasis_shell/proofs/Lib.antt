@@ -1,2 +1,4 @@
 pub mod Forms
 pub mod Accepted
+pub mod FirstPath
+pub mod Heads

@@ -3,13 +3,14 @@ use Rattle.std.specs.Prelude.{ℕ, ⊤}
 use Rattle.outside_io.specs.declared.reading.ReadRefusal.{ReadRefusal}
 use Rattle.outside_io.specs.declared.reading.ReadRefusal.TheVariants as reading
 use Rattle.pasis_shell.specs.declared.status.Status.{Status}
-use Rattle.pasis_shell.specs.declared.status.Status.TheVariants.{Done, BadWords, ReadFault, WriteFault, NoMemory, TooLong, NotBuilt}
+use Rattle.pasis_shell.specs.declared.status.Status.TheVariants.{Done, BadWords, BadScript, ReadFault, WriteFault, NoMemory, TooLong, NotBuilt}
 use Rattle.pasis_shell.specs.declared.text.Refusal.{Refusal}
 use Rattle.pasis_shell.specs.declared.text.Refusal.TheVariants as refusals
 
 abbrev pub number_of : Status → ℕ
 number_of Done = 0
 number_of BadWords = 2
+number_of (BadScript line cause) = 3
 number_of ReadFault = 4
 number_of WriteFault = 5
 number_of NoMemory = 6
@@ -24,6 +25,7 @@ status_of_read reading.TooLong = TooLong
 abbrev pub status_of_refusal : Refusal → Status
 status_of_refusal refusals.NoMemory = NoMemory
 status_of_refusal (refusals.NotBuilt line) = NotBuilt line
+status_of_refusal (refusals.BadScript fault) = BadScript fault.line fault.cause
 
 -- the status can come before the input was read to its end
 abbrev pub CanStopReading : Status → Type 0
@@ -34,6 +36,7 @@ CanStopReading Done = ⊥
 CanStopReading BadWords = ⊥
 CanStopReading WriteFault = ⊥
 CanStopReading (NotBuilt line) = ⊥
+CanStopReading (BadScript line cause) = ⊥
 
 -- the status can come before anything was written
 abbrev pub CanStopBefore : Status → Type 0
@@ -41,6 +44,7 @@ CanStopBefore NoMemory = ⊤
 CanStopBefore ReadFault = ⊤
 CanStopBefore TooLong = ⊤
 CanStopBefore (NotBuilt line) = ⊤
+CanStopBefore (BadScript line cause) = ⊤
 CanStopBefore Done = ⊥
 CanStopBefore BadWords = ⊥
 CanStopBefore WriteFault = ⊥

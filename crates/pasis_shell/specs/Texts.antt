@@ -2,25 +2,59 @@
 use Rattle.std.specs.Prelude.{ℕ, ◌≡◌, ◌≤◌, ⊤, List, [], length, Option}
 use Rattle.std.specs.Io.KnownBytes.{Consumes, IsAtEnd}
 use Rattle.outside_io.specs.declared.reading.TheConstants.{LIMIT}
+use Rattle.pasis_shell.specs.FirstPath.{IsBuilt}
 use Rattle.pasis_shell.specs.Words.{words_of}
 use Rattle.pasis_shell.specs.declared.words.Command.{Command}
 use Rattle.pasis_shell.specs.declared.words.Command.TheVariants.{Replay, Run, Trace, Check, Sum, Soak}
 use Rattle.pasis_shell.specs.declared.text.Refusal.{Refusal}
-use Rattle.pasis_shell.specs.declared.text.Refusal.TheVariants.{NoMemory, NotBuilt}
+use Rattle.pasis_shell.specs.declared.text.Refusal.TheVariants.{NoMemory, NotBuilt, BadScript}
+use Rattle.quorum_rules.specs.Limits.{Numbers}
+use Rattle.line_forms.specs.declared.refusal.ScriptFault.{ScriptFault}
+use Rattle.line_forms.specs.Texts.{IsFault, IsFaultless}
+use Rattle.script_text.specs.Sum.{IsSum, sum_text, sum_script}
+use Rattle.sum_text.specs.Shown.{shown_text}
+
+-- the input spells a configuration and a value, and the text shows the value's fragments, their digests and its verifier
+pub record Shows (input text : List ℕ) : Type 0 where
+  pub config : Numbers
+  pub value : List ℕ
+  pub fits : IsSum config value
+  pub spelled : input ≡ sum_text config value
+  pub faultless : IsFaultless sum_script input
+  pub shown : text ≡ shown_text config.n config.m value
 
 -- the command writes this text for the input
 abbrev pub Writes : Command → List ℕ → List ℕ → Type 0
-Writes Replay input text = ⊤
+Writes Replay input text = IsBuilt input
 Writes Run input text = ⊥
 Writes Trace input text = ⊥
 Writes Check input text = ⊥
-Writes Sum input text = ⊥
+Writes Sum input text = Shows input text
 Writes (Soak number) input text = ⊥
+
+-- the command, or this form of its input, isn't built yet
+abbrev pub IsUnbuilt : Command → List ℕ → Type 0
+IsUnbuilt Replay input = IsBuilt input → ⊥
+IsUnbuilt Run input = ⊤
+IsUnbuilt Trace input = ⊤
+IsUnbuilt Check input = ⊤
+IsUnbuilt Sum input = ⊥
+IsUnbuilt (Soak number) input = ⊤
+
+-- the fault is the input's: its first line that has a cause, and that line's first cause
+abbrev pub HasFault : Command → List ℕ → ScriptFault → Type 0
+HasFault Replay input fault = ⊥
+HasFault Run input fault = ⊥
+HasFault Trace input fault = ⊥
+HasFault Check input fault = ⊥
+HasFault Sum input fault = IsFault sum_script input fault.line fault.cause
+HasFault (Soak number) input fault = ⊥
 
 -- the command writes nothing for the input, for this reason
 abbrev pub Refuses : Command → List ℕ → Refusal → Type 0
 Refuses command input NoMemory = ⊤
-Refuses command input (NotBuilt line) = line ≡ 1
+Refuses command input (NotBuilt line) = IsUnbuilt command input × (line ≡ 1)
+Refuses command input (BadScript fault) = HasFault command input fault
 
 -- the source gave this input, which is within the limit, and has none left
 abbrev pub GivesAll : Option (List ℕ) → Option (List ℕ) → List ℕ → Type 0

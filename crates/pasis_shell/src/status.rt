@@ -2,6 +2,7 @@ ghost use Rattle.std.specs.Prelude.{◌≡◌};
 ghost use Rattle.pasis_shell.specs.Statuses.{number_of, status_of_read, status_of_refusal};
 
 use crate::text::Refusal;
+use line_forms::Cause;
 use outside_io::ReadRefusal;
 use std::fmt;
 
@@ -12,6 +13,8 @@ pub enum Status {
     Done,
     /// The words are those of no command. Nothing was read.
     BadWords,
+    /// The text is refused: the first line that has a cause, counted from 1, and its first cause.
+    BadScript { line: u64, cause: Cause },
     /// The source failed.
     ReadFault,
     /// The sink failed. What it took in this call is a beginning of the text.
@@ -32,6 +35,7 @@ impl Status {
         match self {
             Status::Done => 0,
             Status::BadWords => 2,
+            Status::BadScript { .. } => 3,
             Status::ReadFault => 4,
             Status::WriteFault => 5,
             Status::NoMemory => 6,
@@ -47,12 +51,22 @@ impl fmt::Display for Status {
         match self {
             Status::Done => write!(f, "pasis: done"),
             Status::BadWords => write!(f, "pasis: bad words"),
+            Status::BadScript { line, cause } => write_refusal(f, *line, *cause),
             Status::ReadFault => write!(f, "pasis: read fault"),
             Status::WriteFault => write!(f, "pasis: write fault"),
             Status::NoMemory => write!(f, "pasis: no memory"),
             Status::TooLong => write!(f, "pasis: input too long"),
             Status::NotBuilt { line } => write!(f, "pasis: line {line}: not built"),
         }
+    }
+}
+
+// The numbers of a cause, and of the fault that it carries.
+fn write_refusal<W: fmt::Write>(f: &mut fmt::Formatter<W>, line: u64, cause: Cause) -> fmt::Result {
+    let number = cause.number();
+    match cause.fault_number() {
+        Some(fault) => write!(f, "pasis: line {line}: cause {number}.{fault}"),
+        None => write!(f, "pasis: line {line}: cause {number}"),
     }
 }
 
@@ -75,6 +89,10 @@ impl Status {
         match refusal {
             Refusal::NoMemory => Status::NoMemory,
             Refusal::NotBuilt { line } => Status::NotBuilt { line },
+            Refusal::BadScript(fault) => Status::BadScript {
+                line: fault.line,
+                cause: fault.cause,
+            },
         }
     }
 }

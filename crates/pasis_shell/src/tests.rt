@@ -1,7 +1,9 @@
 use crate::{OpenGate, Status, pasis};
 use cross_sum::Bytes;
+use line_forms::Cause;
 use lists::NoMemory;
 use outside_io::{Calls, MemorySink, MemorySource};
+use quorum_rules::ConfigFault;
 use std::alloc::Global;
 use std::test::Fail;
 
@@ -164,9 +166,67 @@ fn each_status_has_its_line(rt: HostRuntime) -> Result<(), Fail> {
         (Status::NoMemory, "pasis: no memory"),
         (Status::TooLong, "pasis: input too long"),
         (Status::NotBuilt { line: 12 }, "pasis: line 12: not built"),
+        (refused(3, Cause::BadValue), "pasis: line 3: cause 8"),
+        (
+            refused(2, Cause::Config(ConfigFault::QuorumHigh)),
+            "pasis: line 2: cause 10.4",
+        ),
     ];
     for (status, line) in lines {
         assert_eq!(rt; format!(in rt.alloc(); "{status}")?.as_str(), line);
+    }
+    Ok(())
+}
+
+fn refused(line: u64, cause: Cause) -> Status {
+    Status::BadScript { line, cause }
+}
+
+fn summed(alloc: Global, script: &str) -> Result<(Status, MemorySink), NoMemory> {
+    let input = Bytes::of(alloc, script.as_bytes())?;
+    outcome_of(alloc, &["sum"], input, None, None)
+}
+
+#[test]
+fn sum_shows_fragments_digests_and_verifier(rt: HostRuntime) -> Result<(), Fail> {
+    let (status, sink) = summed(
+        rt.alloc(),
+        "pasis 1\ncluster 1 0 0 1 1 3 1\nvalue x616263\n",
+    )?;
+    assert_eq!(rt; status, Status::Done);
+    let text =
+        b"0 x616263 ba7816bf8f01cfea414140de5dae2223b00361a396177a9cb410ff61f20015ad\nverifier 4f8b42c22dd3729b519ba6f68d2da7cc5b2d606d05daed5ad5128cc03e6c6358\n";
+    assert_eq!(rt; sink.taken(), text.as_slice());
+    Ok(())
+}
+
+#[test]
+fn sum_refuses_its_first_faulty_line(rt: HostRuntime) -> Result<(), Fail> {
+    let cases = [
+        ("", refused(1, Cause::Empty)),
+        ("pasis 1\ncluster 5", refused(2, Cause::Cut)),
+        ("pasis 2\nclutter\n", refused(1, Cause::BadHeader)),
+        (
+            "pasis 1\ncluster 4 1 1 3 2 2 2\n",
+            refused(2, Cause::Config(ConfigFault::QuorumHigh)),
+        ),
+        (
+            "pasis 1\ncluster 1 0 0 1 1 3 1\n",
+            refused(3, Cause::MissingLine),
+        ),
+        (
+            "pasis 1\ncluster 1 0 0 1 1 3 1\nvalue x6162\nvalue\n",
+            refused(3, Cause::BadValue),
+        ),
+        (
+            "pasis 1\ncluster 1 0 0 1 1 3 1\nvalue x616263\nvalue\n",
+            refused(4, Cause::UnknownWord),
+        ),
+    ];
+    for (script, expected) in cases {
+        let (status, sink) = summed(rt.alloc(), script)?;
+        assert_eq!(rt; status, expected);
+        assert_eq!(rt; sink.taken().len(), 0);
     }
     Ok(())
 }

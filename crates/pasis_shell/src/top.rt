@@ -2,6 +2,7 @@ ghost use Rattle.std.specs.Prelude.{◌≡◌, ◌≢◌, ◌≤◌, ◌+◌, �
 ghost use Rattle.outside_io.specs.Causes.{Rose};
 ghost use Rattle.outside_io.specs.Given.{GaveAtMost, GaveExactly};
 ghost use Rattle.outside_io.specs.Written.{Adds, AllFlushed, TakesPrefix};
+ghost use Rattle.line_forms.specs.declared.cause.Cause.{Cause};
 ghost use Rattle.pasis_shell.specs.declared.text.Refusal.{Refusal};
 ghost use Rattle.pasis_shell.specs.Statuses.{CanStopReading, CanStopBefore};
 ghost use Rattle.pasis_shell.specs.Words.{texts, IsForm};
@@ -41,6 +42,8 @@ fn answer<S: Source>(alloc: Global, command: Command, source: &mut S) -> Result<
     ensures too_long { IsErrOf result Status.TooLong → GaveExactly (LIMIT + 1) (S.left source.old) (S.left source.new) }
     ensures not_built { (line : ℕ) → IsErrOf result (Status.NotBuilt line)
         → IsRefusedFor command (S.left source.old) (S.left source.new) (Refusal.NotBuilt line) }
+    ensures bad_script { (line : ℕ) (cause : Cause) → IsErrOf result (Status.BadScript line cause)
+        → IsRefusedFor command (S.left source.old) (S.left source.new) (Refusal.BadScript (record { line = line; cause = cause })) }
     ensures causes { IfErr result CanStopBefore }
     ensures later { S.faults source.old ≤ S.faults source.new }
 {
@@ -69,6 +72,9 @@ pub fn pasis<S: Source, K: Sink, G: Gate>(
     ensures read_fault { result ≡ Status.ReadFault → Rose S.last (S.faults source.old) (S.faults source.new) }
     ensures first { result ≡ Status.ReadFault → GaveAtMost LIMIT (S.left source.old) (S.left source.new) }
     ensures too_long { result ≡ Status.TooLong → GaveExactly (LIMIT + 1) (S.left source.old) (S.left source.new) }
+    // an input that is refused, by its first line that has a cause and that line's first cause
+    ensures bad_script { (line : ℕ) (cause : Cause) → result ≡ Status.BadScript line cause
+        → IsRefused (texts words.now) (S.left source.old) (S.left source.new) (Refusal.BadScript (record { line = line; cause = cause })) }
     // what isn't built
     ensures not_built { (line : ℕ) → result ≡ Status.NotBuilt line
         → IsRefused (texts words.now) (S.left source.old) (S.left source.new) (Refusal.NotBuilt line) }

@@ -1,5 +1,5 @@
 -- How far a text begins what a grammar has.
-use Rattle.std.specs.Prelude.{ℕ, ◌+◌, ◌≤◌, ◌<◌, List, ◌++◌, length, take}
+use Rattle.std.specs.Prelude.{◌≡◌, ℕ, ◌+◌, ◌≤◌, ◌<◌, List, ◌++◌, length, take}
 
 -- the text goes on to one that the grammar has
 abbrev pub Begins : (List ℕ → Type 0) → List ℕ → Type 0
@@ -10,3 +10,7 @@ pub record IsLongest (Is : List ℕ → Type 0) (text : List ℕ) (k : ℕ) : Ty
   pub within : k ≤ length text
   pub begins : Begins Is (take k text)
   pub most : k < length text → ¬ Begins Is (take (k + 1) text)
+
+-- first what one grammar has, then what the other has
+abbrev pub Then : (List ℕ → Type 0) → (List ℕ → Type 0) → List ℕ → Type 0
+Then First Rest text = (first : List ℕ) × (rest : List ℕ) × (text ≡ first ++ rest) × First first × Rest rest

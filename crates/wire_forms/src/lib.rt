@@ -8,8 +8,10 @@ pub mod laws;
 pub mod liars;
 pub mod message;
 pub mod op;
+mod piece;
 mod printing;
 mod reading;
+pub mod refusal;
 pub mod rule;
 mod word;
 
@@ -19,4 +21,9 @@ pub use liars::Liars;
 pub use message::{Ask, Body, Mail, Message, Reason, Reply, Request, Tag, Version};
 pub use op::Op;
 pub use printing::print;
+pub use reading::read;
+pub use refusal::TextRefusal;
 pub use rule::Rule;
+
+#[cfg(test)]
+mod tests;

@@ -1,14 +1,17 @@
 //! The message that a text spells.
-ghost use Rattle.std.specs.Prelude.{◌≡◌, ◌≢◌, ℕ, ◌*◌, ◌%◌, List, [], ◌∷◌, length, codes, IfOk, All, MatchOption};
+ghost use Rattle.std.specs.Prelude.{◌≡◌, ◌≢◌, ℕ, ◌*◌, ◌%◌, List, [], ◌∷◌, length, codes, IfOk, IfErr, All, MatchOption};
 ghost use Rattle.std.specs.List.{list_any};
 ghost use Rattle.std.specs.Char.{is_ascii_uppercase};
 ghost use Rattle.hex.specs.Hex.{encode_lower};
 ghost use Rattle.cross_sum.specs.Digest.{flat};
 ghost use Rattle.text_lines.specs.Fields.{value_text};
 ghost use Rattle.text_lines.specs.Lines.{texts};
+ghost use Rattle.wire_forms.specs.Refusals.{IsRefusal};
 ghost use Rattle.wire_forms.specs.Texts.{Spells, IsDigest, IsStamp, IsSum, IsFragment, IsVersion, IsBound, IsRequest, IsAsk, IsReason, IsReply, IsBody, IsMessage, stamp_text, sum_text, version_fields, bound_fields, request_fields, ask_fields, reason_text, reply_fields, word_of, body_fields, message_fields, text_of};
 
 use crate::message::{Ask, Body, Message, Reason, Reply, Request, Tag, Version};
+use crate::piece::longest;
+use crate::refusal::TextRefusal;
 use crate::word::Word;
 use cross_sum::{Bytes, CrossSum, Hash};
 use hex::FromHex;
@@ -220,7 +223,18 @@ fn body(alloc: Global, word: &[u8], fields: &[&[u8]]) -> Result<Option<Body>, No
 }
 
 /// The message whose text this is.
-pub fn message(alloc: Global, text: &[u8]) -> Result<Option<Message>, NoMemory>
+pub fn read(alloc: Global, text: &[u8]) -> Result<Message, TextRefusal>
+    ensures ok { IfOk result (λ m. IsMessage m × (text.now ≡ text_of m)) }
+    ensures refused { IfErr result (IsRefusal text.now) }
+{
+    match message(alloc, text)? {
+        Some(message) => Ok(message),
+        None => Err(TextRefusal::At(longest(text))),
+    }
+}
+
+/// The message whose text this is, if there is one.
+fn message(alloc: Global, text: &[u8]) -> Result<Option<Message>, NoMemory>
     ensures { IfOk result (Spells IsMessage text_of text.now) }
 {
     let fields = fields(alloc, text)?;

@@ -1,6 +1,5 @@
 use Rattle.std.proofs.Common.{sym, ◌∙◌, inl, inr, ◌<◌, length}
 use Rattle.protocol.specs.Instance.{setting}
-use Rattle.node_core.proofs.Firsts.{share_is}
 use Rattle.node_core.proofs.Refusals.{bad_length, time_zero, bad_verifier, bad_digest, fine, differ, agree, matched, unmatched}
 use Rattle.node_core.proofs.node.Node.refusal.Goals as goal
 use Rattle.node_core.proofs.node.Node.refusal.Goals.{then-len-n-via-then-len-n, then-len-n-via-else-len-n+then-len-share}
@@ -8,7 +7,7 @@ use Rattle.node_core.proofs.node.Node.refusal.Goals.{then-len-n-via-then-len-n, 
 pub returns-then-len-n : goal.returns-then-len-n
 returns-then-len-n c =
     let n = c.n-n.ensures.is in
-    let share = c.share-share.ensures ∙ share_is c.self.inside.config.size c.self.inside.config.m c.self.invariant.valid.shares.0 in
+    let share = c.share-share.ensures.is in
     rw (← c.self.view_is) (bad_length (setting c.self.inside.config) c.self.inside.number c.args.version.now
     (elim c.then-len-n.branch [
       | then-len-n-via-then-len-n w ↦ inl (λ e. w.if-len-n.true (c.len.ensures ∙ e ∙ sym n))
@@ -18,7 +17,7 @@ returns-then-len-n c =
 pub returns-then-version-eq0 : goal.returns-then-version-eq0
 returns-then-version-eq0 c =
     let n = c.n-n.ensures.is in
-    let share = c.share-share.ensures ∙ share_is c.self.inside.config.size c.self.inside.config.m c.self.invariant.valid.shares.0 in
+    let share = c.share-share.ensures.is in
     let sums = sym c.len.ensures ∙ c.if-len-n.false ∙ n in
     let shares = sym c.len-else-len-n.ensures ∙ c.if-len-share.false ∙ share in
     rw (← c.self.view_is) (time_zero (setting c.self.inside.config) c.self.inside.number c.args.version.now sums shares c.if-version-eq0.true)
@@ -26,7 +25,7 @@ returns-then-version-eq0 c =
 pub returns-then-ne : goal.returns-then-ne
 returns-then-ne c =
     let n = c.n-n.ensures.is in
-    let share = c.share-share.ensures ∙ share_is c.self.inside.config.size c.self.inside.config.m c.self.invariant.valid.shares.0 in
+    let share = c.share-share.ensures.is in
     let sums = sym c.len.ensures ∙ c.if-len-n.false ∙ n in
     let shares = sym c.len-else-len-n.ensures ∙ c.if-len-share.false ∙ share in
     let said = differ _ _ _ c.ne.ensures c.if-ne.true in
@@ -35,7 +34,7 @@ returns-then-ne c =
 pub returns-then-not-matches : goal.returns-then-not-matches
 returns-then-not-matches c =
     let n = c.n-n.ensures.is in
-    let share = c.share-share.ensures ∙ share_is c.self.inside.config.size c.self.inside.config.m c.self.invariant.valid.shares.0 in
+    let share = c.share-share.ensures.is in
     let sums = sym c.len.ensures ∙ c.if-len-n.false ∙ n in
     let shares = sym c.len-else-len-n.ensures ∙ c.if-len-share.false ∙ share in
     let verified = agree _ _ _ c.ne.ensures c.if-ne.false ∙ c.verifier.ensures in
@@ -46,7 +45,7 @@ returns-then-not-matches c =
 pub returns : goal.returns
 returns c =
     let n = c.n-n.ensures.is in
-    let share = c.share-share.ensures ∙ share_is c.self.inside.config.size c.self.inside.config.m c.self.invariant.valid.shares.0 in
+    let share = c.share-share.ensures.is in
     let sums = sym c.len.ensures ∙ c.if-len-n.false ∙ n in
     let shares = sym c.len-else-len-n.ensures ∙ c.if-len-share.false ∙ share in
     let verified = agree _ _ _ c.ne.ensures c.if-ne.false ∙ c.verifier.ensures in

@@ -1,0 +1,5 @@
+pub mod Accepted
+pub mod Clusters
+pub mod Heads
+pub mod Tables
+pub mod Texts

@@ -1,0 +1,8 @@
+//! What `sum` writes of a block: its fragments, their digests, and its verifier.
+#![tactic(auto)]
+
+mod print;
+#[cfg(test)]
+mod tests;
+
+pub use print::print_sum;
