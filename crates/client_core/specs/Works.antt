@@ -1,0 +1,60 @@
+-- What a client does: the operation under way, and what an answer does to it.
+use Rattle.std.specs.Prelude.{◌≡◌, ℕ, ◌<◌, ◌^◌, Option, IsSome, IfSome}
+use Rattle.std.specs.declared.option.Option.TheVariants.{None, Some}
+use Rattle.quorum_rules.specs.Limits.{Numbers}
+use Rattle.wire_forms.specs.declared.message.Tag.{Tag}
+use Rattle.wire_forms.specs.declared.message.Reply.{Reply}
+use Rattle.protocol.specs.Instance.{setting}
+use Rattle.protocol.specs.Operations.{mail as mail_of}
+use Rattle.protocol.specs.Operations.Work.{Reads}
+use Rattle.protocol.specs.Seen.{SeenTask, SeenOperation, Hearing, task_at, hearing}
+use Rattle.protocol.specs.Seen.Hearing.{Ignored, Counted, Begins, Ended}
+use Rattle.client_core.specs.declared.client.Work.{Work}
+use Rattle.client_core.specs.declared.client.Work.TheVariants.{Idle, Writing, Reading}
+use Rattle.client_core.specs.declared.heard.Heard.{Heard}
+use Rattle.client_core.specs.declared.heard.Heard.TheVariants.{Unchanged, More, Send, Ended as EndedWith}
+
+-- the operation under way, or none
+abbrev pub task_of : Work → Option SeenTask
+task_of Idle = None
+task_of (Writing o) = o.task
+task_of (Reading o) = o.task
+
+-- an operation of this client, which isn't over
+pub record IsOwn (config : Numbers) (id : ℕ) (o : SeenOperation) : Type 0 where
+  pub cluster : o.config ≡ config
+  pub client : o.client ≡ id
+  pub under_way : IsSome o.task
+
+-- nothing, a write or a read of this client
+abbrev pub IsWork : Numbers → ℕ → Work → Type 0
+IsWork config id Idle = Unit {0}
+IsWork config id (Writing o) = IsOwn config id o
+IsWork config id (Reading o) = IsOwn config id o × IfSome o.task (λ t. t.work ≡ Reads)
+
+-- the lives and operations are numbers of 32 bits, and the operation under way is the client's own
+pub record IsClient (config : Numbers) (id life started : ℕ) (work : Work) : Type 0 where
+  pub lives : life < 2 ^ 32
+  pub starts : started < 2 ^ 32
+  pub own : IsWork config id work
+
+-- the operation with this task
+abbrev pub at : SeenOperation → Option SeenTask → SeenOperation
+at o task = record { config = o.config; client = o.client; task = task }
+
+-- what an answer does to a task of the operation
+abbrev pub hears_in : SeenOperation → Option SeenTask → ℕ → Tag → Reply → Hearing
+hears_in o None node tag reply = Ignored
+hears_in o (Some t) node tag reply = hearing (setting o.config) o.client t node tag reply
+
+-- what the answer did is said, and done
+abbrev pub IsTold : SeenOperation → SeenOperation → Hearing → Heard → Type 0
+IsTold old new h Unchanged = (h ≡ Ignored) × (new ≡ old)
+IsTold old new h More = (t : SeenTask) × (h ≡ Counted t) × (new ≡ at old (Some t))
+IsTold old new h (Send mail) = (t : SeenTask) × (h ≡ Begins t) × (new ≡ at old (Some t)) × (mail ≡ mail_of (setting old.config) old.client (task_at 0 t))
+IsTold old new h (EndedWith outcome) = (h ≡ Ended outcome) × (new ≡ at old None)
+
+-- this operation of the client has begun
+pub record HasBegun (config : Numbers) (id : ℕ) (t : SeenTask) (work : Work) : Type 0 where
+  pub own : IsWork config id work
+  pub task : task_of work ≡ Some t

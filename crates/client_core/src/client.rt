@@ -1,0 +1,257 @@
+ghost use Rattle.std.specs.Prelude.{◌≡◌, ◌↔◌, ◌<◌, ◌≤◌, ◌-◌, ◌+◌, ◌^◌, IsTrue, IsSome, IfOk, OnOk, OnErr, Some, None};
+ghost use Rattle.std.specs.Option.{ForSome};
+ghost use Rattle.protocol.specs.Seen.{new_client, ops_of, block_of, work_of, seen_begun, task_at};
+ghost use Rattle.protocol.specs.World.{Fits};
+ghost use Rattle.protocol.specs.Operations.{mail as all_mail};
+ghost use Rattle.protocol.specs.Instance.{setting};
+ghost use Rattle.client_core.specs.Works.{HasBegun, IsTold, hears_in};
+ghost use Rattle.client_core.specs.Clients.{with_started, started, mail_of, IsHeard, outstanding_of, phase_of, stamp_chosen, HasAnswered};
+
+use crate::heard::Heard;
+use lists::{Copied, NoMemory};
+use quorum_rules::Config;
+use read_core::{Reader, Reading};
+use run_words::Outcome;
+use stamp_order::Stamp;
+use std::alloc::Global;
+use std::marker::Model;
+use wire_forms::{Body, Mail, Message, Op, Reply, Tag};
+use write_core::{Writer, Writing};
+
+/// How many numbers the operations of one life have.
+const LIFE: u64 = 4_294_967_296;
+
+/// What a client does.
+#[derive(Drop)]
+enum Work {
+    Idle,
+    Writing(Writer),
+    Reading(Reader),
+}
+
+/// A correct client. It runs one operation at a time. Contracts see the cluster's numbers, the client's own number, and
+/// what it does.
+#[derive(Drop)]
+pub struct Client {
+    alloc: Global,
+    config: Config,
+    id: u32,
+    /// How often it came back.
+    life: u32,
+    /// How many operations it has started since then.
+    started: u32,
+    work: Work,
+}
+
+impl Model for Client {
+    ghost use Rattle.client_core.specs.Clients.{ClientView};
+    ghost use Rattle.client_core.specs.Works.{task_of, IsClient};
+
+    ghost Value = { ClientView };
+
+    ghost view = { λ c. record { config = c.config; id = c.id; seen = record { life = c.life; started = c.started; task = task_of c.work } } };
+
+    ghost invariant = { λ c. IsClient c.config c.id c.life c.started c.work };
+}
+
+impl Client {
+    /// A client before its first operation.
+    pub fn new(alloc: Global, config: &Config, id: u32) -> Result<Client, NoMemory>
+        ensures { IfOk result (λ c. c ≡ record { config = config.now; id = id; seen = new_client }) }
+    {
+        Client::again(alloc, config, id, 0)
+    }
+
+    /// A client that comes back: idle, in its next life.
+    pub fn again(alloc: Global, config: &Config, id: u32, life: u32) -> Result<Client, NoMemory>
+        ensures { IfOk result (λ c. c ≡ record { config = config.now; id = id; seen = record { life = life; started = 0; task = None } }) }
+    {
+        Ok(Client {
+            alloc,
+            config: *config,
+            id,
+            life,
+            started: 0,
+            work: Work::Idle,
+        })
+    }
+
+    /// Starts an operation. The messages are those of its first phase.
+    pub fn start(&mut self, op: &Op) -> Result<Mail, NoMemory>
+        requires idle { self.now.seen.task ≡ None }
+        requires block { block_of op.now < self.now.config.blocks }
+        requires fits { Fits (setting self.now.config) (work_of op.now) }
+        requires fresh { self.now.seen.started < 2 ^ 32 - 1 }
+        ensures mail { IfOk result (λ mail. mail ≡ mail_of self.old (started self.old op.now)) }
+        ensures ok { OnOk result (self.new ≡ with_started self.old (started self.old op.now)) }
+        ensures err { OnErr result (self.new ≡ self.old) }
+    {
+        let number = self.ops() + 1;
+        let (work, mail) = begin(self.alloc, &self.config, self.id, number, op)?;
+        self.started += 1;
+        self.work = work;
+        Ok(mail)
+    }
+
+    /// Hears a message. It changes something only where it is an answer to this client that the phase under way counts.
+    /// Where no memory is found nothing changes either, and the same message may be heard again.
+    pub fn hear(&mut self, message: &Message) -> Result<Heard, NoMemory>
+        requires { phase_of self.now.seen.task < 2 ^ 64 - 1 }
+        ensures ok { IfOk result (IsHeard self.old self.new message.now) }
+        ensures err { OnErr result (self.new ≡ self.old) }
+    {
+        let Body::Answer(reply) = &message.body else {
+            return Ok(Heard::Unchanged);
+        };
+        if message.client != self.id {
+            return Ok(Heard::Unchanged);
+        }
+        let heard = match &mut self.work {
+            Work::Idle => Heard::Unchanged,
+            Work::Writing(writer) => hear_write(writer, message.node, message.tag, reply)?,
+            Work::Reading(reader) => hear_read(reader, message.node, message.tag, reply)?,
+        };
+        if let Heard::Ended(_) = &heard {
+            self.work = Work::Idle;
+        }
+        Ok(heard)
+    }
+
+    /// The present phase's message to the node; None exactly where the client is idle or there is no such node.
+    pub fn outstanding(&self, node: u8) -> Result<Option<Message>, NoMemory>
+        ensures { IfOk result (λ message. message ≡ outstanding_of self.now self.now.seen.task node) }
+    {
+        match &self.work {
+            Work::Idle => Ok(None),
+            Work::Writing(writer) => writer.outstanding(node),
+            Work::Reading(reader) => reader.outstanding(node),
+        }
+    }
+
+    /// Whether the node has answered the phase under way.
+    pub fn answered(&self, node: u8) -> bool
+        ensures { IsTrue result ↔ HasAnswered self.now.seen.task node }
+    {
+        match &self.work {
+            Work::Idle => false,
+            Work::Writing(writer) => writer.has_answered(node),
+            Work::Reading(reader) => reader.has_answered(node),
+        }
+    }
+
+    /// Whether no operation is under way.
+    pub fn is_idle(&self) -> bool
+        ensures { IsTrue result ↔ (self.now.seen.task ≡ None) }
+    {
+        matches!(self.work, Work::Idle)
+    }
+
+    /// The number of the last operation that it started; those of each life count on from a multiple of 2^32.
+    pub fn ops(&self) -> u64
+        ensures { result ≡ ops_of self.now.seen }
+    {
+        u64::from(self.life) * LIFE + u64::from(self.started)
+    }
+
+    /// The phase of the operation under way, 0 where there is none.
+    pub fn phase(&self) -> u64
+        ensures { result ≡ phase_of self.now.seen.task }
+    {
+        match &self.work {
+            Work::Idle => 0,
+            Work::Writing(writer) => writer.phase(),
+            Work::Reading(reader) => reader.phase(),
+        }
+    }
+
+    /// The stamp that the write under way has chosen, if there is one.
+    pub fn stamp(&self) -> Option<Stamp>
+        ensures { result ≡ stamp_chosen self.now.seen.task }
+    {
+        match &self.work {
+            Work::Writing(writer) => writer.chosen_stamp(),
+            Work::Idle | Work::Reading(_) => None,
+        }
+    }
+}
+
+/// Begins an operation, the client's of this number, with the messages of its first phase.
+fn begin(
+    alloc: Global,
+    config: &Config,
+    id: u32,
+    number: u64,
+    op: &Op,
+) -> Result<(Work, Mail), NoMemory>
+    ensures work { IfOk result (λ r. HasBegun config.now id (seen_begun (setting config.now) number (block_of op.now) (work_of op.now)) r.0) }
+    ensures mail { IfOk result (λ r. r.1 ≡ all_mail (setting config.now) id (task_at 0 (seen_begun (setting config.now) number (block_of op.now) (work_of op.now)))) }
+{
+    match op {
+        Op::Read { block } => {
+            let (reader, mail) = Reader::begin(alloc, config, id, number, *block)?;
+            Ok((Work::Reading(reader), mail))
+        }
+        Op::Write { block, value } => {
+            let (writer, mail) = Writer::begin(alloc, config, id, number, *block, value)?;
+            Ok((Work::Writing(writer), mail))
+        }
+    }
+}
+
+/// Hears an answer in a write.
+fn hear_write(writer: &mut Writer, node: u8, tag: Tag, reply: &Reply) -> Result<Heard, NoMemory>
+    requires { IsSome writer.old.task }
+    ensures ok { IfOk result (IsTold writer.old writer.new (hears_in writer.old writer.old.task node tag reply.now)) }
+    ensures err { OnErr result (writer.new ≡ writer.old) }
+{
+    if !writer.counts(node, tag, reply) {
+        return Ok(Heard::Unchanged);
+    }
+    match writer.hear(node, tag, reply)? {
+        Writing::More => Ok(Heard::More),
+        Writing::Send(mail) => Ok(Heard::Send(mail)),
+        Writing::Wrote(stamp) => Ok(Heard::Ended(Outcome::Wrote(stamp))),
+        Writing::Spent => Ok(Heard::Ended(Outcome::Spent)),
+    }
+}
+
+/// Hears an answer in a read.
+fn hear_read(reader: &mut Reader, node: u8, tag: Tag, reply: &Reply) -> Result<Heard, NoMemory>
+    requires { ForSome reader.old.task (λ t. t.phase < 2 ^ 64 - 1) }
+    ensures ok { IfOk result (IsTold reader.old reader.new (hears_in reader.old reader.old.task node tag reply.now)) }
+    ensures err { OnErr result (reader.new ≡ reader.old) }
+{
+    if !reader.counts(node, tag, reply) {
+        return Ok(Heard::Unchanged);
+    }
+    let rounds = reader.rounds();
+    match reader.hear(node, tag, reply)? {
+        Reading::More => Ok(Heard::More),
+        Reading::Send(mail) => Ok(Heard::Send(mail)),
+        Reading::Got { stamp, value, how } => Ok(Heard::Ended(Outcome::Gave {
+            stamp,
+            value,
+            how,
+            rounds,
+        })),
+        Reading::Outvoted(nodes) => Ok(Heard::Ended(Outcome::Outvoted(nodes))),
+    }
+}
+
+impl Copied for Client {
+    fn copy(&self) -> Result<Client, NoMemory> {
+        let work = match &self.work {
+            Work::Idle => Work::Idle,
+            Work::Writing(writer) => Work::Writing(writer.copy()?),
+            Work::Reading(reader) => Work::Reading(reader.copy()?),
+        };
+        Ok(Client {
+            alloc: self.alloc,
+            config: self.config,
+            id: self.id,
+            life: self.life,
+            started: self.started,
+            work,
+        })
+    }
+}
