@@ -1,4 +1,4 @@
-ghost use Rattle.std.specs.Prelude.{Some, None, ◌^◌, ◌-◌, ◌≤◌, IsErr};
+ghost use Rattle.std.specs.Prelude.{Some, None, ◌≡◌, ◌^◌, ◌-◌, ◌≤◌, IsErr};
 ghost use Rattle.outside_io.specs.Causes.{Rose};
 
 use crate::sink::Sink;
@@ -14,7 +14,9 @@ pub struct StdSource<R: Read> {
 
 impl<R: Read> StdSource<R> {
     /// A source over a reader, with no fault so far.
-    pub fn new(inner: R) -> StdSource<R> {
+    pub fn new(inner: R) -> StdSource<R>
+        ensures { result.faults ≡ 0 }
+    {
         StdSource { inner, faults: 0 }
     }
 }
@@ -46,7 +48,9 @@ pub struct StdSink<W: Write> {
 
 impl<W: Write> StdSink<W> {
     /// A sink over a writer, with no fault so far.
-    pub fn new(inner: W) -> StdSink<W> {
+    pub fn new(inner: W) -> StdSink<W>
+        ensures { result.faults ≡ 0 }
+    {
         StdSink { inner, faults: 0 }
     }
 
