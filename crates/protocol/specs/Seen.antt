@@ -4,6 +4,8 @@ use Rattle.std.specs.declared.option.Option.TheVariants.{None, Some}
 use Rattle.protocol.specs.Messages.{Stamp, Version, Message, Reply, Tag}
 use Rattle.wire_forms.specs.declared.op.Op.{Op}
 use Rattle.wire_forms.specs.declared.op.Op.TheVariants.{Read as ReadOp, Write as WriteOp}
+use Rattle.run_words.specs.declared.record.Record.{Record as ToldRecord}
+use Rattle.run_words.specs.declared.record.Accepted.{Accepted as ToldAccepted}
 use Rattle.quorum_rules.specs.Limits.{Numbers}
 use Rattle.protocol.specs.Setting.{Setting}
 use Rattle.protocol.specs.Nodes.{first_version}
@@ -51,6 +53,14 @@ block_of (WriteOp block value) = block
 abbrev pub work_of : Op → Work
 work_of (ReadOp block) = Reads
 work_of (WriteOp block value) = Writes value
+
+-- a record as it is told
+abbrev pub record_of : ToldRecord → Record
+record_of r = record { client = r.client; block = block_of r.op; work = work_of r.op; start = r.start; end = r.end; stamp = r.stamp; outcome = r.outcome }
+
+-- an acceptance as it is told
+abbrev pub accepted_of : ToldAccepted → Accepted
+accepted_of a = record { node = a.node; block = a.block; stamp = a.stamp }
 
 -- the operation with one more answer counted
 abbrev pub seen_counted : SeenTask → ℕ → Reply → SeenTask
