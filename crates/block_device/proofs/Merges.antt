@@ -1,12 +1,11 @@
 -- The bytes of a put in one block, and values with bytes merged in.
-use Rattle.std.proofs.Common.{◌≡◌, ℕ, ◌+◌, ◌-◌, ◌*◌, ◌<◌, ◌≤◌, min, Bool, true, false, List, [], ◌∷◌, ◌++◌, ◌&&◌, ◌⊎◌, inl, inr, ⊎_elim, length, take, drop, get_or, refl, sym, ap, ◌∙◌, zero-add, arith}
+use Rattle.std.proofs.Common.{◌≡◌, ℕ, ◌+◌, ◌-◌, ◌*◌, ◌<◌, ◌≤◌, min, true, false, List, [], ◌∷◌, ◌++◌, ◌⊎◌, inl, inr, length, take, drop, get_or, refl, ap, ◌∙◌, arith}
 use Rattle.std.proofs.lemmas.Bool.{cases_lt, le-leb, lt-leb}
 use Rattle.std.proofs.lemmas.List.{append-nil, take_min, drop_all, length-take, length-drop, length-append, get_or-take, get_or-drop, get_or_append_left, get_or-append_right}
 use Rattle.std.proofs.Math.Bool.{and-false}
 use Rattle.block_device.specs.Ranges.{is_covered, bytes_in}
 use Rattle.block_device.specs.Steps.{put_steps}
 use Rattle.block_device.specs.Device.{merged}
-use Rattle.block_device.specs.declared.steps.BlockStep.{BlockStep}
 use Rattle.block_device.specs.declared.steps.BlockStep.TheVariants.{Read, Whole, Merge}
 
 -- ---- which steps a put has in a block

@@ -1,5 +1,5 @@
 -- Which blocks a range touches.
-use Rattle.std.proofs.Common.{◌≡◌, ℕ, suc, zero, Option, Some, None, if◌then◌else◌, ◌+◌, ◌-◌, ◌*◌, ◌/◌, ◌<◌, ◌≤◌, min, max, Bool, true, false, List, [], ◌∷◌, ◌++◌, refl, sym, ap, ◌∙◌, zero-add, zero-mul, arith}
+use Rattle.std.proofs.Common.{◌≡◌, ℕ, suc, zero, Some, None, if◌then◌else◌, ◌+◌, ◌-◌, ◌*◌, ◌/◌, ◌<◌, ◌≤◌, min, max, Bool, true, false, [], ◌∷◌, ◌++◌, refl, ap, ◌∙◌, zero-mul, arith}
 use Rattle.std.specs.List.{filter, range_with_len}
 use Rattle.std.proofs.Math.Nat.{mul-le-mul_right, div-mul-le_self, lt-div-mul-add}
 use Rattle.std.proofs.lemmas.Nat.{le-div, div_below}

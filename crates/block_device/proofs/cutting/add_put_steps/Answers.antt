@@ -1,7 +1,6 @@
 use Rattle.std.proofs.Common.{◌≡◌, ◌+◌, ◌-◌, ◌*◌, ◌<◌, ◌⊎◌, ◌++◌, ◌∷◌, [], min, inl, inr, length, take, drop, OnOk, ap, subst, sym, ◌∙◌, arith}
 use Rattle.std.proofs.lemmas.List.{append_assoc}
 use Rattle.block_device.specs.Ranges.{bytes_in}
-use Rattle.block_device.specs.Steps.{put_steps}
 use Rattle.block_device.specs.declared.steps.BlockStep.TheVariants.{Read, Whole, Merge}
 use Rattle.block_device.proofs.Merges.{put_whole, put_partly, bytes_in-cut}
 use Rattle.block_device.proofs.cutting.add_put_steps.Goals as goal
