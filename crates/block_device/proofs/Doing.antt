@@ -34,6 +34,7 @@ record IsReached (size start len k : ℕ) (old : List ℕ) : Type 0 where
   pub low : k * size < start + len
   pub high : start < (k + 1) * size
 
+-- the put is done in the n blocks from first on, and no other block is changed
 record HasPut (size start : ℕ) (bytes : List ℕ) (first n : ℕ) (old new : ℕ → List ℕ) : Type 0 where
   pub inside : (j : ℕ) → first ≤ j → j < first + n → new j ≡ put_in size start bytes j (old j)
   pub outside : (j : ℕ) → (j < first) ⊎ (first + n ≤ j) → new j ≡ old j
@@ -93,6 +94,7 @@ put_range size start bytes (suc n) first d all =
     }
 
 -- ---- a put
+-- the put is done in the n blocks that its range touches
 record IsPut (c : Numbers) (start : ℕ) (bytes : List ℕ) (old new : ℕ → List ℕ) : Type 0 where
   pub within : IsWithin c.size c.blocks start (length bytes)
   pub n : ℕ

@@ -11,10 +11,6 @@ use Rattle.wire_forms.specs.declared.device.DeviceOp.{DeviceOp}
 use Rattle.line_forms.specs.declared.cause.DeviceFault.{DeviceFault}
 use Rattle.block_device.specs.Ranges.{start_of, len_of, fault_of, is_touched}
 
-sized_if : (size blocks start len : ℕ) → 0 < len → start + len ≤ size * blocks → 0 < size
-sized_if zero blocks start len some end = absurd (let z : 0 * blocks ≡ 0 = zero-mul blocks in omega arith)
-sized_if (suc size) blocks start len some end = omega arith
-
 -- ---- a range without a fault
 no_tests : (a b : Bool) (x y : DeviceFault) → (if a then Some x else (if b then Some y else None)) ≡ None → (a ≡ false) × (b ≡ false)
 no_tests true b x y h = cc
@@ -26,6 +22,10 @@ pub record IsWithin (size blocks start len : ℕ) : Type 0 where
   pub some : 0 < len
   pub end : start + len ≤ size * blocks
   pub sized : 0 < size
+
+sized_if : (size blocks start len : ℕ) → 0 < len → start + len ≤ size * blocks → 0 < size
+sized_if zero blocks start len some end = absurd (let z : 0 * blocks ≡ 0 = zero-mul blocks in omega arith)
+sized_if (suc size) blocks start len some end = omega arith
 
 pub within_if : (c : Numbers) (op : DeviceOp) → fault_of c op ≡ None → IsWithin c.size c.blocks (start_of op) (len_of op)
 within_if c op h =
