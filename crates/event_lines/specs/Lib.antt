@@ -1,0 +1,4 @@
+pub mod Messages
+pub mod Words
+pub mod Forms
+pub mod Lines
