@@ -9,68 +9,65 @@ use Rattle.line_forms.specs.Kinds.Kind.{word, value, bytes}
 use Rattle.line_forms.specs.declared.cause.Cause.{Cause}
 use Rattle.line_forms.specs.declared.cause.Cause.TheVariants.{UnknownWord, WrongCount, BadMessage}
 use Rattle.event_lines.specs.Messages.{Part, ask_forms, answer_forms, are_of}
-use Rattle.event_lines.specs.Words.{word_of}
-use Rattle.event_lines.specs.declared.word.Word.{Word}
-use Rattle.event_lines.specs.declared.word.Word.TheVariants.{Write, Read, Resend, Call, Give, Hear, Lost, Crash, Lie, Tell, Poke, False, Sound, Mix, Put, Get, Next}
+use Rattle.event_lines.specs.Words.{Form, Speech, Word, word_of}
+use Rattle.event_lines.specs.declared.word.Form.TheVariants.{Write, Read, Resend, Call, Give, Hear, Lost, Crash, False, Sound, Mix, Put, Get, Next}
+use Rattle.event_lines.specs.declared.word.Speech.TheVariants.{Lie, Tell, Poke}
+use Rattle.event_lines.specs.declared.word.Word.TheVariants.{Form as Fields, Speech as Message}
 
 -- ---- what may follow a word
 
-pub data Rest : Type 0 where
-  -- fields of one of these forms, which their fixed words tell apart
-  fields : List (List Kind) → Rest
-  -- the text of a message of one of these forms
-  message : List (List Part) → Rest
-
--- how a lying node answers
+-- how a lying node may answer
 abbrev pub rule : Kind
 rule = word (codes "old" ∷ codes "top" ∷ codes "bad" ∷ [])
 
-abbrev pub rest_of : Numbers → Word → Rest
-rest_of c Write = fields ((client ∷ block c.blocks ∷ value c.size ∷ []) ∷ [])
-rest_of c Read = fields ((client ∷ block c.blocks ∷ []) ∷ [])
-rest_of c Resend = fields ((client ∷ []) ∷ [])
-rest_of c Call = fields ((client ∷ node c.n ∷ []) ∷ [])
-rest_of c Give = fields ((node c.n ∷ any_u64 ∷ []) ∷ [])
-rest_of c Hear = fields ((client ∷ any_u64 ∷ []) ∷ [])
-rest_of c Lost = fields ((client ∷ node c.n ∷ []) ∷ [])
-rest_of c Crash = fields ((word (codes "node" ∷ []) ∷ node c.n ∷ []) ∷ (word (codes "client" ∷ []) ∷ client ∷ []) ∷ [])
-rest_of c Lie = message (ask_forms ++ answer_forms)
-rest_of c Tell = message answer_forms
-rest_of c Poke = message ask_forms
-rest_of c False = fields ((client ∷ node c.n ∷ rule ∷ []) ∷ [])
-rest_of c Sound = fields ((client ∷ node c.n ∷ block c.blocks ∷ any_u64 ∷ value c.size ∷ []) ∷ [])
-rest_of c Mix = fields ((client ∷ node c.n ∷ block c.blocks ∷ any_u64 ∷ value c.size ∷ value c.size ∷ []) ∷ [])
-rest_of c Put = fields ((client ∷ any_u64 ∷ bytes ∷ []) ∷ [])
-rest_of c Get = fields ((client ∷ any_u64 ∷ any_u64 ∷ []) ∷ [])
-rest_of c Next = fields ((client ∷ []) ∷ [])
+-- the fields: those of one of these forms, which their fixed words tell apart
+abbrev pub forms_of : Numbers → Form → List (List Kind)
+forms_of c Write = (client ∷ block c.blocks ∷ value c.size ∷ []) ∷ []
+forms_of c Read = (client ∷ block c.blocks ∷ []) ∷ []
+forms_of c Resend = (client ∷ []) ∷ []
+forms_of c Call = (client ∷ node c.n ∷ []) ∷ []
+forms_of c Give = (node c.n ∷ any_u64 ∷ []) ∷ []
+forms_of c Hear = (client ∷ any_u64 ∷ []) ∷ []
+forms_of c Lost = (client ∷ node c.n ∷ []) ∷ []
+forms_of c Crash = (word (codes "node" ∷ []) ∷ node c.n ∷ []) ∷ (word (codes "client" ∷ []) ∷ client ∷ []) ∷ []
+forms_of c False = (client ∷ node c.n ∷ rule ∷ []) ∷ []
+forms_of c Sound = (client ∷ node c.n ∷ block c.blocks ∷ any_u64 ∷ value c.size ∷ []) ∷ []
+forms_of c Mix = (client ∷ node c.n ∷ block c.blocks ∷ any_u64 ∷ value c.size ∷ value c.size ∷ []) ∷ []
+forms_of c Put = (client ∷ any_u64 ∷ bytes ∷ []) ∷ []
+forms_of c Get = (client ∷ any_u64 ∷ any_u64 ∷ []) ∷ []
+forms_of c Next = (client ∷ []) ∷ []
+
+-- the message: one of these forms
+abbrev pub messages_of : Speech → List (List Part)
+messages_of Lie = ask_forms ++ answer_forms
+messages_of Tell = answer_forms
+messages_of Poke = ask_forms
 
 -- ---- what is wrong with an event line
 
 -- each field that is there and should be a fixed word is one
-abbrev pub has_its_words : List Kind → List (List ℕ) → Bool
-has_its_words form rest = not (some_field is_other_word form rest)
+abbrev pub has_its_words : List (List ℕ) → List Kind → Bool
+has_its_words fields form = not (some_field is_other_word form fields)
 
 -- what is wrong with fields by the first of the forms whose words they have
 abbrev pub fields_cause : List (List Kind) → List (List ℕ) → Option Cause
-fields_cause [] rest = Some UnknownWord
-fields_cause (form ∷ forms) rest = if has_its_words form rest then form_cause form rest else fields_cause forms rest
+fields_cause [] fields = Some UnknownWord
+fields_cause (form ∷ forms) fields = if has_its_words fields form then form_cause form fields else fields_cause forms fields
 
--- what is wrong with the text of a message, which may hold any field
+-- what is wrong with the fields of a message's text, any of which may be empty
 abbrev pub message_cause : List (List Part) → List (List ℕ) → Option Cause
-message_cause forms rest = first_of ((is_empty rest, WrongCount) ∷ (not (are_of forms rest), BadMessage) ∷ [])
+message_cause forms fields = first_of ((is_empty fields, WrongCount) ∷ (not (are_of forms fields), BadMessage) ∷ [])
 
-abbrev pub rest_cause : Rest → List (List ℕ) → Option Cause
-rest_cause (fields forms) rest = fields_cause forms rest
-rest_cause (message forms) rest = message_cause forms rest
-
-abbrev pub word_cause : Numbers → Option Word → List (List ℕ) → Option Cause
-word_cause c None rest = Some UnknownWord
-word_cause c (Some word) rest = rest_cause (rest_of c word) rest
+-- what is wrong with the fields after a word
+abbrev pub rest_cause : Numbers → Option Word → List (List ℕ) → Option Cause
+rest_cause c None fields = Some UnknownWord
+rest_cause c (Some (Fields form)) fields = fields_cause (forms_of c form) fields
+rest_cause c (Some (Message speech)) fields = message_cause (messages_of speech) fields
 
 -- what is wrong with a line of these fields
 abbrev pub line_cause : Numbers → List (List ℕ) → Option Cause
 line_cause c [] = Some UnknownWord
-line_cause c (word ∷ rest) = word_cause c (word_of word) rest
+line_cause c (first ∷ rest) = rest_cause c (word_of first) rest
 
 -- what is wrong with an event line
 abbrev pub event_cause : Numbers → List ℕ → Option Cause

@@ -5,7 +5,7 @@ use Rattle.text_lines.specs.Lines.{line_of_fields}
 use Rattle.text_lines.specs.Fields.{value_text, IsBytes}
 use Rattle.wire_forms.specs.declared.rule.Rule.{Rule}
 use Rattle.wire_forms.specs.declared.rule.Rule.TheVariants.{Silent, Old, Top, Bad}
-use Rattle.wire_forms.specs.Texts.{IsMessage, message_fields}
+use Rattle.wire_forms.specs.Texts.{IsMessage, HasLimits, message_fields}
 use Rattle.run_words.specs.declared.line.Line.{Line}
 use Rattle.run_words.specs.declared.line.Line.TheVariants.{Write, Read, Resend, Call, Give, Hear, Lost, CrashNode, CrashClient, Lie, Tell, Poke, False, Sound, Mix, Prune, Back, Restart}
 use Rattle.event_lines.specs.Messages.{is_ask, is_answer}
@@ -96,3 +96,13 @@ event_fields (Next client) = codes "next" ∷ decimal client ∷ []
 -- the text of an event line, its newline aside
 abbrev pub event_text : ReplayLine → List ℕ
 event_text line = line_of_fields (event_fields line)
+
+-- the line has a text, whatever its numbers: the strings of a message are within the limits
+abbrev pub HasText : ReplayLine → Type 0
+HasText (Plain (Lie message)) = HasLimits message.body
+HasText (Plain (Tell message)) = HasLimits message.body
+HasText (Plain (Poke message)) = HasLimits message.body
+HasText (Plain (Prune node block)) = ⊥
+HasText (Plain (Back client)) = ⊥
+HasText (Plain (Restart node)) = ⊥
+HasText _ = Unit {0}

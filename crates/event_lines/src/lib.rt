@@ -5,6 +5,7 @@
 #![tactic(auto)]
 
 mod line;
+mod numbers;
 mod word;
 
 pub use line::ReplayLine;

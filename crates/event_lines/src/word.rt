@@ -1,51 +1,80 @@
-/// The words that event lines begin with.
+/// The lines whose words are followed by fields, and what these are.
+#[derive(Clone, Copy)]
+pub enum Form {
+    /// A client, a block and a value.
+    Write,
+    /// A client and a block.
+    Read,
+    /// A client.
+    Resend,
+    /// A client and a node.
+    Call,
+    /// A node and a message of the pool.
+    Give,
+    /// A client and a message of the pool.
+    Hear,
+    /// A client and a node.
+    Lost,
+    /// `node` and a node, or `client` and a client.
+    Crash,
+    /// A client, a node and a rule.
+    False,
+    /// A client, a node, a block, a time and a value.
+    Sound,
+    /// A client, a node, a block, a time and two values.
+    Mix,
+    /// A client, a place and a value of any length.
+    Put,
+    /// A client, a place and a length.
+    Get,
+    /// A client.
+    Next,
+}
+
+/// The lines whose words are followed by the text of a message.
+#[derive(Clone, Copy)]
+pub enum Speech {
+    /// Any message.
+    Lie,
+    /// An answer.
+    Tell,
+    /// An ask.
+    Poke,
+}
+
+/// The word that an event line begins with.
 #[derive(Clone, Copy)]
 pub enum Word {
-    Write,
-    Read,
-    Resend,
-    Call,
-    Give,
-    Hear,
-    Lost,
-    Crash,
-    Lie,
-    Tell,
-    Poke,
-    False,
-    Sound,
-    Mix,
-    Put,
-    Get,
-    Next,
+    Form(Form),
+    Speech(Speech),
 }
 
 impl Word {
     ghost use Rattle.std.specs.Prelude.{◌≡◌};
-    ghost use Rattle.event_lines.specs.Words.{word_text, word_of};
+    ghost use Rattle.event_lines.specs.Words.{word_of};
 
     /// The word that a field spells.
     pub fn of(field: &[u8]) -> Option<Word>
         ensures { result ≡ word_of field.now }
     {
         match field {
-            b"write" => Some(Word::Write),
-            b"read" => Some(Word::Read),
-            b"resend" => Some(Word::Resend),
-            b"call" => Some(Word::Call),
-            b"give" => Some(Word::Give),
-            b"hear" => Some(Word::Hear),
-            b"lost" => Some(Word::Lost),
-            b"crash" => Some(Word::Crash),
-            b"lie" => Some(Word::Lie),
-            b"tell" => Some(Word::Tell),
-            b"poke" => Some(Word::Poke),
-            b"false" => Some(Word::False),
-            b"sound" => Some(Word::Sound),
-            b"mix" => Some(Word::Mix),
-            b"put" => Some(Word::Put),
-            b"get" => Some(Word::Get),
-            b"next" => Some(Word::Next),
+            b"write" => Some(Word::Form(Form::Write)),
+            b"read" => Some(Word::Form(Form::Read)),
+            b"resend" => Some(Word::Form(Form::Resend)),
+            b"call" => Some(Word::Form(Form::Call)),
+            b"give" => Some(Word::Form(Form::Give)),
+            b"hear" => Some(Word::Form(Form::Hear)),
+            b"lost" => Some(Word::Form(Form::Lost)),
+            b"crash" => Some(Word::Form(Form::Crash)),
+            b"false" => Some(Word::Form(Form::False)),
+            b"sound" => Some(Word::Form(Form::Sound)),
+            b"mix" => Some(Word::Form(Form::Mix)),
+            b"put" => Some(Word::Form(Form::Put)),
+            b"get" => Some(Word::Form(Form::Get)),
+            b"next" => Some(Word::Form(Form::Next)),
+            b"lie" => Some(Word::Speech(Speech::Lie)),
+            b"tell" => Some(Word::Speech(Speech::Tell)),
+            b"poke" => Some(Word::Speech(Speech::Poke)),
             _ => None,
         }
     }
