@@ -93,6 +93,10 @@ event_fields (Put client offset bytes) = codes "put" ∷ decimal client ∷ deci
 event_fields (Get client offset length) = codes "get" ∷ decimal client ∷ decimal offset ∷ decimal length ∷ []
 event_fields (Next client) = codes "next" ∷ decimal client ∷ []
 
+-- an event line that has these fields
+abbrev pub IsSpelled : Numbers → List (List ℕ) → ReplayLine → Type 0
+IsSpelled c fields line = IsEventLine c line × (event_fields line ≡ fields)
+
 -- the text of an event line, its newline aside
 abbrev pub event_text : ReplayLine → List ℕ
 event_text line = line_of_fields (event_fields line)

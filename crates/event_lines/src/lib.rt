@@ -4,6 +4,7 @@
 //! message.
 #![tactic(auto)]
 
+mod forms;
 mod line;
 mod numbers;
 mod word;
