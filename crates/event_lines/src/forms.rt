@@ -1,9 +1,11 @@
 //! The lines of fields, each with its fields one by one, none of them empty.
 #![tactic(auto, using(text_lines::proofs::Spelled::spelled, std::proofs::lemmas::Grind::common_steps))]
 
-ghost use Rattle.std.specs.Prelude.{◌≡◌, ◌≢◌, ◌∷◌, [], codes, true, false, MatchOption, is_none};
+ghost use Rattle.std.specs.Prelude.{◌≡◌, ◌≢◌, ◌∷◌, [], length, codes, true, false, MatchOption, is_none};
 ghost use Rattle.quorum_rules.specs.Limits.{Numbers};
-ghost use Rattle.line_forms.specs.Kinds.{has_empty_field, is_other_word};
+ghost use Rattle.text_lines.specs.Fields.{value_text, IsBytes};
+ghost use Rattle.line_forms.specs.Kinds.Kind.{value as value_of_size, bytes as any_bytes};
+ghost use Rattle.line_forms.specs.Kinds.{has_empty_field, is_other_word, form_cause};
 ghost use Rattle.line_forms.specs.Tables.{Gives};
 ghost use Rattle.event_lines.specs.Forms.{fields_cause, forms_of, rule};
 ghost use Rattle.event_lines.specs.Lines.{IsSpelled, rule_text};
@@ -14,6 +16,7 @@ use crate::numbers::{
     read_forged,
 };
 use crate::word::Form;
+use cross_sum::Bytes;
 use line_forms::{Cause, LineRefusal, value_of_len};
 use quorum_rules::Config;
 use run_words::Line;
@@ -100,17 +103,15 @@ pub fn crash(config: &Config, what: &[u8], number: &[u8]) -> Result<ReplayLine, 
     ensures { Gives (IsSpelled config.now (codes "crash" ∷ what.now ∷ number.now ∷ []))
         (fields_cause (forms_of config.now Form.Crash) (what.now ∷ number.now ∷ [])) result }
 {
-    match what {
-        b"node" => {
-            let node = numbers::node(config, number)?;
-            Ok(ReplayLine::Plain(Line::CrashNode { node }))
-        }
-        b"client" => {
-            let client = numbers::client(number)?;
-            Ok(ReplayLine::Plain(Line::CrashClient { client }))
-        }
-        _ => Err(LineRefusal::Cause(Cause::UnknownWord)),
+    if what == b"node".as_slice() {
+        let node = numbers::node(config, number)?;
+        return Ok(ReplayLine::Plain(Line::CrashNode { node }));
     }
+    if what == b"client".as_slice() {
+        let client = numbers::client(number)?;
+        return Ok(ReplayLine::Plain(Line::CrashClient { client }));
+    }
+    Err(LineRefusal::Cause(Cause::UnknownWord))
 }
 
 /// The rule by which a lying node answers. `silent` is no answer.
@@ -170,6 +171,22 @@ pub fn sound(
     }))
 }
 
+fn two_values(
+    alloc: Global,
+    first: &[u8],
+    second: &[u8],
+    len: usize,
+) -> Result<(Bytes, Bytes), LineRefusal>
+    requires { has_empty_field (first.now ∷ second.now ∷ []) ≡ false }
+    ensures { Gives (λ read. (value_text read.0 ≡ first.now) × (length read.0 ≡ len) × IsBytes read.0
+        × (value_text read.1 ≡ second.now) × (length read.1 ≡ len) × IsBytes read.1)
+        (form_cause (value_of_size len ∷ value_of_size len ∷ []) (first.now ∷ second.now ∷ [])) result }
+{
+    let first = value_of_len(alloc, first, len)?;
+    let second = value_of_len(alloc, second, len)?;
+    Ok((first, second))
+}
+
 pub fn mix(
     alloc: Global,
     config: &Config,
@@ -190,8 +207,7 @@ pub fn mix(
         block,
         time,
     } = read_forged(config, client, node, block, time)?;
-    let value = value_of_len(alloc, value, config.size() as usize)?;
-    let other = value_of_len(alloc, other, config.size() as usize)?;
+    let (value, other) = two_values(alloc, value, other, config.size() as usize)?;
     Ok(ReplayLine::Plain(Line::Mix {
         client,
         node,
@@ -200,6 +216,15 @@ pub fn mix(
         value,
         other,
     }))
+}
+
+/// The value of any length that a field spells.
+fn any_value(alloc: Global, field: &[u8]) -> Result<Bytes, LineRefusal>
+    requires { has_empty_field (field.now ∷ []) ≡ false }
+    ensures { Gives (λ read. (value_text read ≡ field.now) × IsBytes read) (form_cause (any_bytes ∷ []) (field.now ∷ [])) result }
+{
+    let value = value(alloc, field)?.ok_or(Cause::BadValue)?;
+    Ok(value)
 }
 
 pub fn put(
@@ -213,7 +238,7 @@ pub fn put(
         (fields_cause (forms_of c Form.Put) (client.now ∷ offset.now ∷ bytes.now ∷ [])) result }
 {
     let (client, offset) = client_and_u64(client, offset)?;
-    let bytes = value(alloc, bytes)?.ok_or(Cause::BadValue)?;
+    let bytes = any_value(alloc, bytes)?;
     Ok(ReplayLine::Put {
         client,
         offset,

@@ -4,9 +4,16 @@
 //! message.
 #![tactic(auto)]
 
+mod event;
 mod forms;
 mod line;
+mod message;
 mod numbers;
+mod printing;
+#[cfg(test)]
+mod tests;
 mod word;
 
+pub use event::read_event;
 pub use line::ReplayLine;
+pub use printing::add_event;

@@ -31,6 +31,24 @@ pub enum Form {
     Next,
 }
 
+impl Form {
+    ghost use Rattle.std.specs.Prelude.{◌≡◌};
+    ghost use Rattle.event_lines.specs.Rests.{field_count};
+
+    /// How many fields follow the word.
+    pub fn count(self) -> usize
+        ensures { result ≡ field_count self }
+    {
+        match self {
+            Form::Resend | Form::Next => 1,
+            Form::Read | Form::Call | Form::Give | Form::Hear | Form::Lost | Form::Crash => 2,
+            Form::Write | Form::False | Form::Put | Form::Get => 3,
+            Form::Sound => 5,
+            Form::Mix => 6,
+        }
+    }
+}
+
 /// The lines whose words are followed by the text of a message.
 #[derive(Clone, Copy)]
 pub enum Speech {
