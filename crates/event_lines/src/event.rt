@@ -58,7 +58,7 @@ fn read_form(
     form: Form,
     rest: Option<&[u8]>,
 ) -> Result<ReplayLine, LineRefusal>
-    ensures { Gives (IsSpelled config.now (form_text form ∷ fields_after rest)) (fields_cause (forms_of config.now form) (fields_after rest)) result }
+    ensures { Gives (IsSpelled config.now (form_text form ∷ fields_after rest.entry)) (fields_cause (forms_of config.now form) (fields_after rest.entry)) result }
 {
     match rest {
         Some(rest) => {
@@ -119,8 +119,8 @@ fn has_words(form: Form, fields: &[&[u8]]) -> bool
 fn has_crash_word(fields: &[&[u8]]) -> bool
     ensures { (c : Numbers) → result ≡ list_any (has_its_words (texts fields.now)) (forms_of c Form.Crash) }
 {
-    match fields.first() {
-        Some(what) => *what == b"node".as_slice() || *what == b"client".as_slice(),
+    match fields.split_first() {
+        Some((what, _)) => *what == b"node".as_slice() || *what == b"client".as_slice(),
         None => true,
     }
 }

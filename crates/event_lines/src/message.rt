@@ -23,8 +23,8 @@ pub fn read_speech(
     speech: Speech,
     rest: Option<&[u8]>,
 ) -> Result<ReplayLine, LineRefusal>
-    ensures { (c : Numbers) → Gives (IsSpelled c (speech_text speech ∷ fields_after rest))
-        (message_cause (messages_of speech) (fields_after rest)) result }
+    ensures { (c : Numbers) → Gives (IsSpelled c (speech_text speech ∷ fields_after rest.entry))
+        (message_cause (messages_of speech) (fields_after rest.entry)) result }
 {
     let message = read_any(alloc, rest)?;
     match (speech, &message.body) {
@@ -37,8 +37,8 @@ pub fn read_speech(
 
 /// The message, an ask or an answer.
 fn read_any(alloc: Global, rest: Option<&[u8]>) -> Result<Message, LineRefusal>
-    ensures { Gives (λ m. IsMessage m × (message_fields m ≡ fields_after rest))
-        (message_cause (ask_forms ++ answer_forms) (fields_after rest)) result }
+    ensures { Gives (λ m. IsMessage m × (message_fields m ≡ fields_after rest.entry))
+        (message_cause (ask_forms ++ answer_forms) (fields_after rest.entry)) result }
 {
     let Some(text) = rest else {
         return Err(LineRefusal::Cause(Cause::WrongCount));
