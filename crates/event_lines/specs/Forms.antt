@@ -70,5 +70,5 @@ line_cause c [] = Some UnknownWord
 line_cause c (first ∷ rest) = rest_cause c (word_of first) rest
 
 -- what is wrong with an event line
-abbrev pub event_cause : Numbers → List ℕ → Option Cause
+unfoldable pub event_cause : Numbers → List ℕ → Option Cause
 event_cause c line = line_cause c (fields_of line)

@@ -6,6 +6,7 @@
 
 mod event;
 mod forms;
+pub mod laws;
 mod line;
 mod message;
 mod numbers;
