@@ -1,0 +1,5 @@
+pub mod Messages
+pub mod Words
+pub mod Forms
+pub mod Lines
+pub mod Rests
