@@ -1,10 +1,11 @@
 -- Stand-in laws of event lines.
-use Rattle.std.proofs.Common.{◌≡◌, ◌≢◌, ℕ, List, [], get_or, None}
+use Rattle.std.proofs.Common.{◌≡◌, ◌≢◌, [], get_or, None}
 use Rattle.std.specs.Prelude.{codes}
 use Rattle.quorum_rules.specs.Limits.{Numbers}
 use Rattle.text_lines.specs.Lines.{Lacks, fields_of}
-use Rattle.event_lines.specs.Events.{HasText, IsEventLine, event_cause, event_text}
-use Rattle.event_lines.specs.declared.event.ReplayLine.{ReplayLine}
+use Rattle.event_lines.specs.Forms.{event_cause}
+use Rattle.event_lines.specs.Lines.{HasText, IsEventLine, event_text}
+use Rattle.event_lines.specs.declared.line.ReplayLine.{ReplayLine}
 
 pub accepted : (c : Numbers) (l : ReplayLine) → IsEventLine c l → event_cause c (event_text l) ≡ None
 unfolding IsEventLine

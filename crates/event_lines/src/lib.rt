@@ -1,6 +1,6 @@
 //! The event lines of a replay script, one line at a time.
 #![tactic(auto)]
 
-mod event;
+mod line;
 
-pub use event::{ReplayLine, add_event, read_event};
+pub use line::{ReplayLine, add_event, read_event};

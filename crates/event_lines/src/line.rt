@@ -1,6 +1,7 @@
 ghost use Rattle.std.specs.Prelude.{◌≡◌, ◌++◌, OnOk};
 ghost use Rattle.line_forms.specs.Tables.{Gives};
-ghost use Rattle.event_lines.specs.Events.{HasText, IsEventLine, event_cause, event_text};
+ghost use Rattle.event_lines.specs.Forms.{event_cause};
+ghost use Rattle.event_lines.specs.Lines.{HasText, IsEventLine, event_text};
 
 use cross_sum::Bytes;
 use line_forms::LineRefusal;
