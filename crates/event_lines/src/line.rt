@@ -38,7 +38,7 @@ pub fn read_event(_alloc: Global, _config: &Config, _line: &[u8]) -> Result<Repl
 }
 
 /// Adds the text of an event line, its newline aside.
-pub fn add_event(_text: &mut Text, _line: &ReplayLine) -> Result<(), NoMemory>
+pub fn add_event(_alloc: Global, _text: &mut Text, _line: &ReplayLine) -> Result<(), NoMemory>
     requires { HasText _line.now }
     ensures { OnOk result (_text.new ≡ _text.old ++ event_text _line.now) }
 {
