@@ -1,0 +1,14 @@
+//! The world of a run: every message that was sent, what nodes and clients do, and the records of operations. Each line of a
+//! script makes of it what the model's definitions say, or is refused and changes nothing.
+#![tactic(auto)]
+
+mod fault;
+mod host;
+mod lying;
+mod play;
+pub mod refusal;
+mod seat;
+mod state;
+
+pub use refusal::StepRefusal;
+pub use run_words::{Accepted, How, Line, Nodes, Outcome, Record, StepFault};

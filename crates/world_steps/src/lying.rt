@@ -1,0 +1,1 @@
+//! The messages of lines that liars send.
