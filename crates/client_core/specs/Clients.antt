@@ -1,16 +1,14 @@
 -- A correct client as contracts see it, and what a message does to it.
-use Rattle.std.specs.Prelude.{◌≡◌, ℕ, ◌+◌, if◌then◌else◌, ◌==◌, nat_lt, List, Option, IsTrue}
+use Rattle.std.specs.Prelude.{◌≡◌, ℕ, ◌+◌, if◌then◌else◌, ◌==◌, List, Option}
 use Rattle.std.specs.declared.option.Option.TheVariants.{None, Some}
 use Rattle.quorum_rules.specs.Limits.{Numbers}
-use Rattle.stamp_order.specs.declared.Stamp.{Stamp}
 use Rattle.wire_forms.specs.declared.message.Message.{Message}
 use Rattle.wire_forms.specs.declared.message.Body.{Body}
 use Rattle.wire_forms.specs.declared.message.Body.TheVariants.{Ask as Asks, Answer as Answers}
 use Rattle.wire_forms.specs.declared.op.Op.{Op}
 use Rattle.protocol.specs.Instance.{setting}
-use Rattle.protocol.specs.Operations.{mail, outstanding, is_answered}
-use Rattle.protocol.specs.World.{chosen_stamp}
-use Rattle.protocol.specs.Seen.{SeenTask, SeenClient, Hearing, task_at, seen_begun, hearing, ops_of, block_of, work_of, answers_of}
+use Rattle.protocol.specs.Operations.{mail}
+use Rattle.protocol.specs.Seen.{SeenTask, SeenClient, Hearing, task_at, seen_begun, hearing, ops_of, block_of, work_of}
 use Rattle.protocol.specs.Seen.Hearing.{Ignored, Counted, Begins, Ended}
 use Rattle.client_core.specs.declared.heard.Heard.{Heard}
 use Rattle.client_core.specs.declared.heard.Heard.TheVariants.{Unchanged, More, Send, Ended as EndedWith}
@@ -53,23 +51,3 @@ IsHeard old new m Unchanged = (hears old old.seen.task m ≡ Ignored) × (new �
 IsHeard old new m More = (t : SeenTask) × (hears old old.seen.task m ≡ Counted t) × (new ≡ with_task old (Some t))
 IsHeard old new m (Send mail) = (t : SeenTask) × (hears old old.seen.task m ≡ Begins t) × (new ≡ with_task old (Some t)) × (mail ≡ mail_of old t)
 IsHeard old new m (EndedWith outcome) = (hears old old.seen.task m ≡ Ended outcome) × (new ≡ with_task old None)
-
--- the present phase's message to a node, if there is an operation and such a node
-abbrev pub outstanding_of : ClientView → Option SeenTask → ℕ → Option Message
-outstanding_of c None node = None
-outstanding_of c (Some t) node = if nat_lt node c.config.n then Some (outstanding (setting c.config) c.id (task_at 0 t) node) else None
-
--- the phase under way, 0 where there is none
-abbrev pub phase_of : Option SeenTask → ℕ
-phase_of None = 0
-phase_of (Some t) = t.phase
-
--- the stamp that the write under way has chosen
-abbrev pub stamp_chosen : Option SeenTask → Option Stamp
-stamp_chosen None = None
-stamp_chosen (Some t) = chosen_stamp t.work t.stage
-
--- the node has answered the phase under way
-abbrev pub HasAnswered : Option SeenTask → ℕ → Type 0
-HasAnswered None node = ⊥
-HasAnswered (Some t) node = IsTrue (is_answered (answers_of t node))

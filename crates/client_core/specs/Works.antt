@@ -2,12 +2,10 @@
 use Rattle.std.specs.Prelude.{◌≡◌, ℕ, ◌<◌, ◌^◌, Option, IsSome, IfSome}
 use Rattle.std.specs.declared.option.Option.TheVariants.{None, Some}
 use Rattle.quorum_rules.specs.Limits.{Numbers}
-use Rattle.wire_forms.specs.declared.message.Tag.{Tag}
-use Rattle.wire_forms.specs.declared.message.Reply.{Reply}
 use Rattle.protocol.specs.Instance.{setting}
 use Rattle.protocol.specs.Operations.{mail as mail_of}
 use Rattle.protocol.specs.Operations.Work.{Reads}
-use Rattle.protocol.specs.Seen.{SeenTask, SeenOperation, Hearing, task_at, hearing}
+use Rattle.protocol.specs.Seen.{SeenTask, SeenOperation, Hearing, task_at, with_task}
 use Rattle.protocol.specs.Seen.Hearing.{Ignored, Counted, Begins, Ended}
 use Rattle.client_core.specs.declared.client.Work.{Work}
 use Rattle.client_core.specs.declared.client.Work.TheVariants.{Idle, Writing, Reading}
@@ -38,21 +36,12 @@ pub record IsClient (config : Numbers) (id life started : ℕ) (work : Work) : T
   pub starts : started < 2 ^ 32
   pub own : IsWork config id work
 
--- the operation with this task
-abbrev pub at : SeenOperation → Option SeenTask → SeenOperation
-at o task = record { config = o.config; client = o.client; task = task }
-
--- what an answer does to a task of the operation
-abbrev pub hears_in : SeenOperation → Option SeenTask → ℕ → Tag → Reply → Hearing
-hears_in o None node tag reply = Ignored
-hears_in o (Some t) node tag reply = hearing (setting o.config) o.client t node tag reply
-
 -- what the answer did is said, and done
 abbrev pub IsTold : SeenOperation → SeenOperation → Hearing → Heard → Type 0
 IsTold old new h Unchanged = (h ≡ Ignored) × (new ≡ old)
-IsTold old new h More = (t : SeenTask) × (h ≡ Counted t) × (new ≡ at old (Some t))
-IsTold old new h (Send mail) = (t : SeenTask) × (h ≡ Begins t) × (new ≡ at old (Some t)) × (mail ≡ mail_of (setting old.config) old.client (task_at 0 t))
-IsTold old new h (EndedWith outcome) = (h ≡ Ended outcome) × (new ≡ at old None)
+IsTold old new h More = (t : SeenTask) × (h ≡ Counted t) × (new ≡ with_task old (Some t))
+IsTold old new h (Send mail) = (t : SeenTask) × (h ≡ Begins t) × (new ≡ with_task old (Some t)) × (mail ≡ mail_of (setting old.config) old.client (task_at 0 t))
+IsTold old new h (EndedWith outcome) = (h ≡ Ended outcome) × (new ≡ with_task old None)
 
 -- this operation of the client has begun
 pub record HasBegun (config : Numbers) (id : ℕ) (t : SeenTask) (work : Work) : Type 0 where

@@ -1,11 +1,11 @@
 ghost use Rattle.std.specs.Prelude.{◌≡◌, ◌↔◌, ◌<◌, ◌-◌, ◌^◌, IsTrue, IsSome, IfOk, OnOk, OnErr, Some, None};
 ghost use Rattle.std.specs.Option.{ForSome};
-ghost use Rattle.protocol.specs.Seen.{new_client, ops_of, block_of, work_of, seen_begun, task_at};
+ghost use Rattle.protocol.specs.Seen.{new_client, ops_of, block_of, work_of, seen_begun, task_at, hears, outstanding_of, has_answered, phase_of, chosen_of};
 ghost use Rattle.protocol.specs.World.{Fits};
 ghost use Rattle.protocol.specs.Operations.{mail as all_mail};
 ghost use Rattle.protocol.specs.Instance.{setting};
-ghost use Rattle.client_core.specs.Works.{HasBegun, IsTold, hears_in};
-ghost use Rattle.client_core.specs.Clients.{with_started, started, mail_of, IsHeard, outstanding_of, phase_of, stamp_chosen, HasAnswered};
+ghost use Rattle.client_core.specs.Works.{HasBegun, IsTold};
+ghost use Rattle.client_core.specs.Clients.{with_started, started, mail_of, IsHeard};
 
 use crate::heard::Heard;
 use lists::{Copied, NoMemory};
@@ -119,7 +119,7 @@ impl Client {
 
     /// The present phase's message to the node; None exactly where the client is idle or there is no such node.
     pub fn outstanding(&self, node: u8) -> Result<Option<Message>, NoMemory>
-        ensures { IfOk result (λ message. message ≡ outstanding_of self.now self.now.seen.task node) }
+        ensures { IfOk result (λ message. message ≡ outstanding_of (setting self.now.config) self.now.id self.now.seen.task node) }
     {
         match &self.work {
             Work::Idle => Ok(None),
@@ -130,7 +130,7 @@ impl Client {
 
     /// Whether the node has answered the phase under way.
     pub fn answered(&self, node: u8) -> bool
-        ensures { IsTrue result ↔ HasAnswered self.now.seen.task node }
+        ensures { result ≡ has_answered self.now.seen.task node }
     {
         match &self.work {
             Work::Idle => false,
@@ -166,7 +166,7 @@ impl Client {
 
     /// The stamp that the write under way has chosen, if there is one.
     pub fn stamp(&self) -> Option<Stamp>
-        ensures { result ≡ stamp_chosen self.now.seen.task }
+        ensures { result ≡ chosen_of self.now.seen.task }
     {
         match &self.work {
             Work::Writing(writer) => writer.chosen_stamp(),
@@ -201,7 +201,7 @@ fn begin(
 /// Hears an answer in a write.
 fn hear_write(writer: &mut Writer, node: u8, tag: Tag, reply: &Reply) -> Result<Heard, NoMemory>
     requires { IsSome writer.old.task }
-    ensures ok { IfOk result (IsTold writer.old writer.new (hears_in writer.old writer.old.task node tag reply.now)) }
+    ensures ok { IfOk result (IsTold writer.old writer.new (hears (setting writer.old.config) writer.old.client writer.old.task node tag reply.now)) }
     ensures err { OnErr result (writer.new ≡ writer.old) }
 {
     if !writer.counts(node, tag, reply) {
@@ -218,7 +218,7 @@ fn hear_write(writer: &mut Writer, node: u8, tag: Tag, reply: &Reply) -> Result<
 /// Hears an answer in a read.
 fn hear_read(reader: &mut Reader, node: u8, tag: Tag, reply: &Reply) -> Result<Heard, NoMemory>
     requires { ForSome reader.old.task (λ t. t.phase < 2 ^ 64 - 1) }
-    ensures ok { IfOk result (IsTold reader.old reader.new (hears_in reader.old reader.old.task node tag reply.now)) }
+    ensures ok { IfOk result (IsTold reader.old reader.new (hears (setting reader.old.config) reader.old.client reader.old.task node tag reply.now)) }
     ensures err { OnErr result (reader.new ≡ reader.old) }
 {
     if !reader.counts(node, tag, reply) {

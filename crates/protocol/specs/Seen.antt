@@ -1,16 +1,18 @@
 -- What contracts see of the code's states, as first-order data, and the states of the definitions that they show.
 use Rattle.std.specs.Prelude.{ℕ, ◌+◌, ◌-◌, ◌*◌, ◌^◌, Bool, false, if◌then◌else◌, not, ◌&&◌, ◌==◌, nat_lt, List, [], ◌∷◌, replicate, Option, slice_index_or, slice_set}
 use Rattle.std.specs.declared.option.Option.TheVariants.{None, Some}
-use Rattle.protocol.specs.Messages.{Version, Message, Reply, Tag}
+use Rattle.protocol.specs.Messages.{Stamp, Version, Message, Reply, Tag}
 use Rattle.wire_forms.specs.declared.op.Op.{Op}
 use Rattle.wire_forms.specs.declared.op.Op.TheVariants.{Read as ReadOp, Write as WriteOp}
+use Rattle.run_words.specs.declared.record.Record.{Record as ToldRecord}
+use Rattle.run_words.specs.declared.record.Accepted.{Accepted as ToldAccepted}
 use Rattle.quorum_rules.specs.Limits.{Numbers}
 use Rattle.protocol.specs.Setting.{Setting}
 use Rattle.protocol.specs.Nodes.{first_version}
-use Rattle.protocol.specs.Operations.{Task, Work, Stage, Outcome, Decision, first_work, rounds_after, is_of_kind, is_answered, answered, decide}
+use Rattle.protocol.specs.Operations.{Task, Work, Stage, Outcome, Decision, first_work, rounds_after, is_of_kind, is_answered, answered, outstanding, decide}
 use Rattle.protocol.specs.Operations.Work.{Reads, Writes}
 use Rattle.protocol.specs.Operations.Decision.{GoesOn, Ends}
-use Rattle.protocol.specs.World.{World, Record, Accepted}
+use Rattle.protocol.specs.World.{World, Record, Accepted, chosen_stamp}
 
 -- an operation under way, with one answer or none for each node; at which place it began the world alone knows
 pub record SeenTask : Type 0 where
@@ -52,6 +54,14 @@ abbrev pub work_of : Op → Work
 work_of (ReadOp block) = Reads
 work_of (WriteOp block value) = Writes value
 
+-- a record as it is told
+abbrev pub record_of : ToldRecord → Record
+record_of r = record { client = r.client; block = block_of r.op; work = work_of r.op; start = r.start; end = r.end; stamp = r.stamp; outcome = r.outcome }
+
+-- an acceptance as it is told
+abbrev pub accepted_of : ToldAccepted → Accepted
+accepted_of a = record { node = a.node; block = a.block; stamp = a.stamp }
+
 -- the operation with one more answer counted
 abbrev pub seen_counted : SeenTask → ℕ → Reply → SeenTask
 seen_counted t node reply =
@@ -88,6 +98,46 @@ module _ (s : Setting) where
   abbrev pub hearing : ℕ → SeenTask → ℕ → Tag → Reply → Hearing
   hearing client t node tag reply =
       if is_counted t node tag reply then after_counting client (seen_counted t node reply) else Ignored
+
+  -- the answer is one that the operation counts, if there is an operation
+  abbrev pub counts_of : Option SeenTask → ℕ → Tag → Reply → Bool
+  counts_of None node tag reply = false
+  counts_of (Some t) node tag reply = is_counted t node tag reply
+
+  -- the answer ends the phase: it is counted, and then as many are as the phase waits for
+  abbrev pub ends_phase : Option SeenTask → ℕ → Tag → Reply → Bool
+  ends_phase None node tag reply = false
+  ends_phase (Some t) node tag reply =
+      is_counted t node tag reply && not (nat_lt (answered s (λ i. answers_of (seen_counted t node reply) i)) (s.n - s.t))
+
+  -- what it does to the operation
+  abbrev pub hears : ℕ → Option SeenTask → ℕ → Tag → Reply → Hearing
+  hears client None node tag reply = Ignored
+  hears client (Some t) node tag reply = hearing client t node tag reply
+
+  -- the present phase's message to a node, if there is an operation and such a node
+  abbrev pub outstanding_of : ℕ → Option SeenTask → ℕ → Option Message
+  outstanding_of client None node = None
+  outstanding_of client (Some t) node = if nat_lt node s.n then Some (outstanding s client (task_at 0 t) node) else None
+
+-- the client with this operation under way, or none
+abbrev pub with_task : SeenOperation → Option SeenTask → SeenOperation
+with_task o task = record { config = o.config; client = o.client; task = task }
+
+-- whether the present phase has counted an answer of the node
+abbrev pub has_answered : Option SeenTask → ℕ → Bool
+has_answered None node = false
+has_answered (Some t) node = is_answered (answers_of t node)
+
+-- the number of the present phase, or 0 where no operation is under way
+abbrev pub phase_of : Option SeenTask → ℕ
+phase_of None = 0
+phase_of (Some t) = t.phase
+
+-- the stamp that the write under way has chosen
+abbrev pub chosen_of : Option SeenTask → Option Stamp
+chosen_of None = None
+chosen_of (Some t) = chosen_stamp t.work t.stage
 
 -- a correct client: how often it came back, how many operations it has started since, and the one under way
 pub record SeenClient : Type 0 where

@@ -9,13 +9,13 @@ use Rattle.protocol.specs.Instance.{setting}
 use Rattle.std.specs.Prelude.{◌==◌}
 use Rattle.protocol.specs.Operations.{answered, decide, is_of_kind, is_answered}
 use Rattle.protocol.specs.Operations.Work.{Reads}
-use Rattle.protocol.specs.Seen.{SeenTask, SeenOperation, task_at, answers_of, seen_counted, is_counted, by_decision, after_counting, hearing}
+use Rattle.protocol.specs.Seen.{SeenTask, SeenOperation, task_at, answers_of, seen_counted, is_counted, by_decision, after_counting, hearing, with_task, counts_of, hears}
 use Rattle.protocol.specs.Seen.Hearing.{Ignored, Counted}
 use Rattle.protocol.proofs.Counting.{both_true}
 use Rattle.read_core.specs.Rounds.{answer_at, with_reply}
 use Rattle.read_core.specs.Stages.{counts_in}
 use Rattle.read_core.specs.Ends.{decision_of, IsEnd}
-use Rattle.read_core.specs.Readers.{with_task, counts_of, counts_in_task, IsCounted, with_answers, hears, rounds_of}
+use Rattle.read_core.specs.Readers.{counts_in_task, IsCounted, with_answers, rounds_of}
 use Rattle.read_core.specs.declared.phase_end.PhaseEnd.{PhaseEnd}
 
 pub and_parts : (a b d e f : Bool) → ((((a && b) && d) && e) && f) ≡ ((a && b) && ((d && e) && f))

@@ -1,16 +1,14 @@
 -- What a reader is, and what an answer does to it.
-use Rattle.std.specs.Prelude.{◌≡◌, ◌⊎◌, ℕ, ◌≤◌, Bool, false, if◌then◌else◌, nat_lt, List, Option, IfSome}
+use Rattle.std.specs.Prelude.{◌≡◌, ◌⊎◌, ℕ, ◌≤◌, Bool, false, List, Option, IfSome}
 use Rattle.std.specs.declared.option.Option.TheVariants.{None, Some}
 use Rattle.quorum_rules.specs.Limits.{Numbers}
-use Rattle.wire_forms.specs.declared.message.Tag.{Tag}
 use Rattle.wire_forms.specs.declared.message.Reply.{Reply}
-use Rattle.wire_forms.specs.declared.message.Message.{Message}
 use Rattle.run_words.specs.declared.outcome.Outcome.TheVariants.{Gave, Outvoted as OutvotedBy}
 use Rattle.protocol.specs.Setting.{Setting}
 use Rattle.protocol.specs.Instance.{setting}
-use Rattle.protocol.specs.Operations.{is_answered, mail, outstanding, Stage as ModelStage}
+use Rattle.protocol.specs.Operations.{mail, Stage as ModelStage}
 use Rattle.protocol.specs.Operations.Work.{Reads}
-use Rattle.protocol.specs.Seen.{SeenTask, SeenOperation, Hearing, answers_of, task_at, seen_begun, seen_goes_on, is_counted, hearing}
+use Rattle.protocol.specs.Seen.{SeenTask, SeenOperation, Hearing, task_at, seen_begun, seen_goes_on, with_task}
 use Rattle.protocol.specs.Seen.Hearing.{Ignored, Counted, Begins, Ended}
 use Rattle.read_core.specs.Stages.{stage_of, answers_in, config_of, counts_in}
 use Rattle.read_core.specs.Ends.{IsHeard}
@@ -33,30 +31,6 @@ pub record IsReader (c : Numbers) (phase rounds : ℕ) (stage : Option Stage) : 
 -- a read that has begun
 abbrev pub begun : Numbers → ℕ → ℕ → SeenTask
 begun c op block = seen_begun (setting c) op block Reads
-
--- the reader with this read under way, or none
-abbrev pub with_task : SeenOperation → Option SeenTask → SeenOperation
-with_task r task = record { config = r.config; client = r.client; task = task }
-
--- the answer is one that the phase under way counts
-abbrev pub counts_of : Setting → Option SeenTask → ℕ → Tag → Reply → Bool
-counts_of s None node tag reply = false
-counts_of s (Some t) node tag reply = is_counted s t node tag reply
-
--- the node has answered the phase under way
-abbrev pub has_answered : Option SeenTask → ℕ → Bool
-has_answered None node = false
-has_answered (Some t) node = is_answered (answers_of t node)
-
--- the present phase's message to a node, if there is a phase and such a node
-abbrev pub outstanding_of : Setting → ℕ → Option SeenTask → ℕ → Option Message
-outstanding_of s client None node = None
-outstanding_of s client (Some t) node = if nat_lt node s.n then Some (outstanding s client (task_at 0 t) node) else None
-
--- what an answer does to the read
-abbrev pub hears : Setting → ℕ → Option SeenTask → ℕ → Tag → Reply → Hearing
-hears s client None node tag reply = Ignored
-hears s client (Some t) node tag reply = hearing s client t node tag reply
 
 -- the read that is under way then
 abbrev pub task_after : Option SeenTask → Hearing → Option SeenTask

@@ -1,10 +1,10 @@
 ghost use Rattle.std.specs.Prelude.{◌≡◌, ◌<◌, ◌-◌, ◌^◌, ◌↔◌, IsTrue, true, IfOk, OnOk, OnErr, IsSome, IfSome, Some, None};
 ghost use Rattle.std.specs.Option.{ForSome};
 ghost use Rattle.protocol.specs.Operations.{mail as mail_of};
-ghost use Rattle.protocol.specs.Seen.{SeenOperation, task_at};
+ghost use Rattle.protocol.specs.Seen.{SeenOperation, task_at, with_task, counts_of, hears, outstanding_of, has_answered};
 ghost use Rattle.protocol.specs.Instance.{setting};
 ghost use Rattle.read_core.specs.Stages.{stage_of, IsNew};
-ghost use Rattle.read_core.specs.Readers.{begun, with_task, next_task, counts_of, counts_in_task, IsCounted, has_answered, outstanding_of, hears, task_after, rounds_of, IsReading};
+ghost use Rattle.read_core.specs.Readers.{begun, next_task, counts_in_task, IsCounted, task_after, rounds_of, IsReading};
 
 use crate::mailing::{mail, message};
 use crate::phase_end::PhaseEnd;

@@ -9,14 +9,14 @@ use Rattle.protocol.specs.Count.{count}
 use Rattle.protocol.specs.Messages.{Stamp, Reply, Tag}
 use Rattle.protocol.specs.Operations.{is_answered, Decision, decide}
 use Rattle.protocol.specs.Operations.Decision.{GoesOn, Ends}
-use Rattle.protocol.specs.Seen.{SeenTask, SeenOperation, Hearing, task_at, is_counted, after_counting, by_decision}
+use Rattle.protocol.specs.Seen.{SeenTask, SeenOperation, Hearing, task_at, is_counted, after_counting, by_decision, with_task, counts_of, hears}
 use Rattle.protocol.specs.Seen.Hearing.{Ignored, Counted, Begins, Ended}
 use Rattle.protocol.specs.Instance.{setting}
 use Rattle.write_core.specs.declared.parcel.Head.{Head}
 use Rattle.write_core.specs.declared.writer.Writing.TheVariants.{More}
 use Rattle.write_core.specs.Tasks.{stage_at, write_of}
 use Rattle.write_core.specs.Views.{operation_of}
-use Rattle.write_core.specs.Writers.{with_task, counts_of, heard_of, ended_of, said_of, after_hearing}
+use Rattle.write_core.specs.Writers.{ended_of, said_of, after_hearing}
 
 -- a write that has a task isn't over
 pub not_over : (t : SeenTask) (over : Bool) → IsSome (cond over None (Some t)) → over ≡ false
@@ -39,9 +39,9 @@ module _ (config : Numbers) (head : Head) (value : List ℕ) (stamp : Option Sta
   task = write_of head.op head.block value stamp answers
 
   abbrev heard : Hearing
-  heard = heard_of config head.client before.task node tag reply
+  heard = hears (setting config) head.client before.task node tag reply
 
-  module _ (counts : counts_of config before.task node tag reply ≡ true) (sum : ℕ) (all : sum ≡ count (length more) (λ i. is_answered (slice_index_or more i None))) where
+  module _ (counts : counts_of (setting config) before.task node tag reply ≡ true) (sum : ℕ) (all : sum ≡ count (length more) (λ i. is_answered (slice_index_or more i None))) where
     counted : is_counted (setting config) task node tag reply ≡ true
     counted = rw running at counts
 

@@ -9,7 +9,7 @@ use Rattle.protocol.specs.Setting.{verifier_of}
 use Rattle.protocol.specs.Operations.{Stage, decide, drawn_from}
 use Rattle.protocol.specs.Operations.Stage.{Times, Storing}
 use Rattle.protocol.specs.Operations.Decision.{GoesOn, Ends}
-use Rattle.protocol.specs.Seen.{SeenTask, SeenOperation, Hearing, task_at, answers_of, by_decision}
+use Rattle.protocol.specs.Seen.{SeenTask, SeenOperation, Hearing, task_at, answers_of, by_decision, ends_phase, hears}
 use Rattle.protocol.specs.Seen.Hearing.{Ignored, Counted}
 use Rattle.protocol.specs.Instance.{setting}
 use Rattle.run_words.specs.declared.outcome.Outcome.TheVariants.{Spent as SpentIt}
@@ -18,7 +18,7 @@ use Rattle.write_core.specs.declared.writer.Writing.{Writing}
 use Rattle.write_core.specs.declared.writer.Writing.TheVariants.{More, Spent}
 use Rattle.write_core.specs.Tasks.{stage_at, write_of}
 use Rattle.write_core.specs.Views.{operation_of}
-use Rattle.write_core.specs.Writers.{heard_of, said_of, ends_phase, FindsLastTime}
+use Rattle.write_core.specs.Writers.{said_of, FindsLastTime}
 
 module _ (o : SeenOperation) (said : Writing) where
   more_by : (b f : Bool) (t : SeenTask) (h : Hearing) → (said_of o h ≡ More → ⊥) → said ≡ said_of o (cond b (cond f (Counted t) h) Ignored) → (said ≡ More) ↔ (b && not f ≡ false)
@@ -68,15 +68,15 @@ module _ (config : Numbers) (head : Head) (value : List ℕ) (stamp : Option Sta
   more = slice_set answers node (Some reply)
 
   abbrev ends : Bool
-  ends = ends_phase config before.task node tag reply
+  ends = ends_phase (setting config) before.task node tag reply
 
-  module _ (e : said ≡ said_of before (heard_of config head.client before.task node tag reply)) where
+  module _ (e : said ≡ said_of before (hears (setting config) head.client before.task node tag reply)) where
     -- it says that the phase goes on exactly where the answer doesn't end it
-    pub more_where : (said ≡ More) ↔ (ends_phase config before.task node tag reply ≡ false)
+    pub more_where : (said ≡ More) ↔ (ends_phase (setting config) before.task node tag reply ≡ false)
     more_where = at over e
       where
-        at : (over : Bool) → said ≡ said_of (operation_of config head value stamp over answers) (heard_of config head.client (operation_of config head value stamp over answers).task node tag reply)
-            → (said ≡ More) ↔ (ends_phase config (operation_of config head value stamp over answers).task node tag reply ≡ false)
+        at : (over : Bool) → said ≡ said_of (operation_of config head value stamp over answers) (hears (setting config) head.client (operation_of config head value stamp over answers).task node tag reply)
+            → (said ≡ More) ↔ (ends_phase (setting config) (operation_of config head value stamp over answers).task node tag reply ≡ false)
         at true f = (λ _. refl, λ _. f)
         at false f = more_by (operation_of config head value stamp false answers) said _ _ (write_of head.op head.block value stamp more) _
             (not_more config (operation_of config head value stamp false answers) head.client head.op head.block value more stamp) f
@@ -85,7 +85,7 @@ module _ (config : Numbers) (head : Head) (value : List ℕ) (stamp : Option Sta
     pub spent_when : (said ≡ Spent) ↔ FindsLastTime config before.task node tag reply
     spent_when = at over e
       where
-        at : (over : Bool) → said ≡ said_of (operation_of config head value stamp over answers) (heard_of config head.client (operation_of config head value stamp over answers).task node tag reply)
+        at : (over : Bool) → said ≡ said_of (operation_of config head value stamp over answers) (hears (setting config) head.client (operation_of config head value stamp over answers).task node tag reply)
             → (said ≡ Spent) ↔ FindsLastTime config (operation_of config head value stamp over answers).task node tag reply
         at true f = (λ m. absurd (let q = sym f ∙ m in cc), λ p. absurd p)
         at false f =

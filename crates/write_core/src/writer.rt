@@ -2,11 +2,11 @@ ghost use Rattle.std.specs.Prelude.{◌≡◌, ◌<◌, ◌↔◌, true, false, 
 ghost use Rattle.protocol.specs.Operations.Work.{Writes};
 ghost use Rattle.protocol.specs.Operations.Stage.{Times};
 ghost use Rattle.protocol.specs.Operations.{mail};
-ghost use Rattle.protocol.specs.Seen.{seen_begun, task_at};
+ghost use Rattle.protocol.specs.Seen.{seen_begun, task_at, counts_of, ends_phase, hears, outstanding_of, has_answered, phase_of, chosen_of};
 ghost use Rattle.protocol.specs.Instance.{setting};
 ghost use Rattle.wire_forms.specs.Ops.{Fits};
 ghost use Rattle.write_core.specs.declared.writer.Writing.TheVariants.{More, Spent};
-ghost use Rattle.write_core.specs.Writers.{after_hearing, said_of, heard_of, ended_of, counts_of, ends_phase, FindsLastTime, phase_of, outstanding_of, has_answered_of, chosen_of};
+ghost use Rattle.write_core.specs.Writers.{after_hearing, said_of, ended_of, FindsLastTime};
 
 use crate::answers::{answered, copied, drawn, no_answers};
 use crate::parcel::{Head, Parcel, letters, message, packed};
@@ -86,10 +86,10 @@ impl Writer {
     /// nodes have answered as aren't faulty.
     pub fn hear(&mut self, node: u8, tag: Tag, reply: &Reply) -> Result<Writing, NoMemory>
         requires { IsSome self.old.task }
-        ensures said { IfOk result (λ said. said ≡ said_of self.old (heard_of self.old.config self.old.client self.old.task node tag reply.now)) }
-        ensures more { IfOk result (λ said. (said ≡ More) ↔ (ends_phase self.old.config self.old.task node tag reply.now ≡ false)) }
+        ensures said { IfOk result (λ said. said ≡ said_of self.old (hears (setting self.old.config) self.old.client self.old.task node tag reply.now)) }
+        ensures more { IfOk result (λ said. (said ≡ More) ↔ (ends_phase (setting self.old.config) self.old.task node tag reply.now ≡ false)) }
         ensures spent { IfOk result (λ said. (said ≡ Spent) ↔ FindsLastTime self.old.config self.old.task node tag reply.now) }
-        ensures ok { OnOk result (self.new ≡ after_hearing self.old (heard_of self.old.config self.old.client self.old.task node tag reply.now)) }
+        ensures ok { OnOk result (self.new ≡ after_hearing self.old (hears (setting self.old.config) self.old.client self.old.task node tag reply.now)) }
         ensures err { OnErr result (self.new ≡ self.old) }
     {
         if !self.counts(node, tag, reply) {
@@ -111,7 +111,7 @@ impl Writer {
 
     /// Whether the present phase counts a node's answer with this tag.
     pub fn counts(&self, node: u8, tag: Tag, reply: &Reply) -> bool
-        ensures { IsTrue result ↔ (counts_of self.now.config self.now.task node tag reply.now ≡ true) }
+        ensures { IsTrue result ↔ (counts_of (setting self.now.config) self.now.task node tag reply.now ≡ true) }
     {
         let of_kind = match (&self.stamp, reply) {
             (None, Reply::TimeIs(_)) | (Some(_), Reply::Ack) => true,
@@ -146,7 +146,7 @@ impl Writer {
 
     /// The present phase's message to a node: none where the write is over or there is no such node.
     pub fn outstanding(&self, node: u8) -> Result<Option<Message>, NoMemory>
-        ensures { IfOk result (λ m. m ≡ outstanding_of self.now node) }
+        ensures { IfOk result (λ m. m ≡ outstanding_of (setting self.now.config) self.now.client self.now.task node) }
     {
         if self.over || u32::from(node) >= self.config.n() {
             return Ok(None);
@@ -157,7 +157,7 @@ impl Writer {
 
     /// Whether the present phase has counted an answer of this node.
     pub fn has_answered(&self, node: u8) -> bool
-        ensures { result ≡ has_answered_of self.now.task node }
+        ensures { result ≡ has_answered self.now.task node }
     {
         !self.over && matches!(self.answers.get(usize::from(node)), Some(Some(_)))
     }

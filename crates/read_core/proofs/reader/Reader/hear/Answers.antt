@@ -1,8 +1,8 @@
 use Rattle.std.proofs.Common.{inr, sym, ◌∙◌, ap}
 use Rattle.protocol.specs.Instance.{setting}
-use Rattle.protocol.specs.Seen.{Hearing, seen_goes_on}
+use Rattle.protocol.specs.Seen.{Hearing, seen_goes_on, with_task}
 use Rattle.read_core.specs.Stages.{stage_of}
-use Rattle.read_core.specs.Readers.{with_task, with_answers, task_after}
+use Rattle.read_core.specs.Readers.{with_answers, task_after}
 use Rattle.read_core.specs.declared.phase_end.PhaseEnd.TheVariants.{GoesOn}
 use Rattle.read_core.proofs.Hearing.{heard_more, heard_end, same_at_end}
 use Rattle.read_core.proofs.reader.Reader.hear.Goals as goal
