@@ -2,9 +2,11 @@
 //! script makes of it what the model's definitions say, or is refused and changes nothing.
 #![tactic(auto)]
 
+mod clients;
 mod fault;
 mod host;
 mod lying;
+mod nodes;
 mod play;
 pub mod refusal;
 mod seat;

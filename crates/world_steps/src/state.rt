@@ -42,20 +42,20 @@ impl Model for State {
     ghost Value = { WorldView };
 
     ghost view = { λ w. record {
-        config = w.config;
-        lying_nodes = map (λ h. h.lying) w.hosts.items;
-        lying_clients = map (λ s. s.lying) w.seats.items;
-        seen = record {
-            pool = w.pool;
-            versions = map (λ h. h.node.blocks) w.hosts.items;
-            accepted = map accepted_of w.accepted;
-            clients = map (λ s. s.client.seen) w.seats.items;
-            starts = map (λ s. s.start) w.seats.items;
-            client_crashed = map (λ s. s.crashed) w.seats.items;
-            node_crashed = map (λ h. h.crashed) w.hosts.items;
-            records = map record_of w.records;
-            place = w.place;
-        };
+      config = w.config;
+      lying_nodes = map (λ h. h.lying) w.hosts.items;
+      lying_clients = map (λ s. s.lying) w.seats.items;
+      seen = record {
+        pool = w.pool;
+        versions = map (λ h. h.node.blocks) w.hosts.items;
+        accepted = map accepted_of w.accepted;
+        clients = map (λ s. s.client.seen) w.seats.items;
+        starts = map (λ s. s.start) w.seats.items;
+        client_crashed = map (λ s. s.crashed) w.seats.items;
+        node_crashed = map (λ h. h.crashed) w.hosts.items;
+        records = map record_of w.records;
+        place = w.place;
+      };
     } };
 
     ghost invariant = { λ w. IsWorld w.config w.hosts.items w.seats.items w.records w.place × (w.first ≡ first_of w.config) };

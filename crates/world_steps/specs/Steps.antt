@@ -1,0 +1,28 @@
+-- What the parts of a line's events make of the world.
+use Rattle.std.specs.Prelude.{◌≡◌, ℕ, List, ◌++◌}
+use Rattle.wire_forms.specs.declared.message.Body.TheVariants.{Answer as Answers}
+use Rattle.protocol.specs.Count.{update, one_more}
+use Rattle.protocol.specs.Messages.{Ask, Reply, Message}
+use Rattle.protocol.specs.Setting.{Setting}
+use Rattle.protocol.specs.Nodes.{after, accepts}
+use Rattle.protocol.specs.World.{World, accepted_at}
+use Rattle.protocol.specs.Seen.{client_at}
+use Rattle.client_core.specs.Clients.{ClientView}
+use Rattle.world_steps.specs.Worlds.{WorldView}
+
+-- the client of a number
+abbrev pub seated : WorldView → ℕ → ClientView
+seated v c = record { config = v.config; id = c; seen = client_at v.seen c }
+
+-- node i handles an ask, and these messages are sent
+abbrev pub handles : Setting → World → ℕ → ℕ → Ask → List Message → World
+handles s w place i ask more = record w {
+  pool = w.pool ++ more;
+  versions = update w.versions i (update (w.versions i) ask.block (after s i (w.versions i ask.block) ask));
+  accepted = one_more w.accepted (accepted_at s i ask.block (accepts s i (w.versions i ask.block) ask));
+  place = place;
+}
+
+-- an answer to this client
+abbrev pub IsAnswer : ℕ → Message → Type 0
+IsAnswer c m = (m.client ≡ c) × (reply : Reply) × (m.body ≡ Answers reply)
