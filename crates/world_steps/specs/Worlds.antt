@@ -5,7 +5,8 @@ use Rattle.wire_forms.specs.Liars.{Liars}
 use Rattle.protocol.specs.Setting.{Setting}
 use Rattle.protocol.specs.World.{World}
 use Rattle.protocol.specs.Seen.{SeenWorld, world_of}
-use Rattle.protocol.specs.Instance.{setting_of}
+use Rattle.protocol.specs.Lines.{Line, IsRun}
+use Rattle.protocol.specs.Instance.{setting_of, IsCluster}
 
 -- the cluster, who lies in it by number, and all that there is at one moment
 pub record WorldView : Type 0 where
@@ -31,3 +32,9 @@ pub record AreLiars (c : Numbers) (liars : Liars) : Type 0 where
   pub nodes : All (λ i. i < c.n) liars.nodes
   pub few : length liars.nodes ≤ c.b
   pub clients : All (λ k. (1 ≤ k) × (k ≤ 1000)) liars.clients
+
+-- lines of a run lead to this world, and at most b of its nodes lie
+pub record IsReached (v : WorldView) : Type 0 where
+  pub cluster : IsCluster v.config (λ i. slice_index_or v.lying_nodes i false)
+  pub lines : List (ℕ × Line)
+  pub run : IsRun (setting_in v) lines (world_in v)

@@ -11,6 +11,8 @@ mod play;
 pub mod refusal;
 mod seat;
 mod state;
+pub mod world;
 
 pub use refusal::StepRefusal;
 pub use run_words::{Accepted, How, Line, Nodes, Outcome, Record, StepFault};
+pub use world::World;
