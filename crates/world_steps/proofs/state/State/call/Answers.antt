@@ -1,0 +1,24 @@
+use Rattle.std.proofs.Common.{rules, ◌∙◌, sym, ap, ◌≡◌, ◌≢◌, ◌<◌, ◌≤◌, OnOk, OnErr, IsErrOf, slice_get, ℕ, ◌+◌, ◌-◌, ◌*◌, length, ◌/◌, ◌%◌, Bool, true, false, nat_eq, nat_lt, List, [], ◌∷◌, ◌++◌, slice_index_or, slice_set, bit_and, bit_or, Fits, w8, w32, w64, Bor, MutBor}
+use Rattle.std.specs.declared.option.Option.TheVariants.{None, Some}
+use Rattle.protocol.specs.Messages.{Message as Messages}
+use Rattle.protocol.specs.Lines.{fault, plays, FitsLine}
+use Rattle.run_words.specs.declared.line.StepFault.{StepFault as Faults}
+use Rattle.run_words.specs.declared.line.Line.TheVariants as lines
+use Rattle.world_steps.specs.Worlds.{setting_in, world_in}
+use Rattle.world_steps.specs.Steps.{IsPlayedBy, IsWorking, IsAskOf}
+use Rattle.world_steps.proofs.state.State.call.Goals as goal
+
+use Rattle.std.proofs.lemmas.Result.{on_ok_weaker}
+use Rattle.world_steps.proofs.Lines.{called_plays}
+
+-- src/play.rt:86:5
+pub returns-clause-ok : goal.returns-clause-ok
+returns-clause-ok c =
+    on_ok_weaker c.hear_given.result
+    (λ e. record {
+    world = e ∙ called_plays (setting_in c.args.self.now) c.args.place (world_in c.args.self.now) c.args.client c.args.node c.in-Some.message c.in-Ask.ask c.in_ok-answer.answer c.requires.working (sym c.in-Some.is ∙ c.in_ok-message.ensures) c.in-Ask.is c.in_ok-answer.ensures;
+    config = search rules;
+    lying_nodes = search rules;
+    lying_clients = search rules;
+    })
+    c.hear_given.ensures.ok

@@ -1,0 +1,51 @@
+use Rattle.std.proofs.Common.{rules, ◌∙◌, sym, ap, ◌≡◌, ◌≢◌, ◌<◌, ◌≤◌, OnOk, OnErr, IsErrOf, slice_get, ℕ, ◌+◌, ◌-◌, ◌*◌, length, ◌/◌, ◌%◌, Bool, true, false, nat_eq, nat_lt, List, [], ◌∷◌, ◌++◌, slice_index_or, slice_set, bit_and, bit_or, Fits, w8, w32, w64, Bor, MutBor}
+use Rattle.std.specs.declared.option.Option.TheVariants.{None, Some}
+use Rattle.protocol.specs.Messages.{Message as Messages}
+use Rattle.protocol.specs.Lines.{fault, plays, FitsLine}
+use Rattle.run_words.specs.declared.line.StepFault.{StepFault as Faults}
+use Rattle.run_words.specs.declared.line.Line.TheVariants as lines
+use Rattle.world_steps.specs.Worlds.{setting_in, world_in}
+use Rattle.world_steps.specs.Steps.{IsPlayedBy, IsWorking, IsAskOf}
+use Rattle.world_steps.proofs.state.State.events.Goals as goal
+
+use Rattle.std.proofs.lemmas.Result.{on_ok_weaker}
+use Rattle.protocol.specs.World.{heard, sent}
+use Rattle.protocol.proofs.Playing.{no_fault}
+use Rattle.world_steps.proofs.Lines.{is_node, is_pooled, heard_plays, told_plays}
+
+-- src/play.rt:78:17
+pub prune-requires-clause-node : goal.prune-requires-clause-node
+prune-requires-clause-node c =
+    let w = world_in c.args.self.now in
+    let fine = no_fault (setting_in c.args.self.now) w (lines.Prune c.in-Prune.node c.in-Prune.block) (rw c.in-Prune.is at c.requires.allowed) in
+    is_node (setting_in c.args.self.now) c.args.place w c.in-Prune.node fine.actors.0
+
+-- src/play.rt:39:5
+pub returns-in-Hear-clause-ok : goal.returns-in-Hear-clause-ok
+returns-in-Hear-clause-ok c =
+    let s = setting_in c.args.self.now in
+    let w = world_in c.args.self.now in
+    let line = lines.Hear c.in-Hear.client c.in-Hear.message in
+    let there = is_pooled s c.args.place w c.in-Hear.message (no_fault s w line (rw c.in-Hear.is at c.requires.allowed)).message in
+    rw c.in-Hear.is (on_ok_weaker c.hear.result
+    (λ e. record {
+    world = e ∙ heard_plays s c.args.place w c.in-Hear.client c.in-Hear.message there.0 there.1;
+    config = search rules;
+    lying_nodes = search rules;
+    lying_clients = search rules;
+    })
+    (c.hear.ensures.ok there.0 there.1))
+
+-- src/play.rt:39:5
+pub returns-in_ok-copy-in-Tell-clause-ok : goal.returns-in_ok-copy-in-Tell-clause-ok
+returns-in_ok-copy-in-Tell-clause-ok c =
+    let s = setting_in c.args.self.now in
+    let w = world_in c.args.self.now in
+    rw c.in-Tell.is (on_ok_weaker c.hear_sent.result
+    (λ e. record {
+    world = e ∙ ap (λ (z : Messages). heard s (sent s w c.args.place (z ∷ [])) c.args.place c.in-Tell.message.client z z.body) c.in_ok-copy-in-Tell.ensures ∙ told_plays s c.args.place w c.in-Tell.message;
+    config = search rules;
+    lying_nodes = search rules;
+    lying_clients = search rules;
+    })
+    c.hear_sent.ensures.ok)

@@ -1,0 +1,35 @@
+use Rattle.std.proofs.Common.{rules, subst, sym, ◌≡◌, ◌<◌, OnOk, OnErr, IfOk, IsErrOf, map, ℕ, ◌+◌, ◌-◌, ◌*◌, ◌≤◌, length, ◌/◌, ◌%◌, Bool, true, false, nat_eq, nat_lt, List, [], ◌∷◌, ◌++◌, slice_index_or, slice_set, bit_and, bit_or, Fits, w8, w32, w64, Bor, MutBor}
+use Rattle.std.specs.declared.option.Option.TheVariants.{None, Some}
+use Rattle.wire_forms.specs.Liars.{has_number}
+use Rattle.protocol.specs.Instance.{setting_of}
+use Rattle.protocol.specs.World.{start_world}
+use Rattle.protocol.specs.Setting.{first_stamp}
+use Rattle.protocol.specs.Lines.{fault, plays, FitsLine}
+use Rattle.protocol.specs.Seen.{record_of}
+use Rattle.run_words.specs.declared.line.StepFault.{StepFault as Faults}
+use Rattle.world_steps.specs.Worlds.{setting_in, world_in, AreLiars, IsReached}
+use Rattle.world_steps.proofs.world.World.play.Goals as goal
+
+use Rattle.world_steps.specs.declared.refusal.StepRefusal.TheVariants as StepRefusals
+use Rattle.world_steps.proofs.Reached.{still_reached}
+
+-- src/world.rt:53:5
+pub invariant_of-self : goal.invariant_of-self
+invariant_of-self c =
+    let v = sym c.self.view_is in
+    still_reached c.play.result c.self.inside.state c.play.new.self c.args.place c.args.line.now c.self.invariant
+    (subst (λ z. z.seen.place < c.args.place) v c.requires.later)
+    (subst (λ z. FitsLine (setting_in z) c.args.line.now) v c.requires.fits)
+    c.play.ensures.allowed c.play.ensures.ok c.play.ensures.cluster c.play.ensures.lying_nodes c.play.ensures.lying_clients c.play.ensures.unchanged
+
+-- src/world.rt:53:5
+pub returns-clause-allowed : goal.returns-clause-allowed
+returns-clause-allowed c = subst (λ z. OnOk c.play.result (fault (setting_in z) (world_in z) c.args.line.now ≡ None)) c.self.view_is c.play.ensures.allowed
+
+-- src/world.rt:53:5
+pub returns-clause-ok : goal.returns-clause-ok
+returns-clause-ok c = subst (λ z. OnOk c.play.result (world_in c.play.new.self ≡ plays (setting_in z) (world_in z) c.args.place c.args.line.now)) c.self.view_is c.play.ensures.ok
+
+-- src/world.rt:53:5
+pub returns-clause-fault : goal.returns-clause-fault
+returns-clause-fault c = subst (λ z. (f : Faults) → IsErrOf c.play.result (StepRefusals.Fault f) → fault (setting_in z) (world_in z) c.args.line.now ≡ Some f) c.self.view_is c.play.ensures.fault

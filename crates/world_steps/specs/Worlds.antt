@@ -1,0 +1,40 @@
+-- The world that is kept, as contracts see it.
+use Rattle.std.specs.Prelude.{◌≡◌, ℕ, ◌<◌, ◌≤◌, Bool, false, List, length, All, slice_index_or}
+use Rattle.quorum_rules.specs.Limits.{Numbers}
+use Rattle.wire_forms.specs.Liars.{Liars}
+use Rattle.protocol.specs.Setting.{Setting}
+use Rattle.protocol.specs.World.{World}
+use Rattle.protocol.specs.Seen.{SeenWorld, world_of}
+use Rattle.protocol.specs.Lines.{Line, IsRun}
+use Rattle.protocol.specs.Instance.{setting_of, IsCluster}
+
+-- the cluster, who lies in it by number, and all that there is at one moment
+pub record WorldView : Type 0 where
+  pub config : Numbers
+  pub lying_nodes : List Bool
+  pub lying_clients : List Bool
+  pub seen : SeenWorld
+
+-- the setting of its cluster
+abbrev pub setting_in : WorldView → Setting
+setting_in v = setting_of v.config (λ i. slice_index_or v.lying_nodes i false) (λ c. slice_index_or v.lying_clients c false)
+
+-- the world of the definitions that it shows
+abbrev pub world_in : WorldView → World
+world_in v = world_of (setting_in v) v.seen
+
+-- the same cluster with this world
+abbrev pub with_seen : WorldView → SeenWorld → WorldView
+with_seen v seen = record { config = v.config; lying_nodes = v.lying_nodes; lying_clients = v.lying_clients; seen = seen }
+
+-- the lying nodes are nodes, at most b of them, and the lying clients are numbered from 1 to 1000
+pub record AreLiars (c : Numbers) (liars : Liars) : Type 0 where
+  pub nodes : All (λ i. i < c.n) liars.nodes
+  pub few : length liars.nodes ≤ c.b
+  pub clients : All (λ k. (1 ≤ k) × (k ≤ 1000)) liars.clients
+
+-- lines of a run lead to this world, and at most b of its nodes lie
+pub record IsReached (v : WorldView) : Type 0 where
+  pub cluster : IsCluster v.config (λ i. slice_index_or v.lying_nodes i false)
+  pub lines : List (ℕ × Line)
+  pub run : IsRun (setting_in v) lines (world_in v)

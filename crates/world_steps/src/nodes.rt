@@ -1,0 +1,93 @@
+//! What takes place at nodes: messages are sent, asks are handled, nodes crash and prune.
+
+ghost use Rattle.std.specs.Prelude.{◌≡◌, ◌<◌, Some, IfOk, OnOk, OnErr};
+ghost use Rattle.protocol.specs.World.{sent, answer_of, happens, only_place, greatest_given};
+ghost use Rattle.protocol.specs.World.Event.{CrashNode as NodeCrashes, Prune as Prunes};
+ghost use Rattle.world_steps.specs.Worlds.{setting_in, world_in, with_seen};
+ghost use Rattle.world_steps.specs.Steps.{handles};
+
+use crate::state::State;
+use lists::NoMemory;
+use stamp_order::Stamp;
+use wire_forms::{Ask, Mail, Message};
+
+impl State {
+    /// Sends messages.
+    pub(crate) fn send(&mut self, place: u64, mail: Mail) -> Result<(), NoMemory>
+        requires { self.now.seen.place < place }
+        ensures ok { OnOk result (world_in self.new ≡ sent (setting_in self.old) (world_in self.old) place mail) }
+        ensures cluster { OnOk result (self.new.config ≡ self.old.config) }
+        ensures lying_nodes { OnOk result (self.new.lying_nodes ≡ self.old.lying_nodes) }
+        ensures lying_clients { OnOk result (self.new.lying_clients ≡ self.old.lying_clients) }
+        ensures err { OnErr result (self.new ≡ self.old) }
+    {
+        Err(NoMemory)
+    }
+
+    /// The node's answer to a message with this ask.
+    pub(crate) fn answer(&self, node: u8, message: &Message, ask: &Ask) -> Result<Message, NoMemory>
+        requires { node < self.now.config.n }
+        ensures { IfOk result (λ m. m ≡ answer_of (setting_in self.now) (world_in self.now) node message.now ask.now) }
+    {
+        Err(NoMemory)
+    }
+
+    /// Lets the node handle the ask, and sends messages.
+    pub(crate) fn give(
+        &mut self,
+        place: u64,
+        node: u8,
+        ask: &Ask,
+        mail: Mail,
+    ) -> Result<(), NoMemory>
+        requires later { self.now.seen.place < place }
+        requires node { node < self.now.config.n }
+        ensures ok { OnOk result (world_in self.new ≡ handles (setting_in self.old) (world_in self.old) place node ask.now mail) }
+        ensures cluster { OnOk result (self.new.config ≡ self.old.config) }
+        ensures lying_nodes { OnOk result (self.new.lying_nodes ≡ self.old.lying_nodes) }
+        ensures lying_clients { OnOk result (self.new.lying_clients ≡ self.old.lying_clients) }
+        ensures err { OnErr result (self.new ≡ self.old) }
+    {
+        Err(NoMemory)
+    }
+
+    /// Nothing takes place.
+    pub(crate) fn pass(&mut self, place: u64)
+        requires { self.now.seen.place < place }
+        ensures { self.new ≡ with_seen self.old (record self.old.seen { place = place }) }
+    {
+        self.place = place;
+    }
+
+    /// A node crashes.
+    pub(crate) fn crash_node(&mut self, place: u64, node: u8)
+        requires later { self.now.seen.place < place }
+        requires node { node < self.now.config.n }
+        ensures world { world_in self.new ≡ happens (setting_in self.old) (world_in self.old) place (NodeCrashes node) }
+        ensures cluster { self.new.config ≡ self.old.config }
+        ensures lying_nodes { self.new.lying_nodes ≡ self.old.lying_nodes }
+        ensures lying_clients { self.new.lying_clients ≡ self.old.lying_clients }
+    {
+        self.place = place;
+    }
+
+    /// The greatest stamp that a completed read of the block gave.
+    pub(crate) fn greatest_given(&self, block: u32) -> Option<Stamp>
+        ensures { result ≡ greatest_given block self.now.seen.records }
+    {
+        None
+    }
+
+    /// A node prunes a block by the greatest stamp that a completed read of it gave.
+    pub(crate) fn prune(&mut self, place: u64, node: u8, block: u32)
+        requires later { self.now.seen.place < place }
+        requires node { node < self.now.config.n }
+        requires block { block < self.now.config.blocks }
+        ensures world { world_in self.new ≡ happens (setting_in self.old) (world_in self.old) place (Prunes node block) }
+        ensures cluster { self.new.config ≡ self.old.config }
+        ensures lying_nodes { self.new.lying_nodes ≡ self.old.lying_nodes }
+        ensures lying_clients { self.new.lying_clients ≡ self.old.lying_clients }
+    {
+        self.place = place;
+    }
+}

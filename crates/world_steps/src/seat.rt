@@ -1,0 +1,14 @@
+use client_core::Client;
+
+/// A client's place in the world.
+#[derive(Drop)]
+pub struct Seat {
+    pub client: Client,
+    /// The place at which its last operation started, 0 before its first.
+    pub start: u64,
+    /// The number of that operation's record.
+    pub record: usize,
+    pub crashed: bool,
+    /// Whether it is declared lying. Its client is idle then.
+    pub lying: bool,
+}

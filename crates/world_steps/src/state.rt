@@ -1,0 +1,74 @@
+ghost use Rattle.std.specs.Prelude.{◌≡◌, ◌<◌, List, length, IfOk};
+ghost use Rattle.protocol.specs.Instance.{setting_of};
+ghost use Rattle.wire_forms.specs.Liars.{has_number};
+ghost use Rattle.protocol.specs.World.{start_world};
+ghost use Rattle.world_steps.specs.Worlds.{setting_in, world_in, AreLiars};
+
+use crate::host::Host;
+use crate::seat::Seat;
+use lists::{ItemList, NoMemory};
+use quorum_rules::Config;
+use run_words::{Accepted, Record};
+use std::alloc::Global;
+use std::marker::Model;
+use wire_forms::{First, Liars, Message};
+
+/// All that there is at one moment, whether or not a run leads to it. Contracts see the cluster's numbers, who lies, and the
+/// world of the definitions.
+#[derive(Drop)]
+pub struct State {
+    pub(crate) alloc: Global,
+    pub(crate) config: Config,
+    pub(crate) first: First,
+    /// Every message that was ever sent.
+    pub(crate) pool: ItemList<Message>,
+    pub(crate) hosts: Vec<Host>,
+    /// By client number, the first of which nobody has.
+    pub(crate) seats: Vec<Seat>,
+    pub(crate) records: ItemList<Record>,
+    /// The versions that nodes accepted, in order.
+    pub(crate) accepted: ItemList<Accepted>,
+    /// The place of the last line.
+    pub(crate) place: u64,
+}
+
+impl Model for State {
+    ghost use Rattle.std.specs.Prelude.{◌≡◌, map};
+    ghost use Rattle.wire_forms.specs.Firsts.{first_of};
+    ghost use Rattle.protocol.specs.Seen.{record_of, accepted_of};
+    ghost use Rattle.world_steps.specs.Worlds.{WorldView};
+    ghost use Rattle.world_steps.specs.Seats.{IsWorld};
+
+    ghost Value = { WorldView };
+
+    ghost view = { λ w. record {
+      config = w.config;
+      lying_nodes = map (λ h. h.lying) w.hosts.items;
+      lying_clients = map (λ s. s.lying) w.seats.items;
+      seen = record {
+        pool = w.pool;
+        versions = map (λ h. h.node.blocks) w.hosts.items;
+        accepted = map accepted_of w.accepted;
+        clients = map (λ s. s.client.seen) w.seats.items;
+        starts = map (λ s. s.start) w.seats.items;
+        client_crashed = map (λ s. s.crashed) w.seats.items;
+        node_crashed = map (λ h. h.crashed) w.hosts.items;
+        records = map record_of w.records;
+        place = w.place;
+      };
+    } };
+
+    ghost invariant = { λ w. IsWorld w.config w.hosts.items w.seats.items w.records w.place × (w.first ≡ first_of w.config) };
+}
+
+impl State {
+    /// The world before anything took place, in a cluster in which these nodes and clients lie.
+    pub fn new(alloc: Global, config: &Config, liars: &Liars) -> Result<State, NoMemory>
+        requires { AreLiars config.now liars.now }
+        ensures cluster { IfOk result (λ w. w.config ≡ config.now) }
+        ensures liars { IfOk result (λ w. setting_in w ≡ setting_of config.now (has_number liars.now.nodes) (has_number liars.now.clients)) }
+        ensures start { IfOk result (λ w. world_in w ≡ start_world (setting_in w)) }
+    {
+        Err(NoMemory)
+    }
+}

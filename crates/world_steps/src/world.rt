@@ -1,0 +1,101 @@
+ghost use Rattle.std.specs.Prelude.{◌≡◌, ◌<◌, OnOk, OnErr, IfOk, IsErrOf, map};
+ghost use Rattle.std.specs.declared.option.Option.TheVariants.{None, Some};
+ghost use Rattle.wire_forms.specs.Liars.{has_number};
+ghost use Rattle.protocol.specs.Instance.{setting_of};
+ghost use Rattle.protocol.specs.World.{start_world};
+ghost use Rattle.protocol.specs.Setting.{first_stamp};
+ghost use Rattle.protocol.specs.Lines.{fault, plays, FitsLine};
+ghost use Rattle.protocol.specs.Seen.{record_of};
+ghost use Rattle.run_words.specs.declared.line.StepFault.{StepFault as Faults};
+ghost use Rattle.world_steps.specs.Worlds.{setting_in, world_in, AreLiars, IsReached};
+
+use crate::refusal::StepRefusal;
+use crate::state::State;
+use lists::NoMemory;
+use quorum_rules::Config;
+use run_words::{Line, Record};
+use stamp_order::Stamp;
+use std::alloc::Global;
+use std::marker::Model;
+use wire_forms::{Liars, Message};
+
+/// The last world of a run. Contracts see the cluster's numbers, who lies, and the world of the definitions; and that lines of
+/// a run lead to it, so that the laws of every run hold of it.
+#[derive(Drop)]
+pub struct World {
+    state: State,
+}
+
+impl Model for World {
+    ghost use Rattle.world_steps.specs.Worlds.{WorldView, IsReached};
+
+    ghost Value = { WorldView };
+
+    ghost view = { λ w. w.state };
+
+    ghost invariant = { λ w. IsReached w.state };
+}
+
+impl World {
+    /// The world before anything took place, in a cluster in which these nodes and clients lie.
+    pub fn new(alloc: Global, config: &Config, liars: &Liars) -> Result<World, NoMemory>
+        requires { AreLiars config.now liars.now }
+        ensures cluster { IfOk result (λ w. w.config ≡ config.now) }
+        ensures liars { IfOk result (λ w. setting_in w ≡ setting_of config.now (has_number liars.now.nodes) (has_number liars.now.clients)) }
+        ensures start { IfOk result (λ w. world_in w ≡ start_world (setting_in w)) }
+    {
+        let state = State::new(alloc, config, liars)?;
+        let _ = &state.place;
+        Ok(World { state })
+    }
+
+    /// Does the line's events at one place. A line that can't take place is refused with the first fault that it meets. After
+    /// any refusal nothing has changed.
+    pub fn play(&mut self, place: u64, line: &Line) -> Result<(), StepRefusal>
+        requires later { self.now.seen.place < place }
+        requires fits { FitsLine (setting_in self.now) line.now }
+        ensures allowed { OnOk result (fault (setting_in self.old) (world_in self.old) line.now ≡ None) }
+        ensures ok { OnOk result (world_in self.new ≡ plays (setting_in self.old) (world_in self.old) place line.now) }
+        ensures cluster { OnOk result (self.new.config ≡ self.old.config) }
+        ensures setting { OnOk result (setting_in self.new ≡ setting_in self.old) }
+        ensures fault { (f : Faults) → IsErrOf result (StepRefusal.Fault f) → fault (setting_in self.old) (world_in self.old) line.now ≡ Some f }
+        ensures unchanged { OnErr result (self.new ≡ self.old) }
+    {
+        self.state.play(place, line)
+    }
+
+    /// Every message that was ever sent, in order.
+    pub fn pool(&self) -> &[Message]
+        ensures { result.now ≡ self.now.seen.pool }
+    {
+        self.state.pool.as_slice()
+    }
+
+    /// The operations of correct clients, in order of start.
+    pub fn records(&self) -> &[Record]
+        ensures { map record_of result.now ≡ self.now.seen.records }
+    {
+        self.state.records.as_slice()
+    }
+
+    /// The place of the last line that took place, 0 at first.
+    pub fn place(&self) -> u64
+        ensures { result ≡ self.now.seen.place }
+    {
+        self.state.place
+    }
+
+    /// The stamp that each block has from the beginning.
+    pub fn first_stamp(&self) -> &Stamp
+        ensures { result.now ≡ first_stamp (setting_in self.now) }
+    {
+        self.state.first_stamp()
+    }
+
+    /// Each world is the last one of a run.
+    pub fn is_reached(&self)
+        ensures { IsReached self.now }
+    {
+        let _ = &self.state;
+    }
+}
