@@ -165,7 +165,7 @@ plain_fine c (Prune i b) h = absurd h
 plain_fine c (Back k) h = absurd h
 plain_fine c (Restart i) h = absurd h
 
-line_fine : (c : Numbers) (l : ReplayLine) → IsEventLine c l → line_cause c (event_fields l) ≡ None
+pub line_fine : (c : Numbers) (l : ReplayLine) → IsEventLine c l → line_cause c (event_fields l) ≡ None
 line_fine c (Plain l) h = plain_fine c l h
 line_fine c (Put k o v) h = only_form (client ∷ any_u64 ∷ bytes ∷ []) (decimal k ∷ decimal o ∷ value_text v ∷ []) (a_client k h.0, (a_u64 o h.1, (some_bytes v h.2, tt)))
 line_fine c (Get k o n) h = only_form (client ∷ any_u64 ∷ any_u64 ∷ []) (decimal k ∷ decimal o ∷ decimal n ∷ []) (a_client k h.0, (a_u64 o h.1, (a_u64 n h.2, tt)))

@@ -8,7 +8,7 @@ use Rattle.std.proofs.lemmas.Bool.Decides.{nat_tests}
 use Rattle.std.proofs.lemmas.Slice.Eq.{bytes_eq-Decides}
 use Rattle.hex.specs.Hex.{encode_lower}
 use Rattle.quorum_rules.specs.Limits.{Numbers}
-use Rattle.text_lines.specs.Lines.{Lacks, AllLack}
+use Rattle.text_lines.specs.Lines.{Lacks, AllLack, line_of_fields}
 use Rattle.text_lines.specs.Fields.{value_text}
 use Rattle.text_lines.proofs.Joined.{Lacks-append, Lacks-decimal, Lacks-encode_lower, Lacks-value_text}
 use Rattle.text_lines.proofs.Values.{value_of-some}
@@ -67,7 +67,7 @@ module _ (mark : ℕ) (some : 0 < mark) (low : mark < 46) where
       let point : Lacks mark (46 ∷ []) = rw (other_point mark low) refl in
       Lacks-append mark (decimal s.time ++ (46 ∷ decimal s.client)) (46 ∷ encode_lower s.verifier)
       (Lacks-append mark (decimal s.time) (46 ∷ decimal s.client) (Lacks-decimal mark s.time (omega arith) h.time)
-        (Lacks-append mark (46 ∷ []) (decimal s.client) point (Lacks-decimal mark s.client (omega arith) (omega arith))))
+      (Lacks-append mark (46 ∷ []) (decimal s.client) point (Lacks-decimal mark s.client (omega arith) (omega arith))))
       (Lacks-append mark (46 ∷ []) (encode_lower s.verifier) point (Lacks-encode_lower mark s.verifier some (omega arith)))
 
   part_lacks : (part : Part) (field : List ℕ) → has_high_words part ≡ true → is_part part field ≡ true → Lacks mark field
@@ -97,7 +97,7 @@ module _ (mark : ℕ) (some : 0 < mark) (low : mark < 46) where
   forms_lack [] fields h are = absurd cc
   forms_lack (form ∷ forms) fields h are =
       let high = and_parts (list_all has_high_words form) (list_all (λ form. list_all has_high_words form) forms) h in
-      elim (first_form form forms fields are) [ | inl e ↦ form_lacks form fields high.0 e | inr e ↦ forms_lack forms fields high.1 e ]
+      elim (first_form form forms fields are) [ inl e ↦ form_lacks form fields high.0 e | inr e ↦ forms_lack forms fields high.1 e ]
 
   message_lacks : (m : Message) → IsMessage m → AllLack mark (message_fields m)
   message_lacks m h = forms_lack (ask_forms ++ answer_forms) (message_fields m) refl (any_fits m h)
@@ -152,3 +152,12 @@ module _ (mark : ℕ) (some : 0 < mark) (low : mark < 46) where
   event_lacks c (Put client offset bytes) h = (high_lacks mark (codes "put") low refl, (client_lacks client h.0, (number_lacks offset h.1, (value_lacks bytes, tt))))
   event_lacks c (Get client offset length) h = (high_lacks mark (codes "get") low refl, (client_lacks client h.0, (number_lacks offset h.1, (number_lacks length h.2, tt))))
   event_lacks c (Next client) h = (high_lacks mark (codes "next") low refl, (client_lacks client h, tt))
+
+joined_lack : (first : List ℕ) (more : List (List ℕ)) → AllLack 10 (first ∷ more) → Lacks 10 (line_of_fields (first ∷ more))
+joined_lack first [] h = h.0
+joined_lack first (next ∷ more) h = Lacks-append 10 first (32 ∷ line_of_fields (next ∷ more)) h.0 (joined_lack next more h.1)
+
+-- no newline stands in the line of fields that have none
+pub line_lacks_newline : (fields : List (List ℕ)) → AllLack 10 fields → Lacks 10 (line_of_fields fields)
+line_lacks_newline [] h = refl
+line_lacks_newline (first ∷ more) h = joined_lack first more h

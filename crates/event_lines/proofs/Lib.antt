@@ -1,6 +1,7 @@
 pub mod Accepted
 pub mod Events
 pub mod Lacking
+pub mod Lines
 pub mod Messages
 pub mod Parts
 pub mod Texts

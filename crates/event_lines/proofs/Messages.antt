@@ -1,6 +1,6 @@
 -- The forms have the fields of messages' texts, and no others.
 use Rattle.std.proofs.Common.{◌≡◌, lit<, lit≤, ℕ, zero, suc, get_or, ◌^◌, ◌<◌, Bool, true, false, not, ◌||◌, List, [], ◌∷◌, ◌++◌, length, Option, Some, None, Result, Ok, Err, is_some, refl, sym, ap, ◌∙◌, arith, inl, inr, ◌⊎◌}
-use Rattle.std.specs.Prelude.{codes, decimal, IsErrAnd}
+use Rattle.std.specs.Prelude.{codes, decimal, IsErrAnd, ◌↔◌}
 use Rattle.std.specs.List.{list_any, AllByRecursion}
 use Rattle.std.specs.Str.{bytes_eq}
 use Rattle.std.proofs.Math.Bool.{or-true}
@@ -238,21 +238,27 @@ first_form form forms fields h = either (are_parts form fields) (are_of forms fi
 
 any_ask : (forms : List (List Part)) (fields : List (List ℕ)) → are_of forms fields ≡ true → AllByRecursion (λ form. are_parts form fields ≡ true → Asked fields) forms → Asked fields
 any_ask [] fields h told = absurd cc
-any_ask (form ∷ forms) fields h told = elim (first_form form forms fields h) [ | inl e ↦ told.0 e | inr e ↦ any_ask forms fields e told.1 ]
+any_ask (form ∷ forms) fields h told = elim (first_form form forms fields h) [ inl e ↦ told.0 e | inr e ↦ any_ask forms fields e told.1 ]
 
 any_answer : (forms : List (List Part)) (fields : List (List ℕ)) → are_of forms fields ≡ true → AllByRecursion (λ form. are_parts form fields ≡ true → Answered fields) forms → Answered fields
 any_answer [] fields h told = absurd cc
-any_answer (form ∷ forms) fields h told = elim (first_form form forms fields h) [ | inl e ↦ told.0 e | inr e ↦ any_answer forms fields e told.1 ]
+any_answer (form ∷ forms) fields h told = elim (first_form form forms fields h) [ inl e ↦ told.0 e | inr e ↦ any_answer forms fields e told.1 ]
 
 -- fields of the forms of asks are those of an ask
 pub asked : (fields : List (List ℕ)) → are_of ask_forms fields ≡ true → Asked fields
 asked fields h =
     any_ask ask_forms fields h (
       (λ e. ask_told (word (codes "time" ∷ []) ∷ []) fields e time_told),
-      ((λ e. ask_told (word (codes "read" ∷ []) ∷ word (codes "all" ∷ []) ∷ []) fields e all_told),
-        ((λ e. ask_told (word (codes "read" ∷ []) ∷ word (codes "atmost" ∷ []) ∷ stamp ∷ []) fields e at_most_told),
-          ((λ e. ask_told (word (codes "read" ∷ []) ∷ word (codes "below" ∷ []) ∷ stamp ∷ []) fields e below_told),
-            ((λ e. ask_told (word (codes "write" ∷ []) ∷ version) fields e write_told), tt)))),
+      (
+        (λ e. ask_told (word (codes "read" ∷ []) ∷ word (codes "all" ∷ []) ∷ []) fields e all_told),
+        (
+          (λ e. ask_told (word (codes "read" ∷ []) ∷ word (codes "atmost" ∷ []) ∷ stamp ∷ []) fields e at_most_told),
+          (
+            (λ e. ask_told (word (codes "read" ∷ []) ∷ word (codes "below" ∷ []) ∷ stamp ∷ []) fields e below_told),
+            ((λ e. ask_told (word (codes "write" ∷ []) ∷ version) fields e write_told), tt),
+          ),
+        ),
+      ),
     )
 
 -- fields of the forms of answers are those of an answer
@@ -260,10 +266,16 @@ pub answered : (fields : List (List ℕ)) → are_of answer_forms fields ≡ tru
 answered fields h =
     any_answer answer_forms fields h (
       (λ e. answer_told (word (codes "time" ∷ []) ∷ number (2 ^ 64) ∷ []) fields e time_is_told),
-      ((λ e. answer_told (word (codes "found" ∷ []) ∷ version) fields e found_told),
-        ((λ e. answer_told (word (codes "nothing" ∷ []) ∷ []) fields e nothing_told),
-          ((λ e. answer_told (word (codes "ack" ∷ []) ∷ []) fields e ack_told),
-            ((λ e. answer_told (word (codes "refused" ∷ []) ∷ reasons ∷ []) fields e refused_told), tt)))),
+      (
+        (λ e. answer_told (word (codes "found" ∷ []) ∷ version) fields e found_told),
+        (
+          (λ e. answer_told (word (codes "nothing" ∷ []) ∷ []) fields e nothing_told),
+          (
+            (λ e. answer_told (word (codes "ack" ∷ []) ∷ []) fields e ack_told),
+            ((λ e. answer_told (word (codes "refused" ∷ []) ∷ reasons ∷ []) fields e refused_told), tt),
+          ),
+        ),
+      ),
     )
 
 -- ---- the other way round
@@ -347,7 +359,7 @@ answer_fits m h is = by_cases m.body refl is h.body
 front_fits : (forms more : List (List Part)) (fields : List (List ℕ)) → are_of forms fields ≡ true → are_of (forms ++ more) fields ≡ true
 front_fits [] more fields h = absurd cc
 front_fits (form ∷ forms) more fields h =
-    elim (first_form form forms fields h) [ | inl e ↦ here form (forms ++ more) fields e | inr e ↦ later form (forms ++ more) fields (front_fits forms more fields e) ]
+    elim (first_form form forms fields h) [ inl e ↦ here form (forms ++ more) fields e | inr e ↦ later form (forms ++ more) fields (front_fits forms more fields e) ]
 
 back_fits : (forms more : List (List Part)) (fields : List (List ℕ)) → are_of more fields ≡ true → are_of (forms ++ more) fields ≡ true
 back_fits [] more fields h = h
@@ -358,7 +370,7 @@ either_fits [] more fields h = inr h
 either_fits (form ∷ forms) more fields h =
     elim (first_form form (forms ++ more) fields h) [
       | inl e ↦ inl (here form forms fields e)
-      | inr e ↦ elim (either_fits forms more fields e) [ | inl f ↦ inl (later form forms fields f) | inr f ↦ inr f ]
+      | inr e ↦ elim (either_fits forms more fields e) [ inl f ↦ inl (later form forms fields f) | inr f ↦ inr f ]
     ]
 
 pub any_fits : (m : Message) → IsMessage m → are_of (ask_forms ++ answer_forms) (message_fields m) ≡ true
@@ -402,11 +414,11 @@ no_message text none =
 
 none_of_front : (forms more : List (List Part)) (fields : List (List ℕ)) → are_of (forms ++ more) fields ≡ false → are_of forms fields ≡ false
 none_of_front forms more fields h =
-    elim (cases_Bool (are_of forms fields)) [ | inl is ↦ absurd (both_ways (are_of (forms ++ more) fields) h (front_fits forms more fields is)) | inr not ↦ not ]
+    elim (cases_Bool (are_of forms fields)) [ inl is ↦ absurd (both_ways (are_of (forms ++ more) fields) h (front_fits forms more fields is)) | inr not ↦ not ]
 
 none_of_back : (forms more : List (List Part)) (fields : List (List ℕ)) → are_of (forms ++ more) fields ≡ false → are_of more fields ≡ false
 none_of_back forms more fields h =
-    elim (cases_Bool (are_of more fields)) [ | inl is ↦ absurd (both_ways (are_of (forms ++ more) fields) h (back_fits forms more fields is)) | inr not ↦ not ]
+    elim (cases_Bool (are_of more fields)) [ inl is ↦ absurd (both_ways (are_of (forms ++ more) fields) h (back_fits forms more fields is)) | inr not ↦ not ]
 
 -- no message of this kind has the fields, where none has them
 none_spoken : (speech : Speech) (fields : List (List ℕ)) → are_of (ask_forms ++ answer_forms) fields ≡ false → are_of (messages_of speech) fields ≡ false
@@ -433,3 +445,17 @@ speech_refused P Q speech fields (line_refusals.Cause cause) h = speech_cause sp
 pub given_on : {X : Type 0} (P : X → Type 0) (cause : Option Cause) (result : Result X LineRefusal) (r : LineRefusal) → IsErrAnd result (λ e. e ≡ r) → Gives P cause (Err r) → Gives P cause result
 given_on P cause (Ok x) r is h = absurd is
 given_on P cause (Err e) r is h = rw is h
+
+-- ---- the texts that the forms have
+
+pub ask_texts : (text : List ℕ) → (are_of ask_forms (fields_of text) ≡ true) ↔ ((m : Message) × IsMessage m × (is_ask m.body ≡ true) × (text ≡ text_of m))
+ask_texts text = (
+  λ is. let a = asked (fields_of text) is in (a.0, a.1, a.2, line_from_fields text (message_fields a.0) a.3),
+  λ a. ap (are_of ask_forms) (ap fields_of a.3 ∙ fields-text_of a.0 a.1) ∙ ask_fits a.0 a.1 a.2,
+)
+
+pub answer_texts : (text : List ℕ) → (are_of answer_forms (fields_of text) ≡ true) ↔ ((m : Message) × IsMessage m × (is_answer m.body ≡ true) × (text ≡ text_of m))
+answer_texts text = (
+  λ is. let a = answered (fields_of text) is in (a.0, a.1, a.2, line_from_fields text (message_fields a.0) a.3),
+  λ a. ap (are_of answer_forms) (ap fields_of a.3 ∙ fields-text_of a.0 a.1) ∙ answer_fits a.0 a.1 a.2,
+)
