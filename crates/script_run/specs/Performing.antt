@@ -1,0 +1,113 @@
+-- The run of a replay's event lines: plain lines as they stand, and device commands step by step.
+use Rattle.std.specs.Prelude.{◌≡◌, ℕ, ◌+◌, ◌&&◌, ◌==◌, List, [], ◌∷◌, ◌++◌, length, if◌then◌else◌, option_map, unwrap_or, Option}
+use Rattle.std.specs.declared.option.Option.TheVariants.{None, Some}
+use Rattle.quorum_rules.specs.Limits.{Numbers}
+use Rattle.wire_forms.specs.declared.device.DeviceOp.{DeviceOp}
+use Rattle.wire_forms.specs.declared.device.DeviceOp.TheVariants.{Put as Puts, Get as Gets}
+use Rattle.run_words.specs.declared.line.Line.{Line}
+use Rattle.run_words.specs.declared.line.Line.TheVariants.{Write, Read}
+use Rattle.run_words.specs.declared.outcome.Outcome.TheVariants.{Gave}
+use Rattle.line_forms.specs.declared.cause.Cause.{Cause}
+use Rattle.line_forms.specs.declared.cause.Cause.TheVariants.{Device, QueueBusy, NoCommand, Step}
+use Rattle.line_forms.specs.declared.cause.DeviceFault.{DeviceFault}
+use Rattle.event_lines.specs.declared.line.ReplayLine.{ReplayLine}
+use Rattle.event_lines.specs.declared.line.ReplayLine.TheVariants.{Plain, Put, Get, Next}
+use Rattle.block_device.specs.declared.steps.BlockStep.{BlockStep}
+use Rattle.block_device.specs.declared.steps.BlockStep.TheVariants.{Read as Reads, Whole, Merge}
+use Rattle.block_device.specs.Ranges.{fault_of}
+use Rattle.block_device.specs.Steps.{steps_of}
+use Rattle.block_device.specs.Device.{merged}
+use Rattle.protocol.specs.Count.{update}
+use Rattle.protocol.specs.Setting.{Setting, zeros}
+use Rattle.protocol.specs.Operations.{Outcome}
+use Rattle.protocol.specs.World.{World, Record, start_world, only_place}
+use Rattle.protocol.specs.Lines.{fault, plays}
+
+-- a world, and of each client the steps that are left of its last command
+pub record Desks : Type 0 where
+  pub world : World
+  pub left : ℕ → List BlockStep
+
+-- the value that a read gave
+abbrev pub value_given : Option Outcome → Option (List ℕ)
+value_given (Some (Gave stamp value how rounds)) = Some value
+value_given _ = None
+
+-- the value that the client's read of the block gave, if this is one that has
+abbrev pub read_by : ℕ → ℕ → Record → Option (List ℕ)
+read_by client block r = if (r.client == client) && (r.block == block) then value_given r.outcome else None
+
+-- what there is, or else the other
+abbrev pub or_else : Option (List ℕ) → Option (List ℕ) → Option (List ℕ)
+or_else (Some x) other = Some x
+or_else None other = other
+
+-- the value that the client's latest ended read of the block gave, if there is one
+abbrev pub latest_read : ℕ → ℕ → List Record → Option (List ℕ)
+latest_read client block [] = None
+latest_read client block (r ∷ rs) = or_else (latest_read client block rs) (read_by client block r)
+
+module _ (s : Setting) (c : Numbers) where
+  -- the operation that a step starts: a read, a write of the whole block, or a write of the client's latest read of it with the step's bytes in their place
+  abbrev pub started_by : World → ℕ → BlockStep → Line
+  started_by w client (Reads k) = Read client k
+  started_by w client (Whole k value) = Write client k value
+  started_by w client (Merge k at bytes) = Write client k (merged (unwrap_or (latest_read client k w.records) (zeros s)) at bytes)
+
+  -- why a command can't begin: its range, or steps that are left of an earlier one
+  abbrev pub command_cause : Option DeviceFault → List BlockStep → Option Cause
+  command_cause (Some f) left = Some (Device f)
+  command_cause None [] = None
+  command_cause None (step ∷ more) = Some QueueBusy
+
+  -- why the next step can't start
+  abbrev pub next_cause : World → ℕ → List BlockStep → Option Cause
+  next_cause w client [] = Some NoCommand
+  next_cause w client (step ∷ more) = option_map Step (fault s w (started_by w client step))
+
+  -- why a line can't take place
+  abbrev pub cause_of : Desks → ReplayLine → Option Cause
+  cause_of d (Plain line) = option_map Step (fault s d.world line)
+  cause_of d (Put client offset bytes) = command_cause (fault_of c (Puts offset bytes)) (d.left client)
+  cause_of d (Get client offset len) = command_cause (fault_of c (Gets offset len)) (d.left client)
+  cause_of d (Next client) = next_cause d.world client (d.left client)
+
+  -- a command begins, and nothing else takes place
+  abbrev pub begun : Desks → ℕ → ℕ → DeviceOp → Desks
+  begun d place client op = record { world = only_place s d.world place; left = update d.left client (steps_of c op) }
+
+  -- the first step that is left starts
+  abbrev pub stepped : Desks → ℕ → ℕ → List BlockStep → Desks
+  stepped d place client [] = d
+  stepped d place client (step ∷ more) = record { world = plays s d.world place (started_by d.world client step); left = update d.left client more }
+
+  -- what there is after a line
+  abbrev pub after_line : Desks → ℕ → ReplayLine → Desks
+  after_line d place (Plain line) = record { world = plays s d.world place line; left = d.left }
+  after_line d place (Put client offset bytes) = begun d place client (Puts offset bytes)
+  after_line d place (Get client offset len) = begun d place client (Gets offset len)
+  after_line d place (Next client) = stepped d place client (d.left client)
+
+  -- before anything took place
+  abbrev pub start_desks : Desks
+  start_desks = record { world = start_world s; left = λ client. [] }
+
+  -- the lines take place one after the other, the first at this place, and lead to the last desks
+  abbrev pub LeadsTo : Desks → ℕ → List ReplayLine → Desks → Type 0
+  LeadsTo d place [] last = last ≡ d
+  LeadsTo d place (line ∷ lines) last = (cause_of d line ≡ None) × LeadsTo (after_line d place line) (place + 1) lines last
+
+  -- the run of a replay's lines: places count its lines from 1
+  abbrev pub Performs : List ReplayLine → Desks → Type 0
+  Performs lines last = LeadsTo start_desks 1 lines last
+
+  -- after so many lines have taken place, the next one can't, and this is why
+  pub record StopsAt (lines : List ReplayLine) (done : ℕ) (cause : Cause) : Type 0 where
+    pub front : List ReplayLine
+    pub line : ReplayLine
+    pub rest : List ReplayLine
+    pub parts : lines ≡ front ++ line ∷ rest
+    pub counted : length front ≡ done
+    pub desks : Desks
+    pub performed : Performs front desks
+    pub stopped : cause_of desks line ≡ Some cause

@@ -1,0 +1,10 @@
+//! The run of a replay script: its plain lines, and its device commands step by step.
+#![tactic(auto)]
+
+mod desks;
+mod latest;
+mod run;
+
+pub use run::perform;
+pub use script_text::{Replay, ReplayLine};
+pub use world_steps::World;

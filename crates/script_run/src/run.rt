@@ -1,0 +1,30 @@
+ghost use Rattle.std.specs.Prelude.{◌≡◌, ◌+◌, ℕ, length, IfOk, IsErrOf};
+ghost use Rattle.std.specs.declared.option.Option.TheVariants.{None, Some};
+ghost use Rattle.wire_forms.specs.Liars.{has_number};
+ghost use Rattle.protocol.specs.Instance.{setting_of};
+ghost use Rattle.line_forms.specs.declared.cause.Cause.{Cause as Causes};
+ghost use Rattle.script_text.specs.Replays.{IsReplay};
+ghost use Rattle.world_steps.specs.Worlds.{setting_in, world_in};
+ghost use Rattle.script_run.specs.Performing.{Desks, Performs, StopsAt};
+
+use crate::desks::Desks;
+use line_forms::ScriptRefusal;
+use script_text::Replay;
+use std::alloc::Global;
+use world_steps::World;
+
+/// The world to which the lines of a replay lead. The first line that can't take place is refused with its number in the
+/// script and its first cause: that of a device command, or the fault of a step.
+pub fn perform(alloc: Global, replay: &Replay) -> Result<World, ScriptRefusal>
+    requires { IsReplay replay.now.config replay.now.liars replay.now.lines }
+    ensures cluster { IfOk result (λ w. w.config ≡ replay.now.config) }
+    ensures liars { IfOk result (λ w. setting_in w ≡ setting_of replay.now.config (has_number replay.now.liars.nodes) (has_number replay.now.liars.clients)) }
+    ensures run { IfOk result (λ w. (d : Desks) × Performs (setting_in w) w.config replay.now.lines d × (d.world ≡ world_in w)) }
+    ensures placed { IfOk result (λ w. w.seen.place ≡ length replay.now.lines) }
+    // The lines of a script are two head lines, one for each liar, and the event lines.
+    ensures stop { (line : ℕ) (cause : Causes) → IsErrOf result (ScriptRefusal.Fault (record { line = line; cause = cause }))
+        → (done : ℕ) × StopsAt (setting_of replay.now.config (has_number replay.now.liars.nodes) (has_number replay.now.liars.clients)) replay.now.config replay.now.lines done cause
+        × (line ≡ 2 + length replay.now.liars.nodes + length replay.now.liars.clients + done + 1) }
+{
+    Err(ScriptRefusal::NoMemory)
+}
