@@ -1,5 +1,5 @@
 -- Stand-in laws of event lines.
-use Rattle.std.proofs.Common.{◌≡◌, ◌≢◌, [], get_or, None}
+use Rattle.std.proofs.Common.{◌≡◌, ◌≢◌, ℕ, List, ◌∷◌, None}
 use Rattle.std.specs.Prelude.{codes}
 use Rattle.quorum_rules.specs.Limits.{Numbers}
 use Rattle.text_lines.specs.Lines.{Lacks, fields_of}
@@ -19,9 +19,9 @@ pub no_newline : (c : Numbers) (l : ReplayLine) → IsEventLine c l → Lacks 10
 unfolding IsEventLine
 no_newline c l h = absurd h
 
-pub no_liar : (c : Numbers) (l : ReplayLine) → IsEventLine c l → get_or (fields_of (event_text l)) 0 [] ≢ codes "liar"
+pub no_liar : (c : Numbers) (l : ReplayLine) (rest : List (List ℕ)) → IsEventLine c l → fields_of (event_text l) ≢ codes "liar" ∷ rest
 unfolding IsEventLine
-no_liar c l h = absurd h
+no_liar c l rest h = absurd h
 
 pub has_text : (c : Numbers) (l : ReplayLine) → IsEventLine c l → HasText l
 unfolding IsEventLine
