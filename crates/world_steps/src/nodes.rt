@@ -1,15 +1,18 @@
 //! What takes place at nodes: messages are sent, asks are handled, nodes crash and prune.
 
-ghost use Rattle.std.specs.Prelude.{◌≡◌, ◌<◌, Some, IfOk, OnOk, OnErr};
-ghost use Rattle.protocol.specs.World.{sent, answer_of, happens, only_place, greatest_given};
+ghost use Rattle.std.specs.Prelude.{◌≡◌, ◌<◌, if◌then◌else◌, Some, IfOk, OnOk, OnErr};
+ghost use Rattle.stamp_order.specs.Stamps.{up_to};
+ghost use Rattle.protocol.specs.World.{sent, answer_of, happens, only_place, greatest_given, given_of, greater_stamp};
+ghost use Rattle.protocol.specs.Seen.{record_of, block_of};
 ghost use Rattle.protocol.specs.World.Event.{CrashNode as NodeCrashes, Prune as Prunes};
 ghost use Rattle.world_steps.specs.Worlds.{setting_in, world_in, with_seen};
 ghost use Rattle.world_steps.specs.Steps.{handles};
 
 use crate::state::State;
 use lists::NoMemory;
+use run_words::{Outcome, Record};
 use stamp_order::Stamp;
-use wire_forms::{Ask, Mail, Message};
+use wire_forms::{Ask, Mail, Message, Op};
 
 impl State {
     /// Sends messages.
@@ -75,7 +78,13 @@ impl State {
     pub(crate) fn greatest_given(&self, block: u32) -> Option<Stamp>
         ensures { result ≡ greatest_given block self.now.seen.records }
     {
-        None
+        self.records
+            .as_slice()
+            .iter()
+            .rev()
+            .fold(None, |greatest, record| {
+                greater(given(block, record), greatest)
+            })
     }
 
     /// A node prunes a block by the greatest stamp that a completed read of it gave.
@@ -89,5 +98,45 @@ impl State {
         ensures lying_clients { self.new.lying_clients ≡ self.old.lying_clients }
     {
         self.place = place;
+    }
+}
+
+/// The stamp that the record's read of the block gave, if it is one.
+fn given(block: u32, told: &Record) -> Option<Stamp>
+    ensures { result ≡ given_of block (record_of told.now) }
+{
+    if block_of(&told.op) != block {
+        return None;
+    }
+    match &told.outcome {
+        Some(Outcome::Gave { stamp, .. }) => Some(*stamp),
+        _ => None,
+    }
+}
+
+/// The greater of the two, where there are two.
+fn greater(x: Option<Stamp>, y: Option<Stamp>) -> Option<Stamp>
+    ensures { result ≡ greater_stamp x y }
+{
+    match (x, y) {
+        (Some(x), Some(y)) => Some(later(x, y)),
+        (x, None) => x,
+        (None, y) => y,
+    }
+}
+
+/// The greater of the two.
+fn later(x: Stamp, y: Stamp) -> Stamp
+    ensures { result ≡ (if up_to x y then y else x) }
+{
+    if x.cmp(&y).is_le() { y } else { x }
+}
+
+/// The block that the operation is on.
+pub(crate) fn block_of(op: &Op) -> u32
+    ensures { result ≡ block_of op.now }
+{
+    match op {
+        Op::Read { block } | Op::Write { block, .. } => *block,
     }
 }
