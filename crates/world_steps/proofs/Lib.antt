@@ -1,2 +1,7 @@
+pub mod Places
+pub mod Holding
+pub mod Seated
 pub mod Greatest
 pub mod Busy
+pub mod Hosted
+pub mod Accepting

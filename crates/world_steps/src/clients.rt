@@ -108,6 +108,8 @@ impl State {
         ensures lying_nodes { self.new.lying_nodes ≡ self.old.lying_nodes }
         ensures lying_clients { self.new.lying_clients ≡ self.old.lying_clients }
     {
+        let seat = &mut self.seats[client as usize];
+        seat.crashed = true;
         self.place = place;
     }
 

@@ -6,17 +6,22 @@ ghost use Rattle.protocol.specs.World.{sent, answer_of, happens, only_place, gre
 ghost use Rattle.protocol.specs.Seen.{record_of, block_of};
 ghost use Rattle.protocol.specs.World.Event.{CrashNode as NodeCrashes, Prune as Prunes};
 ghost use Rattle.world_steps.specs.Worlds.{setting_in, world_in, with_seen};
+ghost use Rattle.protocol.specs.Count.{one_more};
+ghost use Rattle.node_core.specs.Seen.{with_versions, after_of};
 ghost use Rattle.world_steps.specs.Steps.{handles};
+ghost use Rattle.world_steps.specs.Acceptances.{accepts_of, told_of, new_stamp};
 
 use crate::state::State;
-use lists::NoMemory;
-use run_words::{Outcome, Record};
+use lists::{ItemList, NoMemory};
+use node_core::Node;
+use quorum_rules::Config;
+use run_words::{Accepted, Outcome, Record};
 use stamp_order::Stamp;
-use wire_forms::{Ask, Mail, Message, Op};
+use wire_forms::{Ask, Body, Mail, Message, Op, Reply, Request};
 
 impl State {
     /// Sends messages.
-    pub(crate) fn send(&mut self, place: u64, mail: Mail) -> Result<(), NoMemory>
+    pub(crate) fn send(&mut self, place: u64, mut mail: Mail) -> Result<(), NoMemory>
         requires { self.now.seen.place < place }
         ensures ok { OnOk result (world_in self.new ≡ sent (setting_in self.old) (world_in self.old) place mail) }
         ensures cluster { OnOk result (self.new.config ≡ self.old.config) }
@@ -24,7 +29,9 @@ impl State {
         ensures lying_clients { OnOk result (self.new.lying_clients ≡ self.old.lying_clients) }
         ensures err { OnErr result (self.new ≡ self.old) }
     {
-        Err(NoMemory)
+        self.pool.append(&mut mail)?;
+        self.place = place;
+        Ok(())
     }
 
     /// The node's answer to a message with this ask.
@@ -32,7 +39,14 @@ impl State {
         requires { node < self.now.config.n }
         ensures { IfOk result (λ m. m ≡ answer_of (setting_in self.now) (world_in self.now) node message.now ask.now) }
     {
-        Err(NoMemory)
+        let host = &self.hosts[usize::from(node)];
+        let reply = host.node.reply_to(ask)?;
+        Ok(Message {
+            client: message.client,
+            node,
+            tag: message.tag,
+            body: Body::Answer(reply),
+        })
     }
 
     /// Lets the node handle the ask, and sends messages.
@@ -41,7 +55,7 @@ impl State {
         place: u64,
         node: u8,
         ask: &Ask,
-        mail: Mail,
+        mut mail: Mail,
     ) -> Result<(), NoMemory>
         requires later { self.now.seen.place < place }
         requires node { node < self.now.config.n }
@@ -51,7 +65,15 @@ impl State {
         ensures lying_clients { OnOk result (self.new.lying_clients ≡ self.old.lying_clients) }
         ensures err { OnErr result (self.new ≡ self.old) }
     {
-        Err(NoMemory)
+        let sent = self.pool.len();
+        self.pool.append(&mut mail)?;
+        let host = &mut self.hosts[usize::from(node)];
+        if let Err(want) = handle(&mut host.node, node, &self.config, ask, &mut self.accepted) {
+            self.pool.truncate(sent);
+            return Err(want);
+        }
+        self.place = place;
+        Ok(())
     }
 
     /// Nothing takes place.
@@ -71,6 +93,8 @@ impl State {
         ensures lying_nodes { self.new.lying_nodes ≡ self.old.lying_nodes }
         ensures lying_clients { self.new.lying_clients ≡ self.old.lying_clients }
     {
+        let host = &mut self.hosts[usize::from(node)];
+        host.crashed = true;
         self.place = place;
     }
 
@@ -97,7 +121,58 @@ impl State {
         ensures lying_nodes { self.new.lying_nodes ≡ self.old.lying_nodes }
         ensures lying_clients { self.new.lying_clients ≡ self.old.lying_clients }
     {
+        if let Some(stamp) = self.greatest_given(block) {
+            let host = &mut self.hosts[usize::from(node)];
+            host.node.prune(block, &stamp);
+        }
         self.place = place;
+    }
+}
+
+/// Lets the node of this number handle the ask, and tells the version that it accepts, if any.
+fn handle(
+    node: &mut Node,
+    number: u8,
+    config: &Config,
+    ask: &Ask,
+    accepted: &mut ItemList<Accepted>,
+) -> Result<(), NoMemory>
+    requires cluster { node.old.config ≡ config.now }
+    ensures node { OnOk result (node.new ≡ with_versions node.old ask.now.block (after_of node.old ask.now)) }
+    ensures told { OnOk result (accepted.new ≡ one_more accepted.old (told_of number ask.now.block (accepts_of node.old ask.now))) }
+    ensures node_kept { OnErr result (node.new ≡ node.old) }
+    ensures told_kept { OnErr result (accepted.new ≡ accepted.old) }
+{
+    let Some(stamp) = new_stamp(node, config, ask) else {
+        node.handle(ask)?;
+        return Ok(());
+    };
+    accepted.push(Accepted {
+        node: number,
+        block: ask.block,
+        stamp,
+    })?;
+    let handled = node.handle(ask);
+    if let Ok(Reply::Ack) = &handled {
+        return Ok(());
+    }
+    let _ = accepted.pop();
+    handled?;
+    Ok(())
+}
+
+/// The stamp of the version that the ask writes, if there is such a block and the node keeps no version of this stamp.
+fn new_stamp(node: &Node, config: &Config, ask: &Ask) -> Option<Stamp>
+    requires { node.now.config ≡ config.now }
+    ensures { result ≡ new_stamp node.now ask.now }
+{
+    match &ask.request {
+        Request::Write(version)
+            if ask.block < config.blocks() && !node.keeps(ask.block, &version.stamp) =>
+        {
+            Some(version.stamp)
+        }
+        _ => None,
     }
 }
 

@@ -1,0 +1,2 @@
+-- Which version a node accepts.
+use Rattle.std.proofs.Common.{◌≡◌}
