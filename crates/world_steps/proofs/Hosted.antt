@@ -6,15 +6,17 @@ use Rattle.std.specs.Vec.{with_item}
 use Rattle.std.proofs.Math.Seq.{map-set_same}
 use Rattle.std.proofs.lemmas.Bool.{cases_lt}
 use Rattle.std.proofs.lemmas.Bool.Decides.{nat_tests}
-use Rattle.std.proofs.lemmas.List.{length-map, length-set, map-set, get_or-map, get_or_default, set-get_or}
+use Rattle.std.proofs.lemmas.List.{length-map, length-set, map-set, map-append, get_or-map, get_or_default, set-get_or}
 use Rattle.std.proofs.lemmas.Option.{slice_get_read}
 use Rattle.quorum_rules.specs.Limits.{Numbers}
 use Rattle.run_words.specs.declared.record.Record.{Record as Told}
+use Rattle.run_words.specs.declared.record.Accepted.{Accepted}
 use Rattle.protocol.specs.Count.{update, one_more}
 use Rattle.protocol.specs.Messages.{Version, Ask, Reply}
 use Rattle.protocol.specs.Nodes.{first_version, reply, after, accepts}
-use Rattle.protocol.specs.World.{World}
-use Rattle.protocol.specs.Seen.{SeenWorld, world_of}
+use Rattle.protocol.specs.Setting.{Setting}
+use Rattle.protocol.specs.World.{World, accepted_at}
+use Rattle.protocol.specs.Seen.{SeenWorld, world_of, accepted_of}
 use Rattle.protocol.specs.Instance.{setting}
 use Rattle.protocol.proofs.Seeing.{versions-set, node_crashed-set}
 use Rattle.node_core.specs.Seen.{SeenNode, versions_in, with_versions, reply_of, after_of}
@@ -24,7 +26,7 @@ use Rattle.world_steps.specs.declared.state.State.TheInside.{Inside}
 use Rattle.world_steps.specs.contracts.state.State.{the_view}
 use Rattle.world_steps.specs.Worlds.{WorldView, setting_in, world_in}
 use Rattle.world_steps.specs.Seats.{IsWorld, IsHost}
-use Rattle.world_steps.specs.Acceptances.{accepts_of}
+use Rattle.world_steps.specs.Acceptances.{accepts_of, told_of}
 use Rattle.world_steps.proofs.Places.{slice_get-set_cases}
 use Rattle.world_steps.proofs.Seated.{update-known}
 
@@ -47,6 +49,11 @@ hosts_versions c i h is node block vs e = record {
   number = ap (λ (a : SeenNode). a.number) e ∙ is.number;
   blocks = ap (λ (a : SeenNode). length a.blocks) e ∙ length-set h.node.blocks block vs ∙ is.blocks;
 }
+
+-- acceptances, with one more as it is told
+pub accepted-more : (s : Setting) (xs : List Accepted) (i block : ℕ) (o : Option Version) → map accepted_of (one_more xs (told_of i block o)) ≡ one_more (map accepted_of xs) (accepted_at s i block o)
+accepted-more s xs i block None = refl
+accepted-more s xs i block (Some v) = map-append accepted_of xs (record { node = i; block = block; stamp = v.stamp } ∷ [])
 
 module _ (w : Inside) (i : ℕ) (inside : i < length w.hosts.items) (old : Host) (there : old ≡ get_or w.hosts.items i old) where
   pub host-there : slice_get w.hosts.items i ≡ Some old
@@ -95,3 +102,42 @@ module _ (w : Inside) (i : ℕ) (inside : i < length w.hosts.items) (old : Host)
     world-same e =
         let same = map-set_same (λ (x : Host). x.node.blocks) w.hosts.items i h old (e ∙ ap (λ (x : Host). x.node.blocks) there) in
         (λ j. world_of (setting_in (the_view w)) (record (the_view w).seen { versions = same j; node_crashed = same-crashed j }))
+
+  module _ (is : IsHost w.config i old) (ask : Ask) where
+    abbrev kept : List Version
+    kept = (world_in (the_view w)).versions i ask.block
+
+    there_or_not : (ask.block < length old.node.blocks) ⊎ (ltb ask.block w.config.blocks ≡ false)
+    there_or_not = elim (cases_lt ask.block w.config.blocks) [ inl l ↦ inl (let e = is.blocks in omega (arith, e, l)) | inr h ↦ inr (grind (arith, nat_tests)) ]
+
+    -- what the node answers
+    pub replies : reply_of old.node ask ≡ reply (setting_in (the_view w)) i kept ask
+    replies = own ∙ elim there_or_not [ inl l ↦ ap (λ (vs : List Version). reply (setting_in (the_view w)) i vs ask) (sym (versions-there ask.block l)) | inr h ↦ rw h refl ]
+      where
+        own : reply_of old.node ask ≡ reply (setting_in (the_view w)) i (versions_in old.node ask.block) ask
+        own j = reply (setting (is.config j)) (is.number j) (versions_in old.node ask.block) ask
+
+    -- what it accepts
+    own_accepts : accepts_of old.node ask ≡ accepts (setting_in (the_view w)) i (versions_in old.node ask.block) ask
+    own_accepts j = accepts (setting (is.config j)) (is.number j) (versions_in old.node ask.block) ask
+
+    pub accepts-host : accepts_of old.node ask ≡ accepts (setting_in (the_view w)) i kept ask
+    accepts-host = own_accepts ∙ elim there_or_not [ inl l ↦ ap (λ (vs : List Version). accepts (setting_in (the_view w)) i vs ask) (sym (versions-there ask.block l)) | inr h ↦ rw h refl ]
+
+    -- the node has handled the ask
+    pub world-handled : (node : SeenNode) → node ≡ with_versions old.node ask.block (after_of old.node ask)
+        → world_in (the_view (record w { hosts = with_item w.hosts i (record old { node = node }) }))
+        ≡ record (world_in (the_view w)) { versions = update (world_in (the_view w)).versions i (update ((world_in (the_view w)).versions i) ask.block (after (setting_in (the_view w)) i kept ask)) }
+    world-handled node e = elim there_or_not [
+      | inl l ↦
+          world-versions (record old { node = node }) refl ask.block (after_of old.node ask) l (ap (λ (a : SeenNode). a.blocks) e)
+          ∙ ap (λ (vs : List Version). record (world_in (the_view w)) { versions = update (world_in (the_view w)).versions i (update ((world_in (the_view w)).versions i) ask.block vs) })
+          (λ j. one_more (sym (versions-there ask.block l) j) (accepts-host j))
+      | inr h ↦
+          (let none : accepts_of old.node ask ≡ None = own_accepts ∙ rw h refl in
+          let nothing : accepts (setting_in (the_view w)) i kept ask ≡ None = rw h refl in
+          let same : node.blocks ≡ old.node.blocks = ap (λ (a : SeenNode). a.blocks) e ∙ ap (λ (o : Option Version). slice_set old.node.blocks ask.block (one_more (versions_in old.node ask.block) o)) none ∙ set-get_or old.node.blocks ask.block [] in
+          world-same (record old { node = node }) refl same
+          ∙ ap (λ (f : ℕ → ℕ → List Version). record (world_in (the_view w)) { versions = f })
+          (sym (update-known (world_in (the_view w)).versions i _ (update-known ((world_in (the_view w)).versions i) ask.block _ (ap (one_more kept) nothing)))))
+    ]

@@ -4,4 +4,3 @@ pub mod Seated
 pub mod Greatest
 pub mod Busy
 pub mod Hosted
-pub mod Accepting

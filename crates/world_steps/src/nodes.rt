@@ -68,12 +68,16 @@ impl State {
         let sent = self.pool.len();
         self.pool.append(&mut mail)?;
         let host = &mut self.hosts[usize::from(node)];
-        if let Err(want) = handle(&mut host.node, node, &self.config, ask, &mut self.accepted) {
-            self.pool.truncate(sent);
-            return Err(want);
+        match handle(&mut host.node, node, &self.config, ask, &mut self.accepted) {
+            Ok(()) => {
+                self.place = place;
+                Ok(())
+            }
+            Err(want) => {
+                self.pool.truncate(sent);
+                Err(want)
+            }
         }
-        self.place = place;
-        Ok(())
     }
 
     /// Nothing takes place.
@@ -121,10 +125,12 @@ impl State {
         ensures lying_nodes { self.new.lying_nodes ≡ self.old.lying_nodes }
         ensures lying_clients { self.new.lying_clients ≡ self.old.lying_clients }
     {
-        if let Some(stamp) = self.greatest_given(block) {
-            let host = &mut self.hosts[usize::from(node)];
-            host.node.prune(block, &stamp);
-        }
+        let Some(stamp) = self.greatest_given(block) else {
+            self.pass(place);
+            return;
+        };
+        let host = &mut self.hosts[usize::from(node)];
+        host.node.prune(block, &stamp);
         self.place = place;
     }
 }

@@ -1,2 +1,0 @@
--- Which version a node accepts.
-use Rattle.std.proofs.Common.{◌≡◌}
