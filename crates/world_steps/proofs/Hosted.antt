@@ -50,6 +50,10 @@ hosts_versions c i h is node block vs e = record {
   blocks = ap (λ (a : SeenNode). length a.blocks) e ∙ length-set h.node.blocks block vs ∙ is.blocks;
 }
 
+-- there is a host of each node
+pub within : (w : Inside) (v : WorldView) (i node : ℕ) → IsWorld w.config w.hosts.items w.seats.items w.records w.place → the_view w ≡ v → i ≡ node → node < v.config.n → i < length w.hosts.items
+within w v i node h e f l = let n = h.nodes in let m = ap (λ (x : WorldView). x.config.n) e in omega (arith, n, m, f, l)
+
 -- acceptances, with one more as it is told
 pub accepted-more : (s : Setting) (xs : List Accepted) (i block : ℕ) (o : Option Version) → map accepted_of (one_more xs (told_of i block o)) ≡ one_more (map accepted_of xs) (accepted_at s i block o)
 accepted-more s xs i block None = refl

@@ -8,12 +8,12 @@ use Rattle.world_steps.specs.Worlds.{setting_in, world_in}
 use Rattle.world_steps.specs.Steps.{handles}
 use Rattle.world_steps.specs.contracts.state.State.{the_view}
 use Rattle.world_steps.proofs.Holding.{raised}
-use Rattle.world_steps.proofs.Hosted.{host-there, hosts_versions, hosted, lying-host, world-handled, accepts-host, accepted-more}
+use Rattle.world_steps.proofs.Hosted.{within, host-there, hosts_versions, hosted, lying-host, world-handled, accepts-host, accepted-more}
 use Rattle.world_steps.proofs.state.State.give.Goals as goal
 
 pub handle-requires : goal.handle-requires
 handle-requires c =
-    let inside : c.from.result < length c.self.inside.hosts.items = (let e = ap (λ v. v.config.n) c.self.view_is in let n = c.self.invariant.0.nodes in let r = c.requires.node in let f = c.from.ensures in omega (arith, e, n, r, f)) in
+    let inside = within c.self.inside _ c.from.result c.args.node c.self.invariant.0 c.self.view_is c.from.ensures c.requires.node in
     let is = c.self.invariant.0.host c.from.result c.index_mut-host.result.now (host-there c.self.inside c.from.result inside c.index_mut-host.result.now c.index_mut-host.ensures.value) in
     record { cluster = is.config }
 
@@ -21,7 +21,7 @@ pub invariant_of-self-in-Ok : goal.invariant_of-self-in-Ok
 invariant_of-self-in-Ok c =
     let i = c.from.result in
     let old = c.index_mut-host.result.now in
-    let inside : i < length c.self.inside.hosts.items = (let e = ap (λ v. v.config.n) c.self.view_is in let n = c.self.invariant.0.nodes in let r = c.requires.node in let f = c.from.ensures in omega (arith, e, n, r, f)) in
+    let inside = within c.self.inside _ i c.args.node c.self.invariant.0 c.self.view_is c.from.ensures c.requires.node in
     let is = c.self.invariant.0.host i old (host-there c.self.inside i inside old c.index_mut-host.ensures.value) in
     let new = hosts_versions c.self.inside.config i old is c.handle.new.node c.args.ask.now.block (after_of old.node c.args.ask.now) c.in-Ok.ensures.node in
     (raised _ _ _ _ _ (hosted _ _ _ _ _ c.self.invariant.0 i (record old { node = c.handle.new.node }) new) c.args.place (let l = c.requires.later in let e = ap (λ v. v.seen.place) c.self.view_is in omega (arith, l, e)), c.self.invariant.1)
@@ -31,7 +31,7 @@ returns-in-Ok-clause-ok c =
     let i = c.from.result in
     let old = c.index_mut-host.result.now in
     let there = c.index_mut-host.ensures.value in
-    let inside : i < length c.self.inside.hosts.items = (let e = ap (λ v. v.config.n) c.self.view_is in let n = c.self.invariant.0.nodes in let r = c.requires.node in let f = c.from.ensures in omega (arith, e, n, r, f)) in
+    let inside = within c.self.inside _ i c.args.node c.self.invariant.0 c.self.view_is c.from.ensures c.requires.node in
     let is = c.self.invariant.0.host i old (host-there c.self.inside i inside old there) in
     let s = setting_in (the_view c.self.inside) in
     let block = c.args.ask.now.block in
@@ -51,5 +51,5 @@ pub returns-in-Ok-clause-lying_nodes : goal.returns-in-Ok-clause-lying_nodes
 returns-in-Ok-clause-lying_nodes c =
     let i = c.from.result in
     let old = c.index_mut-host.result.now in
-    let inside : i < length c.self.inside.hosts.items = (let e = ap (λ v. v.config.n) c.self.view_is in let n = c.self.invariant.0.nodes in let r = c.requires.node in let f = c.from.ensures in omega (arith, e, n, r, f)) in
+    let inside = within c.self.inside _ i c.args.node c.self.invariant.0 c.self.view_is c.from.ensures c.requires.node in
     lying-host c.self.inside i inside old c.index_mut-host.ensures.value (record old { node = c.handle.new.node }) refl ∙ ap (λ v. v.lying_nodes) c.self.view_is
