@@ -1,5 +1,5 @@
 -- A host's node, as the world of the definitions has it, and that world when the host is another one.
-use Rattle.std.proofs.Common.{◌≡◌, ◌⊎◌, ℕ, ◌+◌, ◌<◌, ◌≤◌, Bool, true, false, cond, ltb, List, [], ◌∷◌, length, map, get_or, Option, refl, sym, ◌∙◌, ap, inl, inr, arith}
+use Rattle.std.proofs.Common.{◌≡◌, ◌⊎◌, ℕ, ◌<◌, false, ltb, List, [], ◌∷◌, length, map, get_or, Option, refl, sym, ◌∙◌, ap, inl, inr, arith}
 use Rattle.std.specs.Prelude.{slice_get, slice_set, slice_index_or}
 use Rattle.std.specs.declared.option.Option.TheVariants.{None, Some}
 use Rattle.std.specs.Vec.{with_item}
@@ -12,11 +12,11 @@ use Rattle.quorum_rules.specs.Limits.{Numbers}
 use Rattle.run_words.specs.declared.record.Record.{Record as Told}
 use Rattle.run_words.specs.declared.record.Accepted.{Accepted}
 use Rattle.protocol.specs.Count.{update, one_more}
-use Rattle.protocol.specs.Messages.{Version, Ask, Reply}
+use Rattle.protocol.specs.Messages.{Version, Ask}
 use Rattle.protocol.specs.Nodes.{first_version, reply, after, accepts}
 use Rattle.protocol.specs.Setting.{Setting}
-use Rattle.protocol.specs.World.{World, accepted_at}
-use Rattle.protocol.specs.Seen.{SeenWorld, world_of, accepted_of}
+use Rattle.protocol.specs.World.{accepted_at}
+use Rattle.protocol.specs.Seen.{world_of, accepted_of}
 use Rattle.protocol.specs.Instance.{setting}
 use Rattle.protocol.proofs.Seeing.{versions-set, node_crashed-set}
 use Rattle.node_core.specs.Seen.{SeenNode, versions_in, with_versions, reply_of, after_of}

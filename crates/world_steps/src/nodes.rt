@@ -174,8 +174,7 @@ fn new_stamp(node: &Node, config: &Config, ask: &Ask) -> Option<Stamp>
 {
     match &ask.request {
         Request::Write(version)
-            if ask.block < config.blocks() && !node.keeps(ask.block, &version.stamp) =>
-        {
+            if ask.block < config.blocks() && !node.keeps(ask.block, &version.stamp) => {
             Some(version.stamp)
         }
         _ => None,

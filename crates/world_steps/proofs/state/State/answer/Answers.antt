@@ -1,6 +1,6 @@
-use Rattle.std.proofs.Common.{◌≡◌, ◌<◌, length, sym, ◌∙◌, ap, arith}
+use Rattle.std.proofs.Common.{◌∙◌, ap}
 use Rattle.wire_forms.specs.declared.message.Body.TheVariants.{Answer}
-use Rattle.protocol.specs.Messages.{Message, Reply}
+use Rattle.protocol.specs.Messages.{Reply}
 use Rattle.protocol.specs.Nodes.{reply}
 use Rattle.world_steps.specs.Worlds.{setting_in, world_in}
 use Rattle.world_steps.proofs.Hosted.{within, host-there, replies}

@@ -1,4 +1,4 @@
-use Rattle.std.proofs.Common.{◌≡◌, ◌<◌, true, length, refl, sym, ◌∙◌, ap, arith}
+use Rattle.std.proofs.Common.{true, refl, ◌∙◌, ap, arith}
 use Rattle.protocol.specs.Count.{update}
 use Rattle.world_steps.specs.Worlds.{world_in}
 use Rattle.world_steps.proofs.Holding.{raised}

@@ -1,9 +1,9 @@
-use Rattle.std.proofs.Common.{◌≡◌, ◌<◌, List, length, map, refl, sym, ◌∙◌, ap, arith}
+use Rattle.std.proofs.Common.{List, map, refl, sym, ◌∙◌, ap, arith}
 use Rattle.run_words.specs.declared.record.Accepted.{Accepted}
 use Rattle.protocol.specs.Count.{one_more}
 use Rattle.protocol.specs.World.{accepted_at}
 use Rattle.protocol.specs.Seen.{accepted_of}
-use Rattle.node_core.specs.Seen.{SeenNode, after_of}
+use Rattle.node_core.specs.Seen.{after_of}
 use Rattle.world_steps.specs.Worlds.{setting_in, world_in}
 use Rattle.world_steps.specs.Steps.{handles}
 use Rattle.world_steps.specs.contracts.state.State.{the_view}
@@ -39,7 +39,7 @@ returns-in-Ok-clause-ok c =
     let accepts = accepts-host c.self.inside i inside old there is c.args.ask.now in
     let told = ap (λ (xs : List Accepted). map accepted_of xs) c.in-Ok.ensures.told ∙ accepted-more s c.self.inside.accepted c.args.node block _ in
     (λ j. record (world j) { pool = c.in_ok-append.ensures.ok j; accepted = told j; place = c.args.place })
-    ∙ (λ j. record (world_in (the_view c.self.inside)) { 
+    ∙ (λ j. record (world_in (the_view c.self.inside)) {
       pool = (handles s (world_in (the_view c.self.inside)) c.args.place i c.args.ask.now c.args.mail).pool;
       versions = (handles s (world_in (the_view c.self.inside)) c.args.place i c.args.ask.now c.args.mail).versions;
       accepted = one_more (world_in (the_view c.self.inside)).accepted (accepted_at s (sym c.from.ensures j) block (accepts j));

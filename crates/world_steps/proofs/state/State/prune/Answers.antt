@@ -1,11 +1,10 @@
-use Rattle.std.proofs.Common.{◌≡◌, ◌<◌, List, length, refl, sym, ◌∙◌, ap, arith}
+use Rattle.std.proofs.Common.{◌≡◌, ◌<◌, length, refl, sym, ◌∙◌, ap, arith}
 use Rattle.std.specs.declared.option.Option.TheVariants.{Some}
-use Rattle.protocol.specs.Messages.{Stamp, Version}
 use Rattle.protocol.specs.Count.{update}
 use Rattle.protocol.specs.Nodes.{pruned}
 use Rattle.protocol.specs.World.{pruned_at}
 use Rattle.protocol.specs.Instance.{setting}
-use Rattle.node_core.specs.Seen.{SeenNode, versions_in}
+use Rattle.node_core.specs.Seen.{SeenNode}
 use Rattle.world_steps.specs.Worlds.{setting_in, world_in}
 use Rattle.world_steps.specs.contracts.state.State.{the_view}
 use Rattle.world_steps.proofs.Holding.{raised}
