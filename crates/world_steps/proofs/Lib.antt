@@ -1,3 +1,4 @@
 pub mod Places
 pub mod Holding
 pub mod Seated
+pub mod Settling

@@ -1,3 +1,4 @@
 pub mod Worlds
 pub mod Seats
 pub mod Steps
+pub mod Turns
