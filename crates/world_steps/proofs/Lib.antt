@@ -2,3 +2,4 @@ pub mod Places
 pub mod Holding
 pub mod Seated
 pub mod Settling
+pub mod Taking

@@ -1,23 +1,27 @@
-use Rattle.std.proofs.Common.{rules, ◌≡◌, ◌<◌, ◌≤◌, ◌^◌, ◌-◌, ◌∷◌, [], length, Some, IfSome, IfOk, OnOk, OnErr, slice_get, slice_set, ℕ, ◌+◌, ◌*◌, ◌/◌, ◌%◌, Bool, true, false, nat_eq, nat_lt, List, ◌++◌, slice_index_or, bit_and, bit_or, w8, w32, w64, Bor, MutBor}
-use Rattle.std.specs.declared.option.Option.TheVariants.{None}
-use Rattle.protocol.specs.Messages.{Message as Messages}
-use Rattle.protocol.specs.World.{sent, heard, happens, Fits, chosen_stamp, stamp_of_outcome}
-use Rattle.protocol.specs.World.Event.{Start}
-use Rattle.protocol.specs.World.Event.{Resend as Resends}
-use Rattle.protocol.specs.World.Event.{CrashClient as ClientCrashes}
-use Rattle.protocol.specs.World.Event.{Back as ComesBack}
-use Rattle.protocol.specs.Seen.{client_at, block_of, work_of}
+use Rattle.std.proofs.Common.{◌≡◌, ◌<◌, ◌∷◌, [], length, refl, sym, ◌∙◌, ap, subst, arith}
+use Rattle.protocol.specs.World.{World, sent}
+use Rattle.protocol.specs.Seen.{client_at}
 use Rattle.world_steps.specs.Worlds.{setting_in, world_in}
-use Rattle.run_words.specs.declared.record.Record.{Record as Told}
-use Rattle.client_core.specs.Clients.{hears}
-use Rattle.world_steps.specs.Steps.{handles, seated, IsAnswer}
-use Rattle.world_steps.specs.Turns.{IsTurn, next_mail, IsSame, Becomes, MayTake, settled, taken}
+use Rattle.world_steps.proofs.Taking.{Fits, fits-seat, may-take, heard-taken, sent-together}
 use Rattle.world_steps.proofs.state.State.hear_sent.Goals as goal
 
--- src/clients.rt:154:9
 pub take-requires-clause-turn : goal.take-requires-clause-turn
-take-requires-clause-turn c = ?
+take-requires-clause-turn c =
+    let v = c.args.self.now in
+    let k = c.args.client in
+    let e = c.in_ok-send.ensures.ok in
+    may-take v k c.args.place c.args.message c.requires.answer c.in_ok-turn.turn c.send.new.self c.in_ok-send.ensures.cluster
+    (ap (λ (w : World). w.place) e) c.requires.later (ap (λ (w : World). w.life k) e) (ap (λ (w : World). w.started k) e) (ap (λ (w : World). w.task k) e)
+    (subst (λ x. Fits x.config.n x.seen.place (client_at x.seen k).task) c.self.view_is (fits-seat c.self.inside c.self.invariant.0 k c.requires.client)) c.in_ok-turn.ensures.turn
 
--- src/clients.rt:134:5
 pub returns-clause-ok : goal.returns-clause-ok
-returns-clause-ok c = ?
+returns-clause-ok c =
+    let v = c.args.self.now in
+    let k = c.args.client in
+    let m = c.args.message in
+    let one = sent (setting_in v) (world_in v) c.args.place (m ∷ []) in
+    let pool = sent-together (world_in v).pool c.append.new.self c.push.new.self c.new-all.result c.in_ok-turn.mail _ m c.in_ok-append.ensures.ok c.in_ok-push.ensures.ok c.new-all.ensures c.in_ok-turn.ensures.mail in
+    c.take.ensures.world
+    ∙ heard-taken v k c.args.place m c.requires.answer c.in_ok-turn.turn one refl
+    (subst (λ x. Fits x.config.n x.seen.place (client_at x.seen k).task) c.self.view_is (fits-seat c.self.inside c.self.invariant.0 k c.requires.client)) c.in_ok-turn.ensures.turn
+    (world_in c.send.new.self) (c.in_ok-send.ensures.ok ∙ (λ i. record one { pool = pool i }))
