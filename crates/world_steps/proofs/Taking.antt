@@ -59,9 +59,9 @@ module _ (s : Setting) (k : ℕ) where
       at false f = absurd (cc)
 
 -- messages that are sent one after the other are sent together
-pub sent-together : (pool all one none mail next : List Message) (m : Message) → all ≡ one ++ mail → one ≡ none ++ m ∷ [] → none ≡ [] → mail ≡ next → pool ++ all ≡ (pool ++ m ∷ []) ++ next
-sent-together pool all one none mail next m a b c d =
-    ap (λ (x : List Message). pool ++ x) (a ∙ ap (λ (x : List Message). x ++ mail) (b ∙ ap (λ (x : List Message). x ++ m ∷ []) c) ∙ ap (λ (x : List Message). (m ∷ []) ++ x) d) ∙ sym (append_assoc pool (m ∷ []) next)
+pub sent-together : (pool mail others next : List Message) (m : Message) → mail ≡ m ∷ others → others ≡ next → pool ++ mail ≡ (pool ++ m ∷ []) ++ next
+sent-together pool mail others next m a b =
+    ap (λ (x : List Message). pool ++ x) (a ∙ ap (λ (x : List Message). m ∷ x) b) ∙ sym (append_assoc pool (m ∷ []) next)
 
 -- what the message does to the client of this number
 abbrev pub hearing_of : WorldView → ℕ → Message → Hearing

@@ -131,7 +131,10 @@ impl State {
         ensures lying_clients { OnOk result (self.new.lying_clients ≡ self.old.lying_clients) }
         ensures err { OnErr result (self.new ≡ self.old) }
     {
-        Err(NoMemory)
+        let (turn, mail) = self.heard(client, &self.pool.as_slice()[message])?;
+        self.send(place, mail)?;
+        self.take(client, turn);
+        Ok(())
     }
 
     /// A message is sent, and a client hears it.
@@ -150,11 +153,9 @@ impl State {
         ensures lying_clients { OnOk result (self.new.lying_clients ≡ self.old.lying_clients) }
         ensures err { OnErr result (self.new ≡ self.old) }
     {
-        let (turn, mut mail) = self.heard(client, &message)?;
-        let mut all = ItemList::new(self.alloc);
-        all.push(message)?;
-        all.append(&mut mail)?;
-        self.send(place, all)?;
+        let (turn, next) = self.heard(client, &message)?;
+        let mail = ahead(self.alloc, message, next)?;
+        self.send(place, mail)?;
         self.take(client, turn);
         Ok(())
     }
@@ -178,7 +179,11 @@ impl State {
         ensures lying_clients { OnOk result (self.new.lying_clients ≡ self.old.lying_clients) }
         ensures err { OnErr result (self.new ≡ self.old) }
     {
-        Err(NoMemory)
+        let (turn, next) = self.heard(client, &message)?;
+        let mail = ahead(self.alloc, message, next)?;
+        self.give(place, node, ask, mail)?;
+        self.take(client, turn);
+        Ok(())
     }
 
     /// A client crashes.
@@ -227,6 +232,16 @@ fn turn_of(
         Heard::Send(mail) => Ok((Turn::Goes(hearer), mail)),
         Heard::Ended(outcome) => Ok((Turn::Ends(hearer, outcome), ItemList::new(alloc))),
     }
+}
+
+/// The message, and the others behind it.
+fn ahead(alloc: Global, message: Message, mut others: Mail) -> Result<Mail, NoMemory>
+    ensures { IfOk result (λ mail. mail ≡ message ∷ others) }
+{
+    let mut mail = ItemList::new(alloc);
+    mail.push(message)?;
+    mail.append(&mut others)?;
+    Ok(mail)
 }
 
 /// Tells in the record of this number how its operation stands.

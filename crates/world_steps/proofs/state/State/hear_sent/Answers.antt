@@ -1,7 +1,8 @@
-use Rattle.std.proofs.Common.{◌≡◌, ◌<◌, ◌∷◌, [], length, refl, sym, ◌∙◌, ap, subst, arith}
+use Rattle.std.proofs.Common.{◌≡◌, ◌<◌, ◌∷◌, ◌++◌, [], length, refl, sym, ◌∙◌, ap, subst, arith}
 use Rattle.protocol.specs.World.{World, sent}
 use Rattle.protocol.specs.Seen.{client_at}
 use Rattle.world_steps.specs.Worlds.{setting_in, world_in}
+use Rattle.world_steps.specs.Steps.{handles}
 use Rattle.world_steps.proofs.Taking.{Fits, fits-seat, may-take, heard-taken, sent-together}
 use Rattle.world_steps.proofs.state.State.hear_sent.Goals as goal
 
@@ -20,7 +21,7 @@ returns-clause-ok c =
     let k = c.args.client in
     let m = c.args.message in
     let one = sent (setting_in v) (world_in v) c.args.place (m ∷ []) in
-    let pool = sent-together (world_in v).pool c.append.new.self c.push.new.self c.new-all.result c.in_ok-turn.mail _ m c.in_ok-append.ensures.ok c.in_ok-push.ensures.ok c.new-all.ensures c.in_ok-turn.ensures.mail in
+    let pool = sent-together (world_in v).pool c.in_ok-mail.mail c.in_ok-turn.next _ m c.in_ok-mail.ensures c.in_ok-turn.ensures.mail in
     c.take.ensures.world
     ∙ heard-taken v k c.args.place m c.requires.answer c.in_ok-turn.turn one refl
     (subst (λ x. Fits x.config.n x.seen.place (client_at x.seen k).task) c.self.view_is (fits-seat c.self.inside c.self.invariant.0 k c.requires.client)) c.in_ok-turn.ensures.turn
