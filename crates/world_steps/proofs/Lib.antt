@@ -3,3 +3,4 @@ pub mod Holding
 pub mod Seated
 pub mod Settling
 pub mod Taking
+pub mod Begun

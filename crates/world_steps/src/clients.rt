@@ -1,6 +1,6 @@
 //! What takes place at clients: operations start, answers are heard, clients crash and come back.
 
-ghost use Rattle.std.specs.Prelude.{◌≡◌, ◌<◌, ◌≤◌, ◌^◌, ◌-◌, ◌∷◌, [], length, Some, IfSome, IfOk, OnOk, OnErr, slice_get, slice_set};
+ghost use Rattle.std.specs.Prelude.{◌≡◌, ◌<◌, ◌≤◌, ◌^◌, ◌-◌, ◌∷◌, ◌++◌, [], length, Some, IfSome, IfOk, OnOk, OnErr, slice_get, slice_set};
 ghost use Rattle.std.specs.declared.option.Option.TheVariants.{None};
 ghost use Rattle.protocol.specs.Messages.{Message as Messages};
 ghost use Rattle.protocol.specs.World.{sent, heard, happens, Fits, chosen_stamp, stamp_of_outcome};
@@ -37,7 +37,24 @@ impl State {
         ensures lying_clients { OnOk result (self.new.lying_clients ≡ self.old.lying_clients) }
         ensures err { OnErr result (self.new ≡ self.old) }
     {
-        Err(NoMemory)
+        let mut starter = self.copied(client)?;
+        let mail = starter.start(&op)?;
+        let index = self.records.len();
+        let record = Record {
+            client,
+            op,
+            start: place,
+            end: None,
+            stamp: None,
+            outcome: None,
+        };
+        add(&mut self.pool, mail, &mut self.records, record)?;
+        let seat = &mut self.seats[client as usize];
+        seat.client = starter;
+        seat.start = place;
+        seat.record = index;
+        self.place = place;
+        Ok(())
     }
 
     /// A client sends the messages of its present phase again.
@@ -242,6 +259,27 @@ fn ahead(alloc: Global, message: Message, mut others: Mail) -> Result<Mail, NoMe
     mail.push(message)?;
     mail.append(&mut others)?;
     Ok(mail)
+}
+
+/// Adds the messages and the record, or nothing.
+fn add(
+    pool: &mut ItemList<Message>,
+    mut mail: Mail,
+    records: &mut ItemList<Record>,
+    new: Record,
+) -> Result<(), NoMemory>
+    ensures sent { OnOk result (pool.new ≡ pool.old ++ mail) }
+    ensures told { OnOk result (records.new ≡ records.old ++ new ∷ []) }
+    ensures unsent { OnErr result (pool.new ≡ pool.old) }
+    ensures untold { OnErr result (records.new ≡ records.old) }
+{
+    let len = pool.len();
+    pool.append(&mut mail)?;
+    let told = records.push(new);
+    if told.is_err() {
+        pool.truncate(len);
+    }
+    told
 }
 
 /// Tells in the record of this number how its operation stands.
