@@ -153,6 +153,20 @@ impl Client {
         u64::from(self.life) * LIFE + u64::from(self.started)
     }
 
+    /// How often it came back.
+    pub fn life(&self) -> u32
+        ensures { result ≡ self.now.seen.life }
+    {
+        self.life
+    }
+
+    /// How many operations it has started since it last came back.
+    pub fn started(&self) -> u32
+        ensures { result ≡ self.now.seen.started }
+    {
+        self.started
+    }
+
     /// The phase of the operation under way, 0 where there is none.
     pub fn phase(&self) -> u64
         ensures { result ≡ phase_of self.now.seen.task }

@@ -1,6 +1,6 @@
 ghost use Rattle.std.specs.Prelude.{◌≡◌, ◌≢◌, ◌<◌, ◌≤◌, ◌↔◌, IsTrue, [], ◌∷◌, ◌++◌, map, replicate, length, OnOk, OnErr, IfOk, IfSome, None};
 ghost use Rattle.quorum_rules.specs.Limits.{IsValid};
-ghost use Rattle.protocol.specs.Nodes.{refusal, found, greatest_in, greatest_time, pruned, added, first_version};
+ghost use Rattle.protocol.specs.Nodes.{refusal, found, greatest_in, greatest_time, pruned, added, keeps, first_version};
 ghost use Rattle.protocol.specs.Count.{one_more};
 ghost use Rattle.protocol.specs.Instance.{setting};
 ghost use Rattle.node_core.specs.Seen.{SeenNode, versions_in, with_versions, new_node, reply_of, after_of};
@@ -92,6 +92,14 @@ impl Node {
                 None => Reply::Ack,
             }),
         }
+    }
+
+    /// Whether the node keeps a version of this stamp.
+    pub fn keeps(&self, block: u32, stamp: &Stamp) -> bool
+        requires { block < self.now.config.blocks }
+        ensures { result ≡ keeps (versions_in self.now block) stamp.now }
+    {
+        self.blocks[block as usize].has(stamp) || self.first.stamp.cmp(stamp).is_eq()
     }
 
     /// The stamps of the versions that the node keeps of a block, in order of acceptance.

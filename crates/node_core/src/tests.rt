@@ -100,9 +100,13 @@ fn finds_nothing_below_the_first_version(rt: HostRuntime) -> Result<(), Fail> {
 fn keeps_one_version_of_a_stamp(rt: HostRuntime) -> Result<(), Fail> {
     let alloc = rt.alloc();
     let mut node = Node::new(alloc, &cluster(&rt), 0).expect(&rt, "memory");
-    let ask = write(0, version(alloc, 3, 5).expect(&rt, "memory"));
+    let accepted = version(alloc, 3, 5).expect(&rt, "memory");
+    let stamp = accepted.stamp;
+    assert!(rt; !node.keeps(0, &stamp));
+    let ask = write(0, accepted);
     assert!(rt; matches!(node.handle(&ask), Ok(Reply::Ack)));
     assert!(rt; matches!(node.handle(&ask), Ok(Reply::Ack)));
+    assert!(rt; node.keeps(0, &stamp));
     let kept = times(alloc, &node).expect(&rt, "memory");
     assert_eq!(rt; kept.as_slice(), [0, 3].as_slice());
     assert_eq!(rt; node.greatest_time(0), 3);

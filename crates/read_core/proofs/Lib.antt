@@ -9,3 +9,4 @@ pub mod Deciding
 pub mod Choosing
 pub mod Ending
 pub mod Hearing
+pub mod Outvoting

@@ -1,14 +1,17 @@
 -- What a reader is, and what an answer does to it.
-use Rattle.std.specs.Prelude.{◌≡◌, ◌⊎◌, ℕ, ◌≤◌, Bool, false, List, Option, IfSome}
+use Rattle.std.specs.Prelude.{◌≡◌, ◌⊎◌, ℕ, ◌<◌, ◌≤◌, Bool, true, false, List, Option, IfSome, IsSomeAnd}
 use Rattle.std.specs.declared.option.Option.TheVariants.{None, Some}
-use Rattle.quorum_rules.specs.Limits.{Numbers}
+use Rattle.quorum_rules.specs.Limits.{Numbers, IsValid, repairable_of}
+use Rattle.wire_forms.specs.declared.message.Tag.{Tag}
 use Rattle.wire_forms.specs.declared.message.Reply.{Reply}
 use Rattle.run_words.specs.declared.outcome.Outcome.TheVariants.{Gave, Outvoted as OutvotedBy}
+use Rattle.protocol.specs.Count.{count}
 use Rattle.protocol.specs.Setting.{Setting}
 use Rattle.protocol.specs.Instance.{setting}
-use Rattle.protocol.specs.Operations.{mail, Stage as ModelStage}
+use Rattle.protocol.specs.Operations.{mail, is_there, stamps, Stage as ModelStage}
+use Rattle.protocol.specs.Operations.Stage.{Versions}
 use Rattle.protocol.specs.Operations.Work.{Reads}
-use Rattle.protocol.specs.Seen.{SeenTask, SeenOperation, Hearing, task_at, seen_begun, seen_goes_on, with_task}
+use Rattle.protocol.specs.Seen.{SeenTask, SeenOperation, Hearing, answers_of, task_at, seen_begun, seen_counted, seen_goes_on, ends_phase, with_task}
 use Rattle.protocol.specs.Seen.Hearing.{Ignored, Counted, Begins, Ended}
 use Rattle.read_core.specs.Stages.{stage_of, answers_in, config_of, counts_in}
 use Rattle.read_core.specs.Ends.{IsHeard}
@@ -23,8 +26,9 @@ task_in op block phase rounds None = None
 task_in op block phase rounds (Some stage) =
     Some (record { op = op; block = block; work = Reads; phase = phase; rounds = rounds; stage = stage_of stage; answers = answers_in stage })
 
--- each round took a phase, and the stage is one of the reader's cluster
+-- the numbers are valid, each round took a phase, and the stage is one of the reader's cluster
 pub record IsReader (c : Numbers) (phase rounds : ℕ) (stage : Option Stage) : Type 0 where
+  pub valid : IsValid c
   pub few : rounds ≤ phase
   pub cluster : IfSome stage (λ s. config_of s ≡ c)
 
@@ -73,3 +77,13 @@ pub record IsCounted (old new : SeenOperation) (node : ℕ) (reply : Reply) (end
 abbrev pub next_task : Setting → Option SeenTask → ModelStage → Option SeenTask
 next_task s None stage = None
 next_task s (Some t) stage = Some (seen_goes_on s t stage)
+
+-- fewer of a round's answers are valid than reach a pivot
+abbrev pub FewAreValid : Numbers → ModelStage → (ℕ → Option Reply) → Type 0
+FewAreValid c (Versions bound) answers = count c.n (λ i. is_there (stamps (setting c) answers bound i)) < repairable_of c
+FewAreValid c _ answers = ⊥
+
+-- the answer ends a round of which too few answers are valid
+abbrev pub EndsOutvoted : Numbers → Option SeenTask → ℕ → Tag → Reply → Type 0
+EndsOutvoted c task node tag reply =
+    IsSomeAnd task (λ t. (ends_phase (setting c) task node tag reply ≡ true) × FewAreValid c t.stage (λ i. answers_of (seen_counted t node reply) i))

@@ -1,10 +1,12 @@
-ghost use Rattle.std.specs.Prelude.{◌≡◌, ◌<◌, ◌-◌, ◌^◌, ◌↔◌, IsTrue, true, IfOk, OnOk, OnErr, IsSome, IfSome, Some, None};
+ghost use Rattle.std.specs.Prelude.{◌≡◌, ◌<◌, ◌-◌, ◌^◌, ◌↔◌, ℕ, List, IsTrue, true, IfOk, OnOk, OnErr, IsSome, IfSome, Some, None};
 ghost use Rattle.std.specs.Option.{ForSome};
 ghost use Rattle.protocol.specs.Operations.{mail as mail_of};
 ghost use Rattle.protocol.specs.Seen.{SeenOperation, task_at, with_task, counts_of, hears, outstanding_of, has_answered};
+ghost use Rattle.quorum_rules.specs.Limits.{IsValid};
 ghost use Rattle.protocol.specs.Instance.{setting};
 ghost use Rattle.read_core.specs.Stages.{stage_of, IsNew};
-ghost use Rattle.read_core.specs.Readers.{begun, next_task, counts_in_task, IsCounted, task_after, rounds_of, IsReading};
+ghost use Rattle.read_core.specs.Readers.{begun, next_task, counts_in_task, IsCounted, task_after, rounds_of, IsReading, EndsOutvoted};
+ghost use Rattle.read_core.specs.declared.reading.Reading.TheVariants.{Outvoted};
 
 use crate::mailing::{mail, message};
 use crate::phase_end::PhaseEnd;
@@ -78,6 +80,7 @@ impl Reader {
     pub fn hear(&mut self, node: u8, tag: Tag, reply: &Reply) -> Result<Reading, NoMemory>
         requires { ForSome self.old.task (λ t. t.phase < 2 ^ 64 - 1) }
         ensures reading { IfOk result (IsReading (setting self.old.config) self.old.client (rounds_of self.old.task) (hears (setting self.old.config) self.old.client self.old.task node tag reply.now)) }
+        ensures outvoted { IfOk result (λ reading. ((nodes : List ℕ) × (reading ≡ Outvoted nodes)) ↔ EndsOutvoted self.old.config self.old.task node tag reply.now) }
         ensures after { OnOk result (self.new ≡ with_task self.old (task_after self.old.task (hears (setting self.old.config) self.old.client self.old.task node tag reply.now))) }
         ensures err { OnErr result (self.new ≡ self.old) }
     {
@@ -101,6 +104,7 @@ impl Reader {
     // Counts an answer, or tells what the phase comes to by it.
     fn count(&mut self, node: u8, reply: &Reply) -> Result<Option<PhaseEnd>, NoMemory>
         requires { counts_in_task self.old.config self.old.task node reply.now ≡ true }
+        ensures valid { IsValid self.old.config }
         ensures ok { IfOk result (IsCounted self.old self.new node reply.now) }
         ensures err { OnErr result (self.new ≡ self.old) }
     {

@@ -1,5 +1,5 @@
 ghost use Rattle.std.specs.Prelude.{◌≡◌, ◌↔◌, ◌<◌, ◌≤◌, ◌&&◌, nat_lt, not, true, IsTrue, IfOk, OnErr, None, slice_set};
-ghost use Rattle.quorum_rules.specs.Limits.{complete_of, repairable_of};
+ghost use Rattle.quorum_rules.specs.Limits.{IsValid, complete_of, repairable_of};
 ghost use Rattle.wire_forms.specs.Firsts.{first_of};
 ghost use Rattle.protocol.specs.Instance.{setting};
 ghost use Rattle.protocol.specs.Operations.{is_answered, support};
@@ -55,7 +55,8 @@ impl Round {
         bound: Bound,
     ) -> Result<Round, NoMemory>
         requires { first.now ≡ (first_of config.now).stamp }
-        ensures { IfOk result (λ r. r ≡ new_round config.now bound) }
+        ensures round { IfOk result (λ r. r ≡ new_round config.now bound) }
+        ensures valid { IfOk result (λ _. IsValid config.now) }
     {
         let mut answers = Vec::new(alloc);
         let mut stamps = Vec::new(alloc);
