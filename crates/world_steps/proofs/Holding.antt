@@ -45,6 +45,10 @@ all_below [] n h = tt
 all_below (r ∷ rs) n h = (h 0 r refl, all_below rs n (λ k x e. h (Rattle.std.proofs.Common.suc k) x e))
 
 module _ (c : Numbers) (hosts : List Host) (seats : List Seat) (records : List Told) (p : ℕ) (h : IsWorld c hosts seats records p) where
+  -- each client has a seat
+  pub seat-within : (k : ℕ) → k ≤ 1000 → k < length seats
+  seat-within k l = let e = h.clients in omega (arith, e, l)
+
   -- the place is raised
   pub raised : (q : ℕ) → p ≤ q → IsWorld c hosts seats records q
   raised q l = record {

@@ -4,3 +4,6 @@ pub mod Seated
 pub mod Greatest
 pub mod Busy
 pub mod Hosted
+pub mod Settling
+pub mod Taking
+pub mod Begun

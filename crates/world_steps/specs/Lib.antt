@@ -3,3 +3,4 @@ pub mod Seats
 pub mod Steps
 pub mod Actors
 pub mod Acceptances
+pub mod Turns

@@ -12,6 +12,7 @@ mod play;
 pub mod refusal;
 mod seat;
 mod state;
+mod turn;
 
 pub use refusal::StepRefusal;
 pub use run_words::{Accepted, How, Line, Nodes, Outcome, Record, StepFault};
