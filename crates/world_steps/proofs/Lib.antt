@@ -1,2 +1,11 @@
 pub mod Lines
 pub mod Reached
+pub mod Places
+pub mod Holding
+pub mod Seated
+pub mod Greatest
+pub mod Busy
+pub mod Hosted
+pub mod Settling
+pub mod Taking
+pub mod Begun

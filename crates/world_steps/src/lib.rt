@@ -2,6 +2,7 @@
 //! script makes of it what the model's definitions say, or is refused and changes nothing.
 #![tactic(auto)]
 
+mod actors;
 mod clients;
 mod fault;
 mod host;
@@ -11,6 +12,7 @@ mod play;
 pub mod refusal;
 mod seat;
 mod state;
+mod turn;
 pub mod world;
 
 pub use refusal::StepRefusal;

@@ -18,34 +18,66 @@ impl State {
         requires node { node < self.now.config.n }
         ensures { IfOk result (λ m. m ≡ asked_by (setting_in self.now) client node ((world_in self.now).task client)) }
     {
-        Err(NoMemory)
+        self.seats[client as usize].client.outstanding(node)
     }
 
     /// A lying node's answer to it, by a rule.
-    pub(crate) fn false_answer(&self, client: u32, node: u8, rule: Rule) -> Result<Option<Message>, NoMemory>
+    pub(crate) fn false_answer(
+        &self,
+        client: u32,
+        node: u8,
+        rule: Rule,
+    ) -> Result<Option<Message>, NoMemory>
         requires client { client ≤ 1000 }
         requires node { node < self.now.config.n }
         ensures { IfOk result (λ m. m ≡ lied_by (setting_in self.now) rule client node ((world_in self.now).task client)) }
     {
-        Err(NoMemory)
+        let Some(asked) = self.outstanding(client, node)? else {
+            return Ok(None);
+        };
+        liar_rules::false_answer(self.alloc, &self.config, &self.first, rule, &asked)
     }
 
     /// A lying client's write of a sound value.
-    pub(crate) fn sound_ask(&self, client: u32, node: u8, block: u32, time: u64, value: &Bytes) -> Result<Message, NoMemory>
+    pub(crate) fn sound_ask(
+        &self,
+        client: u32,
+        node: u8,
+        block: u32,
+        time: u64,
+        value: &Bytes,
+    ) -> Result<Message, NoMemory>
         requires node { node < self.now.config.n }
         requires size { length value.now ≡ self.now.config.size }
         ensures { IfOk result (λ m. m ≡ sound_ask_of (setting_in self.now) client node block time value.now) }
     {
-        Err(NoMemory)
+        liar_rules::sound_ask(self.alloc, &self.config, client, node, block, time, value)
     }
 
     /// A lying client's write of fragments of two values.
-    pub(crate) fn mix_ask(&self, client: u32, node: u8, block: u32, time: u64, value: &Bytes, other: &Bytes) -> Result<Message, NoMemory>
+    pub(crate) fn mix_ask(
+        &self,
+        client: u32,
+        node: u8,
+        block: u32,
+        time: u64,
+        value: &Bytes,
+        other: &Bytes,
+    ) -> Result<Message, NoMemory>
         requires node { node < self.now.config.n }
         requires size { length value.now ≡ self.now.config.size }
         requires other_size { length other.now ≡ self.now.config.size }
         ensures { IfOk result (λ m. m ≡ mix_ask_of (setting_in self.now) client node block time value.now other.now) }
     {
-        Err(NoMemory)
+        liar_rules::mix_ask(
+            self.alloc,
+            &self.config,
+            client,
+            node,
+            block,
+            time,
+            value,
+            other,
+        )
     }
 }

@@ -1,0 +1,171 @@
+-- A client becomes the one that heard a message, and its record tells how its operation stands.
+use Rattle.std.proofs.Common.{◌≡◌, ◌⊎◌, ℕ, zero, suc, ◌+◌, ◌<◌, ◌≤◌, Bool, true, false, cond, ◌&&◌, List, [], ◌∷◌, length, map, get_or, Option, refl, sym, ◌∙◌, ap, subst, inl, inr, arith, eqb}
+use Rattle.std.specs.Prelude.{slice_get, slice_set, IfSome}
+use Rattle.std.specs.Option.{option_map}
+use Rattle.std.specs.declared.option.Option.TheVariants.{None, Some}
+use Rattle.std.specs.List.{AllByRecursion}
+use Rattle.std.proofs.lemmas.Bool.Decides.{eqb_tells}
+use Rattle.std.proofs.lemmas.List.{map-set}
+use Rattle.std.proofs.lemmas.Option.{slice_get_within, slice_get-map}
+use Rattle.std.proofs.lemmas.Simd.{map-map}
+use Rattle.std.specs.Vec.{with_item}
+use Rattle.run_words.specs.declared.record.Record.{Record as Told}
+use Rattle.protocol.specs.Count.{update}
+use Rattle.protocol.specs.Messages.{Message, Stamp}
+use Rattle.protocol.specs.Operations.{Task, Work, Outcome}
+use Rattle.protocol.specs.World.{World, Record, open_record, with_record, replaced_by, chosen_stamp}
+use Rattle.protocol.specs.Report.{Ascend}
+use Rattle.protocol.specs.Seen.{SeenTask, task_at, started_task, record_of}
+use Rattle.client_core.specs.Clients.{ClientView}
+use Rattle.world_steps.specs.declared.seat.Seat.{Seat}
+use Rattle.world_steps.specs.declared.state.State.TheInside.{Inside}
+use Rattle.world_steps.specs.contracts.state.State.{the_view}
+use Rattle.world_steps.specs.Worlds.{setting_in, world_in}
+use Rattle.world_steps.specs.Seats.{IsWorld, IsSeat, IsTaskOf, IsUnderWay}
+use Rattle.world_steps.specs.Turns.{IsSame, MayGoOn, Becomes, settled}
+use Rattle.world_steps.proofs.Places.{slice_get-set_same}
+use Rattle.world_steps.proofs.Holding.{told}
+use Rattle.world_steps.proofs.Seated.{update-known, world-seat, client-seat, task-seat, crashed-seat, seat-there}
+
+-- ---- the record of an operation is the one that began at its place
+
+not_replaced : (new : Record) (xs : List Record) → AllByRecursion (λ y. new.start < y) (map (λ r. r.start) xs) → with_record xs new ≡ xs
+not_replaced new [] h = refl
+not_replaced new (x ∷ xs) h = λ i. at (eqb x.client new.client) (eqb x.start new.start) (eqb_tells x.start new.start) i ∷ not_replaced new xs h.1 i
+  where
+    at : (a b : Bool) → ((b ≡ true) × (x.start ≡ new.start)) ⊎ ((b ≡ false) × (x.start ≡ new.start → ⊥)) → cond (a && b) new x ≡ x
+    at false b e = refl
+    at true b (inl e) = absurd (let l = h.0 in let q = e.1 in omega (arith, l, q))
+    at true b (inr e) = rw (e.0) refl
+
+kept_before : (new x : Record) → x.start < new.start → replaced_by new x ≡ x
+kept_before new x l = at (eqb x.client new.client) (eqb x.start new.start) (eqb_tells x.start new.start)
+  where
+    at : (a b : Bool) → ((b ≡ true) × (x.start ≡ new.start)) ⊎ ((b ≡ false) × (x.start ≡ new.start → ⊥)) → cond (a && b) new x ≡ x
+    at false b e = refl
+    at true b (inl e) = absurd (let q = e.1 in omega (arith, l, q))
+    at true b (inr e) = rw (e.0) refl
+
+replaced_here : (new x : Record) → x.client ≡ new.client → x.start ≡ new.start → replaced_by new x ≡ new
+replaced_here new x e f = at (eqb x.client new.client) (eqb x.start new.start) (eqb_tells x.client new.client) (eqb_tells x.start new.start)
+  where
+    at : (a b : Bool) → ((a ≡ true) × (x.client ≡ new.client)) ⊎ ((a ≡ false) × (x.client ≡ new.client → ⊥)) → ((b ≡ true) × (x.start ≡ new.start)) ⊎ ((b ≡ false) × (x.start ≡ new.start → ⊥)) → cond (a && b) new x ≡ new
+    at a b (inl g) (inl k) = rw (g.0, k.0) refl
+    at a b (inr g) k = absurd (g.1 e)
+    at a b (inl g) (inr k) = absurd (k.1 f)
+
+above_all : (y : ℕ) (xs : List Record) (i : ℕ) (x : Record) → AllByRecursion (λ z. y < z) (map (λ r. r.start) xs) → slice_get xs i ≡ Some x → y < x.start
+above_all y [] i x h e = absurd (cc)
+above_all y (z ∷ zs) zero x h e = let q : z ≡ x = cc in subst (λ (r : Record). y < r.start) q h.0
+above_all y (z ∷ zs) (suc i) x h e = above_all y zs i x h.1 e
+
+pub with_record-set : (rs : List Record) (i : ℕ) (old new : Record) → Ascend (map (λ r. r.start) rs) → slice_get rs i ≡ Some old → old.client ≡ new.client → old.start ≡ new.start → slice_set rs i new ≡ with_record rs new
+with_record-set [] i old new h e f g = absurd (cc)
+with_record-set (x ∷ xs) zero old new h e f g =
+    let q : x ≡ old = cc in
+    λ j. sym (replaced_here new x (ap (λ (r : Record). r.client) q ∙ f) (ap (λ (r : Record). r.start) q ∙ g)) j
+    ∷ sym (not_replaced new xs (subst (λ n. AllByRecursion (λ y. n < y) (map (λ r. r.start) xs)) (ap (λ (r : Record). r.start) q ∙ g) h.0)) j
+with_record-set (x ∷ xs) (suc i) old new h e f g =
+    let l = above_all x.start xs i old h.0 e in
+    λ j. sym (kept_before new x (omega (arith, l, g))) j ∷ with_record-set xs i old new h.1 e f g j
+
+-- ---- the change of a seat and its record
+
+module _ (w : Inside) (k : ℕ) (inside : k < length w.seats.items) (seat : Seat) (there : seat ≡ get_or w.seats.items k seat) (good : IsWorld w.config w.hosts.items w.seats.items w.records w.place) where
+  -- the record of an operation under way
+  pub record-there : (t : SeenTask) → seat.client.seen.task ≡ Some t → (r : Told) × (slice_get w.records seat.record ≡ Some r) × (record_of r ≡ open_record k (task_at seat.start t))
+  record-there t e = at (slice_get w.records seat.record) refl
+    where
+      way : IsUnderWay w.config (map record_of w.records) w.place k seat.start seat.record t
+      way = subst (IsTaskOf w.config (map record_of w.records) w.place k seat.start seat.record) e (good.seat k seat (seat-there w k inside seat there)).task
+
+      at : (o : Option Told) → slice_get w.records seat.record ≡ o → (r : Told) × (o ≡ Some r) × (record_of r ≡ open_record k (task_at seat.start t))
+      at None f = absurd (let g : option_map record_of None ≡ Some (open_record k (task_at seat.start t)) = ap (option_map record_of) (sym f) ∙ sym (slice_get-map record_of w.records seat.record) ∙ way.told in cc)
+      at (Some r) f = (r, refl, (let g : option_map record_of (Some r) ≡ Some (open_record k (task_at seat.start t)) = ap (option_map record_of) (sym f) ∙ sym (slice_get-map record_of w.records seat.record) ∙ way.told in cc))
+
+  pub record-within : (t : SeenTask) → seat.client.seen.task ≡ Some t → seat.record < length w.records
+  record-within t e = let r = record-there t e in slice_get_within w.records seat.record r.0 r.1
+
+  module _ (t : SeenTask) (under_way : seat.client.seen.task ≡ Some t) (hearer : ClientView) (same : IsSame (the_view w) k hearer) (end : Option ℕ) (stamp : Option Stamp) (outcome : Option Outcome) (r : Told) (known : slice_get w.records seat.record ≡ Some r)
+      (opened : record_of r ≡ open_record k (task_at seat.start t)) where
+    -- the record that tells how the operation stands
+    abbrev new_record : Told
+    new_record = record r { end = end; stamp = stamp; outcome = outcome }
+
+    abbrev new_seat : Seat
+    new_seat = record seat { client = hearer }
+
+    new_told : record_of new_record ≡ record { client = k; block = t.block; work = t.work; start = seat.start; end = end; stamp = stamp; outcome = outcome }
+    new_told = ap (λ (x : Record). record x { end = end; stamp = stamp; outcome = outcome }) opened
+
+    next_seat : (o : Option SeenTask) → hearer.seen.task ≡ o → Becomes w.config w.place (Some (task_at seat.start t)) o → IfSome o (λ u. (end ≡ None) × (stamp ≡ chosen_stamp u.work u.stage) × (outcome ≡ None))
+        → IsTaskOf w.config (map record_of (slice_set w.records seat.record new_record)) w.place k seat.start seat.record o
+    next_seat None e may told = tt
+    next_seat (Some u) e may told = record {
+      answers = may.answers;
+      phases = may.phases;
+      told =
+          slice_get-map record_of (slice_set w.records seat.record new_record) seat.record
+          ∙ ap (option_map record_of) (slice_get-set_same w.records seat.record new_record (slice_get_within w.records seat.record r known))
+          ∙ ap Some (new_told ∙ (λ i. record { client = k; block = sym may.block i; work = sym may.work i; start = seat.start; end = told.0 i; stamp = told.1 i; outcome = told.2 i }));
+    }
+
+    pub world-kept : Becomes w.config w.place (Some (task_at seat.start t)) hearer.seen.task → IfSome hearer.seen.task (λ u. (end ≡ None) × (stamp ≡ chosen_stamp u.work u.stage) × (outcome ≡ None))
+        → IsWorld w.config w.hosts.items (slice_set w.seats.items k new_seat) (slice_set w.records seat.record new_record) w.place
+    world-kept may standing =
+        told w.config w.hosts.items w.seats.items w.records w.place good k new_seat seat.record r new_record (open_record k (task_at seat.start t)) known opened refl refl
+        (λ j x u e. let q : open_record j (task_at x.start u) ≡ open_record k (task_at seat.start t) = cc in ap (λ (y : Record). y.client) q)
+        (record { config = same.config; id = same.id; task = next_seat hearer.seen.task refl may standing })
+
+    pub world-settled : world_in (the_view (record w { seats = with_item w.seats k new_seat; records = slice_set w.records seat.record new_record }))
+        ≡ settled (world_in (the_view w)) k (task_at seat.start t) hearer.seen.task end stamp outcome
+    world-settled =
+        world-seat w k inside new_seat w.pool (slice_set w.records seat.record new_record) w.place
+        ∙ (λ i. record (world_in (the_view w)) {
+          task = update (world_in (the_view w)).task k (started_task seat.start hearer.seen.task);
+          life = update-known (world_in (the_view w)).life k hearer.seen.life same.life i;
+          started = update-known (world_in (the_view w)).started k hearer.seen.started same.started i;
+          client_crashed = update-known (world_in (the_view w)).client_crashed k seat.crashed (sym (crashed-seat w k inside seat there)) i;
+          records = records_are i;
+        })
+      where
+        records_are : map record_of (slice_set w.records seat.record new_record) ≡ with_record (map record_of w.records) (record { client = k; block = t.block; work = t.work; start = seat.start; end = end; stamp = stamp; outcome = outcome })
+        records_are =
+            map-set record_of w.records seat.record new_record
+            ∙ ap (slice_set (map record_of w.records) seat.record) new_told
+            ∙ with_record-set (map record_of w.records) seat.record (open_record k (task_at seat.start t)) _ (rw map-map good.ascend)
+            (slice_get-map record_of w.records seat.record ∙ ap (option_map record_of) known ∙ ap Some opened) refl refl
+
+  -- all of it, where an operation is under way
+  module _ (hearer : ClientView) (same : IsSame (the_view w) k hearer) (end : Option ℕ) (stamp : Option Stamp) (outcome : Option Outcome) (may : Becomes w.config w.place ((world_in (the_view w)).task k) hearer.seen.task) where
+    task-there : (t : SeenTask) × (seat.client.seen.task ≡ Some t)
+    task-there = at seat.client.seen.task refl (subst (λ o. Becomes w.config w.place o hearer.seen.task) (task-seat w k inside seat there) may)
+      where
+        at : (o : Option SeenTask) → seat.client.seen.task ≡ o → Becomes w.config w.place (started_task seat.start o) hearer.seen.task → (t : SeenTask) × (seat.client.seen.task ≡ Some t)
+        at None e m = absurd m
+        at (Some t) e m = (t, e)
+
+    task-is : (world_in (the_view w)).task k ≡ Some (task_at seat.start task-there.0)
+    task-is = task-seat w k inside seat there ∙ ap (started_task seat.start) task-there.1
+
+    pub settle-within : seat.record < length w.records
+    settle-within = record-within task-there.0 task-there.1
+
+    module _ (standing : IfSome hearer.seen.task (λ u. (end ≡ None) × (stamp ≡ chosen_stamp u.work u.stage) × (outcome ≡ None))) (records : List Told)
+        (are : (r : Told) → slice_get w.records seat.record ≡ Some r → records ≡ slice_set w.records seat.record (record r { end = end; stamp = stamp; outcome = outcome })) where
+      known : (r : Told) × (slice_get w.records seat.record ≡ Some r) × (record_of r ≡ open_record k (task_at seat.start task-there.0))
+      known = record-there task-there.0 task-there.1
+
+      pub settle-kept : IsWorld w.config w.hosts.items (slice_set w.seats.items k (record seat { client = hearer })) records w.place
+      settle-kept =
+          rw (are known.0 known.1)
+          (world-kept task-there.0 task-there.1 hearer same end stamp outcome known.0 known.1 known.2 (subst (λ o. Becomes w.config w.place o hearer.seen.task) task-is may) standing)
+
+      pub settle-world : IfSome ((world_in (the_view w)).task k)
+          (λ t. world_in (the_view (record w { seats = with_item w.seats k (record seat { client = hearer }); records = records })) ≡ settled (world_in (the_view w)) k t hearer.seen.task end stamp outcome)
+      settle-world =
+          subst
+          (λ (o : Option Task). IfSome o (λ t. world_in (the_view (record w { seats = with_item w.seats k (record seat { client = hearer }); records = records })) ≡ settled (world_in (the_view w)) k t hearer.seen.task end stamp outcome))
+          (sym task-is)
+          (ap (λ (rs : List Told). world_in (the_view (record w { seats = with_item w.seats k (record seat { client = hearer }); records = rs }))) (are known.0 known.1)
+          ∙ world-settled task-there.0 task-there.1 hearer same end stamp outcome known.0 known.1 known.2)
