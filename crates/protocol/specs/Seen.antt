@@ -11,6 +11,8 @@ use Rattle.protocol.specs.Operations.{Task, Work, Stage, Outcome, Decision, firs
 use Rattle.protocol.specs.Operations.Work.{Reads, Writes}
 use Rattle.protocol.specs.Operations.Decision.{GoesOn, Ends}
 use Rattle.protocol.specs.World.{World, Record, Accepted}
+use Rattle.run_words.specs.declared.record.Record.{Record as ToldRecord}
+use Rattle.run_words.specs.declared.record.Accepted.{Accepted as ToldAccepted}
 
 -- an operation under way, with one answer or none for each node; at which place it began the world alone knows
 pub record SeenTask : Type 0 where
@@ -51,6 +53,14 @@ block_of (WriteOp block value) = block
 abbrev pub work_of : Op → Work
 work_of (ReadOp block) = Reads
 work_of (WriteOp block value) = Writes value
+
+-- a record as it is told
+abbrev pub record_of : ToldRecord → Record
+record_of r = record { client = r.client; block = block_of r.op; work = work_of r.op; start = r.start; end = r.end; stamp = r.stamp; outcome = r.outcome }
+
+-- an acceptance as it is told
+abbrev pub accepted_of : ToldAccepted → Accepted
+accepted_of a = record { node = a.node; block = a.block; stamp = a.stamp }
 
 -- the operation with one more answer counted
 abbrev pub seen_counted : SeenTask → ℕ → Reply → SeenTask

@@ -1,0 +1,3 @@
+pub mod Books
+pub mod Tellings
+pub mod Reports
