@@ -4,7 +4,9 @@ ghost use Rattle.protocol.specs.History.{Entry as FullEntry};
 ghost use Rattle.history_book.specs.Books.{Book};
 ghost use Rattle.history_book.specs.Tellings.{Tells, AreRecords};
 
+use crate::counts::{counts_of, spent_writes};
 use crate::entry::{Counts, Entry, Spent};
+use crate::sweep::entries_of;
 use lists::{ItemList, NoMemory};
 use run_words::Record;
 use stamp_order::Stamp;
@@ -56,5 +58,9 @@ pub fn history_of(alloc: Global, records: &[Record], first: &Stamp) -> Result<Hi
     requires { AreRecords (map record_of records.now) first.now }
     ensures { IfOk result (λ history. (h : List FullEntry) × Tells (map record_of records.now) first.now h history) }
 {
-    Err(NoMemory)
+    Ok(History {
+        entries: entries_of(alloc, records, first)?,
+        spent: spent_writes(alloc, records)?,
+        counts: counts_of(records),
+    })
 }

@@ -2,9 +2,14 @@
 //! registers; and its text.
 #![tactic(auto)]
 
+mod counts;
+mod draft;
 pub mod entry;
 pub mod history;
 mod report;
+mod sweep;
+#[cfg(test)]
+mod tests;
 
 pub use entry::{Counts, Entry, Kind, Spent};
 pub use history::{History, history_of};

@@ -1,0 +1,85 @@
+-- Entries whose marks aren't known yet, and which of them stand in a history.
+use Rattle.std.specs.Prelude.{◌≡◌, ◌≢◌, ℕ, Bool, true, false, not, ◌&&◌, ◌||◌, ◌==◌, if◌then◌else◌, List, [], ◌∷◌, filter_map, map, Option}
+use Rattle.std.specs.declared.option.Option.TheVariants.{None, Some}
+use Rattle.std.specs.List.{AllByRecursion}
+use Rattle.stamp_order.specs.declared.Stamp.{Stamp}
+use Rattle.stamp_order.specs.Stamps.{same_stamp}
+use Rattle.run_words.specs.declared.record.Record.{Record as ToldRecord}
+use Rattle.run_words.specs.declared.outcome.Outcome.TheVariants.{Gave}
+use Rattle.protocol.specs.Operations.{Work, Outcome}
+use Rattle.protocol.specs.Operations.Work.{Reads, Writes}
+use Rattle.protocol.specs.World.{Record}
+use Rattle.protocol.specs.Seen.{record_of}
+use Rattle.protocol.specs.History.{Entry as FullEntry, Kind as FullKind, is_read}
+use Rattle.protocol.specs.History.Kind.{Write as FullWrite, Foreign as FullForeign, Read as FullRead}
+use Rattle.history_book.specs.declared.entry.Kind.{Kind}
+use Rattle.history_book.specs.declared.entry.Kind.TheVariants.{Read, Write, Foreign}
+use Rattle.history_book.specs.declared.draft.Draft.{Draft}
+
+abbrev pub full_kind : Kind → FullKind
+full_kind Read = FullRead
+full_kind Write = FullWrite
+full_kind Foreign = FullForeign
+
+-- the entry that a draft stands for
+abbrev pub entry_of : Draft → FullEntry
+entry_of d = record { block = d.block; stamp = d.stamp.now; kind = full_kind d.kind; client = d.client; start = d.start; end = d.end; value = d.value.now }
+
+abbrev pub entries_of : List Draft → List FullEntry
+entries_of drafts = map entry_of drafts
+
+-- an entry of a record, of this kind, stamp and value
+abbrev pub entry_as : Record → FullKind → Stamp → List ℕ → FullEntry
+entry_as r kind stamp value = record { block = r.block; stamp = stamp; kind = kind; client = r.client; start = Some r.start; end = r.end; value = value }
+
+abbrev pub read_entry : Record → Option Outcome → Option FullEntry
+read_entry r (Some (Gave stamp value how rounds)) = Some (entry_as r FullRead stamp value)
+read_entry r _ = None
+
+abbrev pub write_entry : Record → List ℕ → Option Stamp → Option FullEntry
+write_entry r value (Some stamp) = Some (entry_as r FullWrite stamp value)
+write_entry r value None = None
+
+-- the entry of a completed read, or of a write that has chosen a stamp, whether or not it stands in the history
+abbrev pub candidate_by : Record → Work → Option FullEntry
+candidate_by r Reads = read_entry r r.outcome
+candidate_by r (Writes value) = write_entry r value r.stamp
+
+abbrev pub candidate : Record → Option FullEntry
+candidate r = candidate_by r r.work
+
+-- no two have the same start
+abbrev pub HaveStarts : List FullEntry → Type 0
+HaveStarts [] = Unit {0}
+HaveStarts (e ∷ es) = AllByRecursion (λ f. e.start ≢ f.start) es × HaveStarts es
+
+abbrev pub candidates : List Record → List FullEntry
+candidates records = filter_map candidate records
+
+abbrev pub is_reading : FullEntry → Bool
+is_reading e = is_read e.kind == 1
+
+-- both are of one block and stamp
+abbrev pub is_of_version : FullEntry → FullEntry → Bool
+is_of_version e f = (e.block == f.block) && same_stamp e.stamp f.stamp
+
+-- the other is there, and both are of one block and stamp
+abbrev pub is_of_some : FullEntry → Option FullEntry → Bool
+is_of_some e None = false
+is_of_some e (Some f) = is_of_version e f
+
+-- the write that a read saw and no correct client made
+abbrev pub foreign_of : FullEntry → FullEntry
+foreign_of e = record { block = e.block; stamp = e.stamp; kind = FullForeign; client = e.stamp.client; start = None; end = None; value = e.value }
+
+abbrev pub has_end : Option ℕ → Bool
+has_end None = false
+has_end (Some end) = true
+
+-- what stands in the history for a candidate: a read, after the foreign write that it saw first; a write that has ended or was read
+abbrev pub entries_by : FullKind → Bool → Bool → FullEntry → List FullEntry
+entries_by FullRead saw_foreign was_read e = if saw_foreign then foreign_of e ∷ e ∷ [] else e ∷ []
+entries_by _ saw_foreign was_read e = if has_end e.end || was_read then e ∷ [] else []
+
+abbrev pub entries_at : Bool → Bool → FullEntry → List FullEntry
+entries_at saw_foreign was_read e = entries_by e.kind saw_foreign was_read e

@@ -1,0 +1,139 @@
+ghost use Rattle.std.specs.Prelude.{◌≡◌, ◌≤◌, ◌*◌, ◌<◌, ◌^◌, ◌++◌, List, length, map, reverse, IfOk, OnOk, Some, option_map, option_copied, if◌then◌else◌};
+ghost use Rattle.std.specs.List.Sorted.{IsPermutation};
+ghost use Rattle.protocol.specs.Seen.{record_of};
+ghost use Rattle.protocol.specs.History.{IsSorted};
+ghost use Rattle.protocol.specs.World.{Record as FullRecord};
+ghost use Rattle.stamp_order.specs.declared.Stamp.{Stamp as FullStamp};
+ghost use Rattle.history_book.specs.Tellings.{AreRecords, IsHistoryOf, told_entry};
+ghost use Rattle.history_book.specs.Drafts.{entry_of, entries_of, entries_at, candidates, HaveStarts, is_reading, is_of_some};
+
+use crate::draft::Draft;
+use crate::entry::{Entry, Kind};
+use lists::{ItemList, NoMemory};
+use run_words::Record;
+use stamp_order::Stamp;
+use std::alloc::Global;
+
+/// The entries of a run's history, under their marks.
+pub fn entries_of(
+    alloc: Global,
+    records: &[Record],
+    first: &Stamp,
+) -> Result<ItemList<Entry>, NoMemory> {
+    let drafts = sorted_drafts(alloc, records)?;
+    let kept = kept(alloc, drafts.as_slice(), first)?;
+    marked(alloc, kept.as_slice())
+}
+
+/// A draft of each completed read, and of each write that has chosen its stamp, in the order of entries.
+fn sorted_drafts(alloc: Global, records: &[Record]) -> Result<Vec<Draft<'_>>, NoMemory> {
+    let mut drafts = drafts(alloc, records)?;
+    sort(drafts.as_mut_slice());
+    Ok(drafts)
+}
+
+fn drafts(alloc: Global, records: &[Record]) -> Result<Vec<Draft<'_>>, NoMemory>
+    ensures { IfOk result (λ drafts. entries_of drafts.items ≡ candidates (map record_of records.now)) }
+{
+    let mut drafts = Vec::new(alloc);
+    for operation in records {
+        if let Some(draft) = Draft::of(operation) {
+            drafts.push(draft)?;
+        }
+    }
+    Ok(drafts)
+}
+
+fn sort(drafts: &mut [Draft<'_>])
+    requires { HaveStarts (entries_of drafts.old) }
+    ensures sorted { IsSorted (entries_of drafts.new) }
+    ensures permutation { IsPermutation (entries_of drafts.old) (entries_of drafts.new) }
+{
+    drafts.sort_unstable_by(|a, b| a.compare(b));
+}
+
+/// The drafts that stand in the history, with a foreign write before the first read of each stamp that no draft of a write has.
+fn kept<'a>(
+    alloc: Global,
+    drafts: &[Draft<'a>],
+    first: &Stamp,
+) -> Result<Vec<Draft<'a>>, NoMemory> {
+    let mut kept = Vec::new(alloc);
+    let mut read: Option<&Draft<'a>> = None;
+    let mut rest = drafts;
+    while let Some((draft, before)) = rest.split_last() {
+        let saw_foreign = draft.stamp != first && !shares_version(draft, before.last());
+        keep(&mut kept, draft, saw_foreign, shares_version(draft, read))?;
+        read = nearest_read(draft, read);
+        rest = before;
+    }
+    kept.reverse();
+    Ok(kept)
+}
+
+/// The draft itself where it is a read, else the nearest read after it.
+fn nearest_read<'d, 'a>(draft: &'d Draft<'a>, later: Option<&'d Draft<'a>>) -> Option<&'d Draft<'a>>
+    ensures { option_copied result ≡ (if is_reading (entry_of draft.now) then Some draft.now else option_copied later) }
+{
+    if draft.is_read() { Some(draft) } else { later }
+}
+
+/// Whether there is another draft, of the same block and stamp.
+fn shares_version(draft: &Draft<'_>, other: Option<&Draft<'_>>) -> bool
+    ensures { result ≡ is_of_some (entry_of draft.now) (option_map entry_of (option_copied other)) }
+{
+    match other {
+        Some(other) => draft.is_of_version(other),
+        None => false,
+    }
+}
+
+/// Adds what stands in the history for a draft, the last of it first.
+fn keep<'a>(
+    kept: &mut Vec<Draft<'a>>,
+    draft: &Draft<'a>,
+    saw_foreign: bool,
+    was_read: bool,
+) -> Result<(), NoMemory>
+    ensures { OnOk result (reverse (entries_of kept.new.items) ≡ entries_at saw_foreign was_read (entry_of draft.now) ++ reverse (entries_of kept.old.items)) }
+{
+    if draft.is_read() {
+        kept.push(*draft)?;
+        if saw_foreign {
+            kept.push(draft.foreign())?;
+        }
+    } else if draft.end.is_some() || was_read {
+        kept.push(*draft)?;
+    }
+    Ok(())
+}
+
+/// The entries of sorted drafts, with the verifiers of each block, time and writer numbered from 1.
+fn marked(alloc: Global, drafts: &[Draft<'_>]) -> Result<ItemList<Entry>, NoMemory>
+    requires sorted { IsSorted (entries_of drafts.now) }
+    requires few { length drafts.now < 2 ^ 32 }
+    ensures { IfOk result (λ entries. entries ≡ map (told_entry (entries_of drafts.now)) (entries_of drafts.now)) }
+{
+    let mut entries = ItemList::new(alloc);
+    let mut last: Option<(&Draft<'_>, u32)> = None;
+    for draft in drafts {
+        let mark = next_mark(last, draft);
+        entries.push(draft.entry(mark)?)?;
+        last = Some((draft, mark));
+    }
+    Ok(entries)
+}
+
+/// The mark of a draft after the last one, which has its own mark.
+fn next_mark(last: Option<(&Draft<'_>, u32)>, draft: &Draft<'_>) -> u32 {
+    match last {
+        Some((last, mark)) if last.is_rival(draft) => {
+            if last.stamp == draft.stamp {
+                mark
+            } else {
+                mark + 1
+            }
+        }
+        _ => 1,
+    }
+}
