@@ -1,1 +1,4 @@
 pub mod Stamped
+pub mod Orders
+pub mod Counted
+pub mod Sweeps

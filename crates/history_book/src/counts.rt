@@ -41,12 +41,40 @@ pub fn counts_of(records: &[Record]) -> Counts
     ensures { result ≡ told_counts (counts_of (map record_of records.now)) }
 {
     Counts {
-        done: records.iter().filter(|r| is_done(r)).count() as u64,
-        spent: records.iter().filter(|r| is_spent(r)).count() as u64,
-        pending: records.iter().filter(|r| r.end.is_none()).count() as u64,
-        repaired: records.iter().filter(|r| is_repaired(r)).count() as u64,
+        done: done(records),
+        spent: spent(records),
+        pending: pending(records),
+        repaired: repaired(records),
         rounds: rounds_of(records),
     }
+}
+
+fn done(records: &[Record]) -> u64
+    requires { length records.now < 2 ^ 63 }
+    ensures { result ≡ count_by (λ r. is_done r.outcome) records.now }
+{
+    records.iter().filter(|r| is_done(r)).count() as u64
+}
+
+fn spent(records: &[Record]) -> u64
+    requires { length records.now < 2 ^ 63 }
+    ensures { result ≡ count_by (λ r. is_spent r.outcome) records.now }
+{
+    records.iter().filter(|r| is_spent(r)).count() as u64
+}
+
+fn pending(records: &[Record]) -> u64
+    requires { length records.now < 2 ^ 63 }
+    ensures { result ≡ count_by (λ r. is_pending r.end) records.now }
+{
+    records.iter().filter(|r| r.end.is_none()).count() as u64
+}
+
+fn repaired(records: &[Record]) -> u64
+    requires { length records.now < 2 ^ 63 }
+    ensures { result ≡ count_by (λ r. is_repaired r.outcome) records.now }
+{
+    records.iter().filter(|r| is_repaired(r)).count() as u64
 }
 
 fn is_done(operation: &Record) -> bool

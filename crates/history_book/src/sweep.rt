@@ -59,28 +59,30 @@ fn kept<'a>(
     first: &Stamp,
 ) -> Result<Vec<Draft<'a>>, NoMemory> {
     let mut kept = Vec::new(alloc);
-    let mut read: Option<&Draft<'a>> = None;
-    let mut rest = drafts;
-    while let Some((draft, before)) = rest.split_last() {
-        let saw_foreign = draft.stamp != first && !shares_version(draft, before.last());
-        keep(&mut kept, draft, saw_foreign, shares_version(draft, read))?;
+    let mut read: Option<Draft<'a>> = None;
+    let mut left = drafts.len();
+    while left > 0 {
+        left -= 1;
+        let draft = &drafts[left];
+        let leads = !shares_version(draft, drafts[..left].last());
+        let was_read = shares_version(draft, read.as_ref());
+        keep(&mut kept, draft, leads && draft.stamp != first, was_read)?;
         read = nearest_read(draft, read);
-        rest = before;
     }
     kept.reverse();
     Ok(kept)
 }
 
 /// The draft itself where it is a read, else the nearest read after it.
-fn nearest_read<'d, 'a>(draft: &'d Draft<'a>, later: Option<&'d Draft<'a>>) -> Option<&'d Draft<'a>>
-    ensures { option_copied result ≡ (if is_reading (entry_of draft.now) then Some draft.now else option_copied later) }
+fn nearest_read<'a>(draft: &Draft<'a>, later: Option<Draft<'a>>) -> Option<Draft<'a>>
+    ensures { option_map entry_of result ≡ (if is_reading (entry_of draft.now) then Some (entry_of draft.now) else option_map entry_of later.entry) }
 {
-    if draft.is_read() { Some(draft) } else { later }
+    if draft.is_read() { Some(*draft) } else { later }
 }
 
 /// Whether there is another draft, of the same block and stamp.
 fn shares_version(draft: &Draft<'_>, other: Option<&Draft<'_>>) -> bool
-    ensures { result ≡ is_of_some (entry_of draft.now) (option_map entry_of (option_copied other)) }
+    ensures { result ≡ is_of_some (entry_of draft.now) (option_map entry_of (option_copied other.entry)) }
 {
     match other {
         Some(other) => draft.is_of_version(other),
