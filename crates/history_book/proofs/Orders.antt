@@ -15,7 +15,7 @@ use Rattle.protocol.specs.Report.{AreRivals}
 use Rattle.protocol.proofs.Counting.{both_true}
 use Rattle.protocol.proofs.Order.{stamp_total, stamp_exact, same_stamp-≡, same_stamp-refl}
 use Rattle.protocol.proofs.Entries.{entry_total}
-use Rattle.history_book.specs.Drafts.{is_of_version}
+use Rattle.history_book.specs.Drafts.{is_of_version, IsVersion}
 
 then_assoc : (a b c : Ordering) → ordering_then (ordering_then a b) c ≡ ordering_then a (ordering_then b c)
 then_assoc Less b c = refl
@@ -89,10 +89,6 @@ rival_first e f h =
 
 -- ---- one version
 
-pub record IsVersion (e f : Entry) : Type 0 where
-  pub block : e.block ≡ f.block
-  pub stamp : e.stamp ≡ f.stamp
-
 pub version_is : (e f : Entry) → is_of_version e f ≡ true → IsVersion e f
 version_is e f h = let b = both_true _ _ h in record { block = eqb-true e.block f.block b.0; stamp = same_stamp-≡ e.stamp f.stamp b.1 }
 
@@ -155,3 +151,14 @@ rival_back e f r = record { block = sym r.block; time = sym r.time; writer = sym
 -- what stands between two rivals is their rival
 pub rival_between : (e f g : Entry) → entry_cmp e f ≡ Less → entry_cmp f g ≡ Less → AreRivals e g → AreRivals e f
 rival_between e f g h k r = tied_rival e f (between rival_total e f g (rival_first e f h) (rival_first f g k) (rival_tied e g r))
+
+pub rival_on : (e f g : Entry) → AreRivals e f → AreRivals f g → AreRivals e g
+rival_on e f g a b = record { block = b.block ∙ a.block; time = b.time ∙ a.time; writer = b.writer ∙ a.writer }
+
+pub rivals_or_not : (e f : Entry) → AreRivals e f ⊎ (AreRivals e f → ⊥)
+rivals_or_not e f = at (rival_cmp e f) refl
+  where
+    at : (o : Ordering) → rival_cmp e f ≡ o → AreRivals e f ⊎ (AreRivals e f → ⊥)
+    at Less q = inr (λ r. let t = rival_tied e f r in cc)
+    at Equal q = inl (tied_rival e f q)
+    at Greater q = inr (λ r. let t = rival_tied e f r in cc)

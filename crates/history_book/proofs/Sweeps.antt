@@ -1,9 +1,10 @@
 -- What a sweep over sorted candidates keeps.
-use Rattle.std.proofs.Common.{◌≡◌, ◌≢◌, ◌⊎◌, ◌↔◌, ℕ, suc, ◌+◌, ◌*◌, ◌<◌, ◌≤◌, Bool, true, false, not, cond, ◌&&◌, ◌||◌, List, [], ◌∷◌, ◌++◌, length, Option, refl, sym, subst, ◌∙◌, ap, inl, inr, arith, eqb, append_assoc}
+use Rattle.std.proofs.Common.{◌≡◌, ◌≢◌, ◌⊎◌, ◌↔◌, ℕ, suc, ◌+◌, ◌*◌, ◌<◌, ◌≤◌, Bool, true, false, not, cond, ◌&&◌, ◌||◌, List, [], ◌∷◌, ◌++◌, length, Option, refl, sym, subst, ◌∙◌, ap, inl, inr, arith, eqb, append_assoc, get_or, take, drop, drop-cons, add-one, length-append, ◌-◌}
 use Rattle.std.specs.declared.option.Option.TheVariants.{None, Some}
 use Rattle.std.specs.declared.cmp.Ordering.TheVariants.{Less, Equal, Greater}
-use Rattle.std.specs.List.{Contains, AllByRecursion, list_any}
+use Rattle.std.specs.List.{Contains, AllByRecursion, list_any, slice_get, find}
 use Rattle.std.proofs.lemmas.Bool.{eq-eqb, eqb-true}
+use Rattle.std.proofs.lemmas.List.{take_more}
 use Rattle.std.proofs.lemmas.List.Elements.{Contains-append_cases, Contains-append_left, Contains-append_right}
 use Rattle.stamp_order.specs.declared.Stamp.{Stamp}
 use Rattle.stamp_order.specs.Stamps.{same_stamp}
@@ -14,8 +15,8 @@ use Rattle.protocol.proofs.Keeping.{or_cases}
 use Rattle.protocol.proofs.Order.{same_stamp-≡, same_stamp-refl}
 use Rattle.protocol.proofs.Lists.{Contains-none, Contains-head, Contains-rest, Contains-cons_cases, Contains-one}
 use Rattle.protocol.proofs.Entries.{entry_total, member_of, not_back, not_self, less_by_kind}
-use Rattle.history_book.specs.Drafts.{is_of_version, is_of_some, is_reading, foreign_of, has_end, entries_by, entries_at}
-use Rattle.history_book.proofs.Orders.{IsVersion, version_is, version_if, version_back, version_on, version_between, less_by_version}
+use Rattle.history_book.specs.Drafts.{is_of_version, is_of_some, is_reading, foreign_of, has_end, entries_by, entries_at, IsVersion, IsLeast, IsKept, IsSeen, AreKept}
+use Rattle.history_book.proofs.Orders.{version_is, version_if, version_back, version_on, version_between, less_by_version}
 
 -- ---- tests over a list
 
@@ -84,23 +85,6 @@ module _ (first : Stamp) where
   sweep xs [] = []
   sweep xs (y ∷ ys) = entries_at (saw_foreign xs y) (list_any (is_reader y) ys) y ++ sweep (xs ++ y ∷ []) ys
 
-  -- no candidate of its version stands before it
-  pub record IsLeast (all : List Entry) (y : Entry) : Type 0 where
-    pub least : (z : Entry) → Contains all z → IsVersion y z → (z ≡ y) ⊎ (entry_cmp y z ≡ Less)
-
-  -- a read, or a write that has ended or was read
-  abbrev pub IsKept : List Entry → Entry → Type 0
-  IsKept all e = (e.kind ≡ Read) ⊎ ((e.kind ≡ Write) × ((has_end e.end ≡ true) ⊎ ((z : Entry) × Contains all z × (z.kind ≡ Read) × IsVersion e z)))
-
-  -- the foreign write of the first read of its version
-  pub record IsSeen (all ys : List Entry) (e : Entry) : Type 0 where
-    pub read : Entry
-    pub there : Contains ys read
-    pub reads : read.kind ≡ Read
-    pub other : read.stamp ≢ first
-    pub first_one : IsLeast all read
-    pub is : e ≡ foreign_of read
-
   -- ---- what the sweep gives
 
   not_both_ways : (b : Bool) → b ≡ true → not b ≡ true → ⊥
@@ -108,7 +92,7 @@ module _ (first : Stamp) where
   not_both_ways false e f = cc
 
   swept : (all : List Entry) → IsSorted all → ((e : Entry) → Contains all e → e.kind ≢ Foreign) → (xs ys : List Entry) → all ≡ xs ++ ys → (e : Entry) → Contains (sweep xs ys) e
-      → (Contains ys e × IsKept all e) ⊎ IsSeen all ys e
+      → (Contains ys e × IsKept all e) ⊎ IsSeen first all ys e
   unfolding sweep
   swept all s c xs [] q e k = absurd (Contains-none e k)
   swept all s c xs (y ∷ ys) q e k =
@@ -125,7 +109,7 @@ module _ (first : Stamp) where
       in_all z h = rw q (Contains-append_right xs (y ∷ ys) z h)
 
       Goal : Type 0
-      Goal = (Contains (y ∷ ys) e × IsKept all e) ⊎ IsSeen all (y ∷ ys) e
+      Goal = (Contains (y ∷ ys) e × IsKept all e) ⊎ IsSeen first all (y ∷ ys) e
 
       itself : IsKept all y → e ≡ y → Goal
       itself h p = inl (rw p (Contains-head y ys), rw p h)
@@ -219,7 +203,7 @@ module _ (first : Stamp) where
   entries_of_read Write q f w h y = absurd (cc)
   entries_of_read Foreign q f w h y = absurd (cc)
 
-  sees : (all : List Entry) → IsSorted all → (xs ys : List Entry) → all ≡ xs ++ ys → (e : Entry) → IsSeen all ys e → Contains (sweep xs ys) e
+  sees : (all : List Entry) → IsSorted all → (xs ys : List Entry) → all ≡ xs ++ ys → (e : Entry) → IsSeen first all ys e → Contains (sweep xs ys) e
   unfolding sweep
   sees all s xs [] q e h = absurd (Contains-none h.read h.there)
   sees all s xs (y ∷ ys) q e h =
@@ -307,3 +291,115 @@ module _ (first : Stamp) where
       here Read r f w = read r f
       here Write r f w = write (has_end y.end || w)
       here Foreign r f w = write (has_end y.end || w)
+
+  pub are_kept : (all : List Entry) → IsSorted all → ((e : Entry) → Contains all e → e.kind ≢ Foreign) → AreKept first all (sweep [] all)
+  are_kept all s c = record {
+    sorted = sweep_sorted all s c [] all refl;
+    entries = λ e. (swept all s c [] all refl e, λ h. elim h [ inl k ↦ keeps all s [] all refl e k.0 k.1 | inr k ↦ sees all s [] all refl e k ]);
+  }
+
+  -- each candidate gives two entries at most
+  pub sweep_length : (xs ys : List Entry) → length (sweep xs ys) ≤ 2 * length ys
+  unfolding sweep
+  sweep_length xs [] = omega arith
+  sweep_length xs (y ∷ ys) =
+      let rest = sweep_length (xs ++ y ∷ []) ys in
+      omega (arith, length-append (entries_at (saw_foreign xs y) (list_any (is_reader y) ys) y) (sweep (xs ++ y ∷ []) ys), at y.kind (saw_foreign xs y) (list_any (is_reader y) ys), rest)
+    where
+      short : (b : Bool) → length (cond b (y ∷ []) []) ≤ 2
+      short true = omega arith
+      short false = omega arith
+
+      at : (k : Kind) (f w : Bool) → length (entries_by k f w y) ≤ 2
+      at Read true w = omega arith
+      at Read false w = omega arith
+      at Write f w = short (has_end y.end || w)
+      at Foreign f w = short (has_end y.end || w)
+
+  -- the next candidate, from the end
+  pub sweep_at : (all : List Entry) (k : ℕ) (d : Entry) → k < length all → sweep (take k all) (drop k all) ≡ entries_at (saw_foreign (take k all) (get_or all k d)) (list_any (is_reader (get_or all k d)) (drop (k + 1) all)) (get_or all k d) ++ sweep (take (k + 1) all) (drop (k + 1) all)
+  unfolding sweep
+  sweep_at all k d h = rw (drop-cons all k d, take_more all k d h, add-one) refl
+
+-- ---- what the neighbours tell
+
+-- the last of a list is above the others
+record IsLast (xs : List Entry) (p : Entry) : Type 0 where
+  there : Contains xs p
+  above : (z : Entry) → Contains xs z → (z ≡ p) ⊎ (entry_cmp z p ≡ Less)
+
+last_is : (x : Entry) (xs : List Entry) → IsSorted (x ∷ xs) → (p : Entry) × (slice_get (x ∷ xs) (length xs) ≡ Some p) × IsLast (x ∷ xs) p
+last_is x [] s = (x, refl, record { there = Contains-head x []; above = λ z k. inl (Contains-one z x k) })
+last_is x (w ∷ ws) s =
+    let r = last_is w ws s.1 in
+    (r.0, r.1, record {
+      there = Contains-rest r.0 x (w ∷ ws) r.2.there;
+      above = λ z k. elim (Contains-cons_cases z x (w ∷ ws) k) [ inl i ↦ inr (rw i (member_of (λ f. entry_cmp x f ≡ Less) (w ∷ ws) r.0 s.0 r.2.there)) | inr l ↦ r.2.above z l ];
+    })
+
+sorted_front : (xs ys : List Entry) → IsSorted (xs ++ ys) → IsSorted xs
+sorted_front [] ys s = tt
+sorted_front (x ∷ xs) ys s = (front xs ys s.0, sorted_front xs ys s.1)
+  where
+    front : (xs ys : List Entry) → AllByRecursion (λ f. entry_cmp x f ≡ Less) (xs ++ ys) → AllByRecursion (λ f. entry_cmp x f ≡ Less) xs
+    front [] ys h = tt
+    front (z ∷ zs) ys h = (h.0, front zs ys h.1)
+
+pub last_tells : (xs : List Entry) (y : Entry) (ys : List Entry) → IsSorted (xs ++ y ∷ ys) → list_any (is_of_version y) xs ≡ is_of_some y (slice_get xs (length xs - 1))
+last_tells [] y ys s = refl
+last_tells (x ∷ xs) y ys s =
+    let r = last_is x xs (sorted_front (x ∷ xs) (y ∷ ys) s) in
+    let n : length (x ∷ xs) - 1 ≡ length xs = omega arith in
+    let e : slice_get (x ∷ xs) (length (x ∷ xs) - 1) ≡ Some r.0 = ap (slice_get (x ∷ xs)) n ∙ r.1 in
+    at r.0 r.2 (is_of_version y r.0) refl ∙ sym (ap (is_of_some y) e)
+  where
+    at : (p : Entry) → IsLast (x ∷ xs) p → (b : Bool) → is_of_version y p ≡ b → list_any (is_of_version y) (x ∷ xs) ≡ is_of_version y p
+    at p l true h = any_has (is_of_version y) (x ∷ xs) p l.there h ∙ sym h
+    at p l false h = any_none (is_of_version y) (x ∷ xs) (λ z k v. elim (l.above z k) [
+      | inl i ↦ (let g : is_of_version y p ≡ true = rw i at v in cc)
+      | inr i ↦ (let g = version_between z p y i (sorted_pair (x ∷ xs) y ys s p l.there) (version_back y z (version_is y z v)) in
+          let f = version_if y p (version_on y z p (version_is y z v) g) in cc)
+    ]) ∙ sym h
+
+-- the first read of a list
+record IsNextRead (ys : List Entry) (r : Entry) : Type 0 where
+  there : Contains ys r
+  reads : is_reading r ≡ true
+  below : (z : Entry) → Contains ys z → is_reading z ≡ true → (z ≡ r) ⊎ (entry_cmp r z ≡ Less)
+
+next_read : (ys : List Entry) → IsSorted ys → ((r : Entry) × (find is_reading ys ≡ Some r) × IsNextRead ys r) ⊎ ((find is_reading ys ≡ None) × ((z : Entry) → Contains ys z → is_reading z ≡ true → ⊥))
+next_read [] s = inr (refl, λ z k h. Contains-none z k)
+next_read (y ∷ ys) s = at (is_reading y) refl (next_read ys s.1)
+  where
+    Goal : Bool → Type 0
+    Goal b = ((r : Entry) × (cond b (Some y) (find is_reading ys) ≡ Some r) × IsNextRead (y ∷ ys) r) ⊎ ((cond b (Some y) (find is_reading ys) ≡ None) × ((z : Entry) → Contains (y ∷ ys) z → is_reading z ≡ true → ⊥))
+
+    at : (b : Bool) → is_reading y ≡ b → ((r : Entry) × (find is_reading ys ≡ Some r) × IsNextRead ys r) ⊎ ((find is_reading ys ≡ None) × ((z : Entry) → Contains ys z → is_reading z ≡ true → ⊥)) → Goal b
+    at true e rest = inl (y, refl, record { there = Contains-head y ys; reads = e; below = λ z k h. elim (Contains-cons_cases z y ys k) [ inl i ↦ inl i | inr l ↦ inr (member_of (λ f. entry_cmp y f ≡ Less) ys z s.0 l) ] })
+    at false e (inl r) = inl (r.0, r.1, record {
+      there = Contains-rest r.0 y ys r.2.there;
+      reads = r.2.reads;
+      below = λ z k h. elim (Contains-cons_cases z y ys k) [ inl i ↦ absurd (let g : is_reading y ≡ true = rw i at h in cc) | inr l ↦ r.2.below z l h ];
+    })
+    at false e (inr n) = inr (n.0, λ z k h. elim (Contains-cons_cases z y ys k) [ inl i ↦ (let g : is_reading y ≡ true = rw i at h in cc) | inr l ↦ n.1 z l h ])
+
+pub next_tells : (xs : List Entry) (y : Entry) (ys : List Entry) → IsSorted (xs ++ y ∷ ys) → list_any (is_reader y) ys ≡ is_of_some y (find is_reading ys)
+next_tells xs y ys s = elim (next_read ys (sorted_rest xs (y ∷ ys) s).1) [
+  | inl r ↦ at r.0 r.2 (is_of_version y r.0) refl ∙ sym (ap (is_of_some y) r.1)
+  | inr n ↦ any_none (is_reader y) ys (λ z k h. n.1 z k (both_true _ _ h).0) ∙ sym (ap (is_of_some y) n.0)
+]
+  where
+    conj : (a b : Bool) → a ≡ true → b ≡ true → a && b ≡ true
+    conj a b h k = rw (h, k) refl
+
+    others : (p : Entry) → IsNextRead ys p → is_of_version y p ≡ false → (z : Entry) → Contains ys z → is_reader y z ≡ true → ⊥
+    others p l h z k v =
+        let b = both_true _ _ v in
+        elim (l.below z k b.0) [
+          | inl i ↦ (let w = b.1 in let g : is_of_version y p ≡ true = rw i at w in cc)
+          | inr i ↦ (let g = version_if y p (version_between y p z (sorted_after xs y ys s p l.there) i (version_is y z b.1)) in cc)
+        ]
+
+    at : (p : Entry) → IsNextRead ys p → (b : Bool) → is_of_version y p ≡ b → list_any (is_reader y) ys ≡ is_of_version y p
+    at p l true h = any_has (is_reader y) ys p l.there (conj _ _ l.reads h) ∙ sym h
+    at p l false h = any_none (is_reader y) ys (others p l h) ∙ sym h

@@ -1,7 +1,8 @@
 -- Entries whose marks aren't known yet, and which of them stand in a history.
-use Rattle.std.specs.Prelude.{◌≡◌, ◌≢◌, ℕ, Bool, true, false, not, ◌&&◌, ◌||◌, ◌==◌, if◌then◌else◌, List, [], ◌∷◌, filter_map, map, Option}
+use Rattle.std.specs.Prelude.{◌≡◌, ◌≢◌, ◌⊎◌, ◌↔◌, ℕ, ◌+◌, ◌≤◌, Bool, true, false, not, ◌&&◌, ◌||◌, ◌==◌, if◌then◌else◌, List, [], ◌∷◌, filter_map, map, count_by, Option}
 use Rattle.std.specs.declared.option.Option.TheVariants.{None, Some}
-use Rattle.std.specs.List.{AllByRecursion}
+use Rattle.std.specs.declared.cmp.Ordering.TheVariants.{Less}
+use Rattle.std.specs.List.{Contains}
 use Rattle.stamp_order.specs.declared.Stamp.{Stamp}
 use Rattle.stamp_order.specs.Stamps.{same_stamp}
 use Rattle.run_words.specs.declared.record.Record.{Record as ToldRecord}
@@ -9,8 +10,9 @@ use Rattle.run_words.specs.declared.outcome.Outcome.TheVariants.{Gave}
 use Rattle.protocol.specs.Operations.{Work, Outcome}
 use Rattle.protocol.specs.Operations.Work.{Reads, Writes}
 use Rattle.protocol.specs.World.{Record}
+use Rattle.protocol.specs.Report.{AreRivals}
 use Rattle.protocol.specs.Seen.{record_of}
-use Rattle.protocol.specs.History.{Entry as FullEntry, Kind as FullKind, is_read}
+use Rattle.protocol.specs.History.{Entry as FullEntry, Kind as FullKind, is_read, entry_cmp, IsSorted}
 use Rattle.protocol.specs.History.Kind.{Write as FullWrite, Foreign as FullForeign, Read as FullRead}
 use Rattle.history_book.specs.declared.entry.Kind.{Kind}
 use Rattle.history_book.specs.declared.entry.Kind.TheVariants.{Read, Write, Foreign}
@@ -48,10 +50,15 @@ candidate_by r (Writes value) = write_entry r value r.stamp
 abbrev pub candidate : Record → Option FullEntry
 candidate r = candidate_by r r.work
 
--- no two have the same start
-abbrev pub HaveStarts : List FullEntry → Type 0
-HaveStarts [] = Unit {0}
-HaveStarts (e ∷ es) = AllByRecursion (λ f. e.start ≢ f.start) es × HaveStarts es
+-- it starts at this place
+abbrev pub place_is : ℕ → Option ℕ → Bool
+place_is n None = false
+place_is n (Some m) = m == n
+
+-- each entry has a start, and no two have the same one
+pub record HaveStarts (entries : List FullEntry) : Type 0 where
+  pub some : (e : FullEntry) → Contains entries e → (n : ℕ) × (e.start ≡ Some n)
+  pub once : (n : ℕ) → count_by (λ e. place_is n e.start) entries ≤ 1
 
 abbrev pub candidates : List Record → List FullEntry
 candidates records = filter_map candidate records
@@ -83,3 +90,40 @@ entries_by _ saw_foreign was_read e = if has_end e.end || was_read then e ∷ []
 
 abbrev pub entries_at : Bool → Bool → FullEntry → List FullEntry
 entries_at saw_foreign was_read e = entries_by e.kind saw_foreign was_read e
+
+-- both are of one block and stamp
+pub record IsVersion (e f : FullEntry) : Type 0 where
+  pub block : e.block ≡ f.block
+  pub stamp : e.stamp ≡ f.stamp
+
+-- none of its version stands before it
+pub record IsLeast (all : List FullEntry) (y : FullEntry) : Type 0 where
+  pub least : (z : FullEntry) → Contains all z → IsVersion y z → (z ≡ y) ⊎ (entry_cmp y z ≡ Less)
+
+-- a read, or a write that has ended or was read
+abbrev pub IsKept : List FullEntry → FullEntry → Type 0
+IsKept all e = (e.kind ≡ FullRead) ⊎ ((e.kind ≡ FullWrite) × ((has_end e.end ≡ true) ⊎ ((z : FullEntry) × Contains all z × (z.kind ≡ FullRead) × IsVersion e z)))
+
+-- the foreign write of the first read of a version other than the first one, which no write has
+pub record IsSeen (first : Stamp) (all ys : List FullEntry) (e : FullEntry) : Type 0 where
+  pub read : FullEntry
+  pub there : Contains ys read
+  pub reads : read.kind ≡ FullRead
+  pub other : read.stamp ≢ first
+  pub first_one : IsLeast all read
+  pub is : e ≡ foreign_of read
+
+-- the entries that stand in the history for these candidates, sorted
+pub record AreKept (first : Stamp) (all h : List FullEntry) : Type 0 where
+  pub sorted : IsSorted h
+  pub entries : (e : FullEntry) → Contains h e ↔ ((Contains all e × IsKept all e) ⊎ IsSeen first all all e)
+
+-- candidates are reads and writes
+abbrev pub AreCandidates : List FullEntry → Type 0
+AreCandidates all = (e : FullEntry) → Contains all e → e.kind ≢ FullForeign
+
+-- n is the mark of f, which comes right after e, whose mark is m
+pub record IsNextMark (e : FullEntry) (m : ℕ) (f : FullEntry) (n : ℕ) : Type 0 where
+  pub same : AreRivals e f → e.stamp ≡ f.stamp → n ≡ m
+  pub more : AreRivals e f → e.stamp ≢ f.stamp → n ≡ m + 1
+  pub other : (AreRivals e f → ⊥) → n ≡ 1
