@@ -4,7 +4,6 @@ use Rattle.std.specs.declared.option.Option.TheVariants.{None, Some}
 use Rattle.std.specs.declared.cmp.Ordering.TheVariants.{Less, Equal, Greater}
 use Rattle.std.specs.List.{Contains, AllByRecursion, cons_option}
 use Rattle.std.proofs.lemmas.Bool.{eqb-true}
-use Rattle.std.proofs.lemmas.List.Sums.{sum_by-cons}
 use Rattle.stamp_order.specs.declared.Stamp.{Stamp}
 use Rattle.run_words.specs.declared.outcome.Outcome.TheVariants.{Wrote, Spent, Gave, Outvoted}
 use Rattle.protocol.specs.Operations.{Work, Outcome, How}
@@ -18,11 +17,12 @@ use Rattle.protocol.proofs.Counting.{cases_bool}
 use Rattle.protocol.proofs.Lists.{Contains-none, Contains-head, Contains-rest, Contains-cons_cases, Contains-map}
 use Rattle.protocol.proofs.Entries.{member_of, less_by_kind, less_by_end, not_back, not_self}
 use Rattle.history_book.specs.Tellings.{AreRecords, IsHistoryOf}
+use Rattle.history_book.proofs.Counted.{count_cons}
 use Rattle.history_book.specs.Drafts.{entry_as, read_entry, write_entry, candidate_by, candidate, candidates, place_is, HaveStarts, has_end, foreign_of, IsVersion, IsLeast, IsKept, IsSeen, AreKept, AreCandidates}
 
 -- ---- what a function gives of a list
 
-given_by : {X Y : Type 0} (f : X → Option Y) (xs : List X) (y : Y) → Contains (filter_map f xs) y → (x : X) × Contains xs x × (f x ≡ Some y)
+pub given_by : {X Y : Type 0} (f : X → Option Y) (xs : List X) (y : Y) → Contains (filter_map f xs) y → (x : X) × Contains xs x × (f x ≡ Some y)
 given_by f [] y h = absurd (Contains-none y h)
 given_by {X} {Y} f (x ∷ xs) y h = at (f x) refl (given_by f xs y) h
   where
@@ -30,7 +30,7 @@ given_by {X} {Y} f (x ∷ xs) y h = at (f x) refl (given_by f xs y) h
     at None q rest k = let r = rest k in (r.0, Contains-rest r.0 x xs r.1, r.2)
     at (Some w) q rest k = elim (Contains-cons_cases y w (filter_map f xs) k) [ inl i ↦ (x, Contains-head x xs, q ∙ ap Some (sym i)) | inr l ↦ (let r = rest l in (r.0, Contains-rest r.0 x xs r.1, r.2)) ]
 
-gives : {X Y : Type 0} (f : X → Option Y) (xs : List X) (x : X) (y : Y) → Contains xs x → f x ≡ Some y → Contains (filter_map f xs) y
+pub gives : {X Y : Type 0} (f : X → Option Y) (xs : List X) (x : X) (y : Y) → Contains xs x → f x ≡ Some y → Contains (filter_map f xs) y
 gives f [] x y h q = absurd (Contains-none x h)
 gives {X} {Y} f (z ∷ xs) x y h q = at (f z) refl (λ l. gives f xs x y l q) (Contains-cons_cases x z xs h)
   where
@@ -54,7 +54,7 @@ pub record IsWriteOf (r : Record) (e : Entry) : Type 0 where
   pub chose : r.stamp ≡ Some e.stamp
   pub is : e ≡ entry_as r Write e.stamp e.value
 
-candidate_cases : (r : Record) (e : Entry) → candidate r ≡ Some e → IsReadOf r e ⊎ IsWriteOf r e
+pub candidate_cases : (r : Record) (e : Entry) → candidate r ≡ Some e → IsReadOf r e ⊎ IsWriteOf r e
 candidate_cases r e h = at r.work refl h
   where
     from : (x : Entry) → Some x ≡ Some e → e ≡ x
@@ -79,10 +79,10 @@ candidate_cases r e h = at r.work refl h
     at Reads q h = read q r.outcome refl h
     at (Writes v) q h = write v q r.stamp refl h
 
-read_candidate : (r : Record) (t : Stamp) (v : List ℕ) (how : How) (n : ℕ) → r.work ≡ Reads → r.outcome ≡ Some (Gave t v how n) → candidate r ≡ Some (entry_as r Read t v)
+pub read_candidate : (r : Record) (t : Stamp) (v : List ℕ) (how : How) (n : ℕ) → r.work ≡ Reads → r.outcome ≡ Some (Gave t v how n) → candidate r ≡ Some (entry_as r Read t v)
 read_candidate r t v how n w g = ap (candidate_by r) w ∙ ap (read_entry r) g
 
-write_candidate : (r : Record) (t : Stamp) (v : List ℕ) → r.work ≡ Writes v → r.stamp ≡ Some t → candidate r ≡ Some (entry_as r Write t v)
+pub write_candidate : (r : Record) (t : Stamp) (v : List ℕ) → r.work ≡ Writes v → r.stamp ≡ Some t → candidate r ≡ Some (entry_as r Write t v)
 write_candidate r t v w c = ap (candidate_by r) w ∙ ap (write_entry r v) c
 
 -- ---- the starts of candidates
@@ -92,9 +92,6 @@ candidate_start r e h = elim (candidate_cases r e h) [ inl k ↦ ap (λ (x : Ent
 
 abbrev starting : ℕ → Entry → Bool
 starting n e = place_is n e.start
-
-count_cons : (p : Entry → Bool) (x : Entry) (xs : List Entry) → count_by p (x ∷ xs) ≡ cond (p x) 1 0 + count_by p xs
-count_cons p x xs = sum_by-cons (λ y. cond {A = ℕ} (p y) 1 0) x xs
 
 none_start : (n : ℕ) (rs : List Record) → AllByRecursion (λ m. n < m) (map (λ r. r.start) rs) → count_by (starting n) (candidates rs) ≡ 0
 none_start n [] h = refl

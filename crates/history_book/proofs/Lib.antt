@@ -5,3 +5,6 @@ pub mod Sweeps
 pub mod Sorting
 pub mod Marking
 pub mod Candidates
+pub mod Histories
+pub mod Steps
+pub mod Drafting

@@ -38,6 +38,8 @@ first_mark e es s = elim (marks_step (e ∷ es) e) [
   | inr f ↦ absurd (not_behind (e ∷ es) e f.0 es (Contains-head e es) (λ z k. member_of (λ g. entry_cmp e g ≡ Less) es z s.0 k) f.1 f.2 f.3)
 ]
 
+-- the draft is the last of the first i, and this is its mark
+
 module _ (h : List Entry) (xs : List Entry) (d e : Entry) (es : List Entry) (is : h ≡ xs ++ d ∷ e ∷ es) (sorted : IsSorted (xs ++ d ∷ e ∷ es)) where
   d_there : Contains h d
   d_there = rw is (Contains-append_right xs (d ∷ e ∷ es) d (Contains-head d (e ∷ es)))

@@ -7,7 +7,6 @@ use Rattle.std.specs.Ordering.{is_lt, nat_cmp, ordering_then, ordering_reverse}
 use Rattle.std.specs.List.{Contains, AllByRecursion}
 use Rattle.std.specs.List.Sorted.{IsPermutation, IsSortedBy}
 use Rattle.std.proofs.lemmas.Bool.{eq-eqb}
-use Rattle.std.proofs.lemmas.List.Sums.{sum_by-cons}
 use Rattle.std.proofs.lemmas.List.Sorted.{ranks_by, sorted_far, sum_by-IsPermutation, Contains-permutation, IsPermutation-sym}
 use Rattle.std.proofs.lemmas.Map.Lookups.{exact_unsigned}
 use Rattle.stamp_order.specs.Stamps.{stamp_cmp}
@@ -15,6 +14,7 @@ use Rattle.protocol.specs.History.{Entry, place_cmp, entry_cmp, is_read, IsSorte
 use Rattle.protocol.proofs.Lists.{Contains-none, Contains-head, Contains-rest, Contains-cons_cases, Contains-map_cases}
 use Rattle.protocol.proofs.Entries.{entry_total}
 use Rattle.history_book.specs.declared.draft.Draft.{Draft}
+use Rattle.history_book.proofs.Counted.{count_cons}
 use Rattle.history_book.specs.Drafts.{entry_of, entries_of, place_is, HaveStarts}
 
 then_equal : (a c : Ordering) → ordering_then a c ≡ Equal → (a ≡ Equal) × (c ≡ Equal)
@@ -37,9 +37,6 @@ unfolding entry_cmp
 same_start e f h =
     place_exact e.start f.start
     (last_equal (nat_cmp e.block f.block) (stamp_cmp e.stamp f.stamp) (nat_cmp (is_read e.kind) (is_read f.kind)) (place_cmp e.end f.end) (nat_cmp e.client f.client) (place_cmp e.start f.start) h)
-
-count_cons : (p : Entry → Bool) (x : Entry) (xs : List Entry) → count_by p (x ∷ xs) ≡ cond (p x) 1 0 + count_by p xs
-count_cons p x xs = sum_by-cons (λ y. cond {A = ℕ} (p y) 1 0) x xs
 
 abbrev starting : ℕ → Entry → Bool
 starting n e = place_is n e.start

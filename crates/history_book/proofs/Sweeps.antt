@@ -122,10 +122,12 @@ module _ (first : Stamp) where
             there = Contains-head y ys;
             reads = r;
             other = λ t. let z : same_stamp y.stamp first ≡ true = rw t (same_stamp-refl first) in not_both_ways (same_stamp y.stamp first) z b.1;
-            first_one = record { least = λ z c v. elim (Contains-append_cases xs (y ∷ ys) z (rw q at c)) [
-              | inl l ↦ absurd (let m = any_has (is_of_version y) xs z l (version_if y z v) in not_both_ways (list_any (is_of_version y) xs) m b.0)
-              | inr l ↦ elim (Contains-cons_cases z y ys l) [ inl i ↦ inl i | inr i ↦ inr (sorted_after xs y ys (rw q at s) z i) ]
-            ] };
+            first_one = record {
+              least = λ z c v. elim (Contains-append_cases xs (y ∷ ys) z (rw q at c)) [
+                | inl l ↦ absurd (let m = any_has (is_of_version y) xs z l (version_if y z v) in not_both_ways (list_any (is_of_version y) xs) m b.0)
+                | inr l ↦ elim (Contains-cons_cases z y ys l) [ inl i ↦ inl i | inr i ↦ inr (sorted_after xs y ys (rw q at s) z i) ]
+              ];
+            };
             is = p;
           })
 
@@ -316,10 +318,13 @@ module _ (first : Stamp) where
       at Write f w = short (has_end y.end || w)
       at Foreign f w = short (has_end y.end || w)
 
-  -- the next candidate, from the end
-  pub sweep_at : (all : List Entry) (k : ℕ) (d : Entry) → k < length all → sweep (take k all) (drop k all) ≡ entries_at (saw_foreign (take k all) (get_or all k d)) (list_any (is_reader (get_or all k d)) (drop (k + 1) all)) (get_or all k d) ++ sweep (take (k + 1) all) (drop (k + 1) all)
+  pub sweep_nil : (xs : List Entry) → sweep xs [] ≡ []
   unfolding sweep
-  sweep_at all k d h = rw (drop-cons all k d, take_more all k d h, add-one) refl
+  sweep_nil xs = refl
+
+  pub sweep_cons : (xs : List Entry) (y : Entry) (ys : List Entry) → sweep xs (y ∷ ys) ≡ entries_at (saw_foreign xs y) (list_any (is_reader y) ys) y ++ sweep (xs ++ y ∷ []) ys
+  unfolding sweep
+  sweep_cons xs y ys = refl
 
 -- ---- what the neighbours tell
 
@@ -331,11 +336,14 @@ record IsLast (xs : List Entry) (p : Entry) : Type 0 where
 last_is : (x : Entry) (xs : List Entry) → IsSorted (x ∷ xs) → (p : Entry) × (slice_get (x ∷ xs) (length xs) ≡ Some p) × IsLast (x ∷ xs) p
 last_is x [] s = (x, refl, record { there = Contains-head x []; above = λ z k. inl (Contains-one z x k) })
 last_is x (w ∷ ws) s =
-    let r = last_is w ws s.1 in
-    (r.0, r.1, record {
-      there = Contains-rest r.0 x (w ∷ ws) r.2.there;
-      above = λ z k. elim (Contains-cons_cases z x (w ∷ ws) k) [ inl i ↦ inr (rw i (member_of (λ f. entry_cmp x f ≡ Less) (w ∷ ws) r.0 s.0 r.2.there)) | inr l ↦ r.2.above z l ];
-    })
+    let r = last_is w ws s.1 in (
+      r.0,
+      r.1,
+      record {
+        there = Contains-rest r.0 x (w ∷ ws) r.2.there;
+        above = λ z k. elim (Contains-cons_cases z x (w ∷ ws) k) [ inl i ↦ inr (rw i (member_of (λ f. entry_cmp x f ≡ Less) (w ∷ ws) r.0 s.0 r.2.there)) | inr l ↦ r.2.above z l ];
+      },
+    )
 
 sorted_front : (xs ys : List Entry) → IsSorted (xs ++ ys) → IsSorted xs
 sorted_front [] ys s = tt
@@ -376,11 +384,15 @@ next_read (y ∷ ys) s = at (is_reading y) refl (next_read ys s.1)
 
     at : (b : Bool) → is_reading y ≡ b → ((r : Entry) × (find is_reading ys ≡ Some r) × IsNextRead ys r) ⊎ ((find is_reading ys ≡ None) × ((z : Entry) → Contains ys z → is_reading z ≡ true → ⊥)) → Goal b
     at true e rest = inl (y, refl, record { there = Contains-head y ys; reads = e; below = λ z k h. elim (Contains-cons_cases z y ys k) [ inl i ↦ inl i | inr l ↦ inr (member_of (λ f. entry_cmp y f ≡ Less) ys z s.0 l) ] })
-    at false e (inl r) = inl (r.0, r.1, record {
-      there = Contains-rest r.0 y ys r.2.there;
-      reads = r.2.reads;
-      below = λ z k h. elim (Contains-cons_cases z y ys k) [ inl i ↦ absurd (let g : is_reading y ≡ true = rw i at h in cc) | inr l ↦ r.2.below z l h ];
-    })
+    at false e (inl r) = inl (
+      r.0,
+      r.1,
+      record {
+        there = Contains-rest r.0 y ys r.2.there;
+        reads = r.2.reads;
+        below = λ z k h. elim (Contains-cons_cases z y ys k) [ inl i ↦ absurd (let g : is_reading y ≡ true = rw i at h in cc) | inr l ↦ r.2.below z l h ];
+      },
+    )
     at false e (inr n) = inr (n.0, λ z k h. elim (Contains-cons_cases z y ys k) [ inl i ↦ (let g : is_reading y ≡ true = rw i at h in cc) | inr l ↦ n.1 z l h ])
 
 pub next_tells : (xs : List Entry) (y : Entry) (ys : List Entry) → IsSorted (xs ++ y ∷ ys) → list_any (is_reader y) ys ≡ is_of_some y (find is_reading ys)

@@ -1,4 +1,5 @@
 ghost use Rattle.std.specs.Prelude.{◌≡◌, ◌↔◌, ◌<◌, ◌^◌, IsTrue, true, IfOk, option_map};
+ghost use Rattle.stamp_order.specs.Stamps.{same_stamp};
 ghost use Rattle.protocol.specs.Seen.{record_of};
 ghost use Rattle.protocol.specs.History.{entry_cmp, place_cmp};
 ghost use Rattle.protocol.specs.Report.{AreRivals};
@@ -90,11 +91,18 @@ impl<'a> Draft<'a> {
         })
     }
 
+    /// Whether it is of this stamp.
+    pub fn has_stamp(&self, stamp: &Stamp) -> bool
+        ensures { result ≡ same_stamp self.now.stamp.now stamp.now }
+    {
+        self.stamp == stamp
+    }
+
     /// Whether both are of one block and stamp.
     pub fn is_of_version(&self, other: &Draft) -> bool
         ensures { result ≡ is_of_version (entry_of self.now) (entry_of other.now) }
     {
-        self.block == other.block && self.stamp == other.stamp
+        self.block == other.block && self.has_stamp(other.stamp)
     }
 
     /// Whether both are of one block, time and writer.

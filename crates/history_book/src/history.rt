@@ -6,7 +6,7 @@ ghost use Rattle.history_book.specs.Tellings.{Tells, AreRecords};
 
 use crate::counts::{counts_of, spent_writes};
 use crate::entry::{Counts, Entry, Spent};
-use crate::sweep::entries_of;
+use crate::sweep::entries;
 use lists::{ItemList, NoMemory};
 use run_words::Record;
 use stamp_order::Stamp;
@@ -59,7 +59,7 @@ pub fn history_of(alloc: Global, records: &[Record], first: &Stamp) -> Result<Hi
     ensures { IfOk result (λ history. (h : List FullEntry) × Tells (map record_of records.now) first.now h history) }
 {
     Ok(History {
-        entries: entries_of(alloc, records, first)?,
+        entries: entries(alloc, records, first)?,
         spent: spent_writes(alloc, records)?,
         counts: counts_of(records),
     })

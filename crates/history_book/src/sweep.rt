@@ -1,37 +1,46 @@
-ghost use Rattle.std.specs.Prelude.{◌≡◌, ◌≤◌, ◌*◌, ◌<◌, ◌^◌, ◌++◌, List, length, map, reverse, IfOk, OnOk, Some, option_map, option_copied, if◌then◌else◌};
+ghost use Rattle.std.specs.Prelude.{◌≡◌, ◌≤◌, ◌*◌, ◌-◌, ◌<◌, ◌^◌, ◌++◌, ◌&&◌, not, List, length, map, reverse, slice_get, IfOk, IfSome, MatchOption, OnOk, Some, if◌then◌else◌, option_map, option_copied};
 ghost use Rattle.std.specs.List.Sorted.{IsPermutation};
+ghost use Rattle.stamp_order.specs.Stamps.{same_stamp};
 ghost use Rattle.protocol.specs.Seen.{record_of};
-ghost use Rattle.protocol.specs.History.{IsSorted};
-ghost use Rattle.protocol.specs.World.{Record as FullRecord};
-ghost use Rattle.stamp_order.specs.declared.Stamp.{Stamp as FullStamp};
+ghost use Rattle.protocol.specs.History.{Entry as FullEntry, IsSorted};
+ghost use Rattle.protocol.specs.Report.{Ascend};
 ghost use Rattle.history_book.specs.Tellings.{AreRecords, IsHistoryOf, told_entry};
-ghost use Rattle.history_book.specs.Drafts.{entry_of, entries_of, entries_at, candidates, HaveStarts, is_reading, is_of_some};
+ghost use Rattle.history_book.specs.Drafts.{entry_of, entries_of, entries_at, candidates, HaveStarts, AreCandidates, AreKept, IsNextMark, is_reading, is_of_some};
 
 use crate::draft::Draft;
-use crate::entry::{Entry, Kind};
+use crate::entry::Entry;
 use lists::{ItemList, NoMemory};
 use run_words::Record;
 use stamp_order::Stamp;
 use std::alloc::Global;
 
 /// The entries of a run's history, under their marks.
-pub fn entries_of(
+pub fn entries(
     alloc: Global,
     records: &[Record],
     first: &Stamp,
-) -> Result<ItemList<Entry>, NoMemory> {
+) -> Result<ItemList<Entry>, NoMemory>
+    requires { AreRecords (map record_of records.now) first.now }
+    ensures history { IfOk result (λ entries. (h : List FullEntry) × IsHistoryOf (map record_of records.now) first.now h × (entries ≡ map (told_entry h) h)) }
+    ensures few { IfOk result (λ entries. length entries < 2 ^ 32) }
+{
     let drafts = sorted_drafts(alloc, records)?;
     let kept = kept(alloc, drafts.as_slice(), first)?;
     marked(alloc, kept.as_slice())
 }
 
-/// A draft of each completed read, and of each write that has chosen its stamp, in the order of entries.
-fn sorted_drafts(alloc: Global, records: &[Record]) -> Result<Vec<Draft<'_>>, NoMemory> {
+/// The drafts of records in the order of entries.
+fn sorted_drafts(alloc: Global, records: &[Record]) -> Result<Vec<Draft<'_>>, NoMemory>
+    requires { Ascend (map (λ r. r.start) (map record_of records.now)) }
+    ensures sorted { IfOk result (λ drafts. IsSorted (entries_of drafts.items)) }
+    ensures candidates { IfOk result (λ drafts. IsPermutation (candidates (map record_of records.now)) (entries_of drafts.items)) }
+{
     let mut drafts = drafts(alloc, records)?;
     sort(drafts.as_mut_slice());
     Ok(drafts)
 }
 
+/// A draft of each completed read, and of each write that has chosen its stamp.
 fn drafts(alloc: Global, records: &[Record]) -> Result<Vec<Draft<'_>>, NoMemory>
     ensures { IfOk result (λ drafts. entries_of drafts.items ≡ candidates (map record_of records.now)) }
 {
@@ -52,25 +61,33 @@ fn sort(drafts: &mut [Draft<'_>])
     drafts.sort_unstable_by(|a, b| a.compare(b));
 }
 
-/// The drafts that stand in the history, with a foreign write before the first read of each stamp that no draft of a write has.
-fn kept<'a>(
-    alloc: Global,
-    drafts: &[Draft<'a>],
-    first: &Stamp,
-) -> Result<Vec<Draft<'a>>, NoMemory> {
+/// The drafts that stand in the history, and before the first read of a stamp that no write has a foreign one.
+fn kept<'a>(alloc: Global, drafts: &[Draft<'a>], first: &Stamp) -> Result<Vec<Draft<'a>>, NoMemory>
+    requires sorted { IsSorted (entries_of drafts.now) }
+    requires candidates { AreCandidates (entries_of drafts.now) }
+    ensures kept { IfOk result (λ kept. AreKept first.now (entries_of drafts.now) (entries_of kept.items)) }
+    ensures few { IfOk result (λ kept. length kept.items ≤ 2 * length drafts.now) }
+{
     let mut kept = Vec::new(alloc);
     let mut read: Option<Draft<'a>> = None;
     let mut left = drafts.len();
     while left > 0 {
         left -= 1;
         let draft = &drafts[left];
-        let leads = !shares_version(draft, drafts[..left].last());
+        let foreign = saw_foreign(draft, &drafts[..left], first);
         let was_read = shares_version(draft, read.as_ref());
-        keep(&mut kept, draft, leads && draft.stamp != first, was_read)?;
+        keep(&mut kept, draft, foreign, was_read)?;
         read = nearest_read(draft, read);
     }
     kept.reverse();
     Ok(kept)
+}
+
+/// Whether the draft has a stamp other than the first one, and the last before it isn't of its block and stamp.
+fn saw_foreign(draft: &Draft<'_>, before: &[Draft<'_>], first: &Stamp) -> bool
+    ensures { result ≡ (not (is_of_some (entry_of draft.now) (option_map entry_of (slice_get before.now (length before.now - 1)))) && not (same_stamp draft.now.stamp.now first.now)) }
+{
+    !shares_version(draft, before.last()) && !draft.has_stamp(first)
 }
 
 /// The draft itself where it is a read, else the nearest read after it.
@@ -127,10 +144,13 @@ fn marked(alloc: Global, drafts: &[Draft<'_>]) -> Result<ItemList<Entry>, NoMemo
 }
 
 /// The mark of a draft after the last one, which has its own mark.
-fn next_mark(last: Option<(&Draft<'_>, u32)>, draft: &Draft<'_>) -> u32 {
+fn next_mark(last: Option<(&Draft<'_>, u32)>, draft: &Draft<'_>) -> u32
+    requires { IfSome last (λ l. l.1 < 2 ^ 32 - 1) }
+    ensures { MatchOption last.entry (result ≡ 1) (λ l. IsNextMark (entry_of l.0.now) l.1 (entry_of draft.now) result) }
+{
     match last {
         Some((last, mark)) if last.is_rival(draft) => {
-            if last.stamp == draft.stamp {
+            if draft.has_stamp(last.stamp) {
                 mark
             } else {
                 mark + 1

@@ -3,6 +3,8 @@ use Rattle.std.proofs.lemmas.List.Sorted.{ranks_by, IsPermutation-map, answers_a
 use Rattle.protocol.proofs.Entries.{entry_total}
 use Rattle.history_book.specs.Drafts.{entry_of, entries_of}
 use Rattle.history_book.proofs.Orders.{version_is}
+use Rattle.history_book.proofs.Steps.{room}
+use Rattle.history_book.proofs.Histories.{first_of, history}
 use Rattle.history_book.proofs.Candidates.{candidates_start}
 use Rattle.history_book.proofs.Marking.{next_mark}
 use Rattle.history_book.proofs.Sweeps.{sweep}

@@ -1,0 +1,22 @@
+use Rattle.std.proofs.Common.{◌≡◌, ◌<◌, ◌≤◌, ◌*◌, ◌^◌, List, map, length, ap, arith}
+use Rattle.std.proofs.lemmas.List.{length-map}
+use Rattle.protocol.specs.Seen.{record_of}
+use Rattle.protocol.specs.History.{Entry as FullEntry}
+use Rattle.history_book.specs.declared.draft.Draft.{Draft}
+use Rattle.history_book.specs.Tellings.{told_entry}
+use Rattle.history_book.specs.Drafts.{entry_of, entries_of, AreCandidates, AreKept}
+use Rattle.history_book.proofs.Drafting.{drafts_are_candidates, few_kept, kept_history}
+use Rattle.history_book.proofs.sweep.entries.Goals as goal
+
+pub kept-requires-clause-candidates : goal.kept-requires-clause-candidates
+kept-requires-clause-candidates c =
+    let drafts = c.in_ok-drafts.drafts.items in
+    let are = drafts_are_candidates (map record_of c.args.records.now) drafts c.in_ok-drafts.ensures.candidates in
+    rw c.as_slice.ensures.value are
+
+pub marked-requires-clause-few : goal.marked-requires-clause-few
+marked-requires-clause-few c =
+    let rs = map record_of c.args.records.now in
+    let few : length c.in_ok-kept.kept.items ≤ 2 * length c.in_ok-drafts.drafts.items = rw c.as_slice.ensures.value at c.in_ok-kept.ensures.few in
+    let l = few_kept rs c.in_ok-drafts.drafts.items c.in_ok-drafts.ensures.candidates c.in_ok-kept.kept.items few c.requires.few in
+    rw c.as_slice-2.ensures.value l
