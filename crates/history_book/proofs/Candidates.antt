@@ -1,7 +1,6 @@
 -- Candidates of records, and the entries of a history among them.
-use Rattle.std.proofs.Common.{◌≡◌, ◌≢◌, ◌⊎◌, ◌↔◌, ℕ, zero, suc, ◌+◌, ◌*◌, ◌<◌, ◌≤◌, Bool, true, false, cond, List, [], ◌∷◌, map, length, count_by, filter_map, Option, refl, sym, ◌∙◌, ap, inl, inr, arith, eqb}
+use Rattle.std.proofs.Common.{◌≡◌, ◌⊎◌, ℕ, ◌<◌, ◌≤◌, Bool, true, false, cond, List, [], ◌∷◌, map, count_by, filter_map, Option, refl, sym, ◌∙◌, ap, inl, inr, arith, eqb}
 use Rattle.std.specs.declared.option.Option.TheVariants.{None, Some}
-use Rattle.std.specs.declared.cmp.Ordering.TheVariants.{Less, Equal, Greater}
 use Rattle.std.specs.List.{Contains, AllByRecursion, cons_option}
 use Rattle.std.proofs.lemmas.Bool.{eqb-true}
 use Rattle.stamp_order.specs.declared.Stamp.{Stamp}
@@ -9,16 +8,13 @@ use Rattle.run_words.specs.declared.outcome.Outcome.TheVariants.{Wrote, Spent, G
 use Rattle.protocol.specs.Operations.{Work, Outcome, How}
 use Rattle.protocol.specs.Operations.Work.{Reads, Writes}
 use Rattle.protocol.specs.World.{Record}
-use Rattle.protocol.specs.Facts.{IsOutcomeOf}
-use Rattle.protocol.specs.History.{Entry, Kind, is_read, entry_cmp, IsEntry, IsSorted, HasRead, HasWrite}
+use Rattle.protocol.specs.History.{Entry}
 use Rattle.protocol.specs.History.Kind.{Write, Foreign, Read}
 use Rattle.protocol.specs.Report.{Ascend}
 use Rattle.protocol.proofs.Counting.{cases_bool}
-use Rattle.protocol.proofs.Lists.{Contains-none, Contains-head, Contains-rest, Contains-cons_cases, Contains-map}
-use Rattle.protocol.proofs.Entries.{member_of, less_by_kind, less_by_end, not_back, not_self}
-use Rattle.history_book.specs.Tellings.{AreRecords, IsHistoryOf}
+use Rattle.protocol.proofs.Lists.{Contains-none, Contains-head, Contains-rest, Contains-cons_cases}
 use Rattle.history_book.proofs.Counted.{count_cons}
-use Rattle.history_book.specs.Drafts.{entry_as, read_entry, write_entry, candidate_by, candidate, candidates, place_is, HaveStarts, has_end, foreign_of, IsVersion, IsLeast, IsKept, IsSeen, AreKept, AreCandidates}
+use Rattle.history_book.specs.Drafts.{entry_as, read_entry, write_entry, candidate_by, candidate, candidates, place_is, HaveStarts, AreCandidates}
 
 -- ---- what a function gives of a list
 

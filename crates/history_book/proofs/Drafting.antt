@@ -1,5 +1,5 @@
 -- Sorted drafts of a run's records, and the history of what they keep.
-use Rattle.std.proofs.Common.{◌≡◌, ◌↔◌, ℕ, [], ◌∷◌, ◌+◌, ◌*◌, ◌^◌, ◌<◌, ◌≤◌, List, map, length, Option, ap, arith}
+use Rattle.std.proofs.Common.{◌≡◌, ◌↔◌, [], ◌∷◌, ◌*◌, ◌^◌, ◌<◌, ◌≤◌, List, map, length, Option, arith}
 use Rattle.std.specs.declared.option.Option.TheVariants.{None, Some}
 use Rattle.std.specs.List.{Contains, cons_option}
 use Rattle.std.specs.List.Sorted.{IsPermutation}

@@ -1,7 +1,7 @@
 -- What stands among the candidates of a run's records is its history.
 use Rattle.std.proofs.Common.{◌≡◌, ◌≢◌, ◌⊎◌, ◌↔◌, ℕ, ◌<◌, ◌≤◌, Bool, true, false, List, [], ◌∷◌, Option, refl, sym, subst, ◌∙◌, ap, inl, inr, arith}
 use Rattle.std.specs.declared.option.Option.TheVariants.{None, Some}
-use Rattle.std.specs.declared.cmp.Ordering.TheVariants.{Less, Equal, Greater}
+use Rattle.std.specs.declared.cmp.Ordering.TheVariants.{Less, Equal}
 use Rattle.std.specs.List.{Contains}
 use Rattle.std.proofs.lemmas.Cmp.{tied_itself}
 use Rattle.stamp_order.specs.declared.Stamp.{Stamp}
@@ -10,11 +10,10 @@ use Rattle.protocol.specs.Operations.{Work, Outcome, How}
 use Rattle.protocol.specs.Operations.Work.{Reads, Writes}
 use Rattle.protocol.specs.World.{Record}
 use Rattle.protocol.specs.Facts.{IsOutcomeOf}
-use Rattle.protocol.specs.History.{Entry, Kind, is_read, entry_cmp, IsEntry, IsSorted, HasRead, HasWrite, IsForeign}
-use Rattle.protocol.specs.History.Kind.{Write, Foreign, Read}
-use Rattle.protocol.proofs.Counting.{cases_bool}
+use Rattle.protocol.specs.History.{Entry, is_read, entry_cmp, IsEntry, IsSorted, HasRead, HasWrite, IsForeign}
+use Rattle.protocol.specs.History.Kind.{Write, Read}
 use Rattle.protocol.proofs.Lists.{Contains-none, Contains-head, Contains-rest, Contains-cons_cases}
-use Rattle.protocol.proofs.Entries.{entry_total, member_of, less_by_kind, less_by_end, not_back, not_self}
+use Rattle.protocol.proofs.Entries.{entry_total, member_of, less_by_kind, less_by_end, not_back}
 use Rattle.history_book.specs.Tellings.{AreRecords, IsHistoryOf}
 use Rattle.history_book.specs.Drafts.{entry_as, candidate, candidates, has_end, foreign_of, is_of_version, IsVersion, IsLeast, IsKept, IsSeen, AreKept}
 use Rattle.history_book.proofs.Orders.{version_is, version_if, version_back, version_on}

@@ -1,14 +1,13 @@
 -- The mark of an entry, from that of the entry before it.
-use Rattle.std.proofs.Common.{◌≡◌, ◌⊎◌, ℕ, ◌+◌, ◌<◌, ◌≤◌, true, false, List, [], ◌∷◌, ◌++◌, refl, sym, ◌∙◌, ap, inl, inr, arith}
-use Rattle.std.specs.declared.cmp.Ordering.{Ordering}
-use Rattle.std.specs.declared.cmp.Ordering.TheVariants.{Less, Equal, Greater}
+use Rattle.std.proofs.Common.{◌≡◌, ◌⊎◌, ℕ, ◌+◌, ◌≤◌, true, List, ◌∷◌, ◌++◌, sym, ◌∙◌, ap, inl, inr, arith}
+use Rattle.std.specs.declared.cmp.Ordering.TheVariants.{Less}
 use Rattle.std.specs.List.{Contains}
 use Rattle.std.proofs.lemmas.List.Elements.{Contains-append_cases, Contains-append_right}
 use Rattle.stamp_order.specs.Stamps.{before}
 use Rattle.protocol.specs.History.{Entry, entry_cmp, IsSorted}
 use Rattle.protocol.specs.Report.{mark, AreRivals}
 use Rattle.protocol.proofs.Order.{≼-cases, ≼-refl, not_both}
-use Rattle.protocol.proofs.Lists.{Contains-none, Contains-head, Contains-rest, Contains-cons_cases}
+use Rattle.protocol.proofs.Lists.{Contains-head, Contains-rest, Contains-cons_cases}
 use Rattle.protocol.proofs.Entries.{member_of, stamp_upto}
 use Rattle.protocol.proofs.Marks.{marks_ascend, marks_equal, marks_step}
 use Rattle.history_book.specs.Drafts.{IsNextMark}

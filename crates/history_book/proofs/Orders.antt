@@ -1,20 +1,18 @@
 -- Entries between two others that share the beginning of their keys.
-use Rattle.std.proofs.Common.{◌≡◌, ◌⊎◌, ℕ, ◌<◌, Bool, true, false, ◌&&◌, refl, sym, ◌∙◌, ap, inl, inr, arith, eqb, ltb}
+use Rattle.std.proofs.Common.{◌≡◌, ◌⊎◌, true, false, refl, sym, ◌∙◌, ap, inl, inr}
 use Rattle.std.specs.declared.cmp.Ordering.{Ordering}
 use Rattle.std.specs.declared.cmp.Ordering.TheVariants.{Less, Equal, Greater}
-use Rattle.std.specs.Ordering.{nat_cmp, is_eq, is_lt, is_gt, then_cmp, on, ordering_then, ordering_reverse}
+use Rattle.std.specs.Ordering.{nat_cmp, is_gt, then_cmp, on, ordering_then, ordering_reverse}
 use Rattle.std.specs.Cmp.{IsTotalOrder}
 use Rattle.std.specs.Cmp.Lexicographic.{slice_cmp}
 use Rattle.std.proofs.lemmas.Bool.{eq-eqb, eqb-true}
-use Rattle.std.proofs.lemmas.Cmp.{then_total, on_total, nat_cmp_total, tied_itself, upto, nat_list_cmp_total}
+use Rattle.std.proofs.lemmas.Cmp.{then_total, on_total, nat_cmp_total, tied_itself}
 use Rattle.std.proofs.lemmas.Map.Lookups.{exact_unsigned}
-use Rattle.stamp_order.specs.declared.Stamp.{Stamp}
-use Rattle.stamp_order.specs.Stamps.{stamp_cmp, same_stamp, before}
+use Rattle.stamp_order.specs.Stamps.{stamp_cmp}
 use Rattle.protocol.specs.History.{Entry, is_read, place_cmp, entry_cmp}
 use Rattle.protocol.specs.Report.{AreRivals}
 use Rattle.protocol.proofs.Counting.{both_true}
 use Rattle.protocol.proofs.Order.{stamp_total, stamp_exact, same_stamp-≡, same_stamp-refl}
-use Rattle.protocol.proofs.Entries.{entry_total}
 use Rattle.history_book.specs.Drafts.{is_of_version, IsVersion}
 
 then_assoc : (a b c : Ordering) → ordering_then (ordering_then a b) c ≡ ordering_then a (ordering_then b c)

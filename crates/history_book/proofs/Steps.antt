@@ -1,11 +1,10 @@
 -- The steps of the loops over sorted drafts.
-use Rattle.std.proofs.Common.{◌≡◌, ◌⊎◌, ℕ, suc, ◌+◌, ◌-◌, ◌*◌, ◌^◌, ◌<◌, ◌≤◌, Bool, true, false, cond, not, ◌&&◌, List, [], ◌∷◌, ◌++◌, length, map, reverse, take, drop, get_or, Option, option_map, MatchOption, refl, sym, subst, ◌∙◌, ap, inl, inr, arith, add-one, drop-cons}
+use Rattle.std.proofs.Common.{◌≡◌, ◌⊎◌, ℕ, suc, ◌+◌, ◌-◌, ◌*◌, ◌^◌, ◌<◌, ◌≤◌, Bool, true, false, cond, not, ◌&&◌, List, [], ◌∷◌, ◌++◌, length, map, reverse, take, drop, get_or, Option, option_map, MatchOption, refl, sym, subst, ◌∙◌, ap, inl, inr, arith, drop-cons}
 use Rattle.std.specs.declared.option.Option.TheVariants.{None, Some}
-use Rattle.std.specs.List.{Contains, slice_get, find, list_any}
+use Rattle.std.specs.List.{slice_get, find, list_any}
 use Rattle.std.specs.Borrow.{Bor}
-use Rattle.std.proofs.Math.ListN.{drop_of_length-le}
-use Rattle.std.proofs.Math.Seq.{drop-length, take-length}
-use Rattle.std.proofs.lemmas.List.{take_more, take-append-drop, map-append, length-map, append-nil, reverse-append}
+use Rattle.std.proofs.Math.Seq.{drop-length}
+use Rattle.std.proofs.lemmas.List.{take_more, take-append-drop, map-append, length-map, reverse-append}
 use Rattle.std.proofs.lemmas.Option.{slice_get-map}
 use Rattle.stamp_order.specs.declared.Stamp.{Stamp}
 use Rattle.stamp_order.specs.Stamps.{same_stamp}
@@ -16,7 +15,7 @@ use Rattle.history_book.specs.Tellings.{told_entry}
 use Rattle.history_book.specs.declared.draft.Draft.{Draft}
 use Rattle.history_book.specs.Drafts.{entry_of, entries_of, entries_at, is_reading, is_of_version, is_of_some, IsNextMark, AreKept, AreCandidates}
 use Rattle.history_book.proofs.Orders.{rivals_or_not}
-use Rattle.history_book.proofs.Sweeps.{sweep, saw_foreign, is_reader, sweep_nil, sweep_cons, sweep_length, are_kept, last_tells, next_tells}
+use Rattle.history_book.proofs.Sweeps.{sweep, is_reader, sweep_nil, sweep_cons, sweep_length, are_kept, last_tells, next_tells}
 use Rattle.history_book.proofs.Marking.{first_mark, next_mark}
 
 -- a list is what stands before a place, the item there, and the rest
@@ -144,9 +143,3 @@ more_mark e f m r s = record {
   more = λ a n. refl;
   other = λ n. absurd (n r);
 }
-
--- a list whose whole part was written anew
-pub written : (ds es : List Draft) (n : ℕ) → n ≡ length ds → length es ≡ length ds → take n (es ++ drop (length es) ds) ≡ es
-written ds es n h k =
-    let l : length ds ≤ length es = omega (arith, k) in
-    ap (λ ys. take n (es ++ ys)) (drop_of_length-le ds l) ∙ ap (take n) (append-nil es) ∙ ap (λ j. take j es) (h ∙ sym k) ∙ take-length es

@@ -3,9 +3,8 @@ use Rattle.std.proofs.lemmas.List.{length-map}
 use Rattle.std.proofs.lemmas.Result.{IfOk-weaker}
 use Rattle.protocol.specs.Seen.{record_of}
 use Rattle.protocol.specs.History.{Entry as FullEntry}
-use Rattle.history_book.specs.declared.draft.Draft.{Draft}
 use Rattle.history_book.specs.Tellings.{IsHistoryOf, told_entry}
-use Rattle.history_book.specs.Drafts.{entry_of, entries_of, AreCandidates, AreKept}
+use Rattle.history_book.specs.Drafts.{entry_of, entries_of, AreKept}
 use Rattle.history_book.proofs.Drafting.{drafts_are_candidates, few_kept, kept_history}
 use Rattle.history_book.proofs.sweep.entries.Goals as goal
 

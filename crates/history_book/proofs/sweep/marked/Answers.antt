@@ -1,9 +1,8 @@
-use Rattle.std.proofs.Common.{◌≡◌, ℕ, ◌+◌, List, [], ◌∷◌, ◌++◌, map, take, ap, ◌∙◌}
-use Rattle.protocol.specs.History.{Entry as FullEntry}
+use Rattle.std.proofs.Common.{ℕ, List, [], ◌∷◌, ◌++◌, map, take, ap, ◌∙◌}
 use Rattle.history_book.specs.declared.entry.Entry.{Entry}
 use Rattle.history_book.specs.Tellings.{told_entry, told_with}
 use Rattle.history_book.specs.Drafts.{entry_of, entries_of}
-use Rattle.history_book.proofs.Steps.{IsMarked, marked_step, told_step, room}
+use Rattle.history_book.proofs.Steps.{marked_step, told_step, room}
 use Rattle.history_book.proofs.sweep.marked.Goals as goal
 
 pub next_mark-mark-requires : goal.next_mark-mark-requires

@@ -1,7 +1,6 @@
-use Rattle.std.proofs.Common.{◌≡◌, ◌<◌, ◌≤◌, ◌+◌, take, map, get_or, MatchOption}
-use Rattle.protocol.specs.Report.{mark}
+use Rattle.std.proofs.Common.{◌≡◌, take, map, MatchOption}
 use Rattle.history_book.specs.Tellings.{told_entry}
-use Rattle.history_book.specs.Drafts.{entry_of, entries_of}
+use Rattle.history_book.specs.Drafts.{entries_of}
 use Rattle.history_book.proofs.Steps.{IsMarked}
 use Rattle.history_book.proofs.sweep.marked.Given as goal
 

@@ -2,12 +2,6 @@ use Rattle.std.proofs.Common.{rules}
 use Rattle.std.proofs.lemmas.List.Sorted.{ranks_by, IsPermutation-map, answers_always}
 use Rattle.protocol.proofs.Entries.{entry_total}
 use Rattle.history_book.specs.Drafts.{entry_of, entries_of}
-use Rattle.history_book.proofs.Orders.{version_is}
-use Rattle.history_book.proofs.Steps.{room}
-use Rattle.history_book.proofs.Histories.{first_of, history}
-use Rattle.history_book.proofs.Candidates.{candidates_start}
-use Rattle.history_book.proofs.Marking.{next_mark}
-use Rattle.history_book.proofs.Sweeps.{sweep}
 use Rattle.history_book.proofs.Sorting.{is_below, sorted_drafts, starts_permuted}
 use Rattle.history_book.proofs.sweep.sort.Goals as goal
 

@@ -1,8 +1,7 @@
-use Rattle.std.proofs.Common.{◌≡◌, ℕ, List, map, length, ap, ◌∙◌}
+use Rattle.std.proofs.Common.{map, ap, ◌∙◌}
 use Rattle.protocol.specs.Seen.{record_of}
 use Rattle.history_book.specs.Drafts.{entries_of}
 use Rattle.history_book.proofs.Drafting.{drafts_start}
-use Rattle.history_book.proofs.Steps.{written}
 use Rattle.history_book.proofs.sweep.sorted_drafts.Goals as goal
 
 pub sort-requires : goal.sort-requires

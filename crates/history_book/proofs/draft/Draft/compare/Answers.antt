@@ -3,9 +3,9 @@ use Rattle.std.specs.declared.cmp.Ordering.{Ordering}
 use Rattle.std.specs.declared.cmp.Ordering.TheVariants.{Less, Equal, Greater}
 use Rattle.std.specs.Ordering.{nat_cmp, bool_cmp, ordering_then}
 use Rattle.stamp_order.specs.Stamps.{stamp_cmp}
-use Rattle.protocol.specs.History.{Kind, is_read, entry_cmp, place_cmp}
+use Rattle.protocol.specs.History.{Kind, is_read, entry_cmp}
 use Rattle.protocol.specs.History.Kind.{Write, Foreign, Read}
-use Rattle.history_book.specs.Drafts.{entry_of, is_reading}
+use Rattle.history_book.specs.Drafts.{entry_of}
 use Rattle.history_book.proofs.draft.Draft.compare.Goals as goal
 
 -- reads after the others, by the test and by the number
