@@ -14,7 +14,7 @@ use Rattle.protocol.specs.Report.{Ascend}
 use Rattle.protocol.proofs.Counting.{cases_bool}
 use Rattle.protocol.proofs.Lists.{Contains-none, Contains-head, Contains-rest, Contains-cons_cases}
 use Rattle.history_book.proofs.Counted.{count_cons}
-use Rattle.history_book.specs.Drafts.{entry_as, read_entry, write_entry, candidate_by, candidate, candidates, place_is, HaveStarts, AreCandidates}
+use Rattle.history_book.specs.Drafts.{entry_as, read_entry, write_entry, candidate_by, candidate, candidates, starts_at, HaveStarts, AreCandidates}
 
 -- ---- what a function gives of a list
 
@@ -86,24 +86,21 @@ write_candidate r t v w c = ap (candidate_by r) w ∙ ap (write_entry r v) c
 candidate_start : (r : Record) (e : Entry) → candidate r ≡ Some e → e.start ≡ Some r.start
 candidate_start r e h = elim (candidate_cases r e h) [ inl k ↦ ap (λ (x : Entry). x.start) k.is | inr k ↦ ap (λ (x : Entry). x.start) k.is ]
 
-abbrev starting : ℕ → Entry → Bool
-starting n e = place_is n e.start
-
-none_start : (n : ℕ) (rs : List Record) → AllByRecursion (λ m. n < m) (map (λ r. r.start) rs) → count_by (starting n) (candidates rs) ≡ 0
+none_start : (n : ℕ) (rs : List Record) → AllByRecursion (λ m. n < m) (map (λ r. r.start) rs) → count_by (starts_at n) (candidates rs) ≡ 0
 none_start n [] h = refl
 none_start n (r ∷ rs) h = at (candidate r) refl (none_start n rs h.1)
   where
-    other : (e : Entry) → e.start ≡ Some r.start → cond {A = ℕ} (starting n e) 1 0 ≡ 0
+    other : (e : Entry) → e.start ≡ Some r.start → cond {A = ℕ} (starts_at n e) 1 0 ≡ 0
     other e q = elim (cases_bool (eqb r.start n)) [
       | inl b ↦ (let i = eqb-true r.start n b in absurd (omega (arith, h.0, i)))
       | inr b ↦ rw (q, b) refl
     ]
 
-    at : (o : Option Entry) → candidate r ≡ o → count_by (starting n) (candidates rs) ≡ 0 → count_by (starting n) (cons_option o (candidates rs)) ≡ 0
+    at : (o : Option Entry) → candidate r ≡ o → count_by (starts_at n) (candidates rs) ≡ 0 → count_by (starts_at n) (cons_option o (candidates rs)) ≡ 0
     at None q rest = rest
-    at (Some e) q rest = omega (arith, rest, count_cons (starting n) e (candidates rs), other e (candidate_start r e q))
+    at (Some e) q rest = omega (arith, rest, count_cons (starts_at n) e (candidates rs), other e (candidate_start r e q))
 
-once : (n : ℕ) (rs : List Record) → Ascend (map (λ r. r.start) rs) → count_by (starting n) (candidates rs) ≤ 1
+once : (n : ℕ) (rs : List Record) → Ascend (map (λ r. r.start) rs) → count_by (starts_at n) (candidates rs) ≤ 1
 once n [] h = omega arith
 once n (r ∷ rs) h = at (candidate r) refl (once n rs h.1)
   where
@@ -111,11 +108,11 @@ once n (r ∷ rs) h = at (candidate r) refl (once n rs h.1)
     bit true = omega arith
     bit false = omega arith
 
-    at : (o : Option Entry) → candidate r ≡ o → count_by (starting n) (candidates rs) ≤ 1 → count_by (starting n) (cons_option o (candidates rs)) ≤ 1
+    at : (o : Option Entry) → candidate r ≡ o → count_by (starts_at n) (candidates rs) ≤ 1 → count_by (starts_at n) (cons_option o (candidates rs)) ≤ 1
     at None q rest = rest
     at (Some e) q rest = elim (cases_bool (eqb r.start n)) [
-      | inl b ↦ (let i = eqb-true r.start n b in let z = none_start r.start rs h.0 in let y : count_by (starting n) (candidates rs) ≡ 0 = rw i at z in omega (arith, count_cons (starting n) e (candidates rs), y, bit (starting n e)))
-      | inr b ↦ (let s = candidate_start r e q in let y : cond {A = ℕ} (starting n e) 1 0 ≡ 0 = rw (s, b) refl in omega (arith, count_cons (starting n) e (candidates rs), y, rest))
+      | inl b ↦ (let i = eqb-true r.start n b in let z = none_start r.start rs h.0 in let y : count_by (starts_at n) (candidates rs) ≡ 0 = rw i at z in omega (arith, count_cons (starts_at n) e (candidates rs), y, bit (starts_at n e)))
+      | inr b ↦ (let s = candidate_start r e q in let y : cond {A = ℕ} (starts_at n e) 1 0 ≡ 0 = rw (s, b) refl in omega (arith, count_cons (starts_at n) e (candidates rs), y, rest))
     ]
 
 pub candidates_start : (rs : List Record) → Ascend (map (λ r. r.start) rs) → HaveStarts (candidates rs)

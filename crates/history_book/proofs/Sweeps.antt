@@ -19,6 +19,9 @@ use Rattle.history_book.proofs.Orders.{version_is, version_if, version_back, ver
 
 -- ---- tests over a list
 
+both : (a b : Bool) → a ≡ true → b ≡ true → a && b ≡ true
+both a b h k = rw (h, k) refl
+
 pub any_false : {X : Type 0} (p : X → Bool) (xs : List X) (x : X) → list_any p xs ≡ false → Contains xs x → p x ≡ false
 any_false p [] x h k = absurd (Contains-none x k)
 any_false {X} p (y ∷ ys) x h k = at (p y) refl h (λ l. any_false p ys x l) (Contains-cons_cases x y ys k)
@@ -41,6 +44,10 @@ pub any_none : {X : Type 0} (p : X → Bool) (xs : List X) → ((x : X) → Cont
 any_none p xs h = elim (cases_bool (list_any p xs)) [ inl k ↦ absurd (let f = any_true p xs k in h f.0 f.1 f.2) | inr k ↦ k ]
 
 -- ---- sorted lists
+
+pub all_of : {X : Type 0} (P : X → Type 0) (xs : List X) → ((x : X) → Contains xs x → P x) → AllByRecursion P xs
+all_of P [] h = tt
+all_of P (x ∷ xs) h = (h x (Contains-head x xs), all_of P xs (λ y k. h y (Contains-rest y x xs k)))
 
 pub sorted_pair : (xs : List Entry) (y : Entry) (ys : List Entry) → IsSorted (xs ++ y ∷ ys) → (x : Entry) → Contains xs x → entry_cmp x y ≡ Less
 sorted_pair [] y ys s x k = absurd (Contains-none x k)
@@ -154,9 +161,6 @@ module _ (first : Stamp) where
   or_right true b h = refl
   or_right false b h = h
 
-  both : (a b : Bool) → a ≡ true → b ≡ true → a && b ≡ true
-  both a b h k = rw (h, k) refl
-
   not_true : (b : Bool) → (b ≡ true → ⊥) → not b ≡ true
   not_true true h = absurd (h refl)
   not_true false h = refl
@@ -236,12 +240,8 @@ module _ (first : Stamp) where
     sorted_append es bs s.1 t (λ x b k l. h x b (Contains-rest x a es k) l),
   )
     where
-      all_of : (ys : List Entry) → ((b : Entry) → Contains ys b → entry_cmp a b ≡ Less) → AllByRecursion (λ f. entry_cmp a f ≡ Less) ys
-      all_of [] h = tt
-      all_of (y ∷ ys) h = (h y (Contains-head y ys), all_of ys (λ b k. h b (Contains-rest b y ys k)))
-
       all_append : (xs ys : List Entry) → AllByRecursion (λ f. entry_cmp a f ≡ Less) xs → ((b : Entry) → Contains ys b → entry_cmp a b ≡ Less) → AllByRecursion (λ f. entry_cmp a f ≡ Less) (xs ++ ys)
-      all_append [] ys p h = all_of ys h
+      all_append [] ys p h = all_of (λ f. entry_cmp a f ≡ Less) ys h
       all_append (x ∷ xs) ys p h = (p.0, all_append xs ys p.1 h)
 
   foreign_less : (y : Entry) → y.kind ≡ Read → entry_cmp (foreign_of y) y ≡ Less
@@ -400,9 +400,6 @@ next_tells xs y ys s = elim (next_read ys (sorted_rest xs (y ∷ ys) s).1) [
   | inr n ↦ any_none (is_reader y) ys (λ z k h. n.1 z k (both_true _ _ h).0) ∙ sym (ap (is_of_some y) n.0)
 ]
   where
-    conj : (a b : Bool) → a ≡ true → b ≡ true → a && b ≡ true
-    conj a b h k = rw (h, k) refl
-
     others : (p : Entry) → IsNextRead ys p → is_of_version y p ≡ false → (z : Entry) → Contains ys z → is_reader y z ≡ true → ⊥
     others p l h z k v =
         let b = both_true _ _ v in
@@ -412,5 +409,5 @@ next_tells xs y ys s = elim (next_read ys (sorted_rest xs (y ∷ ys) s).1) [
         ]
 
     at : (p : Entry) → IsNextRead ys p → (b : Bool) → is_of_version y p ≡ b → list_any (is_reader y) ys ≡ is_of_version y p
-    at p l true h = any_has (is_reader y) ys p l.there (conj _ _ l.reads h) ∙ sym h
+    at p l true h = any_has (is_reader y) ys p l.there (both _ _ l.reads h) ∙ sym h
     at p l false h = any_none (is_reader y) ys (others p l h) ∙ sym h

@@ -53,10 +53,13 @@ abbrev pub place_is : ℕ → Option ℕ → Bool
 place_is n None = false
 place_is n (Some m) = m == n
 
+abbrev pub starts_at : ℕ → FullEntry → Bool
+starts_at n e = place_is n e.start
+
 -- each entry has a start, and no two have the same one
 pub record HaveStarts (entries : List FullEntry) : Type 0 where
   pub some : (e : FullEntry) → Contains entries e → (n : ℕ) × (e.start ≡ Some n)
-  pub once : (n : ℕ) → count_by (λ e. place_is n e.start) entries ≤ 1
+  pub once : (n : ℕ) → count_by (starts_at n) entries ≤ 1
 
 abbrev pub candidates : List Record → List FullEntry
 candidates records = filter_map candidate records

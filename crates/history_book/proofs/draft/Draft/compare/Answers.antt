@@ -1,11 +1,11 @@
 use Rattle.std.proofs.Common.{◌≡◌, ◌==◌, refl, ◌∙◌}
 use Rattle.std.specs.declared.cmp.Ordering.{Ordering}
-use Rattle.std.specs.declared.cmp.Ordering.TheVariants.{Less, Equal, Greater}
 use Rattle.std.specs.Ordering.{nat_cmp, bool_cmp, ordering_then}
 use Rattle.stamp_order.specs.Stamps.{stamp_cmp}
 use Rattle.protocol.specs.History.{Kind, is_read, entry_cmp}
 use Rattle.protocol.specs.History.Kind.{Write, Foreign, Read}
 use Rattle.history_book.specs.Drafts.{entry_of}
+use Rattle.history_book.proofs.Orders.{then_assoc}
 use Rattle.history_book.proofs.draft.Draft.compare.Goals as goal
 
 -- reads after the others, by the test and by the number
@@ -19,11 +19,6 @@ by_kind Foreign Read = refl
 by_kind Read Write = refl
 by_kind Read Foreign = refl
 by_kind Read Read = refl
-
-then_assoc : (a b c : Ordering) → ordering_then (ordering_then a b) c ≡ ordering_then a (ordering_then b c)
-then_assoc Less b c = refl
-then_assoc Equal b c = refl
-then_assoc Greater b c = refl
 
 in_turn : (a b c d e f p q r s t : Ordering) → p ≡ ordering_then a b → q ≡ ordering_then p c → r ≡ ordering_then q d → s ≡ ordering_then r e → t ≡ ordering_then s f
     → t ≡ ordering_then a (ordering_then b (ordering_then c (ordering_then d (ordering_then e f))))
