@@ -12,13 +12,13 @@ use Rattle.wire_forms.specs.declared.message.Body.TheVariants.{Answer}
 use Rattle.wire_forms.specs.declared.message.Reply.TheVariants.{Ack}
 use Rattle.wire_forms.specs.declared.rule.Rule.{Rule}
 use Rattle.wire_forms.specs.declared.rule.Rule.TheVariants.{Silent, Old, Top, Bad}
-use Rattle.wire_forms.specs.Texts.{IsMessage, message_fields, text_of}
+use Rattle.wire_forms.specs.Texts.{IsMessage, message_fields}
 use Rattle.wire_forms.proofs.Unique.{message_unique}
 use Rattle.run_words.specs.declared.line.Line.{Line}
 use Rattle.run_words.specs.declared.line.Line.TheVariants as lines
 use Rattle.event_lines.specs.declared.line.ReplayLine.{ReplayLine}
 use Rattle.event_lines.specs.declared.line.ReplayLine.TheVariants as replay
-use Rattle.event_lines.specs.Lines.{IsClient, IsNode, IsBlock, IsValue, IsEventLine, event_fields, event_text, rule_text}
+use Rattle.event_lines.specs.Lines.{IsClient, IsNode, IsBlock, IsEventLine, event_fields, event_text, rule_text}
 use Rattle.event_lines.specs.Words.{Form, Speech, Word, word_of}
 use Rattle.event_lines.specs.declared.word.Form.TheVariants.{Write, Read, Resend, Call, Give, Hear, Lost, Crash, False, Sound, Mix, Put, Get, Next}
 use Rattle.event_lines.specs.declared.word.Speech.TheVariants.{Lie, Tell, Poke}
