@@ -161,36 +161,80 @@ fn is_first_write(stamp: &Stamp) -> bool {
     stamp.time == 1 && stamp.client == 1
 }
 
+// What the nodes answer in order brings the client to a further round in this bound, if to any.
+fn bound_after(
+    client: &mut Client,
+    nodes: &mut [Node],
+    numbers: &[u8],
+) -> Result<Option<Bound>, Fail> {
+    let heard = calls(client, nodes, numbers)?;
+    Ok(bound_of(&heard))
+}
+
+// The same of a repair under this stamp.
+fn stored_after(
+    client: &mut Client,
+    nodes: &mut [Node],
+    numbers: &[u8],
+) -> Result<Option<Stamp>, Fail> {
+    let heard = calls(client, nodes, numbers)?;
+    Ok(stored_of(&heard))
+}
+
+// Nodes 0 to 3 end a read by the value of the first write.
+fn gives_first_write(
+    client: &mut Client,
+    nodes: &mut [Node],
+    how: How,
+    rounds: u64,
+) -> Result<bool, Fail> {
+    let heard = calls(client, nodes, &[0, 1, 2, 3])?;
+    Ok(gave_first_write(&heard, how, rounds))
+}
+
+// Client 1 stores 1, 0 at nodes 0 and 1 alone.
+fn leave_first_write(alloc: Global, nodes: &mut [Node]) -> Result<(), Fail> {
+    let mut client = writes(alloc, 1, &[1, 0])?;
+    let _stores = calls(&mut client, nodes, &[0, 1, 2, 3])?;
+    let _kept = calls(&mut client, nodes, &[0, 1])?;
+    Ok(())
+}
+
+// Client 2 draws a time from nodes 0, 2, 3 and 4, and stores 2, 0 at node 0 alone.
+fn leave_second_write(alloc: Global, nodes: &mut [Node]) -> Result<Option<Stamp>, Fail> {
+    let mut client = writes(alloc, 2, &[2, 0])?;
+    let _stores = calls(&mut client, nodes, &[0, 2, 3, 4])?;
+    let _kept = calls(&mut client, nodes, &[0])?;
+    Ok(client.stamp())
+}
+
+fn steps_to_first_write(alloc: Global, nodes: &mut [Node]) -> Result<bool, Fail> {
+    let mut client = reads(alloc, 3)?;
+    let bound = bound_after(&mut client, nodes, &[0, 1, 2, 3])?;
+    let stored = stored_after(&mut client, nodes, &[0, 1, 2, 3])?;
+    let gives = gives_first_write(&mut client, nodes, How::Repaired, 2)?;
+    Ok(
+        matches!(bound, Some(Bound::AtMost(stamp)) if is_first_write(&stamp))
+            && matches!(stored, Some(stamp) if is_first_write(&stamp))
+            && gives,
+    )
+}
+
 #[test]
 fn an_incomplete_write_is_stepped_over_to_one_that_is_repaired(
     rt: HostRuntime,
 ) -> Result<(), Fail> {
-    let alloc = rt.alloc();
-    let mut nodes = nodes_of(alloc, &cluster()?)?;
-    let mut one = writes(alloc, 1, &[1, 0])?;
-    let _stores = calls(&mut one, &mut nodes, &[0, 1, 2, 3])?;
-    let _kept = calls(&mut one, &mut nodes, &[0, 1])?;
-    let mut two = writes(alloc, 2, &[2, 0])?;
-    let _stores = calls(&mut two, &mut nodes, &[0, 2, 3, 4])?;
-    assert!(rt; matches!(two.stamp(), Some(stamp) if stamp.time == 1 && stamp.client == 2));
-    let _kept = calls(&mut two, &mut nodes, &[0])?;
-    let mut three = reads(alloc, 3)?;
-    let lower = calls(&mut three, &mut nodes, &[0, 1, 2, 3])?;
-    assert!(rt; matches!(bound_of(&lower), Some(Bound::AtMost(stamp)) if is_first_write(&stamp)));
-    let repairs = calls(&mut three, &mut nodes, &[0, 1, 2, 3])?;
-    assert!(rt; matches!(stored_of(&repairs), Some(stamp) if is_first_write(&stamp)));
-    let ended = calls(&mut three, &mut nodes, &[0, 1, 2, 3])?;
-    assert!(rt; gave_first_write(&ended, How::Repaired, 2));
+    let mut nodes = nodes_of(rt.alloc(), &cluster()?)?;
+    leave_first_write(rt.alloc(), &mut nodes)?;
+    let second = leave_second_write(rt.alloc(), &mut nodes)?;
+    assert!(rt; matches!(second, Some(stamp) if stamp.time == 1 && stamp.client == 2));
+    assert!(rt; steps_to_first_write(rt.alloc(), &mut nodes)?);
     Ok(())
 }
 
-#[test]
-fn fragments_of_two_values_are_stepped_below(rt: HostRuntime) -> Result<(), Fail> {
-    let alloc = rt.alloc();
+// Client 9 stores fragments of two values by turns, under one stamp of time 5.
+fn poison(alloc: Global, nodes: &mut [Node]) -> Result<(), Fail> {
     let config = cluster()?;
-    let mut nodes = nodes_of(alloc, &config)?;
-    let written = first_write(alloc, &mut nodes)?;
-    assert!(rt; matches!(written, Heard::Ended(Outcome::Wrote(stamp)) if is_first_write(&stamp)));
     let value = Bytes::of(alloc, &[10, 10])?;
     let other = Bytes::of(alloc, &[11, 11])?;
     for number in 0..config.n() as u8 {
@@ -199,23 +243,28 @@ fn fragments_of_two_values_are_stepped_below(rt: HostRuntime) -> Result<(), Fail
             let _reply = node.handle(ask)?;
         }
     }
-    let mut two = reads(alloc, 2)?;
-    let below = calls(&mut two, &mut nodes, &[0, 1, 2, 3])?;
-    assert!(rt;
-        matches!(bound_of(&below), Some(Bound::Below(stamp)) if stamp.time == 5 && stamp.client == 9)
-    );
-    let ended = calls(&mut two, &mut nodes, &[0, 1, 2, 3])?;
-    assert!(rt; gave_first_write(&ended, How::Plain, 2));
     Ok(())
 }
 
+fn steps_below_poison(alloc: Global, nodes: &mut [Node]) -> Result<bool, Fail> {
+    let mut client = reads(alloc, 2)?;
+    let bound = bound_after(&mut client, nodes, &[0, 1, 2, 3])?;
+    let gives = gives_first_write(&mut client, nodes, How::Plain, 2)?;
+    Ok(matches!(bound, Some(Bound::Below(stamp)) if stamp.time == 5 && stamp.client == 9) && gives)
+}
+
 #[test]
-fn a_wrong_digest_is_an_answer_and_no_support(rt: HostRuntime) -> Result<(), Fail> {
-    let alloc = rt.alloc();
+fn fragments_of_two_values_are_stepped_below(rt: HostRuntime) -> Result<(), Fail> {
+    let mut nodes = nodes_of(rt.alloc(), &cluster()?)?;
+    let _written = first_write(rt.alloc(), &mut nodes)?;
+    poison(rt.alloc(), &mut nodes)?;
+    assert!(rt; steps_below_poison(rt.alloc(), &mut nodes)?);
+    Ok(())
+}
+
+// Node 4's answer to client 2's first ask, with a damaged fragment.
+fn damaged_answer(alloc: Global) -> Result<Message, Fail> {
     let config = cluster()?;
-    let mut nodes = nodes_of(alloc, &config)?;
-    let _written = first_write(alloc, &mut nodes)?;
-    let mut two = reads(alloc, 2)?;
     let ask = Message {
         client: 2,
         node: 4,
@@ -226,13 +275,28 @@ fn a_wrong_digest_is_an_answer_and_no_support(rt: HostRuntime) -> Result<(), Fai
         }),
     };
     let first = First::of(alloc, &config)?;
-    let Some(lie) = false_answer(alloc, &config, &first, Rule::Bad, &ask)? else {
-        return Err(Fail::from("such a liar answers"));
-    };
-    assert!(rt; matches!(hear(&mut two, &lie)?, Heard::More));
-    let repairs = calls(&mut two, &mut nodes, &[0, 1, 2])?;
-    assert!(rt; matches!(stored_of(&repairs), Some(stamp) if is_first_write(&stamp)));
-    let ended = calls(&mut two, &mut nodes, &[0, 1, 2, 3])?;
-    assert!(rt; gave_first_write(&ended, How::Repaired, 1));
+    match false_answer(alloc, &config, &first, Rule::Bad, &ask)? {
+        Some(answer) => Ok(answer),
+        None => Err(Fail::from("such a liar answers")),
+    }
+}
+
+fn repairs_beside_a_damaged_answer(alloc: Global, nodes: &mut [Node]) -> Result<bool, Fail> {
+    let mut client = reads(alloc, 2)?;
+    let lie = hear(&mut client, &damaged_answer(alloc)?)?;
+    let stored = stored_after(&mut client, nodes, &[0, 1, 2])?;
+    let gives = gives_first_write(&mut client, nodes, How::Repaired, 1)?;
+    Ok(
+        matches!(lie, Heard::More)
+            && matches!(stored, Some(stamp) if is_first_write(&stamp))
+            && gives,
+    )
+}
+
+#[test]
+fn a_wrong_digest_is_an_answer_and_no_support(rt: HostRuntime) -> Result<(), Fail> {
+    let mut nodes = nodes_of(rt.alloc(), &cluster()?)?;
+    let _written = first_write(rt.alloc(), &mut nodes)?;
+    assert!(rt; repairs_beside_a_damaged_answer(rt.alloc(), &mut nodes)?);
     Ok(())
 }
