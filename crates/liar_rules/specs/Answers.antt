@@ -2,15 +2,10 @@
 use Rattle.std.specs.Prelude.{Option}
 use Rattle.std.specs.declared.option.Option.TheVariants.{None, Some}
 use Rattle.quorum_rules.specs.Limits.{Numbers}
-use Rattle.wire_forms.specs.declared.first.First.{First}
-use Rattle.protocol.specs.Messages.{Message, Body, Reply, Version}
+use Rattle.protocol.specs.Messages.{Message, Body, Reply}
 use Rattle.wire_forms.specs.declared.message.Body.TheVariants.{Ask as Asks, Answer as Answers}
 use Rattle.protocol.specs.Lines.{Rule, false_reply}
 use Rattle.protocol.specs.Instance.{setting}
-
--- a first version as a node keeps it
-abbrev pub as_version : First → Version
-as_version f = record { stamp = f.stamp; sum = f.sum; fragment = f.fragment }
 
 -- the body is an ask
 abbrev pub IsAsk : Body → Type 0

@@ -3,7 +3,8 @@ ghost use Rattle.std.specs.Prelude.{◌≡◌, ◌↔◌, ◌<◌, IfOk, IsNone,
 ghost use Rattle.wire_forms.specs.Firsts.{first_of};
 ghost use Rattle.protocol.specs.Instance.{setting};
 ghost use Rattle.protocol.specs.Lines.{false_reply, flipped};
-ghost use Rattle.liar_rules.specs.Answers.{IsAsk, answer_to, as_version};
+ghost use Rattle.protocol.specs.Seen.{as_version};
+ghost use Rattle.liar_rules.specs.Answers.{IsAsk, answer_to};
 
 use crate::versions::{damaged, version};
 use cross_sum::Bytes;

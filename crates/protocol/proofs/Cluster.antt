@@ -9,7 +9,7 @@ use Rattle.std.proofs.lemmas.List.Kept.{AllPairs-cons}
 use Rattle.sha2.proofs.Facts256.{length-sha256}
 use Rattle.quorum_rules.specs.Limits.{Numbers}
 use Rattle.gf_field.specs.Polynomials.{AreElements, AreDistinct}
-use Rattle.gf_field.specs.Fragments.{IsShape, AreParts, string_len, string, fragments_of, decoded}
+use Rattle.gf_field.specs.Fragments.{AreParts, string_len, string, fragments_of, decoded}
 use Rattle.gf_field.proofs.Blocks.{length-fragments_of, length-fragment, fragment_bytes, decoded_is_block, decoded-fragments_of}
 use Rattle.cross_sum.specs.Digest.{digest}
 use Rattle.stamp_order.specs.declared.Stamp.{Stamp}
@@ -20,6 +20,7 @@ use Rattle.protocol.specs.Operations.Stage.{Times, Versions, Storing}
 use Rattle.protocol.specs.Seen.{SeenTask, hearing}
 use Rattle.protocol.specs.Setting.{Setting, IsValid, IsAscending}
 use Rattle.protocol.specs.Instance.{setting, setting_of, part_numbers, part_strings, IsCluster}
+use Rattle.protocol.proofs.Firsts.{shape}
 use Rattle.protocol.proofs.Lists.{Contains-head, Contains-rest}
 
 all_map : {X Y : Type 0} (P : Y → Type 0) (f : X → Y) (xs : List X) → ((x : X) → Contains xs x → P (f x)) → AllByRecursion P (map f xs)
@@ -42,22 +43,27 @@ bytes xs h = recursion_from_All (λ x. x < 256) xs h
 part_at : (parts : List (ℕ × List ℕ)) (k : ℕ) → k < length parts → Contains parts (get_or parts k (0, []))
 part_at parts k l = (k, l, get_or_default parts k (get_or parts k (0, [])) (0, []) l)
 
+-- parts of different nodes, as many as make a block, each as long as a fragment
+pub are_parts : (c : Numbers) (parts : List (ℕ × List ℕ)) → length parts ≡ c.m → IsAscending parts → ((q : ℕ × List ℕ) → Contains parts q → (q.0 < c.n) × (length q.1 ≡ string_len c.m c.size))
+    → AreParts c.n c.m (string_len c.m c.size) (part_numbers parts) (part_strings parts)
+are_parts c parts len up each = record {
+  numbers_count = length-map parts _ ∙ len;
+  count = length-map parts _ ∙ len;
+  below = All-from_recursion (λ x. x < c.n) (part_numbers parts) (all_map (λ x. x < c.n) (λ q. q.0) parts (λ q k. (each q k).0));
+  distinct = distinct parts up;
+  lengths = All-from_recursion (λ x. length x ≡ string_len c.m c.size) (part_strings parts) (all_map (λ x. length x ≡ string_len c.m c.size) (λ q. q.1) parts (λ q k. (each q k).1));
+}
+
 module _ (c : Numbers) (nodes clients : ℕ → Bool) (good : IsCluster c nodes) where
   s : Setting
   s = setting_of c nodes clients
-
-  shape : IsShape c.n c.m
-  shape =
-      let high = good.config.high in
-      let shares = good.config.shares in
-      record { some = shares.0; enough = omega (arith, high, shares.1); few = good.config.nodes.1 }
 
   fragment_length : (value : List ℕ) (i : ℕ) → length value ≡ c.size → i < c.n → length (slice_index_or (fragments_of c.n c.m value) i []) ≡ string_len c.m c.size
   fragment_length value i e l = length-fragment c.n c.m i value l ∙ ap (string_len c.m) e
 
   fragment_is_bytes : (value : List ℕ) (i : ℕ) → IsBytes value → IsBytes (slice_index_or (fragments_of c.n c.m value) i [])
   fragment_is_bytes value i h = elim (cases_lt i c.n) [
-    | inl l ↦ bytes _ (fragment_bytes c.n c.m i value shape (elements value h) l)
+    | inl l ↦ bytes _ (fragment_bytes c.n c.m i value (shape c good.config) (elements value h) l)
     | inr k ↦ subst IsBytes (sym (get_or_past (fragments_of c.n c.m value) i [] (let e = length-fragments_of c.n c.m value in omega (arith, e, k)))) tt
   ]
 
@@ -67,7 +73,7 @@ module _ (c : Numbers) (nodes clients : ℕ → Bool) (good : IsCluster c nodes)
   decodes_to : (value : List ℕ) (parts : List (ℕ × List ℕ)) → (length value ≡ c.size) × IsBytes value → length parts ≡ c.m → IsAscending parts
       → ((q : ℕ × List ℕ) → Contains parts q → (q.0 < c.n) × (q.1 ≡ slice_index_or (fragments_of c.n c.m value) q.0 [])) → decoded c.m c.size (part_numbers parts) (part_strings parts) ≡ value
   decodes_to value parts h len up each =
-      decoded-fragments_of c.n c.m c.size (part_numbers parts) (part_strings parts) value shape (elements value h.1) h.0
+      decoded-fragments_of c.n c.m c.size (part_numbers parts) (part_strings parts) value (shape c good.config) (elements value h.1) h.0
       (length-map parts _ ∙ len) (length-map parts _ ∙ len)
       (All-from_recursion (λ x. x < c.n) (part_numbers parts) (all_map (λ x. x < c.n) (λ q. q.0) parts (λ q k. (each q k).0)))
       (distinct parts up)
@@ -80,14 +86,8 @@ module _ (c : Numbers) (nodes clients : ℕ → Bool) (good : IsCluster c nodes)
   decoded_to_block : (parts : List (ℕ × List ℕ)) → length parts ≡ c.m → IsAscending parts → ((q : ℕ × List ℕ) → Contains parts q → (q.0 < c.n) × (length q.1 ≡ string_len c.m c.size) × IsBytes q.1)
       → (length (decoded c.m c.size (part_numbers parts) (part_strings parts)) ≡ c.size) × IsBytes (decoded c.m c.size (part_numbers parts) (part_strings parts))
   decoded_to_block parts len up each =
-      let are : AreParts c.n c.m (string_len c.m c.size) (part_numbers parts) (part_strings parts) = record {
-        numbers_count = length-map parts _ ∙ len;
-        count = length-map parts _ ∙ len;
-        below = All-from_recursion (λ x. x < c.n) (part_numbers parts) (all_map (λ x. x < c.n) (λ q. q.0) parts (λ q k. (each q k).0));
-        distinct = distinct parts up;
-        lengths = All-from_recursion (λ x. length x ≡ string_len c.m c.size) (part_strings parts) (all_map (λ x. length x ≡ string_len c.m c.size) (λ q. q.1) parts (λ q k. (each q k).1));
-      } in
-      let r = decoded_is_block c.n c.m c.size (part_numbers parts) (part_strings parts) shape are
+      let are = are_parts c parts len up (λ q k. let e = each q k in (e.0, e.1)) in
+      let r = decoded_is_block c.n c.m c.size (part_numbers parts) (part_strings parts) (shape c good.config) are
       (All-from_recursion AreElements (part_strings parts) (all_map AreElements (λ q. q.1) parts (λ q k. elements q.1 (each q k).2))) in
       (r.0, bytes _ r.1)
 

@@ -2,6 +2,7 @@
 use Rattle.std.specs.Prelude.{ℕ, ◌+◌, ◌-◌, ◌*◌, ◌^◌, Bool, false, if◌then◌else◌, not, ◌&&◌, ◌==◌, nat_lt, List, [], ◌∷◌, replicate, Option, slice_index_or, slice_set}
 use Rattle.std.specs.declared.option.Option.TheVariants.{None, Some}
 use Rattle.protocol.specs.Messages.{Stamp, Version, Message, Reply, Tag}
+use Rattle.wire_forms.specs.declared.first.First.{First}
 use Rattle.wire_forms.specs.declared.op.Op.{Op}
 use Rattle.wire_forms.specs.declared.op.Op.TheVariants.{Read as ReadOp, Write as WriteOp}
 use Rattle.run_words.specs.declared.record.Record.{Record as ToldRecord}
@@ -53,6 +54,10 @@ block_of (WriteOp block value) = block
 abbrev pub work_of : Op → Work
 work_of (ReadOp block) = Reads
 work_of (WriteOp block value) = Writes value
+
+-- the first version as a node keeps it
+abbrev pub as_version : First → Version
+as_version f = record { stamp = f.stamp; sum = f.sum; fragment = f.fragment }
 
 -- a record as it is told
 abbrev pub record_of : ToldRecord → Record

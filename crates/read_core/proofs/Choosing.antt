@@ -1,17 +1,14 @@
 -- The answers that carry the pivot, and what they decode to.
 use Rattle.std.proofs.Common.{◌≡◌, ℕ, zero, suc, ◌-◌, ◌<◌, ◌≤◌, Bool, true, false, cond, List, [], ◌∷◌, length, take, map, Option, refl, sym, ◌∙◌, ap, arith}
 use Rattle.std.specs.declared.option.Option.TheVariants.{None, Some}
-use Rattle.std.specs.List.{Contains, AllByRecursion}
+use Rattle.std.specs.List.{Contains}
 use Rattle.std.proofs.lemmas.List.{length-map}
-use Rattle.std.proofs.lemmas.List.Elements.{All-from_recursion}
-use Rattle.std.proofs.lemmas.List.Kept.{AllPairs-cons}
 use Rattle.quorum_rules.specs.Limits.{Numbers, IsValid}
 use Rattle.stamp_order.specs.declared.Stamp.{Stamp}
 use Rattle.stamp_order.specs.declared.Bound.{Bound}
 use Rattle.stamp_order.specs.Stamps.{same_stamp}
 use Rattle.cross_sum.specs.declared.part.Part.{Part}
 use Rattle.cross_sum.specs.Parts.{numbers, strings}
-use Rattle.gf_field.specs.Polynomials.{AreDistinct}
 use Rattle.gf_field.specs.Fragments.{AreParts, string_len, decoded}
 use Rattle.wire_forms.specs.declared.message.Version.{Version}
 use Rattle.wire_forms.specs.declared.message.Reply.{Reply}
@@ -22,10 +19,10 @@ use Rattle.protocol.specs.Instance.{setting, nobody, part_numbers, part_strings,
 use Rattle.protocol.specs.Operations.{stamp_of, is_valid, is_whole, valid, carries, only_if, numbered, part_of, stamps as stamps_of, support, carriers, chosen, candidate, sum_of_first}
 use Rattle.protocol.proofs.Counting.{both_true}
 use Rattle.protocol.proofs.Seeing.{funext}
-use Rattle.protocol.proofs.Lists.{Contains-head, Contains-rest, Contains-take, Contains-collect, Contains-map_cases}
+use Rattle.protocol.proofs.Lists.{Contains-head, Contains-take, Contains-collect, Contains-map_cases}
 use Rattle.protocol.proofs.Parts.{length_chosen, ascending_chosen}
 use Rattle.protocol.proofs.Rounds.{whole_facts, valid_was}
-use Rattle.protocol.proofs.Cluster.{cluster_valid}
+use Rattle.protocol.proofs.Cluster.{are_parts, cluster_valid}
 use Rattle.candidate_class.specs.Stamps.{stamp_at, is_stamp}
 use Rattle.candidate_class.proofs.Nodes.{is_stamp-stamp_of}
 use Rattle.read_core.specs.Rounds.{answer_at}
@@ -65,17 +62,6 @@ numbers-shown (p ∷ parts) = ap (λ (xs : List ℕ). p.number ∷ xs) (numbers-
 pub strings-shown : (parts : List Part) → strings parts ≡ part_strings (shown_parts parts)
 strings-shown [] = refl
 strings-shown (p ∷ parts) = ap (λ (xs : List (List ℕ)). p.bytes ∷ xs) (strings-shown parts)
-
-all_map : {X Y : Type 0} (P : Y → Type 0) (f : X → Y) (xs : List X) → ((x : X) → Contains xs x → P (f x)) → AllByRecursion P (map f xs)
-all_map P f [] h = tt
-all_map P f (x ∷ xs) h = (h x (Contains-head x xs), all_map P f xs (λ y k. h y (Contains-rest y x xs k)))
-
-distinct : (parts : List (ℕ × List ℕ)) → IsAscending parts → AreDistinct (part_numbers parts)
-distinct [] h = λ i j d l k. absurd (omega (arith, k))
-distinct (p ∷ ps) h =
-    AllPairs-cons (λ x y. x ≡ y → ⊥) p.0 (part_numbers ps)
-    (All-from_recursion (λ x. p.0 ≡ x → ⊥) (part_numbers ps) (all_map (λ x. p.0 ≡ x → ⊥) (λ q. q.0) ps (λ q k e. let l = h.0 q k in omega (arith, l, e))))
-    (distinct ps h.1)
 
 module _ (c : Numbers) (good : IsValid c) (bound : Bound) (answers : List (Option Reply)) (stamps : List (Option Stamp)) (are : stamp_at stamps ≡ stamps_of (setting c) (answer_at answers) bound) (p : Stamp) where
   s : Setting
@@ -136,13 +122,7 @@ module _ (c : Numbers) (good : IsValid c) (bound : Bound) (answers : List (Optio
       pairs_are ps e =
           let count : length ps ≡ c.m = ap length e ∙ length-map (chosen (setting c) (answer_at answers) bound p) part_of ∙ len in
           let up : IsAscending ps = rw e (ascending_chosen (setting c) (cluster_valid c nobody nobody cluster) (answer_at answers) bound p) in
-          record {
-            numbers_count = length-map ps _ ∙ count;
-            count = length-map ps _ ∙ count;
-            below = All-from_recursion (λ x. x < c.n) (part_numbers ps) (all_map (λ x. x < c.n) (λ q. q.0) ps (λ q k. (each_part ps e q k).0));
-            distinct = distinct ps up;
-            lengths = All-from_recursion (λ x. length x ≡ string_len c.m c.size) (part_strings ps) (all_map (λ x. length x ≡ string_len c.m c.size) (λ q. q.1) ps (λ q k. (each_part ps e q k).1));
-          }
+          are_parts c ps count up (each_part ps e)
 
       pub parts_are : AreParts c.n c.m (string_len c.m c.size) (numbers parts) (strings parts)
       parts_are = rw (numbers-shown parts, strings-shown parts) (pairs_are (shown_parts parts) are_chosen)

@@ -5,15 +5,17 @@ use Rattle.std.proofs.lemmas.List.{get_or-replicate}
 use Rattle.cross_sum.specs.Digest.{digest, verifier}
 use Rattle.gf_field.specs.Fragments.{IsShape, fragments_of}
 use Rattle.gf_field.proofs.Blocks.{fragments_of-zeros}
-use Rattle.quorum_rules.specs.Limits.{Numbers, IsValid}
-use Rattle.wire_forms.specs.Firsts.{share_of, zero_fragments, first_of}
+use Rattle.quorum_rules.specs.Limits.{Numbers, IsValid, share_of}
+use Rattle.wire_forms.specs.Firsts.{zero_fragments, first_of}
 use Rattle.protocol.specs.Messages.{Version}
+use Rattle.protocol.specs.Setting.{first_stamp}
 use Rattle.protocol.specs.Nodes.{first_version}
 use Rattle.protocol.specs.Instance.{setting}
-use Rattle.liar_rules.specs.Answers.{as_version}
+use Rattle.protocol.specs.Seen.{as_version}
 
 module _ (c : Numbers) (h : IsValid c) where
-  shape : IsShape c.n c.m
+  -- the code of a valid configuration
+  pub shape : IsShape c.n c.m
   shape = record { some = h.shares.0; enough = (let a = h.shares.1 in let b = h.high in omega arith); few = h.nodes.1 }
 
   version_of : ℕ → List (List ℕ) → Version
@@ -26,3 +28,6 @@ module _ (c : Numbers) (h : IsValid c) where
       let f : version_of i (fragments_of c.n c.m (replicate c.size 0)) ≡ version_of i (zero_fragments c) = ap (version_of i) (fragments_of-zeros c.n c.m c.size shape) in
       let g : version_of i (zero_fragments c) ≡ as_version (first_of c) = ap (λ (x : List ℕ). record { stamp = (first_of c).stamp; sum = (first_of c).sum; fragment = x }) e in
       sym (f ∙ g)
+
+  pub first_stamp_is : (first_of c).stamp ≡ first_stamp (setting c)
+  first_stamp_is = ap (λ (v : Version). v.stamp) (first_is 0 (let some = h.nodes.0 in omega arith))
