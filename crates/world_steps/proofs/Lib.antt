@@ -4,3 +4,5 @@ pub mod Seated
 pub mod Settling
 pub mod Taking
 pub mod Begun
+pub mod Back
+pub mod Resent
