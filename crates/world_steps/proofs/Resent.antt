@@ -14,7 +14,7 @@ use Rattle.world_steps.specs.Worlds.{WorldView, setting_in, world_in}
 
 collect-same : {A : Type 0} (n : ℕ) (f g : ℕ → Option A) → ((i : ℕ) → i < n → f i ≡ g i) → collect n f ≡ collect n g
 collect-same zero f g h = refl
-collect-same (suc k) f g h i = one_more (collect-same k f g (λ j l. h j (omega (arith, l))) i) (h k (omega arith) i)
+collect-same (suc k) f g h = λ i. one_more (collect-same k f g (λ j l. h j (omega (arith, l))) i) (h k (omega arith) i)
 
 collect-none : {A : Type 0} (n : ℕ) → collect {A = A} n (λ i. None) ≡ []
 collect-none zero = refl
