@@ -114,7 +114,7 @@ module _ (c : Numbers) (hosts : List Host) (seats : List Seat) (records : List T
       ];
       ascend = rw map-append (ascend_push (map (λ r. r.start) records) new.start h.ascend (all_below records new.start (λ j r e. let m = h.placed j r e in omega (arith, m, later, start))));
       placed = λ j x e. elim (slice_get-push_cases records new j x e) [
-        | inl f ↦ (let g : x.start ≡ new.start = ap (λ (y : Told). y.start) f in omega (arith, g, start))
+        | inl f ↦ (let g : x.start ≡ new.start = ap (λ (y : Told). y.start) f.1 in omega (arith, g, start))
         | inr f ↦ (let m = h.placed j x f in omega (arith, m, later))
       ];
     }

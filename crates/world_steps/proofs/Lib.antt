@@ -6,3 +6,4 @@ pub mod Taking
 pub mod Begun
 pub mod Back
 pub mod Resent
+pub mod Beginning

@@ -38,8 +38,8 @@ pub slice_get-end : {A : Type 0} (xs : List A) (x : A) → slice_get (xs ++ x �
 slice_get-end [] x = refl
 slice_get-end (z ∷ zs) x = slice_get-end zs x
 
-pub slice_get-push_cases : {A : Type 0} (xs : List A) (x : A) (k : ℕ) (y : A) → slice_get (xs ++ x ∷ []) k ≡ Some y → (y ≡ x) ⊎ (slice_get xs k ≡ Some y)
-slice_get-push_cases [] x zero y e = inl (cc)
+pub slice_get-push_cases : {A : Type 0} (xs : List A) (x : A) (k : ℕ) (y : A) → slice_get (xs ++ x ∷ []) k ≡ Some y → ((k ≡ length xs) × (y ≡ x)) ⊎ (slice_get xs k ≡ Some y)
+slice_get-push_cases [] x zero y e = inl (refl, cc)
 slice_get-push_cases [] x (suc k) y e = absurd (cc)
 slice_get-push_cases (z ∷ zs) x zero y e = inr e
-slice_get-push_cases (z ∷ zs) x (suc k) y e = slice_get-push_cases zs x k y e
+slice_get-push_cases (z ∷ zs) x (suc k) y e = elim (slice_get-push_cases zs x k y e) [ inl h ↦ inl (ap suc h.0, h.1) | inr h ↦ inr h ]

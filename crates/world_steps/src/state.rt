@@ -1,6 +1,7 @@
 ghost use Rattle.std.specs.Prelude.{◌≡◌, ◌<◌, List, length, IfOk};
 ghost use Rattle.protocol.specs.Instance.{setting_of};
 ghost use Rattle.wire_forms.specs.Liars.{has_number};
+ghost use Rattle.quorum_rules.specs.Limits.{IsValid};
 ghost use Rattle.protocol.specs.World.{start_world};
 ghost use Rattle.world_steps.specs.Worlds.{setting_in, world_in, AreLiars};
 ghost use Rattle.world_steps.specs.Beginnings.{AreNewHosts, AreNewSeats};
@@ -88,6 +89,7 @@ impl State {
 
 /// The nodes before anything took place.
 fn new_hosts(alloc: Global, config: &Config, liars: &Liars) -> Result<Vec<Host>, NoMemory>
+    ensures valid { IsValid config.now }
     ensures count { IfOk result (λ hosts. length hosts.items ≡ config.now.n) }
     ensures hosts { IfOk result (λ hosts. AreNewHosts config.now (has_number liars.now.nodes) hosts.items) }
 {
