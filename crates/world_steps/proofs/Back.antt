@@ -1,11 +1,11 @@
 -- A client comes back.
-use Rattle.std.proofs.Common.{◌≡◌, ℕ, ◌+◌, ◌<◌, ◌≤◌, false, length, get_or, refl, sym, ◌∙◌, ap, subst}
+use Rattle.std.proofs.Common.{◌≡◌, ℕ, ◌+◌, ◌<◌, ◌≤◌, false, length, map, refl, sym, ◌∙◌, ap, subst}
 use Rattle.std.specs.Prelude.{slice_set}
 use Rattle.std.specs.declared.option.Option.TheVariants.{None}
 use Rattle.std.specs.Vec.{with_item}
 use Rattle.protocol.specs.Count.{update}
 use Rattle.protocol.specs.World.{back_again}
-use Rattle.protocol.specs.Seen.{client_at, record_of}
+use Rattle.protocol.specs.Seen.{client_at, started_task, record_of}
 use Rattle.client_core.specs.Clients.{ClientView}
 use Rattle.world_steps.specs.declared.seat.Seat.{Seat}
 use Rattle.world_steps.specs.declared.state.State.TheInside.{Inside}
@@ -27,7 +27,7 @@ module _ (w : Inside) (k : ℕ) (inside : k < length w.seats.items) (seat : Seat
       (record {
         config = ap (λ (x : ClientView). x.config) is;
         id = ap (λ (x : ClientView). x.id) is;
-        task = subst (IsTaskOf w.config (Rattle.std.proofs.Common.map record_of w.records) w.place k seat.start seat.record) (sym (ap (λ (x : ClientView). x.seen.task) is)) tt;
+        task = subst (IsTaskOf w.config (map record_of w.records) w.place k seat.start seat.record) (sym (ap (λ (x : ClientView). x.seen.task) is)) tt;
       }))
       place later
 
@@ -35,7 +35,7 @@ module _ (w : Inside) (k : ℕ) (inside : k < length w.seats.items) (seat : Seat
   back-world more =
       world-seat w k inside new_seat w.pool w.records place
       ∙ (λ i. record (world_in (the_view w)) {
-        task = update (world_in (the_view w)).task k (Rattle.protocol.specs.Seen.started_task seat.start (is i).seen.task);
+        task = update (world_in (the_view w)).task k (started_task seat.start (is i).seen.task);
         life = update (world_in (the_view w)).life k ((ap (λ (x : ClientView). x.seen.life) is ∙ more) i);
         started = update (world_in (the_view w)).started k (is i).seen.started;
         client_crashed = update (world_in (the_view w)).client_crashed k false;

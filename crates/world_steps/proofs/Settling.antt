@@ -29,22 +29,17 @@ use Rattle.world_steps.proofs.Seated.{update-known, world-seat, client-seat, tas
 
 -- ---- the record of an operation is the one that began at its place
 
-not_replaced : (new : Record) (xs : List Record) → AllByRecursion (λ y. new.start < y) (map (λ r. r.start) xs) → with_record xs new ≡ xs
-not_replaced new [] h = refl
-not_replaced new (x ∷ xs) h = λ i. at (eqb x.client new.client) (eqb x.start new.start) (eqb_tells x.start new.start) i ∷ not_replaced new xs h.1 i
+kept_apart : (new x : Record) → (x.start ≡ new.start → ⊥) → replaced_by new x ≡ x
+kept_apart new x apart = at (eqb x.client new.client) (eqb x.start new.start) (eqb_tells x.start new.start)
   where
     at : (a b : Bool) → ((b ≡ true) × (x.start ≡ new.start)) ⊎ ((b ≡ false) × (x.start ≡ new.start → ⊥)) → cond (a && b) new x ≡ x
     at false b e = refl
-    at true b (inl e) = absurd (let l = h.0 in let q = e.1 in omega (arith, l, q))
+    at true b (inl e) = absurd (apart e.1)
     at true b (inr e) = rw (e.0) refl
 
-kept_before : (new x : Record) → x.start < new.start → replaced_by new x ≡ x
-kept_before new x l = at (eqb x.client new.client) (eqb x.start new.start) (eqb_tells x.start new.start)
-  where
-    at : (a b : Bool) → ((b ≡ true) × (x.start ≡ new.start)) ⊎ ((b ≡ false) × (x.start ≡ new.start → ⊥)) → cond (a && b) new x ≡ x
-    at false b e = refl
-    at true b (inl e) = absurd (let q = e.1 in omega (arith, l, q))
-    at true b (inr e) = rw (e.0) refl
+not_replaced : (new : Record) (xs : List Record) → AllByRecursion (λ y. new.start < y) (map (λ r. r.start) xs) → with_record xs new ≡ xs
+not_replaced new [] h = refl
+not_replaced new (x ∷ xs) h = λ i. kept_apart new x (λ e. let l = h.0 in omega (arith, l, e)) i ∷ not_replaced new xs h.1 i
 
 replaced_here : (new x : Record) → x.client ≡ new.client → x.start ≡ new.start → replaced_by new x ≡ new
 replaced_here new x e f = at (eqb x.client new.client) (eqb x.start new.start) (eqb_tells x.client new.client) (eqb_tells x.start new.start)
@@ -59,6 +54,7 @@ above_all y [] i x h e = absurd (cc)
 above_all y (z ∷ zs) zero x h e = let q : z ≡ x = cc in subst (λ (r : Record). y < r.start) q h.0
 above_all y (z ∷ zs) (suc i) x h e = above_all y zs i x h.1 e
 
+-- so to put a record in its place is to set the one of its number
 pub with_record-set : (rs : List Record) (i : ℕ) (old new : Record) → Ascend (map (λ r. r.start) rs) → slice_get rs i ≡ Some old → old.client ≡ new.client → old.start ≡ new.start → slice_set rs i new ≡ with_record rs new
 with_record-set [] i old new h e f g = absurd (cc)
 with_record-set (x ∷ xs) zero old new h e f g =
@@ -67,7 +63,7 @@ with_record-set (x ∷ xs) zero old new h e f g =
     ∷ sym (not_replaced new xs (subst (λ n. AllByRecursion (λ y. n < y) (map (λ r. r.start) xs)) (ap (λ (r : Record). r.start) q ∙ g) h.0)) j
 with_record-set (x ∷ xs) (suc i) old new h e f g =
     let l = above_all x.start xs i old h.0 e in
-    λ j. sym (kept_before new x (omega (arith, l, g))) j ∷ with_record-set xs i old new h.1 e f g j
+    λ j. sym (kept_apart new x (λ q. omega (arith, l, g, q))) j ∷ with_record-set xs i old new h.1 e f g j
 
 -- ---- the change of a seat and its record
 

@@ -70,7 +70,11 @@ impl State {
         ensures lying_clients { OnOk result (self.new.lying_clients ≡ self.old.lying_clients) }
         ensures err { OnErr result (self.new ≡ self.old) }
     {
-        let mail = outstanding(self.alloc, &self.seats[client as usize].client, &self.config)?;
+        let mail = outstanding(
+            self.alloc,
+            &self.seats[client as usize].client,
+            &self.config,
+        )?;
         self.send(place, mail)
     }
 
@@ -257,11 +261,7 @@ fn outstanding(alloc: Global, client: &Client, config: &Config) -> Result<Mail, 
 }
 
 /// What a message makes of a client, and the messages of the next phase if one begins.
-fn turn_of(
-    alloc: Global,
-    mut hearer: Client,
-    message: &Message,
-) -> Result<(Turn, Mail), NoMemory>
+fn turn_of(alloc: Global, mut hearer: Client, message: &Message) -> Result<(Turn, Mail), NoMemory>
     requires { phase_of hearer.seen.task < 2 ^ 64 - 1 }
     ensures turn { IfOk result (λ r. IsTurn hearer (hears hearer hearer.seen.task message.now) r.0) }
     ensures mail { IfOk result (λ r. r.1 ≡ next_mail hearer (hears hearer hearer.seen.task message.now)) }

@@ -1,7 +1,5 @@
 use Rattle.std.proofs.Common.{◌≡◌, ◌<◌, ◌+◌, length, refl, sym, ◌∙◌, ap, subst, arith}
 use Rattle.protocol.specs.World.{back_again}
-use Rattle.protocol.specs.Seen.{client_at}
-use Rattle.world_steps.specs.contracts.state.State.{the_view}
 use Rattle.world_steps.specs.Worlds.{setting_in, world_in}
 use Rattle.world_steps.proofs.Holding.{seat-within}
 use Rattle.world_steps.proofs.Seated.{lying-seat, client-seat}
@@ -9,9 +7,11 @@ use Rattle.world_steps.proofs.Back.{back-kept, back-world}
 use Rattle.world_steps.proofs.state.State.come_back.Goals as goal
 
 pub invariant_of-self : goal.invariant_of-self
-invariant_of-self c =
-    (back-kept c.self.inside c.args.client (seat-within _ _ _ _ _ c.self.invariant.0 c.args.client c.requires.client) c.index_mut-seat.result.now c.self.invariant.0
-    c.args.place (let l = c.requires.later in let e = ap (λ v. v.seen.place) c.self.view_is in omega (arith, l, e)) c.in_ok-again.again _ c.in_ok-again.ensures, c.self.invariant.1)
+invariant_of-self c = (
+  back-kept c.self.inside c.args.client (seat-within _ _ _ _ _ c.self.invariant.0 c.args.client c.requires.client) c.index_mut-seat.result.now c.self.invariant.0
+      c.args.place (let l = c.requires.later in let e = ap (λ v. v.seen.place) c.self.view_is in omega (arith, l, e)) c.in_ok-again.again _ c.in_ok-again.ensures,
+  c.self.invariant.1,
+)
 
 pub returns-clause-ok : goal.returns-clause-ok
 returns-clause-ok c =

@@ -1,4 +1,4 @@
-use Rattle.std.proofs.Common.{◌≡◌, refl}
+use Rattle.std.proofs.Common.{refl}
 use Rattle.world_steps.specs.declared.state.State.TheInside.{Inside}
 use Rattle.world_steps.proofs.Beginning.{liars-begin, world-begin, kept-begin}
 use Rattle.world_steps.proofs.state.State.new.Goals as goal

@@ -1,9 +1,8 @@
-use Rattle.std.proofs.Common.{◌≡◌, length, sym, ◌∙◌, ap, subst}
+use Rattle.std.proofs.Common.{◌≡◌, sym, ◌∙◌, ap, subst}
 use Rattle.std.specs.Prelude.{OnOk}
 use Rattle.protocol.specs.Count.{collect}
 use Rattle.protocol.specs.Instance.{setting}
 use Rattle.protocol.specs.Seen.{client_at, outstanding_of}
-use Rattle.world_steps.specs.contracts.state.State.{the_view}
 use Rattle.world_steps.specs.Worlds.{world_in}
 use Rattle.world_steps.proofs.Holding.{seat-within}
 use Rattle.world_steps.proofs.Seated.{client-seat, seat-there}
@@ -18,7 +17,7 @@ returns-clause-ok c =
     let seat = c.index.result.now in
     let is = c.self.invariant.0.seat k seat (seat-there w k inside seat c.index.ensures) in
     let mail = c.in_ok-mail.ensures
-        ∙ ap (λ id. collect w.config.n (outstanding_of (setting w.config) id seat.client.seen.task)) is.id
-        ∙ ap (λ x. collect w.config.n (outstanding_of (setting w.config) k x.task)) (sym (client-seat w k inside seat c.index.ensures))
-        ∙ ap (λ v. collect v.config.n (outstanding_of (setting v.config) k (client_at v.seen k).task)) c.self.view_is in
+    ∙ ap (λ id. collect w.config.n (outstanding_of (setting w.config) id seat.client.seen.task)) is.id
+    ∙ ap (λ x. collect w.config.n (outstanding_of (setting w.config) k x.task)) (sym (client-seat w k inside seat c.index.ensures))
+    ∙ ap (λ v. collect v.config.n (outstanding_of (setting v.config) k (client_at v.seen k).task)) c.self.view_is in
     subst (λ x. OnOk c.send.result (world_in c.send.new.self ≡ x)) (resent c.args.self.now c.args.place k c.in_ok-mail.mail mail) c.send.ensures.ok
