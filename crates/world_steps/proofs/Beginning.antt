@@ -1,8 +1,8 @@
 -- The world before anything took place.
-use Rattle.std.proofs.Common.{◌≡◌, ◌⊎◌, ℕ, ◌<◌, ◌≤◌, ◌==◌, Bool, true, false, List, [], ◌∷◌, ◌++◌, length, map, get_or, Option, refl, sym, ◌∙◌, ap, subst, inl, inr, arith, eqb}
+use Rattle.std.proofs.Common.{◌≡◌, ℕ, ◌<◌, ◌≤◌, Bool, false, List, [], ◌∷◌, ◌++◌, length, map, get_or, refl, sym, ◌∙◌, ap, subst, inl, inr, arith, eqb}
 use Rattle.std.specs.Prelude.{slice_get, slice_index_or}
-use Rattle.std.specs.List.{All, list_any}
-use Rattle.std.specs.declared.option.Option.TheVariants.{None, Some}
+use Rattle.std.specs.List.{All}
+use Rattle.std.specs.declared.option.Option.TheVariants.{Some}
 use Rattle.std.proofs.lemmas.Bool.Decides.{eqb_tells}
 use Rattle.std.proofs.lemmas.List.{length-map, get_or-map, get_or_past, get_or-replicate, length-replicate}
 use Rattle.std.proofs.lemmas.List.Folds.{list_any_none}
@@ -15,7 +15,7 @@ use Rattle.protocol.specs.Report.{Ascend}
 use Rattle.protocol.specs.Nodes.{first_version}
 use Rattle.protocol.specs.Instance.{setting, setting_of}
 use Rattle.protocol.specs.World.{start_world}
-use Rattle.protocol.specs.Seen.{SeenClient, new_client, client_at, started_task, record_of, accepted_of}
+use Rattle.protocol.specs.Seen.{new_client, client_at, started_task, record_of, accepted_of}
 use Rattle.protocol.proofs.Seeing.{versions-new}
 use Rattle.world_steps.specs.declared.host.Host.{Host}
 use Rattle.world_steps.specs.declared.seat.Seat.{Seat}

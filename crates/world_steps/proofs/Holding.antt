@@ -1,21 +1,20 @@
 -- What a change of one seat, of its record and of the place leaves of a kept world.
-use Rattle.std.proofs.Common.{◌≡◌, ◌⊎◌, ℕ, ◌+◌, ◌<◌, ◌≤◌, suc, List, [], ◌∷◌, ◌++◌, length, map, Option, refl, sym, ◌∙◌, ap, inl, inr, arith}
+use Rattle.std.proofs.Common.{◌≡◌, ℕ, ◌<◌, ◌≤◌, suc, List, [], ◌∷◌, ◌++◌, length, map, Option, refl, sym, ◌∙◌, ap, inl, inr, arith}
 use Rattle.std.specs.Prelude.{slice_get, slice_set}
 use Rattle.std.specs.Option.{option_map}
 use Rattle.std.specs.declared.option.Option.TheVariants.{None, Some}
 use Rattle.std.specs.List.{AllByRecursion}
 use Rattle.std.proofs.Math.Seq.{map-set_same}
-use Rattle.std.proofs.lemmas.List.{length-set, map-append, map-set, set-get_or}
-use Rattle.std.proofs.lemmas.Option.{slice_get_within, get_or_from_slice_get, slice_get-map}
+use Rattle.std.proofs.lemmas.List.{length-set, map-append, map-set}
+use Rattle.std.proofs.lemmas.Option.{get_or_from_slice_get, slice_get-map}
 use Rattle.quorum_rules.specs.Limits.{Numbers}
 use Rattle.run_words.specs.declared.record.Record.{Record as Told}
 use Rattle.protocol.specs.World.{Record, open_record}
-use Rattle.protocol.specs.Report.{Ascend}
 use Rattle.protocol.specs.Seen.{SeenTask, task_at, record_of}
 use Rattle.protocol.proofs.Starts.{ascend_push}
 use Rattle.world_steps.specs.declared.host.Host.{Host}
 use Rattle.world_steps.specs.declared.seat.Seat.{Seat}
-use Rattle.world_steps.specs.Seats.{IsWorld, IsSeat, IsTaskOf, IsUnderWay}
+use Rattle.world_steps.specs.Seats.{IsWorld, IsSeat, IsTaskOf}
 use Rattle.world_steps.proofs.Places.{slice_get-set_cases, slice_get-set_other, slice_get-push, slice_get-push_cases}
 
 -- a task stays told where the place is raised, and the record of its number is what it was

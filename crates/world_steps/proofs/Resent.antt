@@ -1,5 +1,5 @@
 -- The messages of a client's present phase, node by node.
-use Rattle.std.proofs.Common.{◌≡◌, ℕ, zero, suc, ◌<◌, Bool, true, false, cond, List, [], ◌++◌, Option, refl, sym, ◌∙◌, ap, subst, arith, ltb}
+use Rattle.std.proofs.Common.{◌≡◌, ℕ, zero, suc, ◌<◌, true, cond, List, [], ◌++◌, Option, refl, ◌∙◌, ap, arith, ltb}
 use Rattle.std.specs.declared.option.Option.TheVariants.{None, Some}
 use Rattle.std.specs.Prelude.{slice_index_or}
 use Rattle.std.proofs.lemmas.Bool.Decides.{nat_tests}
@@ -7,8 +7,8 @@ use Rattle.std.proofs.lemmas.List.{append-nil}
 use Rattle.protocol.specs.Count.{collect, one_more}
 use Rattle.protocol.specs.Messages.{Message}
 use Rattle.protocol.specs.Instance.{setting}
-use Rattle.protocol.specs.Operations.{mail, outstanding}
-use Rattle.protocol.specs.World.{World, sent, resent_by}
+use Rattle.protocol.specs.Operations.{outstanding}
+use Rattle.protocol.specs.World.{sent, resent_by}
 use Rattle.protocol.specs.Seen.{SeenTask, client_at, task_at, started_task, outstanding_of}
 use Rattle.world_steps.specs.Worlds.{WorldView, setting_in, world_in}
 

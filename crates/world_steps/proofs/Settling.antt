@@ -1,5 +1,5 @@
 -- A client becomes the one that heard a message, and its record tells how its operation stands.
-use Rattle.std.proofs.Common.{◌≡◌, ◌⊎◌, ℕ, zero, suc, ◌+◌, ◌<◌, ◌≤◌, Bool, true, false, cond, ◌&&◌, List, [], ◌∷◌, length, map, get_or, Option, refl, sym, ◌∙◌, ap, subst, inl, inr, arith, eqb}
+use Rattle.std.proofs.Common.{◌≡◌, ◌⊎◌, ℕ, zero, suc, ◌<◌, Bool, true, false, cond, ◌&&◌, List, [], ◌∷◌, length, map, get_or, Option, refl, sym, ◌∙◌, ap, subst, inl, inr, arith, eqb}
 use Rattle.std.specs.Prelude.{slice_get, slice_set, IfSome}
 use Rattle.std.specs.Option.{option_map}
 use Rattle.std.specs.declared.option.Option.TheVariants.{None, Some}
@@ -11,21 +11,21 @@ use Rattle.std.proofs.lemmas.Simd.{map-map}
 use Rattle.std.specs.Vec.{with_item}
 use Rattle.run_words.specs.declared.record.Record.{Record as Told}
 use Rattle.protocol.specs.Count.{update}
-use Rattle.protocol.specs.Messages.{Message, Stamp}
-use Rattle.protocol.specs.Operations.{Task, Work, Outcome}
-use Rattle.protocol.specs.World.{World, Record, open_record, with_record, replaced_by, chosen_stamp}
+use Rattle.protocol.specs.Messages.{Stamp}
+use Rattle.protocol.specs.Operations.{Task, Outcome}
+use Rattle.protocol.specs.World.{Record, open_record, with_record, replaced_by, chosen_stamp}
 use Rattle.protocol.specs.Report.{Ascend}
 use Rattle.protocol.specs.Seen.{SeenTask, task_at, started_task, record_of}
 use Rattle.client_core.specs.Clients.{ClientView}
 use Rattle.world_steps.specs.declared.seat.Seat.{Seat}
 use Rattle.world_steps.specs.declared.state.State.TheInside.{Inside}
 use Rattle.world_steps.specs.contracts.state.State.{the_view}
-use Rattle.world_steps.specs.Worlds.{setting_in, world_in}
-use Rattle.world_steps.specs.Seats.{IsWorld, IsSeat, IsTaskOf, IsUnderWay}
-use Rattle.world_steps.specs.Turns.{IsSame, MayGoOn, Becomes, settled}
+use Rattle.world_steps.specs.Worlds.{world_in}
+use Rattle.world_steps.specs.Seats.{IsWorld, IsTaskOf, IsUnderWay}
+use Rattle.world_steps.specs.Turns.{IsSame, Becomes, settled}
 use Rattle.world_steps.proofs.Places.{slice_get-set_same}
 use Rattle.world_steps.proofs.Holding.{told}
-use Rattle.world_steps.proofs.Seated.{update-known, world-seat, client-seat, task-seat, crashed-seat, seat-there}
+use Rattle.world_steps.proofs.Seated.{update-known, world-seat, task-seat, crashed-seat, seat-there}
 
 -- ---- the record of an operation is the one that began at its place
 

@@ -8,7 +8,6 @@ use Rattle.std.proofs.lemmas.Option.{slice_get_cases}
 use Rattle.quorum_rules.specs.Limits.{Numbers}
 use Rattle.protocol.specs.Count.{update}
 use Rattle.protocol.specs.Messages.{Reply, Message}
-use Rattle.wire_forms.specs.declared.message.Body.TheVariants.{Answer as Answers}
 use Rattle.protocol.specs.Setting.{Setting}
 use Rattle.protocol.specs.Instance.{setting}
 use Rattle.protocol.specs.Operations.{Task, Outcome, Decision, answered, decide}
@@ -26,8 +25,8 @@ use Rattle.world_steps.specs.contracts.state.State.{the_view}
 use Rattle.world_steps.specs.Worlds.{WorldView, setting_in, world_in}
 use Rattle.world_steps.specs.Seats.{IsWorld, IsTaskOf}
 use Rattle.world_steps.specs.Steps.{seated, IsAnswer}
-use Rattle.world_steps.specs.Turns.{IsTurn, next_mail, goes_to, IsSame, MayGoOn, Becomes, MayTake, settled, taken}
-use Rattle.world_steps.proofs.Seated.{client-seat, seat-there}
+use Rattle.world_steps.specs.Turns.{IsTurn, next_mail, goes_to, IsSame, Becomes, MayTake, settled, taken}
+use Rattle.world_steps.proofs.Seated.{client-seat}
 
 -- the operation u follows t
 record IsNext (n : ℕ) (t u : SeenTask) : Type 0 where
