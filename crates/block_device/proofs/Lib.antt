@@ -1,0 +1,5 @@
+mod Touching
+mod Merges
+mod Fitting
+mod Doing
+mod Reading

@@ -1,0 +1,4 @@
+pub mod Ranges
+pub mod Steps
+pub mod Device
+pub mod Refusals

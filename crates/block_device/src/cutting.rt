@@ -1,0 +1,138 @@
+ghost use Rattle.std.specs.Prelude.{◌≡◌, ◌+◌, ◌*◌, ◌≤◌, ◌<◌, ◌↔◌, ◌++◌, IfOk, OnOk, IsErrOf, All, None, Some, length};
+ghost use Rattle.block_device.specs.Ranges.{start_of, len_of, fault_of};
+ghost use Rattle.block_device.specs.Steps.{put_steps, steps_in, steps_of, Fits};
+
+use crate::refusal::DeviceRefusal;
+use crate::steps::{BlockStep, BlockSteps};
+use cross_sum::Bytes;
+use line_forms::DeviceFault;
+use lists::NoMemory;
+use quorum_rules::Config;
+use std::alloc::Global;
+use wire_forms::DeviceOp;
+
+/// Why a command is refused, if it is: `PastEnd` where its range goes past the device's end, whatever its numbers, else
+/// `EmptyRange` where it has no byte.
+pub fn range_fault(config: &Config, op: &DeviceOp) -> Option<DeviceFault>
+    ensures { result ≡ fault_of config.now op.now }
+{
+    let start = start_of(op);
+    let len = len_of(op);
+    let end = len_of_device(config);
+    if start > end || len > end - start {
+        return Some(DeviceFault::PastEnd);
+    }
+    if len == 0 {
+        return Some(DeviceFault::EmptyRange);
+    }
+    None
+}
+
+/// The steps of a command. For each block that its range touches, from the first to the last, a get reads the block; a put
+/// writes it whole where the range covers it, else reads it and then merges its bytes in.
+///
+/// `PastEnd` and `EmptyRange` come exactly where `range_fault` tells them.
+pub fn commands(alloc: Global, config: &Config, op: &DeviceOp) -> Result<BlockSteps, DeviceRefusal>
+    ensures steps { IfOk result (λ steps. steps ≡ steps_of config.now op.now) }
+    ensures fit { IfOk result (λ steps. All (Fits config.now) steps) }
+    ensures ok { OnOk result (fault_of config.now op.now ≡ None) }
+    ensures past_end { IsErrOf result DeviceRefusal.PastEnd ↔ (fault_of config.now op.now ≡ Some DeviceFault.PastEnd) }
+    ensures empty_range { IsErrOf result DeviceRefusal.EmptyRange ↔ (fault_of config.now op.now ≡ Some DeviceFault.EmptyRange) }
+{
+    if let Some(fault) = range_fault(config, op) {
+        return Err(DeviceRefusal::from(fault));
+    }
+    Ok(steps_of(alloc, config, op)?)
+}
+
+/// The steps of a command that isn't refused.
+fn steps_of(alloc: Global, config: &Config, op: &DeviceOp) -> Result<BlockSteps, NoMemory>
+    requires { fault_of config.now op.now ≡ None }
+    ensures { IfOk result (λ steps. steps ≡ steps_of config.now op.now) }
+{
+    let size = u64::from(config.size());
+    let start = start_of(op);
+    let last = start + len_of(op) - 1;
+    let mut steps = BlockSteps::new(alloc);
+    for block in start / size..last / size + 1 {
+        add_steps(&mut steps, config, op, block as u32)?;
+    }
+    Ok(steps)
+}
+
+/// Adds the steps of a command in one block.
+fn add_steps(
+    steps: &mut BlockSteps,
+    config: &Config,
+    op: &DeviceOp,
+    block: u32,
+) -> Result<(), NoMemory>
+    requires fault { fault_of config.now op.now ≡ None }
+    requires before_end { block * config.now.size < start_of op.now + len_of op.now }
+    requires after_start { start_of op.now < (block + 1) * config.now.size }
+    ensures { OnOk result (steps.new ≡ steps.old ++ steps_in config.now.size op.now block) }
+{
+    match op {
+        DeviceOp::Get { .. } => steps.push(BlockStep::Read { block }),
+        DeviceOp::Put { offset, bytes } => { add_put_steps(steps, config, *offset, bytes, block) }
+    }
+}
+
+/// Adds the steps of a put in one block.
+fn add_put_steps(
+    steps: &mut BlockSteps,
+    config: &Config,
+    start: u64,
+    bytes: &Bytes,
+    block: u32,
+) -> Result<(), NoMemory>
+    requires within { start + length bytes.now ≤ config.now.size * config.now.blocks }
+    requires before_end { block * config.now.size < start + length bytes.now }
+    requires after_start { start < (block + 1) * config.now.size }
+    ensures { OnOk result (steps.new ≡ steps.old ++ put_steps config.now.size start bytes.now block) }
+{
+    let size = u64::from(config.size());
+    let first = u64::from(block) * size;
+    let after = first + size;
+    let end = start + bytes.len() as u64;
+    let from = first.saturating_sub(start) as usize;
+    let to = (after.min(end) - start) as usize;
+    let part = Bytes::of(steps.allocator(), &bytes.as_slice()[from..to])?;
+    if start <= first && after <= end {
+        return steps.push(BlockStep::Whole { block, value: part });
+    }
+    let at = start.saturating_sub(first) as u32;
+    steps.push(BlockStep::Read { block })?;
+    steps.push(BlockStep::Merge {
+        block,
+        at,
+        bytes: part,
+    })
+}
+
+/// The place of a command's first byte.
+fn start_of(op: &DeviceOp) -> u64
+    ensures { result ≡ start_of op.now }
+{
+    match op {
+        DeviceOp::Get { offset, .. } | DeviceOp::Put { offset, .. } => *offset,
+    }
+}
+
+/// How many bytes a command's range has.
+fn len_of(op: &DeviceOp) -> u64
+    ensures { result ≡ len_of op.now }
+{
+    match op {
+        DeviceOp::Get { length, .. } => *length,
+        DeviceOp::Put { bytes, .. } => bytes.len() as u64,
+    }
+}
+
+/// How many bytes the device has.
+fn len_of_device(config: &Config) -> u64
+    ensures is { result ≡ config.now.size * config.now.blocks }
+    ensures small { result ≤ 16777216 }
+{
+    u64::from(config.size()) * u64::from(config.blocks())
+}

@@ -1,0 +1,22 @@
+//! Ranges of bytes over the blocks of a cluster.
+//!
+//! The bytes of the device are those of all blocks, one block after the other. A command reads or writes a range of them,
+//! as a list of steps each of which reads or writes one block.
+#![tactic(auto)]
+
+mod cutting;
+pub mod laws;
+mod merging;
+mod queue;
+mod refusal;
+mod steps;
+#[cfg(test)]
+mod tests;
+
+pub use cutting::{commands, range_fault};
+pub use line_forms::DeviceFault;
+pub use merging::merge;
+pub use queue::Command;
+pub use refusal::DeviceRefusal;
+pub use steps::{BlockStep, BlockSteps};
+pub use wire_forms::DeviceOp;
