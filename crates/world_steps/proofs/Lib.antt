@@ -1,6 +1,9 @@
 pub mod Places
 pub mod Holding
 pub mod Seated
+pub mod Greatest
+pub mod Busy
+pub mod Hosted
 pub mod Settling
 pub mod Taking
 pub mod Begun

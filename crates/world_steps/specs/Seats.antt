@@ -11,10 +11,11 @@ use Rattle.client_core.specs.Clients.{ClientView}
 use Rattle.world_steps.specs.declared.host.Host.{Host}
 use Rattle.world_steps.specs.declared.seat.Seat.{Seat}
 
--- the node of this number in this cluster
+-- the node of this number in this cluster, which has versions of each block
 pub record IsHost (c : Numbers) (i : ℕ) (host : Host) : Type 0 where
   pub config : host.node.config ≡ c
   pub number : host.node.number ≡ i
+  pub blocks : length host.node.blocks ≡ c.blocks
 
 -- an operation under way: one answer or none for each node, no more phases than places so far, and the record of this number is its own
 pub record IsUnderWay (c : Numbers) (records : List Record) (place client start index : ℕ) (t : SeenTask) : Type 0 where

@@ -1,11 +1,14 @@
 -- What the parts of a line's events make of the world.
-use Rattle.std.specs.Prelude.{◌≡◌, ℕ, List, ◌++◌}
+use Rattle.std.specs.Prelude.{◌≡◌, ℕ, List, ◌++◌, Option}
+use Rattle.std.specs.declared.option.Option.TheVariants.{None, Some}
 use Rattle.wire_forms.specs.declared.message.Body.TheVariants.{Answer as Answers}
 use Rattle.protocol.specs.Count.{update, one_more}
 use Rattle.protocol.specs.Messages.{Ask, Reply, Message}
 use Rattle.protocol.specs.Setting.{Setting}
 use Rattle.protocol.specs.Nodes.{after, accepts}
 use Rattle.protocol.specs.World.{World, accepted_at}
+use Rattle.protocol.specs.Operations.{Task, outstanding}
+use Rattle.protocol.specs.Lines.{Rule, false_answer}
 use Rattle.protocol.specs.Seen.{client_at}
 use Rattle.client_core.specs.Clients.{ClientView}
 use Rattle.world_steps.specs.Worlds.{WorldView}
@@ -26,3 +29,13 @@ handles s w place i ask more = record w {
 -- an answer to this client
 abbrev pub IsAnswer : ℕ → Message → Type 0
 IsAnswer c m = (m.client ≡ c) × (reply : Reply) × (m.body ≡ Answers reply)
+
+-- the message of a client's present phase to node i, if it does something
+abbrev pub asked_by : Setting → ℕ → ℕ → Option Task → Option Message
+asked_by s c i None = None
+asked_by s c i (Some task) = Some (outstanding s c task i)
+
+-- node i's answer to it by a rule
+abbrev pub lied_by : Setting → Rule → ℕ → ℕ → Option Task → Option Message
+lied_by s rule c i None = None
+lied_by s rule c i (Some task) = false_answer s rule c i task

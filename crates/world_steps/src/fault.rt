@@ -1,17 +1,320 @@
 //! Why a line is refused.
 
-ghost use Rattle.std.specs.Prelude.{◌≡◌};
-ghost use Rattle.protocol.specs.Lines.{fault};
+ghost use Rattle.std.specs.Prelude.{◌≡◌, ◌++◌, not};
+ghost use Rattle.protocol.specs.Lines.{fault, meets, some_of, is_actor, is_liar, has_crashed, is_idle, does_something, is_busy_at, is_at, is_ask_to, is_answer_to};
+ghost use Rattle.protocol.specs.World.{under_way};
+ghost use Rattle.protocol.specs.Seen.{client_at};
 ghost use Rattle.world_steps.specs.Worlds.{setting_in, world_in};
+ghost use Rattle.world_steps.specs.Actors.{actor_of, listed};
 
+use crate::actors::{Actor, Actors, lies, named, takes_part};
+use crate::nodes::block_of;
 use crate::state::State;
 use run_words::{Line, StepFault};
+use wire_forms::{Body, Message};
+
+/// The faults, in the order in which they are looked for.
+const FAULTS: [StepFault; 12] = [
+    StepFault::NoSuchActor,
+    StepFault::NoSuchMessage,
+    StepFault::WrongReceiver,
+    StepFault::Busy,
+    StepFault::Crashed,
+    StepFault::NotALiar,
+    StepFault::Idle,
+    StepFault::IsALiar,
+    StepFault::NotQuiet,
+    StepFault::NoRead,
+    StepFault::Worn,
+    StepFault::NotCrashed,
+];
+
+/// How many operations a life has room for; a client has room for one life more.
+const LAST: u32 = u32::MAX;
+
+/// How many client numbers there are, with the first, which nobody has.
+const CLIENTS: u32 = 1001;
 
 impl State {
     /// Why the line is refused: the first fault that it meets.
     pub fn fault(&self, line: &Line) -> Option<StepFault>
         ensures { result ≡ fault (setting_in self.now) (world_in self.now) line.now }
     {
-        None
+        FAULTS
+            .iter()
+            .find(|fault| self.meets(line, **fault))
+            .copied()
+    }
+
+    /// Whether the line meets the fault.
+    fn meets(&self, line: &Line, fault: StepFault) -> bool
+        ensures { result ≡ meets (setting_in self.now) (world_in self.now) line.now fault }
+    {
+        match fault {
+            StepFault::NoSuchActor => {
+                self.some_missing(takes_part(line)) || self.some_missing(named(line))
+            }
+            StepFault::NoSuchMessage => self.lacks_message(line),
+            StepFault::WrongReceiver => self.has_wrong_receiver(line),
+            StepFault::Busy => self.is_busy(line),
+            StepFault::Crashed => self.meets_crashed(line),
+            StepFault::NotALiar => self.some_honest(lies(line)),
+            StepFault::Idle => self.asks_nothing(line),
+            StepFault::IsALiar => self.some_lying(takes_part(line)),
+            StepFault::NotQuiet => self.meets_busy_block(line),
+            StepFault::NoRead => self.lacks_read(line),
+            StepFault::Worn => self.is_worn(line),
+            StepFault::NotCrashed => self.has_not_crashed(line),
+        }
+    }
+
+    /// Whether one of them isn't there.
+    fn some_missing(&self, actors: Actors) -> bool
+        ensures { result ≡ some_of (λ a. not (is_actor (setting_in self.now) (world_in self.now) a)) (listed actors) }
+    {
+        match actors {
+            Actors::Nobody => false,
+            Actors::One(a) => !self.is_actor(a),
+            Actors::Two(a, b) => !self.is_actor(a) || !self.is_actor(b),
+        }
+    }
+
+    /// Whether one of them isn't declared lying.
+    fn some_honest(&self, actors: Actors) -> bool
+        ensures { result ≡ some_of (λ a. not (is_liar (setting_in self.now) (world_in self.now) a)) (listed actors) }
+    {
+        match actors {
+            Actors::Nobody => false,
+            Actors::One(a) => !self.is_liar(a),
+            Actors::Two(a, b) => !self.is_liar(a) || !self.is_liar(b),
+        }
+    }
+
+    /// Whether one of them is declared lying.
+    fn some_lying(&self, actors: Actors) -> bool
+        ensures { result ≡ some_of (is_liar (setting_in self.now) (world_in self.now)) (listed actors) }
+    {
+        match actors {
+            Actors::Nobody => false,
+            Actors::One(a) => self.is_liar(a),
+            Actors::Two(a, b) => self.is_liar(a) || self.is_liar(b),
+        }
+    }
+
+    /// Whether one of them has crashed.
+    fn some_crashed(&self, actors: Actors) -> bool
+        ensures { result ≡ some_of (has_crashed (setting_in self.now) (world_in self.now)) (listed actors) }
+    {
+        match actors {
+            Actors::Nobody => false,
+            Actors::One(a) => self.has_crashed(a),
+            Actors::Two(a, b) => self.has_crashed(a) || self.has_crashed(b),
+        }
+    }
+
+    /// Whether there is such a node or client.
+    fn is_actor(&self, actor: Actor) -> bool
+        ensures { result ≡ is_actor (setting_in self.now) (world_in self.now) (actor_of actor) }
+    {
+        match actor {
+            Actor::Node(node) => u32::from(node) < self.config.n(),
+            Actor::Client(client) => 1 <= client && client <= 1000,
+        }
+    }
+
+    /// Whether it is declared lying.
+    fn is_liar(&self, actor: Actor) -> bool
+        ensures { result ≡ is_liar (setting_in self.now) (world_in self.now) (actor_of actor) }
+    {
+        match actor {
+            Actor::Node(node) => match self.hosts.get(usize::from(node)) {
+                Some(host) => host.lying,
+                None => false,
+            },
+            Actor::Client(client) => match self.seats.get(client as usize) {
+                Some(seat) => seat.lying,
+                None => false,
+            },
+        }
+    }
+
+    /// Whether it has crashed.
+    fn has_crashed(&self, actor: Actor) -> bool
+        ensures { result ≡ has_crashed (setting_in self.now) (world_in self.now) (actor_of actor) }
+    {
+        match actor {
+            Actor::Node(node) => match self.hosts.get(usize::from(node)) {
+                Some(host) => host.crashed,
+                None => false,
+            },
+            Actor::Client(client) => match self.seats.get(client as usize) {
+                Some(seat) => seat.crashed,
+                None => false,
+            },
+        }
+    }
+
+    /// Whether the client has an operation under way.
+    fn has_task(&self, client: u32) -> bool
+        ensures { result ≡ does_something ((world_in self.now).task client) }
+    {
+        match self.seats.get(client as usize) {
+            Some(seat) => !seat.client.is_idle(),
+            None => false,
+        }
+    }
+
+    /// Whether the line names a message that isn't in the pool.
+    fn lacks_message(&self, line: &Line) -> bool
+        ensures { result ≡ meets (setting_in self.now) (world_in self.now) line.now StepFault.NoSuchMessage }
+    {
+        match line {
+            Line::Give { message, .. } | Line::Hear { message, .. } => {
+                self.pool.len() as u64 <= *message
+            }
+            _ => false,
+        }
+    }
+
+    /// Whether the line's message isn't one for its node or client.
+    fn has_wrong_receiver(&self, line: &Line) -> bool
+        ensures { result ≡ meets (setting_in self.now) (world_in self.now) line.now StepFault.WrongReceiver }
+    {
+        match line {
+            Line::Give { node, message } => match self.pool.get(*message as usize) {
+                Some(message) => !is_ask_to(*node, message),
+                None => false,
+            },
+            Line::Hear { client, message } => match self.pool.get(*message as usize) {
+                Some(message) => !is_answer_to(*client, message),
+                None => false,
+            },
+            Line::Tell { message } => !is_answer_to(message.client, message),
+            Line::Poke { message } => !is_ask_to(message.node, message),
+            _ => false,
+        }
+    }
+
+    /// Whether the line starts an operation of a client that has one under way.
+    fn is_busy(&self, line: &Line) -> bool
+        ensures { result ≡ meets (setting_in self.now) (world_in self.now) line.now StepFault.Busy }
+    {
+        match line {
+            Line::Write { client, .. } | Line::Read { client, .. } => self.has_task(*client),
+            _ => false,
+        }
+    }
+
+    /// Whether someone who takes part has crashed, in a line other than the one that ends a crash.
+    fn meets_crashed(&self, line: &Line) -> bool
+        ensures { result ≡ meets (setting_in self.now) (world_in self.now) line.now StepFault.Crashed }
+    {
+        if let Line::Back { .. } = line {
+            return false;
+        }
+        self.some_crashed(takes_part(line))
+    }
+
+    /// Whether the line needs what a client asks for, and the client asks for nothing.
+    fn asks_nothing(&self, line: &Line) -> bool
+        ensures { result ≡ meets (setting_in self.now) (world_in self.now) line.now StepFault.Idle }
+    {
+        match line {
+            Line::Resend { client } | Line::Call { client, .. } | Line::False { client, .. } => {
+                !self.is_liar(Actor::Client(*client)) && !self.has_task(*client)
+            }
+            _ => false,
+        }
+    }
+
+    /// Whether an operation on the block that the line prunes is under way.
+    fn meets_busy_block(&self, line: &Line) -> bool
+        ensures { result ≡ meets (setting_in self.now) (world_in self.now) line.now StepFault.NotQuiet }
+    {
+        match line {
+            Line::Prune { block, .. } => self.is_busy_at(*block),
+            _ => false,
+        }
+    }
+
+    /// Whether some client that hasn't crashed works on the block.
+    fn is_busy_at(&self, block: u32) -> bool
+        ensures { result ≡ is_busy_at (setting_in self.now) (world_in self.now) block }
+    {
+        (0..CLIENTS).any(|client| self.works_at(client, block))
+    }
+
+    /// Whether the client hasn't crashed and works on the block, which its operation's record tells.
+    fn works_at(&self, client: u32, block: u32) -> bool
+        ensures { result ≡ is_at block (under_way (world_in self.now) client) }
+    {
+        match self.seats.get(client as usize) {
+            Some(seat) if !seat.crashed && !seat.client.is_idle() => {
+                match self.records.get(seat.record) {
+                    Some(record) => block_of(&record.op) == block,
+                    None => false,
+                }
+            }
+            _ => false,
+        }
+    }
+
+    /// Whether no read of the block that the line prunes has completed.
+    fn lacks_read(&self, line: &Line) -> bool
+        ensures { result ≡ meets (setting_in self.now) (world_in self.now) line.now StepFault.NoRead }
+    {
+        match line {
+            Line::Prune { block, .. } => self.greatest_given(*block).is_none(),
+            _ => false,
+        }
+    }
+
+    /// Whether the client has no number left for one more operation, or for one more life.
+    fn is_worn(&self, line: &Line) -> bool
+        ensures { result ≡ meets (setting_in self.now) (world_in self.now) line.now StepFault.Worn }
+    {
+        match line {
+            Line::Write { client, .. } | Line::Read { client, .. } => {
+                match self.seats.get(*client as usize) {
+                    Some(seat) => LAST <= seat.client.started(),
+                    None => false,
+                }
+            }
+            Line::Back { client } => match self.seats.get(*client as usize) {
+                Some(seat) => LAST <= seat.client.life(),
+                None => false,
+            },
+            _ => false,
+        }
+    }
+
+    /// Whether the line brings back a client that hasn't crashed.
+    fn has_not_crashed(&self, line: &Line) -> bool
+        ensures { result ≡ meets (setting_in self.now) (world_in self.now) line.now StepFault.NotCrashed }
+    {
+        match line {
+            Line::Back { client } => !self.has_crashed(Actor::Client(*client)),
+            _ => false,
+        }
+    }
+}
+
+/// Whether the message is an ask to the node.
+fn is_ask_to(node: u8, message: &Message) -> bool
+    ensures { result ≡ is_ask_to node message.now.body message.now }
+{
+    match &message.body {
+        Body::Ask(_) => message.node == node,
+        Body::Answer(_) => false,
+    }
+}
+
+/// Whether the message is an answer to the client.
+fn is_answer_to(client: u32, message: &Message) -> bool
+    ensures { result ≡ is_answer_to client message.now.body message.now }
+{
+    match &message.body {
+        Body::Ask(_) => false,
+        Body::Answer(_) => message.client == client,
     }
 }

@@ -2,6 +2,7 @@
 //! script makes of it what the model's definitions say, or is refused and changes nothing.
 #![tactic(auto)]
 
+mod actors;
 mod clients;
 mod fault;
 mod host;

@@ -1,19 +1,27 @@
 //! What takes place at nodes: messages are sent, asks are handled, nodes crash and prune.
 
-ghost use Rattle.std.specs.Prelude.{◌≡◌, ◌<◌, Some, IfOk, OnOk, OnErr};
-ghost use Rattle.protocol.specs.World.{sent, answer_of, happens, only_place, greatest_given};
+ghost use Rattle.std.specs.Prelude.{◌≡◌, ◌<◌, if◌then◌else◌, Some, IfOk, OnOk, OnErr};
+ghost use Rattle.stamp_order.specs.Stamps.{up_to};
+ghost use Rattle.protocol.specs.World.{sent, answer_of, happens, only_place, greatest_given, given_of, greater_stamp};
+ghost use Rattle.protocol.specs.Seen.{record_of, block_of};
 ghost use Rattle.protocol.specs.World.Event.{CrashNode as NodeCrashes, Prune as Prunes};
 ghost use Rattle.world_steps.specs.Worlds.{setting_in, world_in, with_seen};
+ghost use Rattle.protocol.specs.Count.{one_more};
+ghost use Rattle.node_core.specs.Seen.{with_versions, after_of};
 ghost use Rattle.world_steps.specs.Steps.{handles};
+ghost use Rattle.world_steps.specs.Acceptances.{accepts_of, told_of, new_stamp};
 
 use crate::state::State;
-use lists::NoMemory;
+use lists::{ItemList, NoMemory};
+use node_core::Node;
+use quorum_rules::Config;
+use run_words::{Accepted, Outcome, Record};
 use stamp_order::Stamp;
-use wire_forms::{Ask, Mail, Message};
+use wire_forms::{Ask, Body, Mail, Message, Op, Reply, Request};
 
 impl State {
     /// Sends messages.
-    pub(crate) fn send(&mut self, place: u64, mail: Mail) -> Result<(), NoMemory>
+    pub(crate) fn send(&mut self, place: u64, mut mail: Mail) -> Result<(), NoMemory>
         requires { self.now.seen.place < place }
         ensures ok { OnOk result (world_in self.new ≡ sent (setting_in self.old) (world_in self.old) place mail) }
         ensures cluster { OnOk result (self.new.config ≡ self.old.config) }
@@ -21,7 +29,9 @@ impl State {
         ensures lying_clients { OnOk result (self.new.lying_clients ≡ self.old.lying_clients) }
         ensures err { OnErr result (self.new ≡ self.old) }
     {
-        Err(NoMemory)
+        self.pool.append(&mut mail)?;
+        self.place = place;
+        Ok(())
     }
 
     /// The node's answer to a message with this ask.
@@ -29,7 +39,14 @@ impl State {
         requires { node < self.now.config.n }
         ensures { IfOk result (λ m. m ≡ answer_of (setting_in self.now) (world_in self.now) node message.now ask.now) }
     {
-        Err(NoMemory)
+        let host = &self.hosts[usize::from(node)];
+        let reply = host.node.reply_to(ask)?;
+        Ok(Message {
+            client: message.client,
+            node,
+            tag: message.tag,
+            body: Body::Answer(reply),
+        })
     }
 
     /// Lets the node handle the ask, and sends messages.
@@ -38,7 +55,7 @@ impl State {
         place: u64,
         node: u8,
         ask: &Ask,
-        mail: Mail,
+        mut mail: Mail,
     ) -> Result<(), NoMemory>
         requires later { self.now.seen.place < place }
         requires node { node < self.now.config.n }
@@ -48,7 +65,19 @@ impl State {
         ensures lying_clients { OnOk result (self.new.lying_clients ≡ self.old.lying_clients) }
         ensures err { OnErr result (self.new ≡ self.old) }
     {
-        Err(NoMemory)
+        let sent = self.pool.len();
+        self.pool.append(&mut mail)?;
+        let host = &mut self.hosts[usize::from(node)];
+        match handle(&mut host.node, node, &self.config, ask, &mut self.accepted) {
+            Ok(()) => {
+                self.place = place;
+                Ok(())
+            }
+            Err(want) => {
+                self.pool.truncate(sent);
+                Err(want)
+            }
+        }
     }
 
     /// Nothing takes place.
@@ -68,6 +97,8 @@ impl State {
         ensures lying_nodes { self.new.lying_nodes ≡ self.old.lying_nodes }
         ensures lying_clients { self.new.lying_clients ≡ self.old.lying_clients }
     {
+        let host = &mut self.hosts[usize::from(node)];
+        host.crashed = true;
         self.place = place;
     }
 
@@ -75,7 +106,13 @@ impl State {
     pub(crate) fn greatest_given(&self, block: u32) -> Option<Stamp>
         ensures { result ≡ greatest_given block self.now.seen.records }
     {
-        None
+        self.records
+            .as_slice()
+            .iter()
+            .rev()
+            .fold(None, |greatest, record| {
+                greater(given(block, record), greatest)
+            })
     }
 
     /// A node prunes a block by the greatest stamp that a completed read of it gave.
@@ -88,6 +125,98 @@ impl State {
         ensures lying_nodes { self.new.lying_nodes ≡ self.old.lying_nodes }
         ensures lying_clients { self.new.lying_clients ≡ self.old.lying_clients }
     {
+        let Some(stamp) = self.greatest_given(block) else {
+            self.pass(place);
+            return;
+        };
+        let host = &mut self.hosts[usize::from(node)];
+        host.node.prune(block, &stamp);
         self.place = place;
+    }
+}
+
+/// Lets the node of this number handle the ask, and tells the version that it accepts, if any.
+fn handle(
+    node: &mut Node,
+    number: u8,
+    config: &Config,
+    ask: &Ask,
+    accepted: &mut ItemList<Accepted>,
+) -> Result<(), NoMemory>
+    requires cluster { node.old.config ≡ config.now }
+    ensures node { OnOk result (node.new ≡ with_versions node.old ask.now.block (after_of node.old ask.now)) }
+    ensures told { OnOk result (accepted.new ≡ one_more accepted.old (told_of number ask.now.block (accepts_of node.old ask.now))) }
+    ensures node_kept { OnErr result (node.new ≡ node.old) }
+    ensures told_kept { OnErr result (accepted.new ≡ accepted.old) }
+{
+    let Some(stamp) = new_stamp(node, config, ask) else {
+        node.handle(ask)?;
+        return Ok(());
+    };
+    accepted.push(Accepted {
+        node: number,
+        block: ask.block,
+        stamp,
+    })?;
+    let handled = node.handle(ask);
+    if let Ok(Reply::Ack) = &handled {
+        return Ok(());
+    }
+    let _ = accepted.pop();
+    handled?;
+    Ok(())
+}
+
+/// The stamp of the version that the ask writes, if there is such a block and the node keeps no version of this stamp.
+fn new_stamp(node: &Node, config: &Config, ask: &Ask) -> Option<Stamp>
+    requires { node.now.config ≡ config.now }
+    ensures { result ≡ new_stamp node.now ask.now }
+{
+    match &ask.request {
+        Request::Write(version)
+            if ask.block < config.blocks() && !node.keeps(ask.block, &version.stamp) => {
+            Some(version.stamp)
+        }
+        _ => None,
+    }
+}
+
+/// The stamp that the record's read of the block gave, if it is one.
+fn given(block: u32, told: &Record) -> Option<Stamp>
+    ensures { result ≡ given_of block (record_of told.now) }
+{
+    if block_of(&told.op) != block {
+        return None;
+    }
+    match &told.outcome {
+        Some(Outcome::Gave { stamp, .. }) => Some(*stamp),
+        _ => None,
+    }
+}
+
+/// The greater of the two, where there are two.
+fn greater(x: Option<Stamp>, y: Option<Stamp>) -> Option<Stamp>
+    ensures { result ≡ greater_stamp x y }
+{
+    match (x, y) {
+        (Some(x), Some(y)) => Some(later(x, y)),
+        (x, None) => x,
+        (None, y) => y,
+    }
+}
+
+/// The greater of the two.
+fn later(x: Stamp, y: Stamp) -> Stamp
+    ensures { result ≡ (if up_to x y then y else x) }
+{
+    if x.cmp(&y).is_le() { y } else { x }
+}
+
+/// The block that the operation is on.
+pub(crate) fn block_of(op: &Op) -> u32
+    ensures { result ≡ block_of op.now }
+{
+    match op {
+        Op::Read { block } | Op::Write { block, .. } => *block,
     }
 }

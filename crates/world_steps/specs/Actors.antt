@@ -1,0 +1,19 @@
+-- Who a line speaks of.
+use Rattle.std.specs.Prelude.{List, [], ◌∷◌}
+use Rattle.protocol.specs.Lines.{Actor as AnyActor}
+use Rattle.protocol.specs.Lines.Actor.{Node as ANode, Client as AClient}
+use Rattle.world_steps.specs.declared.actors.Actor.{Actor}
+use Rattle.world_steps.specs.declared.actors.Actor.TheVariants.{Node, Client}
+use Rattle.world_steps.specs.declared.actors.Actors.{Actors}
+use Rattle.world_steps.specs.declared.actors.Actors.TheVariants.{Nobody, One, Two}
+
+-- a node or a client, in the definitions' words
+abbrev pub actor_of : Actor → AnyActor
+actor_of (Node i) = ANode i
+actor_of (Client c) = AClient c
+
+-- nobody, one or two, as a list
+abbrev pub listed : Actors → List AnyActor
+listed Nobody = []
+listed (One a) = actor_of a ∷ []
+listed (Two a b) = actor_of a ∷ actor_of b ∷ []
