@@ -1,13 +1,11 @@
 -- What a kept world never breaks.
-use Rattle.std.specs.Prelude.{◌≡◌, ℕ, ◌<◌, ◌≤◌, ◌^◌, List, length, map, Option, slice_get}
+use Rattle.std.specs.Prelude.{◌≡◌, ℕ, ◌≤◌, List, length, map, Option, slice_get}
 use Rattle.std.specs.declared.option.Option.TheVariants.{None, Some}
 use Rattle.quorum_rules.specs.Limits.{Numbers, IsValid}
 use Rattle.run_words.specs.declared.record.Record.{Record as Told}
 use Rattle.protocol.specs.World.{Record, open_record}
 use Rattle.protocol.specs.Report.{Ascend}
-use Rattle.protocol.specs.Seen.{SeenTask, SeenClient, task_at, record_of}
-use Rattle.node_core.specs.Seen.{SeenNode}
-use Rattle.client_core.specs.Clients.{ClientView}
+use Rattle.protocol.specs.Seen.{SeenTask, task_at, record_of}
 use Rattle.world_steps.specs.declared.host.Host.{Host}
 use Rattle.world_steps.specs.declared.seat.Seat.{Seat}
 
