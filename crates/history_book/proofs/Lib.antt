@@ -8,3 +8,4 @@ pub mod Candidates
 pub mod Histories
 pub mod Steps
 pub mod Drafting
+pub mod Rows

@@ -2,3 +2,4 @@ pub mod Books
 pub mod Tellings
 pub mod Reports
 pub mod Drafts
+pub mod Rows

@@ -46,6 +46,7 @@ impl History {
         self.spent.as_slice()
     }
 
+    /// The counts of the run's operations.
     pub fn counts(&self) -> &Counts
         ensures { result.now ≡ self.now.counts }
     {
@@ -53,7 +54,9 @@ impl History {
     }
 }
 
-/// The history of a run's records, in a cluster whose blocks have this first stamp.
+/// The history of a run's records, in a cluster whose blocks have this first stamp: each completed read and write, each pending
+/// write whose stamp a completed read of its block gave, and a foreign write for each other stamp that such a read gave, the
+/// first stamp aside, with the value of the first of these reads. `NoMemory` comes only where no memory is found.
 pub fn history_of(alloc: Global, records: &[Record], first: &Stamp) -> Result<History, NoMemory>
     requires { AreRecords (map record_of records.now) first.now }
     ensures { IfOk result (λ history. (h : List FullEntry) × Tells (map record_of records.now) first.now h history) }

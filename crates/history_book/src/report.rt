@@ -9,7 +9,8 @@ use lists::NoMemory;
 use std::alloc::Global;
 use text_lines::Text;
 
-/// The report of a history: a line for each entry, one for each spent write, and one with the counts.
+/// The report of a history: a line for each entry, one for each spent write, and one with the counts. `NoMemory` comes only
+/// where no memory is found.
 pub fn print(alloc: Global, history: &History) -> Result<Bytes, NoMemory>
     ensures { IfOk result (λ text. text ≡ report_text history.now) }
 {
