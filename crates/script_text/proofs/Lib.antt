@@ -1,2 +1,5 @@
 pub mod Sums
 pub mod SumLaws
+pub mod Declarations
+pub mod Causes
+pub mod Steps

@@ -1,1 +1,3 @@
 pub mod Sum
+pub mod Replays
+pub mod Reading

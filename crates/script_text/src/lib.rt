@@ -2,9 +2,13 @@
 #![tactic(auto)]
 
 pub mod laws;
+mod liars;
+mod replay;
 mod sum;
 #[cfg(test)]
 mod tests;
 
+pub use event_lines::ReplayLine;
 pub use line_forms::{Cause, DeviceFault, ScriptFault, ScriptRefusal};
+pub use replay::{Replay, ReplayLines, print_replay, read_replay};
 pub use sum::read_sum;

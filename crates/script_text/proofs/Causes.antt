@@ -1,0 +1,55 @@
+-- What is wrong with a line of a replay script, by what was read before it.
+use Rattle.std.proofs.Common.{◌≡◌, ℕ, Bool, true, false, cond, leb, List, [], ◌∷◌, ◌++◌, length, map, drop, Option, Some, None, Result, Ok, Err, refl, sym, ap, ◌∙◌, arith}
+use Rattle.std.specs.Prelude.{IsErrAnd, count_by}
+use Rattle.std.specs.List.{list_any, AllByRecursion}
+use Rattle.std.proofs.lemmas.List.Folds.{list_any-append}
+use Rattle.quorum_rules.specs.Limits.{Numbers, IsValid}
+use Rattle.text_lines.specs.Lines.{fields_of}
+use Rattle.wire_forms.specs.Liars.{Liars}
+use Rattle.line_forms.specs.Tables.{Gives, first_of, or_then}
+use Rattle.line_forms.specs.declared.cause.Cause.{Cause}
+use Rattle.line_forms.specs.declared.cause.Cause.TheVariants.{UnknownWord}
+use Rattle.line_forms.specs.declared.refusal.LineRefusal.{LineRefusal}
+use Rattle.line_forms.specs.declared.refusal.LineRefusal.TheVariants as line_refusals
+use Rattle.event_lines.specs.Forms.{fields_cause}
+use Rattle.event_lines.specs.Lines.{event_text, IsEventLine}
+use Rattle.event_lines.specs.declared.line.ReplayLine.{ReplayLine}
+use Rattle.script_text.specs.declared.liars.Declared.{Declared}
+use Rattle.script_text.specs.Replays.{liar_line, liar_forms, IsDeclarable, is_same, is_liar_line, is_liar_node, is_event, again_causes, replay_cause}
+use Rattle.script_text.specs.Reading.{AreDeclared, again_cause, later_cause}
+use Rattle.script_text.proofs.Declarations.{IsLow, low, all_low, line_is_node, lines_have, lines_count, no_events, have_declared}
+
+same_refusal : {X Y : Type 0} (P : X → Type 0) (Q : Y → Type 0) (a b : Option Cause) (e : LineRefusal) → Gives P a (Err e) → ((c : Cause) → a ≡ Some c → b ≡ Some c) → Gives Q b (Err e)
+same_refusal P Q a b line_refusals.NoMemory g f = tt
+same_refusal P Q a b (line_refusals.Cause c) g f = f c g
+
+-- a refusal that `?` gives on
+pub gives_refusal : {X Y : Type 0} (P : X → Type 0) (Q : Y → Type 0) (a b : Option Cause) (r : Result Y LineRefusal) (e : LineRefusal) → IsErrAnd r (λ d. d ≡ e) → Gives P a (Err e) → ((c : Cause) → a ≡ Some c → b ≡ Some c) → Gives Q b r
+gives_refusal P Q a b (Ok y) e h g f = absurd h
+gives_refusal P Q a b (Err d) e h g f = rw h (same_refusal P Q a b e g f)
+
+-- ---- a liar line
+
+pub liar_here : (c : Numbers) (ds : List Declared) (l : Liars) (line : List ℕ) → AreDeclared c ds l → is_liar_line line ≡ true
+    → replay_cause c (map liar_line ds) line ≡ or_then (fields_cause (liar_forms c) (drop 1 (fields_of line))) (first_of (again_causes c (map liar_line ds) line))
+unfolding replay_cause
+liar_here c ds l line a is = rw (is, no_events ds (all_low c ds a.valid a.declarable)) refl
+
+again_here : (c : Numbers) (ds : List Declared) (l : Liars) (d : Declared) → AreDeclared c ds l → IsDeclarable c d → first_of (again_causes c (map liar_line ds) (liar_line d)) ≡ again_cause c l d
+again_here c ds l d a i =
+    let all = all_low c ds a.valid a.declarable in
+    let one = low c d a.valid i in
+    rw (lines_have ds d all one, ← have_declared ds d, a.all, line_is_node d one, lines_count ds all, a.counted) refl
+
+pub again_line : (c : Numbers) (ds : List Declared) (l : Liars) (d : Declared) (line : List ℕ) → AreDeclared c ds l → IsDeclarable c d → liar_line d ≡ line → first_of (again_causes c (map liar_line ds) line) ≡ again_cause c l d
+again_line c ds l d line a i e = ap (λ (x : List ℕ). first_of (again_causes c (map liar_line ds) x)) (sym e) ∙ again_here c ds l d a i
+
+-- the line declares nothing
+pub liar_refused : (c : Numbers) (ds : List Declared) (l : Liars) (line : List ℕ) (cause : Cause) → AreDeclared c ds l → is_liar_line line ≡ true → fields_cause (liar_forms c) (drop 1 (fields_of line)) ≡ Some cause → replay_cause c (map liar_line ds) line ≡ Some cause
+liar_refused c ds l line cause a is h = liar_here c ds l line a is ∙ ap (λ (o : Option Cause). or_then o (first_of (again_causes c (map liar_line ds) line))) h
+
+-- the line declares this, and what is wrong is what stands against declaring it
+pub liar_again : (c : Numbers) (ds : List Declared) (l : Liars) (d : Declared) (line : List ℕ) → AreDeclared c ds l → is_liar_line line ≡ true → fields_cause (liar_forms c) (drop 1 (fields_of line)) ≡ None → IsDeclarable c d → liar_line d ≡ line
+    → replay_cause c (map liar_line ds) line ≡ again_cause c l d
+liar_again c ds l d line a is h i e =
+    liar_here c ds l line a is ∙ ap (λ (o : Option Cause). or_then o (first_of (again_causes c (map liar_line ds) line))) h ∙ again_line c ds l d line a i e
