@@ -1,8 +1,10 @@
 -- What is wrong with a line of a replay script, by what was read before it.
-use Rattle.std.proofs.Common.{◌≡◌, ℕ, Bool, true, false, cond, leb, List, [], ◌∷◌, ◌++◌, length, map, drop, Option, Some, None, Result, Ok, Err, refl, sym, ap, ◌∙◌, arith}
+use Rattle.std.proofs.Common.{◌≡◌, ℕ, Bool, true, false, cond, leb, List, [], ◌∷◌, ◌++◌, length, map, drop, Option, Some, None, Result, Ok, Err, refl, sym, ap, ◌∙◌, arith, inl, inr}
 use Rattle.std.specs.Prelude.{IsErrAnd, count_by}
 use Rattle.std.specs.List.{list_any, AllByRecursion}
+use Rattle.std.proofs.lemmas.Bool.{cases_Bool}
 use Rattle.std.proofs.lemmas.List.Folds.{list_any-append}
+use Rattle.std.proofs.lemmas.List.Sums.{sum_by-cons}
 use Rattle.quorum_rules.specs.Limits.{Numbers, IsValid}
 use Rattle.text_lines.specs.Lines.{fields_of}
 use Rattle.wire_forms.specs.Liars.{Liars}
@@ -13,11 +15,12 @@ use Rattle.line_forms.specs.declared.refusal.LineRefusal.{LineRefusal}
 use Rattle.line_forms.specs.declared.refusal.LineRefusal.TheVariants as line_refusals
 use Rattle.event_lines.specs.Forms.{fields_cause}
 use Rattle.event_lines.specs.Lines.{event_text, IsEventLine}
+use Rattle.event_lines.proofs.Laws.{no_liar}
 use Rattle.event_lines.specs.declared.line.ReplayLine.{ReplayLine}
 use Rattle.script_text.specs.declared.liars.Declared.{Declared}
 use Rattle.script_text.specs.Replays.{liar_line, liar_forms, IsDeclarable, is_same, is_liar_line, is_liar_node, is_event, again_causes, replay_cause}
 use Rattle.script_text.specs.Reading.{AreDeclared, again_cause, later_cause}
-use Rattle.script_text.proofs.Declarations.{IsLow, low, all_low, line_is_node, lines_have, lines_count, no_events, have_declared}
+use Rattle.script_text.proofs.Declarations.{IsLow, low, all_low, first_is_liar, line_is_liar, line_is_node, lines_have, lines_count, no_events, have_declared}
 
 same_refusal : {X Y : Type 0} (P : X → Type 0) (Q : Y → Type 0) (a b : Option Cause) (e : LineRefusal) → Gives P a (Err e) → ((c : Cause) → a ≡ Some c → b ≡ Some c) → Gives Q b (Err e)
 same_refusal P Q a b line_refusals.NoMemory g f = tt
@@ -53,3 +56,35 @@ pub liar_again : (c : Numbers) (ds : List Declared) (l : Liars) (d : Declared) (
     → replay_cause c (map liar_line ds) line ≡ again_cause c l d
 liar_again c ds l d line a is h i e =
     liar_here c ds l line a is ∙ ap (λ (o : Option Cause). or_then o (first_of (again_causes c (map liar_line ds) line))) h ∙ again_line c ds l d line a i e
+
+-- ---- a line after event lines
+
+event_no_liar : (c : Numbers) (e : ReplayLine) → IsEventLine c e → is_liar_line (event_text e) ≡ false
+event_no_liar c e i =
+    elim (cases_Bool (is_liar_line (event_text e))) [ inl liar ↦ absurd (no_liar c e i (first_is_liar (event_text e) liar)) | inr other ↦ other ]
+
+count_events : (c : Numbers) (es : List ReplayLine) → AllByRecursion (IsEventLine c) es → count_by is_event (map event_text es) ≡ length es
+count_events c [] h = refl
+count_events c (e ∷ es) h =
+    sum_by-cons (λ x. cond (is_event x) 1 0) (event_text e) (map event_text es) ∙ rw (event_no_liar c e h.0, count_events c es h.1) (omega arith)
+
+pub events_in : (c : Numbers) (ds : List Declared) (es : List ReplayLine) → AllByRecursion IsLow ds → AllByRecursion (IsEventLine c) es → count_by is_event (map liar_line ds ++ map event_text es) ≡ length es
+events_in c [] es low h = count_events c es h
+events_in c (d ∷ ds) es low h =
+    sum_by-cons (λ x. cond (is_event x) 1 0) (liar_line d) (map liar_line ds ++ map event_text es) ∙ rw (line_is_liar d low.0, events_in c ds es low.1 h) (omega arith)
+
+some_event : (c : Numbers) (ds : List Declared) (e : ReplayLine) (es : List ReplayLine) → AllByRecursion IsLow ds → IsEventLine c e → list_any is_event (map liar_line ds ++ map event_text (e ∷ es)) ≡ true
+some_event c [] e es low i = rw (event_no_liar c e i) refl
+some_event c (d ∷ ds) e es low i = rw (line_is_liar d low.0) (some_event c ds e es low.1 i)
+
+late_liar : (c : Numbers) (ds : List Declared) (es : List ReplayLine) (line : List ℕ) → AllByRecursion IsLow ds → AllByRecursion (IsEventLine c) es → is_liar_line line ≡ true → (length es ≡ 0 → is_liar_line line ≡ false) → replay_cause c (map liar_line ds ++ map event_text es) line ≡ Some UnknownWord
+unfolding replay_cause
+late_liar c ds [] line low h is first = let clash : true ≡ false = sym is ∙ first refl in absurd cc
+late_liar c ds (e ∷ es) line low h is first = rw (is, some_event c ds e es low h.0) refl
+
+pub later_here : (c : Numbers) (ds : List Declared) (es : List ReplayLine) (line : List ℕ) → IsValid c → AllByRecursion (IsDeclarable c) ds → AllByRecursion (IsEventLine c) es → (length es ≡ 0 → is_liar_line line ≡ false)
+    → replay_cause c (map liar_line ds ++ map event_text es) line ≡ later_cause c (length es) line
+unfolding replay_cause
+later_here c ds es line v i h first =
+    let low = all_low c ds v i in
+    elim (cases_Bool (is_liar_line line)) [ inl is ↦ late_liar c ds es line low h is first ∙ sym (rw is refl) | inr other ↦ rw (other, events_in c ds es low h) refl ]

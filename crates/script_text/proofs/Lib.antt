@@ -3,3 +3,5 @@ pub mod SumLaws
 pub mod Declarations
 pub mod Causes
 pub mod Steps
+pub mod Ascending
+pub mod Printed

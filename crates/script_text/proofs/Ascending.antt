@@ -1,0 +1,77 @@
+-- Ascending numbers, gone through from the least on.
+use Rattle.std.proofs.Common.{◌≡◌, ℕ, ◌+◌, ◌≤◌, ◌<◌, Bool, true, false, ◌||◌, cond, eqb, ltb, List, [], ◌∷◌, ◌++◌, refl, sym, ap, ◌∙◌, arith, inl, inr}
+use Rattle.std.specs.List.{filter, list_any, AllByRecursion}
+use Rattle.std.specs.List.Sorted.{IsStrictlySortedBy}
+use Rattle.std.specs.Ordering.{Ordering, Less, Equal, Greater, nat_cmp}
+use Rattle.std.proofs.lemmas.Bool.{cases_Bool, cases_lt, ltb-true}
+use Rattle.std.proofs.lemmas.Bool.Decides.{nat_tests}
+use Rattle.wire_forms.specs.Liars.{IsAscending, has_number}
+
+-- the numbers below a limit
+abbrev pub below : ℕ → List ℕ → List ℕ
+below limit ks = filter (λ k. ltb k limit) ks
+
+yes : (a b : ℕ) → a < b → ltb a b ≡ true
+yes a b h = grind (arith, nat_tests)
+
+no : (a b : ℕ) → b ≤ a → ltb a b ≡ false
+no a b h = grind (arith, nat_tests)
+
+same : (a b : ℕ) → a ≡ b → eqb a b ≡ true
+same a b h = grind arith
+
+other_above : (a b : ℕ) → a < b → eqb a b ≡ false
+other_above a b h = grind arith
+
+other_below : (a b : ℕ) → b < a → eqb a b ≡ false
+other_below a b h = grind arith
+
+not_less : (b : Bool) → cond b Equal Greater ≡ Less → ⊥
+not_less true h = absurd cc
+not_less false h = absurd cc
+
+above : (a b : ℕ) → nat_cmp a b ≡ Less → a < b
+above a b h =
+    elim (cases_Bool (ltb a b)) [ inl lt ↦ ltb-true a b lt | inr ge ↦ absurd (not_less (eqb a b) (rw ge at h)) ]
+
+abbrev AllAbove : ℕ → List ℕ → Type 0
+AllAbove least ks = AllByRecursion (λ k. least < k) ks
+
+rest_above : (least x : ℕ) (ks : List ℕ) → least ≤ x → AllByRecursion (λ k. nat_cmp x k ≡ Less) ks → AllAbove least ks
+rest_above least x [] le h = tt
+rest_above least x (k ∷ ks) le h = let lt = above x k h.0 in (omega arith, rest_above least x ks le h.1)
+
+none_below : (limit least : ℕ) (ks : List ℕ) → limit ≤ least + 1 → AllAbove least ks → below limit ks ≡ []
+none_below limit least [] le h = refl
+none_below limit least (k ∷ ks) le h = let lt = h.0 in rw (no k limit (omega arith)) (none_below limit least ks le h.1)
+
+has_none : (least : ℕ) (ks : List ℕ) → AllAbove least ks → has_number ks least ≡ false
+has_none least [] h = refl
+has_none least (k ∷ ks) h = rw (other_above least k h.0) (has_none least ks h.1)
+
+-- where all are at least so much, none is below
+pub below_none : (limit : ℕ) (ks : List ℕ) → AllByRecursion (λ k. limit ≤ k) ks → below limit ks ≡ []
+below_none limit [] h = refl
+below_none limit (k ∷ ks) h = rw (no k limit h.0) (below_none limit ks h.1)
+
+pub below_all : (limit : ℕ) (ks : List ℕ) → AllByRecursion (λ k. k < limit) ks → below limit ks ≡ ks
+below_all limit [] h = refl
+below_all limit (k ∷ ks) h = rw (yes k limit h.0) (ap (λ (xs : List ℕ). k ∷ xs) (below_all limit ks h.1))
+
+-- one number more
+pub below_next : (limit : ℕ) (ks : List ℕ) → IsAscending ks → below (limit + 1) ks ≡ below limit ks ++ cond (has_number ks limit) (limit ∷ []) []
+unfolding IsStrictlySortedBy
+below_next limit [] h = refl
+below_next limit (k ∷ ks) h =
+    elim (cases_lt k limit) [
+      | inl lt ↦ rw (yes k (limit + 1) (omega arith), yes k limit lt, other_below limit k lt) (ap (λ (xs : List ℕ). k ∷ xs) (below_next limit ks h.1))
+      | inr le ↦ elim (cases_lt limit k) [
+        | inl lt ↦
+            let up = rest_above limit k ks le h.0 in
+            rw (no k (limit + 1) (omega arith), no k limit le, other_above limit k lt, has_none limit ks up, none_below (limit + 1) limit ks (omega arith) up, none_below limit limit ks (omega arith) up) refl
+        | inr ge ↦
+            let is : k ≡ limit = omega arith in
+            let up = rest_above limit k ks le h.0 in
+            rw (yes k (limit + 1) (omega arith), no k limit le, same limit k (omega arith), none_below (limit + 1) limit ks (omega arith) up, none_below limit limit ks (omega arith) up, is) refl
+      ]
+    ]

@@ -1,0 +1,1 @@
+use Rattle.script_text.proofs.liars.add_clients.Goals as goal
