@@ -1,8 +1,9 @@
 -- Ascending numbers, gone through from the least on.
-use Rattle.std.proofs.Common.{◌≡◌, ℕ, ◌+◌, ◌≤◌, ◌<◌, Bool, true, false, ◌||◌, cond, eqb, ltb, List, [], ◌∷◌, ◌++◌, refl, sym, ap, ◌∙◌, arith, inl, inr}
+use Rattle.std.proofs.Common.{◌≡◌, ℕ, ◌+◌, ◌≤◌, ◌<◌, Bool, true, false, ◌||◌, cond, eqb, ltb, List, [], ◌∷◌, ◌++◌, Ordering, refl, sym, ap, ◌∙◌, arith, inl, inr}
 use Rattle.std.specs.List.{filter, list_any, AllByRecursion}
 use Rattle.std.specs.List.Sorted.{IsStrictlySortedBy}
-use Rattle.std.specs.Ordering.{Ordering, Less, Equal, Greater, nat_cmp}
+use Rattle.std.specs.Ordering.{nat_cmp}
+use Rattle.std.specs.declared.cmp.Ordering.TheVariants.{Less, Equal, Greater}
 use Rattle.std.proofs.lemmas.Bool.{cases_Bool, cases_lt, ltb-true}
 use Rattle.std.proofs.lemmas.Bool.Decides.{nat_tests}
 use Rattle.wire_forms.specs.Liars.{IsAscending, has_number}
@@ -75,3 +76,7 @@ below_next limit (k ∷ ks) h =
             rw (yes k (limit + 1) (omega arith), no k limit le, same limit k (omega arith), none_below (limit + 1) limit ks (omega arith) up, none_below limit limit ks (omega arith) up, is) refl
       ]
     ]
+
+pub below_zero : (ks : List ℕ) → below 0 ks ≡ []
+below_zero [] = refl
+below_zero (k ∷ ks) = rw (no k 0 (omega arith)) (below_zero ks)

@@ -31,3 +31,12 @@ number_written line old ks k up there =
     append_assoc old (text_of_lines (map line (below k ks))) (line k ++ 10 ∷ [])
     ∙ ap (λ (t : List ℕ). old ++ t) (sym (line_added (map line (below k ks)) (line k)) ∙ ap text_of_lines (sym (map_push line (below k ks) k)))
     ∙ ap (λ (xs : List ℕ). old ++ text_of_lines (map line xs)) (sym (below_next k ks up ∙ ap (λ (b : Bool). below k ks ++ cond b (k ∷ []) []) there))
+
+in_pieces : (old w d end : List ℕ) → ((old ++ w) ++ d) ++ end ≡ old ++ ((w ++ d) ++ end)
+in_pieces old w d end = simp append_assoc
+
+-- the line of a number that is there, written in pieces
+pub pieces_written : (line : ℕ → List ℕ) (old ks word digits a b c e : List ℕ) (k : ℕ) → IsAscending ks → has_number ks k ≡ true → line k ≡ word ++ digits → a ≡ written line old k ks → b ≡ a ++ word → c ≡ b ++ digits → e ≡ c ++ 10 ∷ [] → e ≡ written line old (k + 1) ks
+pieces_written line old ks word digits a b c e k up there is ea eb ec ee =
+    ee ∙ ap (λ (t : List ℕ). t ++ 10 ∷ []) (ec ∙ ap (λ (t : List ℕ). t ++ digits) (eb ∙ ap (λ (t : List ℕ). t ++ word) ea))
+    ∙ in_pieces (written line old k ks) word digits (10 ∷ []) ∙ ap (λ (l : List ℕ). written line old k ks ++ (l ++ 10 ∷ [])) (sym is) ∙ number_written line old ks k up there
