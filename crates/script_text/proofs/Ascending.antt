@@ -15,13 +15,13 @@ below limit ks = filter (λ k. ltb k limit) ks
 yes : (a b : ℕ) → a < b → ltb a b ≡ true
 yes a b h = grind (arith, nat_tests)
 
-no : (a b : ℕ) → b ≤ a → ltb a b ≡ false
-no a b h = grind (arith, nat_tests)
+pub no_less : (a b : ℕ) → b ≤ a → ltb a b ≡ false
+no_less a b h = grind (arith, nat_tests)
 
 same : (a b : ℕ) → a ≡ b → eqb a b ≡ true
 same a b h = grind arith
 
-other_above : (a b : ℕ) → a < b → eqb a b ≡ false
+pub other_above : (a b : ℕ) → a < b → eqb a b ≡ false
 other_above a b h = grind arith
 
 other_below : (a b : ℕ) → b < a → eqb a b ≡ false
@@ -31,7 +31,7 @@ not_less : (b : Bool) → cond b Equal Greater ≡ Less → ⊥
 not_less true h = absurd cc
 not_less false h = absurd cc
 
-above : (a b : ℕ) → nat_cmp a b ≡ Less → a < b
+pub above : (a b : ℕ) → nat_cmp a b ≡ Less → a < b
 above a b h =
     elim (cases_Bool (ltb a b)) [ inl lt ↦ ltb-true a b lt | inr ge ↦ absurd (not_less (eqb a b) (rw ge at h)) ]
 
@@ -44,7 +44,7 @@ rest_above least x (k ∷ ks) le h = let lt = above x k h.0 in (omega arith, res
 
 none_below : (limit least : ℕ) (ks : List ℕ) → limit ≤ least + 1 → AllAbove least ks → below limit ks ≡ []
 none_below limit least [] le h = refl
-none_below limit least (k ∷ ks) le h = let lt = h.0 in rw (no k limit (omega arith)) (none_below limit least ks le h.1)
+none_below limit least (k ∷ ks) le h = let lt = h.0 in rw (no_less k limit (omega arith)) (none_below limit least ks le h.1)
 
 has_none : (least : ℕ) (ks : List ℕ) → AllAbove least ks → has_number ks least ≡ false
 has_none least [] h = refl
@@ -53,7 +53,7 @@ has_none least (k ∷ ks) h = rw (other_above least k h.0) (has_none least ks h.
 -- where all are at least so much, none is below
 pub below_none : (limit : ℕ) (ks : List ℕ) → AllByRecursion (λ k. limit ≤ k) ks → below limit ks ≡ []
 below_none limit [] h = refl
-below_none limit (k ∷ ks) h = rw (no k limit h.0) (below_none limit ks h.1)
+below_none limit (k ∷ ks) h = rw (no_less k limit h.0) (below_none limit ks h.1)
 
 pub below_all : (limit : ℕ) (ks : List ℕ) → AllByRecursion (λ k. k < limit) ks → below limit ks ≡ ks
 below_all limit [] h = refl
@@ -69,14 +69,14 @@ below_next limit (k ∷ ks) h =
       | inr le ↦ elim (cases_lt limit k) [
         | inl lt ↦
             let up = rest_above limit k ks le h.0 in
-            rw (no k (limit + 1) (omega arith), no k limit le, other_above limit k lt, has_none limit ks up, none_below (limit + 1) limit ks (omega arith) up, none_below limit limit ks (omega arith) up) refl
+            rw (no_less k (limit + 1) (omega arith), no_less k limit le, other_above limit k lt, has_none limit ks up, none_below (limit + 1) limit ks (omega arith) up, none_below limit limit ks (omega arith) up) refl
         | inr ge ↦
             let is : k ≡ limit = omega arith in
             let up = rest_above limit k ks le h.0 in
-            rw (yes k (limit + 1) (omega arith), no k limit le, same limit k (omega arith), none_below (limit + 1) limit ks (omega arith) up, none_below limit limit ks (omega arith) up, is) refl
+            rw (yes k (limit + 1) (omega arith), no_less k limit le, same limit k (omega arith), none_below (limit + 1) limit ks (omega arith) up, none_below limit limit ks (omega arith) up, is) refl
       ]
     ]
 
 pub below_zero : (ks : List ℕ) → below 0 ks ≡ []
 below_zero [] = refl
-below_zero (k ∷ ks) = rw (no k 0 (omega arith)) (below_zero ks)
+below_zero (k ∷ ks) = rw (no_less k 0 (omega arith)) (below_zero ks)

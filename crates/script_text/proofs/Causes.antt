@@ -59,7 +59,7 @@ liar_again c ds l d line a is h i e =
 
 -- ---- a line after event lines
 
-event_no_liar : (c : Numbers) (e : ReplayLine) → IsEventLine c e → is_liar_line (event_text e) ≡ false
+pub event_no_liar : (c : Numbers) (e : ReplayLine) → IsEventLine c e → is_liar_line (event_text e) ≡ false
 event_no_liar c e i =
     elim (cases_Bool (is_liar_line (event_text e))) [ inl liar ↦ absurd (no_liar c e i (first_is_liar (event_text e) liar)) | inr other ↦ other ]
 

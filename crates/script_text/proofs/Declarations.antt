@@ -90,7 +90,7 @@ line_says (Client m) (Client n) p q h = ap Client (decimal_injective m n p q (ap
 line_says (Node m) (Client n) p q h = absurd (true≢false (ap (λ (l : List ℕ). eqb (get_or l 5 0) 110) h))
 line_says (Client m) (Node n) p q h = absurd (false≢true (ap (λ (l : List ℕ). eqb (get_or l 5 0) 110) h))
 
-same_itself : (d : Declared) → is_same d d ≡ true
+pub same_itself : (d : Declared) → is_same d d ≡ true
 same_itself (Node n) = same_number n n refl
 same_itself (Client k) = same_number k k refl
 

@@ -5,3 +5,4 @@ pub mod Causes
 pub mod Steps
 pub mod Ascending
 pub mod Printed
+pub mod ReplayLaws
