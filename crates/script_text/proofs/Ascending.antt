@@ -24,7 +24,7 @@ same a b h = grind arith
 pub other_above : (a b : ℕ) → a < b → eqb a b ≡ false
 other_above a b h = grind arith
 
-other_below : (a b : ℕ) → b < a → eqb a b ≡ false
+pub other_below : (a b : ℕ) → b < a → eqb a b ≡ false
 other_below a b h = grind arith
 
 not_less : (b : Bool) → cond b Equal Greater ≡ Less → ⊥

@@ -203,7 +203,7 @@ pub all_longer : (l : Liars) (ds : List Declared) → length l.nodes ≤ length 
 all_longer l [] = omega arith
 all_longer l (d ∷ ds) = let a = declared_longer l d in let b = all_longer (with_declared l d) ds in omega arith
 
-declared_length : (l : Liars) (d : Declared) → has_declared l d ≡ false → length (with_declared l d).nodes ≡ length l.nodes + cond (is_node d) 1 0
+pub declared_length : (l : Liars) (d : Declared) → has_declared l d ≡ false → length (with_declared l d).nodes ≡ length l.nodes + cond (is_node d) 1 0
 declared_length l (Node n) h = insert_length l.nodes n h
 declared_length l (Client k) h = omega arith
 

@@ -36,7 +36,7 @@ use Rattle.script_text.specs.Reading.{AreDeclared, AreAscending, has_declared, l
 use Rattle.script_text.proofs.Declarations.{IsLow, low, all_low, fields_back, liar_lacks, line_is_liar, line_says, same_itself, IsFree, none_from_free, none_declared, one_declared, once_before, have_declared, all_push, all_longer, declared_length}
 use Rattle.script_text.proofs.Causes.{liar_again, later_here, event_no_liar}
 use Rattle.script_text.proofs.Steps.{body_here, body_lines}
-use Rattle.script_text.proofs.Ascending.{above, no_less, other_above}
+use Rattle.script_text.proofs.Ascending.{above, no_less, other_above, other_below}
 
 -- ---- liar lines
 
@@ -216,7 +216,7 @@ insert_end : (ks : List ℕ) (k : ℕ) → AllByRecursion (λ x. nat_cmp x k ≡
 insert_end [] k h = refl
 insert_end (x ∷ xs) k h =
     let lt = above x k h.0 in
-    rw (no_less k x lt, other_above x k lt) (ap (λ (ys : List ℕ). x ∷ ys) (insert_end xs k h.1))
+    rw (no_less k x (omega arith), other_below k x lt) (ap (λ (ys : List ℕ). x ∷ ys) (insert_end xs k h.1))
 
 each_before : (before : List ℕ) (k : ℕ) (ks : List ℕ) → IsStrictlySortedBy nat_cmp (before ++ k ∷ ks) → AllByRecursion (λ x. nat_cmp x k ≡ Less) before
 unfolding IsStrictlySortedBy
