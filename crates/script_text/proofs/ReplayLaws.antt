@@ -71,11 +71,11 @@ free_here c ds more d once few =
     record {
       new = new;
       room = λ is.
-      let longer = declared_length (liars_of ds) d new in
-      let one : length (with_declared (liars_of ds) d).nodes ≡ length (liars_of ds).nodes + 1 = longer ∙ ap (λ (b : Bool). length (liars_of ds).nodes + cond b 1 0) is in
-      let more_left = all_longer (with_declared (liars_of ds) d) more in
-      let whole : length (liars_of (ds ++ d ∷ more)).nodes ≡ length (with_all (with_declared (liars_of ds) d) more).nodes = ap (λ (l : Liars). length l.nodes) (all_append _ ds (d ∷ more)) in
-      omega arith;
+          let longer = declared_length (liars_of ds) d new in
+          let one : length (with_declared (liars_of ds) d).nodes ≡ length (liars_of ds).nodes + 1 = longer ∙ ap (λ (b : Bool). length (liars_of ds).nodes + cond b 1 0) is in
+          let more_left = all_longer (with_declared (liars_of ds) d) more in
+          let whole : length (liars_of (ds ++ d ∷ more)).nodes ≡ length (with_all (with_declared (liars_of ds) d) more).nodes = ap (λ (l : Liars). length l.nodes) (all_append _ ds (d ∷ more)) in
+          omega arith;
     }
 
 line_next : (line lines rest : List ℕ) → Lacks 10 line → parts_of (((line ++ 10 ∷ []) ++ lines) ++ rest) ≡ line ∷ parts_of (lines ++ rest)
@@ -153,8 +153,8 @@ spelled_reads text c l es s r =
     let liars = text_of_lines (map liar_line s.declared) in
     let events = text_of_lines (map event_text es) in
     let whole : head_text c ++ (liars ++ (events ++ [])) ≡ text =
-        ap (λ (t : List ℕ). head_text c ++ (liars ++ t)) (append-nil events) ∙ ap (λ (t : List ℕ). head_text c ++ t) (sym (flat_map-append (λ l. l ++ 10 ∷ []) (map liar_line s.declared) (map event_text es)))
-        ∙ sym (flat_map-append (λ l. l ++ 10 ∷ []) (head_lines c) (body_lines s.declared es)) ∙ sym s.spelled in
+    ap (λ (t : List ℕ). head_text c ++ (liars ++ t)) (append-nil events) ∙ ap (λ (t : List ℕ). head_text c ++ t) (sym (flat_map-append (λ l. l ++ 10 ∷ []) (map liar_line s.declared) (map event_text es)))
+    ∙ sym (flat_map-append (λ l. l ++ 10 ∷ []) (head_lines c) (body_lines s.declared es)) ∙ sym s.spelled in
     let head = subst (λ (t : List ℕ). ReadsTo replay_script t (head_lines c) (liars ++ (events ++ []))) whole (head_accepted replay_body c (liars ++ (events ++ [])) r.valid) in
     let declarable = spelled_declarable text c l es s r in
     let few : length (liars_of s.declared).nodes ≤ c.b = subst (λ (k : Liars). length k.nodes ≤ c.b) (sym s.all) r.lying.few in

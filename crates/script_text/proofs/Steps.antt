@@ -54,9 +54,11 @@ rest_at text ls rest r =
     one : (line : List ℕ) (ps : List (List ℕ)) (rest : List ℕ) → join_with_byte 10 ps ≡ rest → ps ≢ [] → join_with_byte 10 (line ∷ ps) ≡ line ++ 10 ∷ rest
     one line [] rest e some = absurd (some refl)
     one line (p ∷ ps) rest e some = ap (λ (t : List ℕ). line ++ 10 ∷ t) e
+
     some_parts : (ls : List (List ℕ)) (rest : List ℕ) → ls ++ parts_of rest ≢ []
     some_parts [] rest e = some_part 10 rest e
     some_parts (l ∷ ls) rest e = absurd cc
+
     joined : (ls : List (List ℕ)) (rest : List ℕ) → join_with_byte 10 (ls ++ parts_of rest) ≡ text_of_lines ls ++ rest
     joined [] rest = join_with_byte-slice_split 10 rest
     joined (l ∷ ls) rest = one l (ls ++ parts_of rest) (text_of_lines ls ++ rest) (joined ls rest) (some_parts ls rest) ∙ simp append_assoc
@@ -114,8 +116,8 @@ pub liar_read : (text : List ℕ) (c : Numbers) (l m : Liars) (rest line after :
 liar_read text c l m rest line after number next d h e shorter none says is up count =
     let on = reads_on replay_script text (replay_lines c h.declared []) line rest after h.reads e (liars_cause c h.declared line h.are.valid ∙ none) in
     let lines : replay_lines c h.declared [] ++ line ∷ [] ≡ replay_lines c (h.declared ++ d ∷ []) [] =
-        ap (λ (ls : List (List ℕ)). ls ++ line ∷ []) (liars_alone c h.declared) ∙ ap (λ (x : List ℕ). head_lines c ++ (map liar_line h.declared ++ x ∷ [])) (sym says.0)
-        ∙ ap (λ (ls : List (List ℕ)). head_lines c ++ ls) (sym (map_push liar_line h.declared d)) ∙ sym (liars_alone c (h.declared ++ d ∷ [])) in
+    ap (λ (ls : List (List ℕ)). ls ++ line ∷ []) (liars_alone c h.declared) ∙ ap (λ (x : List ℕ). head_lines c ++ (map liar_line h.declared ++ x ∷ [])) (sym says.0)
+    ∙ ap (λ (ls : List (List ℕ)). head_lines c ++ ls) (sym (map_push liar_line h.declared d)) ∙ sym (liars_alone c (h.declared ++ d ∷ [])) in
     let len = length-append h.declared (d ∷ []) in
     let is_number = h.number_is in
     let room = h.room in
@@ -181,8 +183,8 @@ pub event_read : (text : List ℕ) (c : Numbers) (l : Liars) (es more : List Rep
 event_read text c l es more rest line after number next event h e shorter none says is count =
     let on = reads_on replay_script text (replay_lines c h.declared es) line rest after h.reads e (events_cause text c l es rest line after number h e ∙ none) in
     let lines : replay_lines c h.declared es ++ line ∷ [] ≡ replay_lines c h.declared (es ++ event ∷ []) =
-        ap (λ (ls : List (List ℕ)). head_lines c ++ ls) (append_assoc (map liar_line h.declared) (map event_text es) (line ∷ []) ∙ ap (λ (x : List ℕ). map liar_line h.declared ++ (map event_text es ++ x ∷ [])) (sym says.1)
-        ∙ ap (λ (ls : List (List ℕ)). map liar_line h.declared ++ ls) (sym (map_push event_text es event))) in
+    ap (λ (ls : List (List ℕ)). head_lines c ++ ls) (append_assoc (map liar_line h.declared) (map event_text es) (line ∷ []) ∙ ap (λ (x : List ℕ). map liar_line h.declared ++ (map event_text es ++ x ∷ [])) (sym says.1)
+    ∙ ap (λ (ls : List (List ℕ)). map liar_line h.declared ++ ls) (sym (map_push event_text es event))) in
     let len = length-append es (event ∷ []) in
     let is_number = h.number_is in
     let room = h.room in

@@ -123,7 +123,7 @@ pub fn print_replay(alloc: Global, replay: &Replay) -> Result<Bytes, NoMemory>
     add_head(&mut text, &replay.config)?;
     add_liars(&mut text, &replay.config, &replay.liars)?;
     for line in replay.lines.as_slice() {
-        add_event(&mut text, line)?;
+        add_event(alloc, &mut text, line)?;
         text.add_newline()?;
     }
     Ok(text.into_bytes())
