@@ -1,9 +1,8 @@
 -- What is wrong with a line of a replay script, by what was read before it.
-use Rattle.std.proofs.Common.{◌≡◌, ℕ, Bool, true, false, cond, leb, List, [], ◌∷◌, ◌++◌, length, map, drop, Option, Some, None, Result, Ok, Err, refl, sym, ap, ◌∙◌, arith, inl, inr}
+use Rattle.std.proofs.Common.{◌≡◌, ℕ, true, false, cond, List, [], ◌∷◌, ◌++◌, length, map, drop, Option, Some, None, Result, Ok, Err, refl, sym, ap, ◌∙◌, arith, inl, inr}
 use Rattle.std.specs.Prelude.{IsErrAnd, count_by}
 use Rattle.std.specs.List.{list_any, AllByRecursion}
 use Rattle.std.proofs.lemmas.Bool.{cases_Bool}
-use Rattle.std.proofs.lemmas.List.Folds.{list_any-append}
 use Rattle.std.proofs.lemmas.List.Sums.{sum_by-cons}
 use Rattle.quorum_rules.specs.Limits.{Numbers, IsValid}
 use Rattle.text_lines.specs.Lines.{fields_of}
@@ -18,7 +17,7 @@ use Rattle.event_lines.specs.Lines.{event_text, IsEventLine}
 use Rattle.event_lines.proofs.Laws.{no_liar}
 use Rattle.event_lines.specs.declared.line.ReplayLine.{ReplayLine}
 use Rattle.script_text.specs.declared.liars.Declared.{Declared}
-use Rattle.script_text.specs.Replays.{liar_line, liar_forms, IsDeclarable, is_same, is_liar_line, is_liar_node, is_event, again_causes, replay_cause}
+use Rattle.script_text.specs.Replays.{liar_line, liar_forms, IsDeclarable, is_liar_line, is_event, again_causes, replay_cause}
 use Rattle.script_text.specs.Reading.{AreDeclared, again_cause, later_cause}
 use Rattle.script_text.proofs.Declarations.{IsLow, low, all_low, first_is_liar, line_is_liar, line_is_node, lines_have, lines_count, no_events, have_declared}
 

@@ -1,5 +1,5 @@
 -- A text that spells a replay is accepted, and spells no other.
-use Rattle.std.proofs.Common.{◌≡◌, ◌≢◌, All, ℕ, ◌+◌, ◌≤◌, ◌<◌, Bool, true, false, ◌||◌, ◌&&◌, cond, leb, ltb, eqb, ◌^◌, lit≤, List, [], ◌∷◌, ◌++◌, length, map, drop, get_or, Some, None, refl, sym, ap, subst, ◌∙◌, append_assoc, length-append, arith, inl, inr}
+use Rattle.std.proofs.Common.{◌≡◌, ℕ, ◌+◌, ◌≤◌, ◌<◌, Bool, true, false, ◌||◌, ◌&&◌, cond, leb, ltb, eqb, ◌^◌, lit≤, List, [], ◌∷◌, ◌++◌, length, map, drop, get_or, None, refl, sym, ap, subst, ◌∙◌, append_assoc, length-append, arith, inl, inr}
 use Rattle.std.specs.Prelude.{decimal}
 use Rattle.std.specs.List.{list_any, AllByRecursion, IsDistinct}
 use Rattle.std.specs.List.Sorted.{IsStrictlySortedBy}
@@ -17,11 +17,8 @@ use Rattle.text_lines.specs.Lines.{parts_of, fields_of, line_of_fields, text_of_
 use Rattle.text_lines.proofs.Numbers.{number_of-decimal}
 use Rattle.text_lines.proofs.Joined.{part_before}
 use Rattle.wire_forms.specs.Liars.{Liars, has_number}
-use Rattle.line_forms.specs.Tables.{first_of, or_then}
-use Rattle.line_forms.specs.Kinds.{form_cause}
 use Rattle.line_forms.specs.Heads.{head_lines, head_text, header, cluster_fields, numbers_in}
 use Rattle.line_forms.specs.Texts.{IsFaultless, ReadsTo}
-use Rattle.line_forms.specs.declared.cause.Cause.TheVariants.{TooManyLines}
 use Rattle.line_forms.proofs.Accepted.{head_accepted, numbers_back}
 use Rattle.line_forms.proofs.Tables.{or_none}
 use Rattle.line_forms.proofs.Texts.{reads_on, read_all}
@@ -31,17 +28,15 @@ use Rattle.event_lines.specs.declared.line.ReplayLine.{ReplayLine}
 use Rattle.event_lines.proofs.Laws.{accepted, one, no_newline}
 use Rattle.script_text.specs.declared.liars.Declared.{Declared}
 use Rattle.script_text.specs.declared.liars.Declared.TheVariants.{Node, Client}
-use Rattle.script_text.specs.Replays.{liar_line, liar_fields, liar_forms, IsDeclarable, is_same, with_declared, with_all, liars_of, declarations, event_limit, event_cause_after, IsReplay, AreLiars, Spells, replay_lines, replay_text, replay_body, replay_script, is_liar_line}
+use Rattle.script_text.specs.Replays.{liar_line, liar_fields, liar_forms, IsDeclarable, is_same, with_declared, with_all, liars_of, declarations, event_limit, IsReplay, AreLiars, Spells, replay_lines, replay_text, replay_body, replay_script, is_liar_line}
 use Rattle.script_text.specs.Reading.{AreDeclared, AreAscending, has_declared, later_cause}
-use Rattle.script_text.proofs.Declarations.{IsLow, low, all_low, fields_back, liar_lacks, line_is_liar, line_says, same_itself, IsFree, none_from_free, none_declared, one_declared, once_before, have_declared, all_push, all_longer, declared_length}
+use Rattle.script_text.proofs.Sums.{not_zero}
+use Rattle.script_text.proofs.Declarations.{push_each, IsLow, low, all_low, fields_back, liar_lacks, line_is_liar, line_says, same_itself, IsFree, none_from_free, none_declared, one_declared, once_before, have_declared, all_push, all_longer, declared_length}
 use Rattle.script_text.proofs.Causes.{liar_again, later_here, event_no_liar}
 use Rattle.script_text.proofs.Steps.{body_here, body_lines}
 use Rattle.script_text.proofs.Ascending.{above, no_less, other_above, other_below}
 
 -- ---- liar lines
-
-not_zero : (n : ℕ) → 0 < n → eqb n 0 ≡ false
-not_zero n h = grind arith
 
 inside : (n least end : ℕ) → least ≤ n → n < end → (leb least n && ltb n end) ≡ true
 inside n least end le lt = grind (arith, nat_tests)
@@ -107,10 +102,6 @@ no_later_cause c n e i lt = rw (event_no_liar c e i) (or_none (event_cause c (ev
 push_event : (first liars : List (List ℕ)) (es : List ReplayLine) (e : ReplayLine) → (first ++ (liars ++ map event_text es)) ++ event_text e ∷ [] ≡ first ++ (liars ++ map event_text (es ++ e ∷ []))
 push_event first liars es e =
     append_assoc first (liars ++ map event_text es) (event_text e ∷ []) ∙ ap (λ (ls : List (List ℕ)). first ++ ls) (append_assoc liars (map event_text es) (event_text e ∷ []) ∙ ap (λ (ls : List (List ℕ)). liars ++ ls) (sym (map_push event_text es e)))
-
-push_each : {A : Type 0} (P : A → Type 0) (xs : List A) (x : A) → AllByRecursion P xs → P x → AllByRecursion P (xs ++ x ∷ [])
-push_each P [] x h p = (p, tt)
-push_each P (y ∷ ys) x h p = (h.0, push_each P ys x h.1 p)
 
 events_accepted : (text : List ℕ) (c : Numbers) (ds : List Declared) (es more all : List ReplayLine) (rest : List ℕ) → IsValid c → AllByRecursion (IsDeclarable c) ds → es ++ more ≡ all → length all ≤ event_limit c → AllByRecursion (IsEventLine c) es → AllByRecursion (IsEventLine c) more
     → ReadsTo replay_script text (replay_lines c ds es) (text_of_lines (map event_text more) ++ rest) → ReadsTo replay_script text (replay_lines c ds all) rest

@@ -1,6 +1,6 @@
 -- One more line of a replay script.
-use Rattle.std.proofs.Common.{◌≡◌, ◌≢◌, ℕ, ◌+◌, ◌-◌, ◌≤◌, ◌<◌, Bool, true, false, List, [], ◌∷◌, ◌++◌, length, map, drop, take, Option, Some, None, refl, sym, ap, subst, ◌∙◌, append_assoc, length-append, arith}
-use Rattle.std.specs.List.{join_with_byte, AllByRecursion}
+use Rattle.std.proofs.Common.{◌≡◌, ◌≢◌, ℕ, ◌+◌, ◌-◌, ◌≤◌, ◌<◌, false, List, [], ◌∷◌, ◌++◌, length, map, drop, take, Some, None, refl, sym, ap, subst, ◌∙◌, append_assoc, length-append, arith}
+use Rattle.std.specs.List.{join_with_byte}
 use Rattle.std.specs.List.Sorted.{IsStrictlySortedBy}
 use Rattle.std.specs.Ordering.{nat_cmp}
 use Rattle.std.proofs.lemmas.List.{map_push, append-nil, length-map, length-drop, drop_at}
@@ -21,9 +21,9 @@ use Rattle.event_lines.specs.Lines.{event_text, IsEventLine}
 use Rattle.event_lines.specs.declared.line.ReplayLine.{ReplayLine}
 use Rattle.script_text.specs.declared.liars.Declared.{Declared}
 use Rattle.script_text.specs.declared.liars.Front.{Front}
-use Rattle.script_text.specs.Replays.{liar_line, event_limit, AreLiars, IsReplay, Spells, replay_cause, replay_lines, replay_body, replay_script, with_declared, IsDeclarable, is_liar_line}
+use Rattle.script_text.specs.Replays.{liar_line, event_limit, AreLiars, IsReplay, Spells, replay_cause, replay_lines, replay_script, with_declared, IsDeclarable, is_liar_line}
 use Rattle.script_text.specs.Reading.{AreDeclared, AreAscending, LiarsRead, FrontRead, EventsRead, again_cause, later_cause}
-use Rattle.script_text.proofs.Declarations.{none_declared, one_declared, free_from_none, declared_inside}
+use Rattle.script_text.proofs.Declarations.{push_each, none_declared, one_declared, free_from_none, declared_inside}
 use Rattle.script_text.proofs.Causes.{later_here}
 
 -- the lines of the body of a script
@@ -172,10 +172,6 @@ event_cut text c l es rest number h some e =
     let body = line_of_fields (cluster_fields c) ∷ body_lines h.declared es in
     let here = end_fault replay_script text (replay_lines c h.declared es) rest Cut h.reads e (cut_end header body rest some) in
     subst (λ (n : ℕ). IsFault replay_script text n Cut) (number_at text c l es rest number h) here
-
-push_each : {A : Type 0} (P : A → Type 0) (xs : List A) (x : A) → AllByRecursion P xs → P x → AllByRecursion P (xs ++ x ∷ [])
-push_each P [] x h p = (p, tt)
-push_each P (y ∷ ys) x h p = (h.0, push_each P ys x h.1 p)
 
 -- the next event line was read
 pub event_read : (text : List ℕ) (c : Numbers) (l : Liars) (es more : List ReplayLine) (rest line after : List ℕ) (number next : ℕ) (event : ReplayLine) → EventsRead text c l es rest number → parts_of rest ≡ line ∷ parts_of after → length after < length rest

@@ -18,7 +18,7 @@ use Rattle.line_forms.proofs.Accepted.{numbers_back}
 use Rattle.line_forms.proofs.Texts.{reads_on, line_fault, end_fault, needed, cut_short, read_all, text_read}
 use Rattle.script_text.specs.Sum.{IsSum, value_form, value_fields, sum_lines, sum_text, sum_script}
 
-not_zero : (n : ℕ) → 0 < n → eqb n 0 ≡ false
+pub not_zero : (n : ℕ) → 0 < n → eqb n 0 ≡ false
 not_zero n h = grind arith
 
 -- what is wrong with `value` and a field that isn't empty

@@ -1,4 +1,4 @@
-use Rattle.std.proofs.Common.{◌≡◌, ℕ, List}
+use Rattle.std.proofs.Common.{◌≡◌}
 use Rattle.script_text.specs.Replays.{liar_line}
 use Rattle.script_text.specs.declared.liars.Declared.TheVariants.{Client}
 use Rattle.script_text.proofs.Printed.{written}

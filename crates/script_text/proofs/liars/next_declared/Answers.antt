@@ -1,4 +1,4 @@
-use Rattle.std.proofs.Common.{◌≡◌, sym, ap, ◌∙◌}
+use Rattle.std.proofs.Common.{◌≡◌, sym, ◌∙◌}
 use Rattle.text_lines.specs.Lines.{fields_of}
 use Rattle.text_lines.proofs.Joined.{line_from_fields}
 use Rattle.line_forms.proofs.Tables.{gives_cause}

@@ -1,4 +1,4 @@
-use Rattle.std.proofs.Common.{◌≡◌, List, ℕ, drop, ap, sym, ◌∙◌}
+use Rattle.std.proofs.Common.{List, ℕ, drop, ap, sym, ◌∙◌}
 use Rattle.text_lines.proofs.Joined.{some_part}
 use Rattle.script_text.proofs.liars.next_liar_line.Goals as goal
 
