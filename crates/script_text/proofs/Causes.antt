@@ -1,6 +1,6 @@
 -- What is wrong with a line of a replay script, by what was read before it.
-use Rattle.std.proofs.Common.{◌≡◌, ℕ, true, false, cond, List, [], ◌∷◌, ◌++◌, length, map, drop, Option, Some, None, Result, Ok, Err, refl, sym, ap, ◌∙◌, arith, inl, inr}
-use Rattle.std.specs.Prelude.{IsErrAnd, count_by}
+use Rattle.std.proofs.Common.{◌≡◌, ◌≢◌, get_or, ℕ, true, false, cond, List, [], ◌∷◌, ◌++◌, length, map, drop, Option, Some, None, Result, Ok, Err, refl, sym, ap, ◌∙◌, arith, inl, inr}
+use Rattle.std.specs.Prelude.{codes, IsErrAnd, count_by}
 use Rattle.std.specs.List.{list_any, AllByRecursion}
 use Rattle.std.proofs.lemmas.Bool.{cases_Bool}
 use Rattle.std.proofs.lemmas.List.Sums.{sum_by-cons}
@@ -14,7 +14,7 @@ use Rattle.line_forms.specs.declared.refusal.LineRefusal.{LineRefusal}
 use Rattle.line_forms.specs.declared.refusal.LineRefusal.TheVariants as line_refusals
 use Rattle.event_lines.specs.Forms.{fields_cause}
 use Rattle.event_lines.specs.Lines.{event_text, IsEventLine}
-use Rattle.event_lines.proofs.Laws.{no_liar}
+use Rattle.script_text.proofs.EventLaws.{no_liar}
 use Rattle.event_lines.specs.declared.line.ReplayLine.{ReplayLine}
 use Rattle.script_text.specs.declared.liars.Declared.{Declared}
 use Rattle.script_text.specs.Replays.{liar_line, liar_forms, IsDeclarable, is_liar_line, is_event, again_causes, replay_cause}
@@ -58,9 +58,16 @@ liar_again c ds l d line a is h i e =
 
 -- ---- a line after event lines
 
+not_first : (fields : List (List ℕ)) → ((rest : List (List ℕ)) → fields ≢ codes "liar" ∷ rest) → get_or fields 0 [] ≢ codes "liar"
+not_first [] other h = absurd cc
+not_first (field ∷ rest) other h = other rest (ap (λ (f : List ℕ). f ∷ rest) h)
+
 pub event_no_liar : (c : Numbers) (e : ReplayLine) → IsEventLine c e → is_liar_line (event_text e) ≡ false
 event_no_liar c e i =
-    elim (cases_Bool (is_liar_line (event_text e))) [ inl liar ↦ absurd (no_liar c e i (first_is_liar (event_text e) liar)) | inr other ↦ other ]
+    elim (cases_Bool (is_liar_line (event_text e))) [
+      | inl liar ↦ absurd (not_first (fields_of (event_text e)) (λ rest. no_liar c e rest i) (first_is_liar (event_text e) liar))
+      | inr other ↦ other
+    ]
 
 count_events : (c : Numbers) (es : List ReplayLine) → AllByRecursion (IsEventLine c) es → count_by is_event (map event_text es) ≡ length es
 count_events c [] h = refl

@@ -25,7 +25,7 @@ use Rattle.line_forms.proofs.Texts.{reads_on, read_all}
 use Rattle.event_lines.specs.Forms.{fields_cause, event_cause}
 use Rattle.event_lines.specs.Lines.{event_text, IsEventLine}
 use Rattle.event_lines.specs.declared.line.ReplayLine.{ReplayLine}
-use Rattle.event_lines.proofs.Laws.{accepted, one, no_newline}
+use Rattle.script_text.proofs.EventLaws.{accepted, one, no_newline}
 use Rattle.script_text.specs.declared.liars.Declared.{Declared}
 use Rattle.script_text.specs.declared.liars.Declared.TheVariants.{Node, Client}
 use Rattle.script_text.specs.Replays.{liar_line, liar_fields, liar_forms, IsDeclarable, is_same, with_declared, with_all, liars_of, declarations, event_limit, IsReplay, AreLiars, Spells, replay_lines, replay_text, replay_body, replay_script, is_liar_line}
