@@ -1,7 +1,6 @@
 pub mod Sums
 pub mod SumLaws
 pub mod Declarations
-pub mod EventLaws
 pub mod Causes
 pub mod Steps
 pub mod Ascending

@@ -25,7 +25,9 @@ use Rattle.line_forms.proofs.Texts.{reads_on, read_all}
 use Rattle.event_lines.specs.Forms.{fields_cause, event_cause}
 use Rattle.event_lines.specs.Lines.{event_text, IsEventLine}
 use Rattle.event_lines.specs.declared.line.ReplayLine.{ReplayLine}
-use Rattle.script_text.proofs.EventLaws.{accepted, one, no_newline}
+use Rattle.event_lines.proofs.Accepted.{event_accepted}
+use Rattle.event_lines.proofs.Lines.{one_line}
+use Rattle.event_lines.proofs.Unique.{one_event}
 use Rattle.script_text.specs.declared.liars.Declared.{Declared}
 use Rattle.script_text.specs.declared.liars.Declared.TheVariants.{Node, Client}
 use Rattle.script_text.specs.Replays.{liar_line, liar_fields, liar_forms, IsDeclarable, is_same, with_declared, with_all, liars_of, declarations, event_limit, IsReplay, AreLiars, Spells, replay_lines, replay_text, replay_body, replay_script, is_liar_line}
@@ -97,7 +99,7 @@ liars_accepted text c ds (d ∷ more) all rest e once few i a r =
 -- ---- event lines
 
 no_later_cause : (c : Numbers) (n : ℕ) (e : ReplayLine) → IsEventLine c e → n < event_limit c → later_cause c n (event_text e) ≡ None
-no_later_cause c n e i lt = rw (event_no_liar c e i) (or_none (event_cause c (event_text e)) _ None (accepted c e i) (rw (lt-leb (event_limit c) n lt) refl))
+no_later_cause c n e i lt = rw (event_no_liar c e i) (or_none (event_cause c (event_text e)) _ None (event_accepted c e i) (rw (lt-leb (event_limit c) n lt) refl))
 
 push_event : (first liars : List (List ℕ)) (es : List ReplayLine) (e : ReplayLine) → (first ++ (liars ++ map event_text es)) ++ event_text e ∷ [] ≡ first ++ (liars ++ map event_text (es ++ e ∷ []))
 push_event first liars es e =
@@ -110,7 +112,7 @@ events_accepted text c ds es (x ∷ more) all rest v i e few h k r =
     let len = length-append es (x ∷ more) in
     let lt : length es < event_limit c = omega (arith, ap length e) in
     let none = body_here c (body_lines ds es) (event_text x) v ∙ later_here c ds es (event_text x) v i h (λ none. event_no_liar c x k.0) ∙ no_later_cause c (length es) x k.0 lt in
-    let on = reads_on replay_script text (replay_lines c ds es) (event_text x) _ (text_of_lines (map event_text more) ++ rest) r (line_next (event_text x) (text_of_lines (map event_text more)) rest (no_newline c x k.0)) none in
+    let on = reads_on replay_script text (replay_lines c ds es) (event_text x) _ (text_of_lines (map event_text more) ++ rest) r (line_next (event_text x) (text_of_lines (map event_text more)) rest (one_line c x k.0)) none in
     events_accepted text c ds (es ++ x ∷ []) more all rest v i (append_assoc es (x ∷ []) more ∙ e) few (push_each (IsEventLine c) es x h k.0) k.1
     (subst (λ (ls : List (List ℕ)). ReadsTo replay_script text ls (text_of_lines (map event_text more) ++ rest)) (push_event (head_lines c) (map liar_line ds) es x) on)
 
@@ -174,7 +176,7 @@ events_one c (x ∷ es) [] h k e = absurd cc
 events_one c (x ∷ es) (f ∷ fs) h k e =
     let head : event_text x ≡ event_text f = ap (λ (ls : List (List ℕ)). get_or ls 0 []) e in
     let tail = events_one c es fs h.1 k.1 (ap (λ (ls : List (List ℕ)). drop 1 ls) e) in
-    ap (λ (y : ReplayLine). y ∷ es) (one c x f h.0 k.0 head) ∙ ap (λ (ys : List ReplayLine). f ∷ ys) tail
+    ap (λ (y : ReplayLine). y ∷ es) (one_event c x f h.0 k.0 head) ∙ ap (λ (ys : List ReplayLine). f ∷ ys) tail
 
 no_liar_among : (c : Numbers) (es : List ReplayLine) (d : Declared) (lines : List (List ℕ)) → AllByRecursion (IsEventLine c) es → IsLow d → map event_text es ≡ liar_line d ∷ lines → ⊥
 no_liar_among c [] d lines h lt e = cc

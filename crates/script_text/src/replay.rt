@@ -35,6 +35,10 @@ pub struct Replay {
 ///
 /// The text is the two head lines of a script, a line for each liar in any order, and then the event
 /// lines, of which there may be as many as 200,000 and `1000000000 / (n * (size + 32n + 128))` allow.
+///
+/// A text is refused with the first line that has a cause: on a liar line `UnknownWord` (also where an
+/// event line stands before it), `WrongCount`, `BadNumber`, `OutOfRange`, `Twice` or `TooManyLiars`, on
+/// an event line a cause of `read_event`, or else `TooManyLines`.
 pub fn read_replay(alloc: Global, text: &[u8]) -> Result<Replay, ScriptRefusal>
     // What is read is spelled so, and no line of it has a cause.
     ensures replay { IfOk result (λ r. IsReplay r.config r.liars r.lines) }
@@ -111,7 +115,7 @@ fn limit_of(config: &Config) -> u64
     MOST_LINES.min(1_000_000_000 / (n * (size + 32 * n + 128)))
 }
 
-/// The text of a replay, whose liar lines ascend, nodes first.
+/// The text of a replay, whose liar lines ascend, nodes first. `NoMemory` is its only refusal.
 ///
 /// A replay of any number of lines has one, though none beyond the limit is read back.
 pub fn print_replay(alloc: Global, replay: &Replay) -> Result<Bytes, NoMemory>

@@ -2,7 +2,7 @@ use Rattle.std.proofs.Common.{◌≡◌, ◌<◌, ◌++◌, List, length, get_or
 use Rattle.std.proofs.lemmas.List.Elements.{All-from_recursion}
 use Rattle.event_lines.specs.Lines.{event_text, IsEventLine}
 use Rattle.event_lines.specs.declared.line.ReplayLine.{ReplayLine}
-use Rattle.script_text.proofs.EventLaws.{has_text}
+use Rattle.event_lines.proofs.Lines.{event_printed}
 use Rattle.script_text.proofs.Printed.{event_written}
 use Rattle.script_text.proofs.replay.print_replay.Goals as goal
 
@@ -13,7 +13,7 @@ add_event-requires c =
     let i = c.loop-line.line-index in
     let item : c.line-item.result ≡ get_or lines i c.line-item.result = c.line-item.is ∙ ap (λ (ls : List ReplayLine). get_or ls i c.line-item.result) c.as_slice-line-items.ensures in
     let lt : i < length lines = subst (λ (ls : List ReplayLine). i < length ls) c.as_slice-line-items.ensures c.loop-line-test.true in
-    has_text config c.line-item.result (subst (IsEventLine config) (sym item) (All-from_recursion (IsEventLine config) lines c.requires.lines i c.line-item.result lt))
+    event_printed config c.line-item.result (subst (IsEventLine config) (sym item) (All-from_recursion (IsEventLine config) lines c.requires.lines i c.line-item.result lt))
 
 pub loop-line-preserved : goal.loop-line-preserved
 loop-line-preserved c =
