@@ -1,3 +1,5 @@
 pub mod Books
 pub mod Tellings
 pub mod Reports
+pub mod Judging
+pub mod Sweeps

@@ -4,8 +4,10 @@
 
 pub mod entry;
 pub mod history;
+mod judging;
 mod report;
 
 pub use entry::{Counts, Entry, Kind, Spent};
 pub use history::{History, history_of};
+pub use judging::{Flaw, FlawKind, judge};
 pub use report::print;
