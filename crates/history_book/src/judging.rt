@@ -1,6 +1,6 @@
 //! Whether a history is one of plain registers.
 
-ghost use Rattle.std.specs.Prelude.{◌≡◌, ◌≢◌, ◌↔◌, ◌⊎◌, ℕ, ◌+◌, ◌<◌, ◌≤◌, ◌^◌, List, length, take, replicate, slice_get, IsTrue, IfNone, IfSome, MatchOption};
+ghost use Rattle.std.specs.Prelude.{◌≡◌, ◌≢◌, ◌↔◌, ◌⊎◌, ℕ, ◌+◌, ◌-◌, ◌<◌, ◌≤◌, ◌^◌, List, length, replicate, slice_get, IsTrue, IfNone, IfSome, MatchOption};
 ghost use Rattle.history_book.specs.declared.entry.Entry.{Entry};
 ghost use Rattle.history_book.specs.declared.judging.FlawKind.TheVariants.{Value, Time};
 ghost use Rattle.history_book.specs.Judging.{IsLegal, IsInTime, IsValueFlaw, IsTimeFlaw, IsLeastFlaw, HasNoFlaw, TellsFirstFlaw, zeros_of};
@@ -192,8 +192,13 @@ fn time_flaw(entries: &[Entry], place: usize, entry: &Entry, latest_start: Optio
     ensures flaw { IfSome result (λ first. IsLeastFlaw Time entries.now first place) }
     ensures within { IfSome result (λ first. first < place) }
 {
-    let end = entry.end?;
-    if latest_start? <= end {
+    let Some(end) = entry.end else {
+        return None;
+    };
+    let Some(latest) = latest_start else {
+        return None;
+    };
+    if latest <= end {
         return None;
     }
     first_after(&entries[..place], entry.block, end)
