@@ -3,3 +3,4 @@ pub mod Tellings
 pub mod Reports
 pub mod Judging
 pub mod Sweeps
+pub mod ReportTexts

@@ -10,4 +10,5 @@ mod report;
 pub use entry::{Counts, Entry, Kind, Spent};
 pub use history::{History, history_of};
 pub use judging::{Flaw, FlawKind, judge};
+mod reading;
 pub use report::print;
