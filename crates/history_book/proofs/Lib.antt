@@ -1,2 +1,4 @@
 pub mod Flaws
 pub mod Times
+pub mod Spelling
+pub mod EntryLines
