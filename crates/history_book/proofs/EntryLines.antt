@@ -53,15 +53,19 @@ no_numbers entries spent kind b s w c st e v h none =
     let is : numbers_in (b ∷ s ∷ w ∷ c ∷ st ∷ e ∷ v ∷ []) ≡ None = ap (λ (o : Option Kind). o >>= (λ k. numbers_told k b s c st e)) h.word ∙ none in
     seven_causes entries spent kind b s w c st e v (Some BadNumber) h (ap (λ (o : Option Numbers). first_of ((is_none o, BadNumber) ∷ (is_zero_mark o, OutOfRange) ∷ (is_bad_value entries (value_of v), BadValue) ∷ (is_not_above entries (entry_told (b ∷ s ∷ w ∷ c ∷ st ∷ e ∷ v ∷ [])), NotSorted) ∷ [])) is)
 
+-- the entry of right numbers
+told_entry : (kind : Kind) (b s w c st e v : List ℕ) (n : Numbers) → kind_told w ≡ Some kind → numbers_told kind b s c st e ≡ Some n → entry_told (b ∷ s ∷ w ∷ c ∷ st ∷ e ∷ v ∷ []) ≡ (value_of v >>= (λ x. Some (entry_with kind n x)))
+told_entry kind b s w c st e v n word some =
+    ap (λ (o : Option Kind). o >>= (λ k. numbers_told k b s c st e >>= (λ m. value_of v >>= (λ x. Some (entry_with k m x))))) word
+    ∙ ap (λ (o : Option Numbers). o >>= (λ m. value_of v >>= (λ x. Some (entry_with kind m x)))) some
+
 -- where the numbers are right the causes are those of the mark, the value and the place
 pub with_numbers : (entries : List Entry) (spent : List Spent) (kind : Kind) (b s w c st e v : List ℕ) (n : Numbers) → Seven entries spent kind b s w c st e v → numbers_told kind b s c st e ≡ Some n
     → first_of (entry_causes entries spent (b ∷ s ∷ w ∷ c ∷ st ∷ e ∷ v ∷ [])) ≡ first_of (value_causes entries kind n (value_of v))
 with_numbers entries spent kind b s w c st e v n h some =
     let fields = b ∷ s ∷ w ∷ c ∷ st ∷ e ∷ v ∷ [] in
     let is : numbers_in fields ≡ Some n = ap (λ (o : Option Kind). o >>= (λ k. numbers_told k b s c st e)) h.word ∙ some in
-    let told : entry_told fields ≡ (value_of v >>= (λ x. Some (entry_with kind n x))) =
-      ap (λ (o : Option Kind). o >>= (λ k. numbers_told k b s c st e >>= (λ m. value_of v >>= (λ x. Some (entry_with k m x))))) h.word
-      ∙ ap (λ (o : Option Numbers). o >>= (λ m. value_of v >>= (λ x. Some (entry_with kind m x)))) some in
+    let told = told_entry kind b s w c st e v n h.word some in
     let mapped : entry_told fields ≡ option_map (entry_with kind n) (value_of v) = told ∙ as_map (value_of v) (entry_with kind n) in
     seven_causes entries spent kind b s w c st e v _ h
     (ap (λ (o : Option Numbers). first_of ((is_none o, BadNumber) ∷ (is_zero_mark o, OutOfRange) ∷ (is_bad_value entries (value_of v), BadValue) ∷ (is_not_above entries (entry_told fields), NotSorted) ∷ [])) is
@@ -94,7 +98,7 @@ same_size [] value h = tt
 same_size (first ∷ more) value h = grind arith
 
 pub follows : (entries : List Entry) (kind : Kind) (b s w c st e v : List ℕ) (n : Numbers) (x : Entry) → kind_told w ≡ Some kind → numbers_told kind b s c st e ≡ Some n
-    → ((value : List ℕ) × (x ≡ entry_with kind n value) × (value_of v ≡ Some value) × IsRightAfter entries x) → (entry_fields x ≡ b ∷ s ∷ w ∷ c ∷ st ∷ e ∷ v ∷ []) × MayFollow entries x
+    → ((value : List ℕ) × (x ≡ entry_with kind n value) × (value_of v ≡ Some value) × IsRightAfter entries x) → (entry_fields x ≡ b ∷ s ∷ w ∷ c ∷ st ∷ e ∷ v ∷ []) × MayFollow entries x × (entry_told (b ∷ s ∷ w ∷ c ∷ st ∷ e ∷ v ∷ []) ≡ Some x)
 follows entries kind b s w c st e v n x told some (value, is, spells, right) =
     let N = numbers_spelled kind b s c st e n some in
     let V = value_of-some v value spells in
@@ -114,6 +118,7 @@ follows entries kind b s w c st e v n x told some (value, is, spells, right) =
     }) right.mark parts.0 in (
       ap entry_fields is ∙ text,
       record { told = made; size = same_size entries x.value parts.1; above = above_less (last_of entries) x right.above },
+      told_entry kind b s w c st e v n told some ∙ ap (λ (o : Option (List ℕ)). o >>= (λ y. Some (entry_with kind n y))) spells ∙ ap (λ (y : Entry). Some y) (sym is),
     )
 
 -- ---- as slices

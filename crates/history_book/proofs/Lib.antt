@@ -2,3 +2,4 @@ pub mod Flaws
 pub mod Times
 pub mod Spelling
 pub mod EntryLines
+pub mod OtherLines

@@ -4,3 +4,4 @@ pub mod Reports
 pub mod Judging
 pub mod Sweeps
 pub mod ReportTexts
+pub mod ReportLines

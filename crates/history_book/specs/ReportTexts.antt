@@ -9,9 +9,8 @@ use Rattle.std.specs.Str.{bytes_eq}
 use Rattle.protocol.specs.History.{is_read, place_cmp}
 use Rattle.text_lines.specs.Lines.{fields_of, parts_at}
 use Rattle.text_lines.specs.Fields.{number_of, value_of, IsBytes}
-use Rattle.line_forms.specs.Kinds as kinds
-use Rattle.line_forms.specs.Kinds.{form_cause, has_wrong_count}
-use Rattle.line_forms.specs.Tables.{first_of, or_then}
+use Rattle.line_forms.specs.Kinds.{has_wrong_count}
+use Rattle.line_forms.specs.Tables.{first_of}
 use Rattle.line_forms.specs.Texts.{Grammar, is_empty}
 use Rattle.line_forms.specs.declared.cause.Cause.{Cause}
 use Rattle.line_forms.specs.declared.cause.Cause.TheVariants.{UnknownWord, WrongCount, BadNumber, OutOfRange, BadValue, NotSorted, Count}
@@ -182,28 +181,38 @@ entry_told (b ∷ s ∷ w ∷ c ∷ st ∷ e ∷ v ∷ []) = do
   Some (entry_with kind n value)
 entry_told _ = None
 
--- the spent write that a line spells
-abbrev pub spent_told : List (List ℕ) → Option Spent
-spent_told (w ∷ c ∷ s ∷ e ∷ []) = do
+unfoldable pub spent_numbers : List ℕ → List ℕ → List ℕ → Option Spent
+spent_numbers c s e = do
   client ← number_of (2 ^ 32) c
   start ← number_of (2 ^ 64) s
   end ← number_of (2 ^ 64) e
   Some (record { client = client; start = start; end = end })
+
+-- the spent write that a line spells
+abbrev pub spent_told : List (List ℕ) → Option Spent
+spent_told (w ∷ c ∷ s ∷ e ∷ []) = spent_numbers c s e
 spent_told _ = None
 
--- the number after a name and a `=`
+-- the field begins with the name, which ends in a `=`
+abbrev pub has_name : List ℕ → List ℕ → Bool
+has_name name field = bytes_eq (take (length name) field) name
+
+-- the number after the name
 unfoldable pub count_told : List ℕ → List ℕ → Option ℕ
-count_told name field = number_of (2 ^ 64) (drop (length name + 1) field)
+count_told name field = if has_name name field then number_of (2 ^ 64) (drop (length name) field) else None
+
+unfoldable pub count_numbers : List ℕ → List ℕ → List ℕ → List ℕ → List ℕ → Option Counts
+count_numbers d s p r o = do
+  done ← count_told (codes "done=") d
+  spent ← count_told (codes "spent=") s
+  pending ← count_told (codes "pending=") p
+  repaired ← count_told (codes "repaired=") r
+  rounds ← count_told (codes "rounds=") o
+  Some (record { done = done; spent = spent; pending = pending; repaired = repaired; rounds = rounds })
 
 -- the counts that a line spells
 abbrev pub counts_told : List (List ℕ) → Option Counts
-counts_told (w ∷ d ∷ s ∷ p ∷ r ∷ o ∷ []) = do
-  done ← count_told (codes "done") d
-  spent ← count_told (codes "spent") s
-  pending ← count_told (codes "pending") p
-  repaired ← count_told (codes "repaired") r
-  rounds ← count_told (codes "rounds") o
-  Some (record { done = done; spent = spent; pending = pending; repaired = repaired; rounds = rounds })
+counts_told (w ∷ d ∷ s ∷ p ∷ r ∷ o ∷ []) = count_numbers d s p r o
 counts_told _ = None
 
 -- ---- what is wrong with an entry line
@@ -259,28 +268,23 @@ entry_causes entries spent fields =
 
 -- ---- what is wrong with the other lines
 
-abbrev pub spent_form : List kinds.Kind
-spent_form = kinds.Kind.word (codes "spent" ∷ []) ∷ kinds.any_u32 ∷ kinds.any_u64 ∷ kinds.any_u64 ∷ []
-
 abbrev pub is_not_later : Option Spent → Option Spent → Bool
 is_not_later (Some last) (Some x) = nat_le x.start last.start
 is_not_later _ _ = false
 
-abbrev pub spent_cause : List Spent → List (List ℕ) → Option Cause
-spent_cause spent fields = or_then (form_cause spent_form fields) (first_of ((is_not_later (last_of spent) (spent_told fields), NotSorted) ∷ []))
+-- the causes of a line with the word of spent writes
+abbrev pub spent_causes : List Spent → List (List ℕ) → List (Bool × Cause)
+spent_causes spent fields =
+    (has_wrong_count 4 fields, WrongCount) ∷ (is_none (spent_told fields), BadNumber) ∷ (is_not_later (last_of spent) (spent_told fields), NotSorted) ∷ []
 
--- the field begins with the name and a `=`
-abbrev pub has_name : List ℕ → List ℕ → Bool
-has_name name field = bytes_eq (take (length name + 1) field) (name ++ codes "=")
+-- the field is there, and begins otherwise
+abbrev pub lacks_name : List ℕ → Option (List ℕ) → Bool
+lacks_name name None = false
+lacks_name name (Some field) = not (has_name name field)
 
--- some field has not its name
-abbrev pub has_other_name : List (List ℕ) → List (List ℕ) → Bool
-has_other_name [] fields = false
-has_other_name (name ∷ names) [] = false
-has_other_name (name ∷ names) (field ∷ fields) = not (has_name name field) || has_other_name names fields
-
-abbrev pub count_names : List (List ℕ)
-count_names = codes "done" ∷ codes "spent" ∷ codes "pending" ∷ codes "repaired" ∷ codes "rounds" ∷ []
+abbrev pub has_other_name : List (List ℕ) → Bool
+has_other_name fields =
+    lacks_name (codes "done=") (slice_get fields 1) || lacks_name (codes "spent=") (slice_get fields 2) || lacks_name (codes "pending=") (slice_get fields 3) || lacks_name (codes "repaired=") (slice_get fields 4) || lacks_name (codes "rounds=") (slice_get fields 5)
 
 abbrev pub are_other_counts : List Entry → List Spent → Option Counts → Bool
 are_other_counts entries spent None = false
@@ -288,7 +292,7 @@ are_other_counts entries spent (Some c) = not (c.done == done_count entries) || 
 
 abbrev pub end_causes : List Entry → List Spent → List (List ℕ) → List (Bool × Cause)
 end_causes entries spent fields =
-    (has_other_name count_names (drop 1 fields), UnknownWord)
+    (has_other_name fields, UnknownWord)
     ∷ (has_wrong_count 6 fields, WrongCount)
     ∷ (is_none (counts_told fields), BadNumber)
     ∷ (are_other_counts entries spent (counts_told fields), Count)
@@ -304,7 +308,7 @@ begins_with_digit (c ∷ word) = nat_le 48 c && nat_lt c 58
 abbrev pub line_cause : List Entry → List Spent → List (List ℕ) → Option Cause
 line_cause entries spent fields =
     if begins_with_digit (field fields 0) then first_of (entry_causes entries spent fields)
-    else (if bytes_eq (field fields 0) (codes "spent") then spent_cause spent fields
+    else (if bytes_eq (field fields 0) (codes "spent") then first_of (spent_causes spent fields)
     else (if bytes_eq (field fields 0) (codes "end") then first_of (end_causes entries spent fields) else Some UnknownWord))
 
 -- what lines tell

@@ -1,13 +1,14 @@
 //! Texts of histories, read back.
 #![tactic(auto, using(text_lines::proofs::Spelled::spelled, std::proofs::lemmas::Grind::common_steps))]
 
-ghost use Rattle.std.specs.Prelude.{◌≡◌, ◌↔◌, ℕ, List, false, ◌∷◌, [], ◌++◌, ◌+◌, ◌<◌, ◌≤◌, ◌^◌, ◌==◌, Bool, not, codes, length, count_by, is_none, option_copied, unwrap_or, IsTrue, IfOk, IfErr, OnOk, Some};
+ghost use Rattle.std.specs.Prelude.{◌≡◌, ◌↔◌, ℕ, List, false, slice_get, ◌∷◌, [], ◌++◌, ◌+◌, ◌<◌, ◌≤◌, ◌^◌, ◌==◌, Bool, not, codes, length, count_by, is_none, option_copied, unwrap_or, IsTrue, IfOk, IfErr, OnOk, Some};
 ghost use Rattle.text_lines.specs.Fields.{value_of, value_text, IsBytes};
 ghost use Rattle.text_lines.specs.Lines.{fields_of, texts};
 ghost use Rattle.line_forms.specs.Tables.{Gives, first_of};
 ghost use Rattle.line_forms.specs.Texts.{IsFaultless, IsRefusal};
 ghost use Rattle.history_book.specs.Reports.{report_text, entry_fields, spent_fields, end_fields};
-ghost use Rattle.history_book.specs.ReportTexts.{kind_told, stamp_told, some_place, no_place, start_told, end_told, numbers_told, entry_with, key_cmp, stands_above, last_of, is_bad_value, has_other_size, value_causes, IsRightAfter, is_not_above, is_done, done_count, count_told, has_name, has_other_name, count_names, begins_with_digit, entry_causes, spent_cause, end_causes, are_other_counts, MayFollow, MayFollowSpent, AreCounts, IsReport, report};
+ghost use Rattle.history_book.specs.ReportTexts.{kind_told, stamp_told, some_place, no_place, start_told, end_told, numbers_told, spent_numbers, entry_told, spent_told, count_told, count_numbers, entry_with, key_cmp, stands_above, last_of, is_bad_value, has_other_size, value_causes, IsRightAfter, is_done as is_done_of, done_count, lacks_name, has_other_name as has_other_name_of, begins_with_digit as begins_with_digit_of, is_not_later, field, line_cause, entry_causes, spent_causes, end_causes, MayFollow, MayFollowSpent, AreCounts, IsReport, report};
+ghost use Rattle.history_book.specs.ReportLines.{line_fields, MayStand, IsToldBy};
 ghost use Rattle.protocol.specs.History.{place_cmp, is_read as is_read_of};
 ghost use Rattle.history_book.specs.Judging.{full_kind};
 ghost use Rattle.history_book.specs.declared.reading.Numbers.{Numbers};
@@ -221,7 +222,7 @@ fn entry_after(alloc: Global, entries: &[Entry], kind: Kind, numbers: Numbers, f
 
 /// The entry that a line's fields spell, where it may stand after these entries and spent writes.
 fn entry_in(alloc: Global, entries: &[Entry], spent: &[Spent], fields: &[&[u8]]) -> Result<Entry, LineRefusal>
-    ensures { Gives (λ e. (entry_fields e ≡ texts fields.now) × MayFollow entries.now e)
+    ensures { Gives (λ e. (entry_fields e ≡ texts fields.now) × (MayFollow entries.now e × (spent.now ≡ [])) × (entry_told (texts fields.now) ≡ Some e))
         (first_of (entry_causes entries.now spent.now (texts fields.now))) result }
 {
     if !spent.is_empty() {
@@ -243,4 +244,169 @@ fn entry_in(alloc: Global, entries: &[Entry], spent: &[Spent], fields: &[&[u8]])
         return Err(LineRefusal::Cause(Cause::BadNumber));
     };
     entry_after(alloc, entries, kind, numbers, value)
+}
+
+/// The spent write that these fields spell.
+#[tactic(auto, using(std::proofs::lemmas::Grind::common_steps), unfolding(crate::specs::ReportTexts::spent_numbers))]
+fn spent_of(client: &[u8], start: &[u8], end: &[u8]) -> Option<Spent>
+    ensures { result ≡ spent_numbers client.now start.now end.now }
+{
+    Some(Spent {
+        client: number_u32(client)?,
+        start: number(start)?,
+        end: number(end)?,
+    })
+}
+
+/// Whether a spent write started after the last of these.
+fn is_later(spent: &[Spent], other: &Spent) -> bool
+    ensures { is_not_later (last_of spent.now) (Some other.now) ≡ not result }
+{
+    match spent.last() {
+        Some(last) => last.start < other.start,
+        None => true,
+    }
+}
+
+/// The spent write that a line's fields spell, where it may stand after these.
+fn spent_in(spent: &[Spent], fields: &[&[u8]]) -> Result<Spent, LineRefusal>
+    requires { field (texts fields.now) 0 ≡ codes "spent" }
+    ensures { Gives (λ x. (spent_fields x ≡ texts fields.now) × MayFollowSpent spent.now x × (spent_told (texts fields.now) ≡ Some x)) (first_of (spent_causes spent.now (texts fields.now))) result }
+{
+    if has_empty(fields) {
+        return Err(LineRefusal::Cause(Cause::WrongCount));
+    }
+    let [_, client, start, end] = fields else {
+        return Err(LineRefusal::Cause(Cause::WrongCount));
+    };
+    let Some(other) = spent_of(client, start, end) else {
+        return Err(LineRefusal::Cause(Cause::BadNumber));
+    };
+    if !is_later(spent, &other) {
+        return Err(LineRefusal::Cause(Cause::NotSorted));
+    }
+    Ok(other)
+}
+
+/// Whether a field is there and doesn't begin with its name.
+fn lacks(fields: &[&[u8]], place: usize, name: &[u8]) -> bool
+    ensures { result ≡ lacks_name name.now (slice_get (texts fields.now) place) }
+{
+    match fields.get(place) {
+        Some(field) => field.strip_prefix(name).is_none(),
+        None => false,
+    }
+}
+
+/// Whether a count of an end line has another name than the one of its place.
+fn has_other_name(fields: &[&[u8]]) -> bool
+    ensures { result ≡ has_other_name_of (texts fields.now) }
+{
+    lacks(fields, 1, b"done=")
+        || lacks(fields, 2, b"spent=")
+        || lacks(fields, 3, b"pending=")
+        || lacks(fields, 4, b"repaired=")
+        || lacks(fields, 5, b"rounds=")
+}
+
+/// The number that a field spells after its name.
+#[tactic(auto, using(std::proofs::lemmas::Grind::common_steps), unfolding(crate::specs::ReportTexts::count_told))]
+fn count_of(name: &[u8], field: &[u8]) -> Option<u64>
+    ensures { result ≡ count_told name.now field.now }
+{
+    number(field.strip_prefix(name)?)
+}
+
+/// The counts that the fields of an end line spell.
+#[tactic(auto, using(std::proofs::lemmas::Grind::common_steps), unfolding(crate::specs::ReportTexts::count_numbers))]
+fn counts_of(
+    done: &[u8],
+    spent: &[u8],
+    pending: &[u8],
+    repaired: &[u8],
+    rounds: &[u8],
+) -> Option<Counts>
+    ensures { result ≡ count_numbers done.now spent.now pending.now repaired.now rounds.now }
+{
+    Some(Counts {
+        done: count_of(b"done=", done)?,
+        spent: count_of(b"spent=", spent)?,
+        pending: count_of(b"pending=", pending)?,
+        repaired: count_of(b"repaired=", repaired)?,
+        rounds: count_of(b"rounds=", rounds)?,
+    })
+}
+
+/// Whether an entry is a read or a write that has ended.
+fn is_done(entry: &Entry) -> bool
+    ensures { result ≡ is_done_of entry.now.kind entry.now.end }
+{
+    match entry.kind {
+        Kind::Read | Kind::Write => entry.end.is_some(),
+        Kind::Foreign => false,
+    }
+}
+
+/// How many reads and writes have ended.
+fn count_done(entries: &[Entry]) -> usize
+    ensures { result ≡ done_count entries.now }
+{
+    entries.iter().filter(|entry| is_done(entry)).count()
+}
+
+/// The counts that an end line's fields spell, where they are those of these entries and spent writes.
+fn counts_in(entries: &[Entry], spent: &[Spent], fields: &[&[u8]]) -> Result<Counts, LineRefusal>
+    requires { field (texts fields.now) 0 ≡ codes "end" }
+    ensures { Gives (λ c. (end_fields c ≡ texts fields.now) × AreCounts entries.now spent.now c × Unit {0}) (first_of (end_causes entries.now spent.now (texts fields.now))) result }
+{
+    if has_other_name(fields) {
+        return Err(LineRefusal::Cause(Cause::UnknownWord));
+    }
+    if has_empty(fields) {
+        return Err(LineRefusal::Cause(Cause::WrongCount));
+    }
+    let [_, done, number, pending, repaired, rounds] = fields else {
+        return Err(LineRefusal::Cause(Cause::WrongCount));
+    };
+    let Some(counts) = counts_of(done, number, pending, repaired, rounds) else {
+        return Err(LineRefusal::Cause(Cause::BadNumber));
+    };
+    if counts.done != count_done(entries) as u64 || counts.spent != spent.len() as u64 {
+        return Err(LineRefusal::Cause(Cause::Count));
+    }
+    Ok(counts)
+}
+
+/// A line of a report.
+enum ReportLine {
+    Entry(Entry),
+    Spent(Spent),
+    End(Counts),
+}
+
+fn begins_with_digit(word: &[u8]) -> bool
+    ensures { result ≡ begins_with_digit_of word.now }
+{
+    match word.first() {
+        Some(first) => *first >= b'0' && *first <= b'9',
+        None => false,
+    }
+}
+
+/// What a line tells after these entries and spent writes.
+fn line_in(alloc: Global, entries: &[Entry], spent: &[Spent], fields: &[&[u8]]) -> Result<ReportLine, LineRefusal>
+    ensures { Gives (λ told. (line_fields told ≡ texts fields.now) × MayStand entries.now spent.now told × IsToldBy (texts fields.now) told) (line_cause entries.now spent.now (texts fields.now)) result }
+{
+    let Some(word) = fields.first() else {
+        return Err(LineRefusal::Cause(Cause::UnknownWord));
+    };
+    if begins_with_digit(word) {
+        Ok(ReportLine::Entry(entry_in(alloc, entries, spent, fields)?))
+    } else if *word == b"spent".as_slice() {
+        Ok(ReportLine::Spent(spent_in(spent, fields)?))
+    } else if *word == b"end".as_slice() {
+        Ok(ReportLine::End(counts_in(entries, spent, fields)?))
+    } else {
+        Err(LineRefusal::Cause(Cause::UnknownWord))
+    }
 }

@@ -10,7 +10,7 @@ use Rattle.line_forms.specs.declared.cause.Cause.TheVariants.{BadNumber}
 use Rattle.line_forms.proofs.Tables.{gives_same}
 use Rattle.history_book.specs.declared.entry.Entry.{Entry}
 use Rattle.history_book.specs.Reports.{entry_fields}
-use Rattle.history_book.specs.ReportTexts.{kind_told, numbers_told, entry_with, entry_causes, value_causes, MayFollow, IsRightAfter}
+use Rattle.history_book.specs.ReportTexts.{kind_told, numbers_told, entry_with, entry_causes, entry_told, value_causes, MayFollow, IsRightAfter}
 use Rattle.history_book.proofs.EntryLines.{Seven, no_numbers, with_numbers, follows, seven_texts}
 use Rattle.history_book.proofs.reading.entry_in.Goals as goal
 
@@ -47,10 +47,10 @@ returns c =
     let seven : Seven entries c.args.spent.now kind (f 0) (f 1) (f 2) (f 3) (f 4) (f 5) (f 6) = record { none = none; word = told; full = ap has_empty_field (sym split) ∙ full } in
     gives_same
     (λ (e : Entry). (v : List ℕ) × (e ≡ entry_with kind n v) × (value_of (f 6) ≡ Some v) × IsRightAfter entries e)
-    (λ (e : Entry). (entry_fields e ≡ texts fields) × MayFollow entries e)
+    (λ (e : Entry). (entry_fields e ≡ texts fields) × (MayFollow entries e × (c.args.spent.now ≡ [])) × (entry_told (texts fields) ≡ Some e))
     (first_of (value_causes entries kind n (value_of (f 6))))
     (first_of (entry_causes entries c.args.spent.now (texts fields)))
     c.entry_after.result
-    (λ e h. let r = follows entries kind (f 0) (f 1) (f 2) (f 3) (f 4) (f 5) (f 6) n e told some h in (r.0 ∙ sym split, r.1))
+    (λ e h. let r = follows entries kind (f 0) (f 1) (f 2) (f 3) (f 4) (f 5) (f 6) n e told some h in (r.0 ∙ sym split, (r.1, none), ap entry_told split ∙ r.2))
     (ap (λ (fs : List (List ℕ)). first_of (entry_causes entries c.args.spent.now fs)) split ∙ with_numbers entries c.args.spent.now kind (f 0) (f 1) (f 2) (f 3) (f 4) (f 5) (f 6) n seven some)
     c.entry_after.ensures
