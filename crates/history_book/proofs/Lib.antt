@@ -3,3 +3,4 @@ pub mod Times
 pub mod Spelling
 pub mod EntryLines
 pub mod OtherLines
+pub mod ReadLines

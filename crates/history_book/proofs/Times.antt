@@ -53,7 +53,7 @@ low_starts entries place entry (Some latest) end bound there starts ends is low 
     let b : latest ≡ bound = cc in
     absurd (omega arith)
 
-slice_get-take : (n : ℕ) (xs : List Entry) (k : ℕ) → k < n → slice_get (take n xs) k ≡ slice_get xs k
+pub slice_get-take : (n : ℕ) (xs : List Entry) (k : ℕ) → k < n → slice_get (take n xs) k ≡ slice_get xs k
 slice_get-take zero xs k lt = absurd (omega arith)
 slice_get-take (suc n) [] k lt = refl
 slice_get-take (suc n) (x ∷ xs) zero lt = refl

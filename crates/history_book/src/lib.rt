@@ -11,4 +11,5 @@ pub use entry::{Counts, Entry, Kind, Spent};
 pub use history::{History, history_of};
 pub use judging::{Flaw, FlawKind, judge};
 mod reading;
+pub use reading::read;
 pub use report::print;
