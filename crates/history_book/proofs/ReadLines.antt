@@ -122,11 +122,11 @@ record OneMore (lines : List (List ℕ)) (line : List ℕ) (e : Option EntryReco
 still_open : (lines : List (List ℕ)) (line : List ℕ) → has_end lines ≡ false → bytes_eq (field (fields_of line) 0) (codes "end") ≡ false → has_end (lines ++ line ∷ []) ≡ false
 still_open lines line h k = list_any-append (λ l. bytes_eq (field (fields_of l) 0) (codes "end")) lines (line ∷ []) ∙ or_false (has_end lines) (bytes_eq (field (fields_of line) 0) (codes "end")) h k
 
-abbrev IsRead : ReportLine → List EntryRecord → List SpentRecord → List ℕ → Type 0
+abbrev pub IsRead : ReportLine → List EntryRecord → List SpentRecord → List ℕ → Type 0
 IsRead told entries spent line = (line_cause entries spent (fields_of line) ≡ None) × ((line_fields told ≡ fields_of line) × MayStand entries spent told × IsToldBy (fields_of line) told)
 
 -- what is told after one more line, which has one line more
-abbrev IsNext : List ℕ → List EntryRecord → List SpentRecord → List ℕ → List EntryRecord → List SpentRecord → Type 0
+abbrev pub IsNext : List ℕ → List EntryRecord → List SpentRecord → List ℕ → List EntryRecord → List SpentRecord → Type 0
 IsNext text entries spent after entries_after spent_after = Told text entries_after spent_after after × (length (told_lines entries_after spent_after) ≡ length (told_lines entries spent) + 1)
 
 entry_lines : (entries : List EntryRecord) (spent : List SpentRecord) (e : EntryRecord) → spent ≡ [] → told_lines entries spent ++ line_of_fields (entry_fields e) ∷ [] ≡ told_lines (entries ++ e ∷ []) spent
@@ -204,11 +204,11 @@ or_true : (a b : Bool) → b ≡ true → (a || (b || false)) ≡ true
 or_true true b h = refl
 or_true false b h = rw h refl
 
-abbrev book_of : List EntryRecord → List SpentRecord → Counts → Book
+abbrev pub book_of : List EntryRecord → List SpentRecord → Counts → Book
 book_of entries spent counts = record { entries = entries; spent = spent; counts = counts }
 
 -- the end line was read, and nothing was added
-abbrev IsEnded : List ℕ → List EntryRecord → List SpentRecord → List ℕ → List EntryRecord → List SpentRecord → Counts → Type 0
+abbrev pub IsEnded : List ℕ → List EntryRecord → List SpentRecord → List ℕ → List EntryRecord → List SpentRecord → Counts → Type 0
 IsEnded text entries spent after es xs counts = (lines : List (List ℕ)) × Ended text (book_of es xs counts) lines after × (length lines ≡ length (told_lines entries spent) + 1) × (es ≡ entries)
 
 end_here : (text : List ℕ) (entries : List EntryRecord) (spent : List SpentRecord) (rest line after : List ℕ) (counts : Counts) → Told text entries spent rest → parts_of rest ≡ line ∷ parts_of after → IsRead (End counts) entries spent line → IsEnded text entries spent after entries spent counts
