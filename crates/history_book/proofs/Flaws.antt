@@ -260,18 +260,18 @@ in_time entries none i j d low high differ same end start ends starts lt =
     elim (cases_lt i j) [
       | inl h ↦ h
       | inr h ↦ absurd (none j i (record {
-          order = omega arith;
-          earlier = y.0;
-          later = x.0;
-          there = y.1;
-          there_too = x.1;
-          block = ap (λ (e : FullEntry). e.block) (sym at_j) ∙ sym same ∙ ap (λ (e : FullEntry). e.block) at_i;
-          start = start;
-          end = end;
-          starts = ap (λ (e : FullEntry). e.start) (sym at_j) ∙ starts;
-          ends = ap (λ (e : FullEntry). e.end) (sym at_i) ∙ ends;
-          before = lt;
-        }))
+        order = omega arith;
+        earlier = y.0;
+        later = x.0;
+        there = y.1;
+        there_too = x.1;
+        block = ap (λ (e : FullEntry). e.block) (sym at_j) ∙ sym same ∙ ap (λ (e : FullEntry). e.block) at_i;
+        start = start;
+        end = end;
+        starts = ap (λ (e : FullEntry). e.start) (sym at_j) ∙ starts;
+        ends = ap (λ (e : FullEntry). e.end) (sym at_i) ∙ ends;
+        before = lt;
+      }))
     ]
 
 time_late : (entries : List Entry) (i j : ℕ) → IsTimeFlaw entries i j → IsInTime entries → ⊥

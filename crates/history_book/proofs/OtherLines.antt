@@ -131,16 +131,20 @@ counts_right entries spent w d s p r o c word names full told done number =
     let S = counts_spelled d s p r o c told in
     let fields = w ∷ d ∷ s ∷ p ∷ r ∷ o ∷ [] in (
       four_none (has_other_name fields) (has_wrong_count 6 fields) (is_none (counts_told fields)) (are_other_counts entries spent (counts_told fields)) names full (ap is_none told)
-      (ap (are_other_counts entries spent) told ∙ same_counts c.done (done_count entries) c.spent (length spent) done number),
-      (rw (S.done, S.spent, S.pending, S.repaired, S.rounds, word) refl, record {
-        done_fits = S.done_fits;
-        spent_fits = S.spent_fits;
-        pending = S.pending_fits;
-        repaired = S.repaired_fits;
-        rounds = S.rounds_fit;
-        done = done;
-        spent = number;
-      }, tt),
+          (ap (are_other_counts entries spent) told ∙ same_counts c.done (done_count entries) c.spent (length spent) done number),
+      (
+        rw (S.done, S.spent, S.pending, S.repaired, S.rounds, word) refl,
+        record {
+          done_fits = S.done_fits;
+          spent_fits = S.spent_fits;
+          pending = S.pending_fits;
+          repaired = S.repaired_fits;
+          rounds = S.rounds_fit;
+          done = done;
+          spent = number;
+        },
+        tt,
+      ),
     )
 
 pub six_texts : (fields : List (Bor (List ℕ))) (d : Bor (List ℕ)) → length fields ≡ 6
@@ -153,4 +157,3 @@ six_texts _ d len = absurd (omega arith)
 pub first_field : (fields : List (Bor (List ℕ))) (word : Bor (List ℕ)) → Some word ≡ slice_get fields 0 → field (texts fields) 0 ≡ word.now
 first_field [] word h = absurd cc
 first_field (f ∷ fs) word h = let same : f ≡ word = cc in ap (λ (x : Bor (List ℕ)). x.now) same
-

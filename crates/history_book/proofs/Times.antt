@@ -77,10 +77,10 @@ pub record Found (entries : List Entry) (place : ℕ) (r : Option ℕ) : Type 0 
 pub found : (entries : List Entry) (place : ℕ) (entry : Entry) (end : ℕ) (r : Option ℕ) → slice_get entries place ≡ Some entry → entry.end ≡ Some end → Searched (take place entries) entry.block end r → Found entries place r
 found entries place entry end None there ends s = record {
   none = λ i flaw.
-    let h = after_end entries place entry i there flaw in
-    let same : Some flaw.end ≡ Some end = sym h.0 ∙ ends in
-    let is : flaw.end ≡ end = cc in
-    s.none i flaw.earlier (slice_get-take place entries i flaw.order ∙ flaw.there) (subst (λ (n : ℕ). StartsAfter entry.block n flaw.earlier) is h.1);
+      let h = after_end entries place entry i there flaw in
+      let same : Some flaw.end ≡ Some end = sym h.0 ∙ ends in
+      let is : flaw.end ≡ end = cc in
+      s.none i flaw.earlier (slice_get-take place entries i flaw.order ∙ flaw.there) (subst (λ (n : ℕ). StartsAfter entry.block n flaw.earlier) is h.1);
   flaw = tt;
   within = tt;
 }
@@ -106,13 +106,13 @@ found entries place entry end (Some first) there ends s =
           before = after.after;
         };
         least = λ i flaw.
-          let h = after_end entries place entry i there flaw in
-          let same : Some flaw.end ≡ Some end = sym h.0 ∙ ends in
-          let is : flaw.end ≡ end = cc in
-          elim (cases_lt i first) [
-            | inl low ↦ absurd (s.first i flaw.earlier low (slice_get-take place entries i flaw.order ∙ flaw.there) (subst (λ (n : ℕ). StartsAfter entry.block n flaw.earlier) is h.1))
-            | inr le ↦ le
-          ];
+            let h = after_end entries place entry i there flaw in
+            let same : Some flaw.end ≡ Some end = sym h.0 ∙ ends in
+            let is : flaw.end ≡ end = cc in
+            elim (cases_lt i first) [
+              | inl low ↦ absurd (s.first i flaw.earlier low (slice_get-take place entries i flaw.order ∙ flaw.there) (subst (λ (n : ℕ). StartsAfter entry.block n flaw.earlier) is h.1))
+              | inr le ↦ le
+            ];
       };
       within = lt;
     }

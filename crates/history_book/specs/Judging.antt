@@ -36,6 +36,11 @@ AreInTime h =
     (i j : ℕ) (d : FullEntry) → i < length h → j < length h → i ≢ j → (slice_index_or h i d).block ≡ (slice_index_or h j d).block
     → (end start : ℕ) → (slice_index_or h i d).end ≡ Some end → (slice_index_or h j d).start ≡ Some start → end < start → i < j
 
+-- no entry ends before it starts
+abbrev pub EachEndsAfterItsStart : List FullEntry → Type 0
+EachEndsAfterItsStart h =
+    (i : ℕ) (d : FullEntry) → i < length h → (end start : ℕ) → (slice_index_or h i d).end ≡ Some end → (slice_index_or h i d).start ≡ Some start → start ≤ end
+
 abbrev pub IsInTime : List Entry → Type 0
 IsInTime entries = AreInTime (map entry_of entries)
 

@@ -150,7 +150,12 @@ fn flaw_between(kind: FlawKind, first: usize, second: usize) -> Flaw
 }
 
 /// The first place of the value's flaws with this entry as their second. There is one at most.
-fn value_flaw(entries: &[Entry], place: usize, entry: &Entry, last_write: Option<usize>) -> Option<usize>
+fn value_flaw(
+    entries: &[Entry],
+    place: usize,
+    entry: &Entry,
+    last_write: Option<usize>,
+) -> Option<usize>
     requires there { slice_get entries.now place ≡ Some entry.now }
     requires write { IsPlaceOfWrite entries.now entry.now.block place last_write }
     ensures none { IfNone result ((i : ℕ) → IsValueFlaw entries.now i place → ⊥) }
@@ -184,7 +189,12 @@ fn are_zeros(value: &[u8], len: usize) -> bool
 }
 
 /// The least first place of the time's flaws with this entry as their second.
-fn time_flaw(entries: &[Entry], place: usize, entry: &Entry, latest_start: Option<u64>) -> Option<usize>
+fn time_flaw(
+    entries: &[Entry],
+    place: usize,
+    entry: &Entry,
+    latest_start: Option<u64>,
+) -> Option<usize>
     requires there { slice_get entries.now place ≡ Some entry.now }
     requires starts { (k : ℕ) (e : Entry) (start : ℕ) → k < place → slice_get entries.now k ≡ Some e
         → e.block ≡ entry.now.block → e.start ≡ Some start → IsStartUpTo latest_start start }

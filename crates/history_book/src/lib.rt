@@ -5,11 +5,14 @@
 pub mod entry;
 pub mod history;
 mod judging;
+pub mod laws;
+mod reading;
 mod report;
+#[cfg(test)]
+mod tests;
 
 pub use entry::{Counts, Entry, Kind, Spent};
 pub use history::{History, history_of};
 pub use judging::{Flaw, FlawKind, judge};
-mod reading;
 pub use reading::read;
 pub use report::print;

@@ -16,9 +16,7 @@ ghost use Rattle.history_book.specs.declared.reading.Numbers.{Numbers};
 use crate::entry::{Counts, Entry, Kind, Spent};
 use crate::history::History;
 use cross_sum::Bytes;
-use line_forms::{
-    Cause, LineRefusal, ScriptFault, ScriptRefusal, has_empty, needed_line, refused,
-};
+use line_forms::{Cause, LineRefusal, ScriptFault, ScriptRefusal, has_empty, needed_line, refused};
 use lists::{ItemList, NoMemory};
 use std::alloc::Global;
 use std::cmp::Ordering;
@@ -198,7 +196,13 @@ fn has_other_len(entries: &[Entry], len: usize) -> bool
 }
 
 /// The entry of these numbers and of the value that a field spells, where it may stand after these entries.
-fn entry_after(alloc: Global, entries: &[Entry], kind: Kind, numbers: Numbers, field: &[u8]) -> Result<Entry, LineRefusal>
+fn entry_after(
+    alloc: Global,
+    entries: &[Entry],
+    kind: Kind,
+    numbers: Numbers,
+    field: &[u8],
+) -> Result<Entry, LineRefusal>
     ensures { Gives (λ e. (v : List ℕ) × (e ≡ entry_with kind numbers v) × (value_of field.now ≡ Some v) × IsRightAfter entries.now e)
         (first_of (value_causes entries.now kind numbers (value_of field.now))) result }
 {
@@ -223,7 +227,12 @@ fn entry_after(alloc: Global, entries: &[Entry], kind: Kind, numbers: Numbers, f
 }
 
 /// The entry that a line's fields spell, where it may stand after these entries and spent writes.
-fn entry_in(alloc: Global, entries: &[Entry], spent: &[Spent], fields: &[&[u8]]) -> Result<Entry, LineRefusal>
+fn entry_in(
+    alloc: Global,
+    entries: &[Entry],
+    spent: &[Spent],
+    fields: &[&[u8]],
+) -> Result<Entry, LineRefusal>
     ensures { Gives (λ e. (entry_fields e ≡ texts fields.now) × (MayFollow entries.now e × (spent.now ≡ [])) × (entry_told (texts fields.now) ≡ Some e))
         (first_of (entry_causes entries.now spent.now (texts fields.now))) result }
 {
@@ -397,7 +406,12 @@ fn begins_with_digit(word: &[u8]) -> bool
 }
 
 /// What a line tells after these entries and spent writes.
-fn line_in(alloc: Global, entries: &[Entry], spent: &[Spent], fields: &[&[u8]]) -> Result<ReportLine, LineRefusal>
+fn line_in(
+    alloc: Global,
+    entries: &[Entry],
+    spent: &[Spent],
+    fields: &[&[u8]],
+) -> Result<ReportLine, LineRefusal>
     ensures { Gives (λ told. (line_fields told ≡ texts fields.now) × MayStand entries.now spent.now told × IsToldBy (texts fields.now) told) (line_cause entries.now spent.now (texts fields.now)) result }
 {
     let Some(word) = fields.first() else {
@@ -415,7 +429,12 @@ fn line_in(alloc: Global, entries: &[Entry], spent: &[Spent], fields: &[&[u8]]) 
 }
 
 /// What a line tells after these entries and spent writes.
-fn read_line(alloc: Global, entries: &[Entry], spent: &[Spent], line: &[u8]) -> Result<ReportLine, LineRefusal>
+fn read_line(
+    alloc: Global,
+    entries: &[Entry],
+    spent: &[Spent],
+    line: &[u8],
+) -> Result<ReportLine, LineRefusal>
     ensures { Gives (λ told. (line_fields told ≡ fields_of line.now) × MayStand entries.now spent.now told × IsToldBy (fields_of line.now) told) (line_cause entries.now spent.now (fields_of line.now)) result }
 {
     let fields = fields(alloc, line)?;
@@ -423,7 +442,11 @@ fn read_line(alloc: Global, entries: &[Entry], spent: &[Spent], line: &[u8]) -> 
 }
 
 /// Adds what a line tells. An end line adds nothing, and its counts are given back.
-fn add_line(entries: &mut ItemList<Entry>, spent: &mut ItemList<Spent>, told: ReportLine) -> Result<Option<Counts>, NoMemory>
+fn add_line(
+    entries: &mut ItemList<Entry>,
+    spent: &mut ItemList<Spent>,
+    told: ReportLine,
+) -> Result<Option<Counts>, NoMemory>
     ensures { IfOk result (IsAdded told entries.old spent.old entries.new spent.new) }
 {
     match told {

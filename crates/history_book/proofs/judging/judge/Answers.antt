@@ -31,9 +31,9 @@ loop-place-preserved c =
     record {
       sweep = c.with-sweep.ensures.sweep entries there known.0 known.1;
       block = λ k e next at.
-        let same : k ≡ place = omega arith in
-        let here : e ≡ x = same_entry entries place e x (rw same at at) there in
-        ap (λ (f : Entry). f.block) here ∙ known.0 ∙ sym c.with-sweep.ensures.block;
+          let same : k ≡ place = omega arith in
+          let here : e ≡ x = same_entry entries place e x (rw same at at) there in
+          ap (λ (f : Entry). f.block) here ∙ known.0 ∙ sym c.with-sweep.ensures.block;
       none = where_none (HasNoFlaw entries (place + 1)) c.flaw_at-flaw.result (sym c.is_some.ensures ∙ c.if-is_some.false) c.flaw_at-flaw.ensures.none;
     }
 
