@@ -9,3 +9,9 @@ pub mod Histories
 pub mod Steps
 pub mod Drafting
 pub mod Rows
+pub mod Flaws
+pub mod Times
+pub mod Spelling
+pub mod EntryLines
+pub mod OtherLines
+pub mod ReadLines

@@ -1,5 +1,6 @@
 -- What contracts see of a history.
-use Rattle.std.specs.Prelude.{◌<◌, ◌^◌, List, length}
+use Rattle.std.specs.Prelude.{ℕ, ◌<◌, ◌^◌, List, length}
+use Rattle.std.specs.List.Sorted.{IsNonDecreasingBy}
 use Rattle.history_book.specs.declared.entry.Entry.{Entry}
 use Rattle.history_book.specs.declared.entry.Spent.{Spent}
 use Rattle.history_book.specs.declared.entry.Counts.{Counts}
@@ -10,6 +11,7 @@ pub record Book : Type 0 where
   pub spent : List Spent
   pub counts : Counts
 
--- entries have numbers of 32 bits
-abbrev pub IsBook : List Entry → Type 0
-IsBook entries = length entries < 2 ^ 32
+-- entries have numbers of 32 bits, and those of a block stand together
+pub record IsBook (entries : List Entry) : Type 0 where
+  pub few : length entries < 2 ^ 32
+  pub blocks : IsNonDecreasingBy (λ e. e.block) entries

@@ -3,3 +3,7 @@ pub mod Tellings
 pub mod Reports
 pub mod Drafts
 pub mod Rows
+pub mod Judging
+pub mod Sweeps
+pub mod ReportTexts
+pub mod ReportLines

@@ -1,7 +1,7 @@
 ghost use Rattle.std.specs.Prelude.{◌≡◌, List, map, IfOk};
 ghost use Rattle.protocol.specs.Seen.{record_of};
 ghost use Rattle.protocol.specs.History.{Entry as FullEntry};
-ghost use Rattle.history_book.specs.Books.{Book};
+ghost use Rattle.history_book.specs.Books.{Book, IsBook};
 ghost use Rattle.history_book.specs.Tellings.{Tells, AreRecords};
 
 use crate::counts::{counts_of, spent_writes};
@@ -16,9 +16,9 @@ use std::marker::Model;
 /// The history of a run. Contracts see its entries in order, the spent writes by start, and the counts.
 #[derive(Drop)]
 pub struct History {
-    entries: ItemList<Entry>,
-    spent: ItemList<Spent>,
-    counts: Counts,
+    pub(crate) entries: ItemList<Entry>,
+    pub(crate) spent: ItemList<Spent>,
+    pub(crate) counts: Counts,
 }
 
 impl Model for History {
@@ -34,7 +34,8 @@ impl Model for History {
 impl History {
     /// The entries, by block, stamp, writes before reads, end place, client and start place.
     pub fn entries(&self) -> &[Entry]
-        ensures { result.now ≡ self.now.entries }
+        ensures is { result.now ≡ self.now.entries }
+        ensures book { IsBook self.now.entries }
     {
         self.entries.as_slice()
     }

@@ -6,11 +6,18 @@ mod counts;
 mod draft;
 pub mod entry;
 pub mod history;
+mod judging;
+pub mod laws;
+mod reading;
 mod report;
 mod sweep;
+#[cfg(test)]
+mod report_tests;
 #[cfg(test)]
 mod tests;
 
 pub use entry::{Counts, Entry, Kind, Spent};
 pub use history::{History, history_of};
+pub use judging::{Flaw, FlawKind, judge};
+pub use reading::read;
 pub use report::print;
