@@ -24,6 +24,7 @@ use Rattle.line_forms.specs.Texts.{IsFault, IsFaultless, ReadsTo, end_causes, en
 use Rattle.line_forms.specs.declared.cause.Cause.{Cause}
 use Rattle.line_forms.specs.declared.cause.Cause.TheVariants.{Empty, MissingLine, UnknownWord}
 use Rattle.line_forms.proofs.Texts.{reads_none, reads_on, line_fault, end_fault, needed, cut_short, read_all, text_read}
+use Rattle.history_book.proofs.Blocks.{then_less}
 use Rattle.history_book.proofs.Times.{slice_get-take}
 use Rattle.history_book.specs.declared.entry.Entry.{Entry as EntryRecord}
 use Rattle.history_book.specs.declared.entry.Spent.{Spent as SpentRecord}
@@ -283,13 +284,6 @@ pub text_is : (text : List ℕ) (book : Book) (lines : List (List ℕ)) (rest : 
 text_is text book lines rest h none = text_read report text (report_lines book) rest (subst (λ (ls : List (List ℕ)). ReadsTo report text ls rest) h.lines_are h.reads) none
 
 -- ---- entries in order stand together by block
-
-then_less : (a b : ℕ) (o : Ordering) → ordering_then (nat_cmp a b) o ≡ Less → a ≤ b
-then_less a b o h =
-    elim (cases_lt b a) [
-      | inl lt ↦ let over : nat_cmp a b ≡ Greater = grind (arith, nat_tests) in let clash : Greater ≡ Less = sym (ap (λ (p : Ordering). ordering_then p o) over) ∙ h in absurd cc
-      | inr le ↦ le
-    ]
 
 follows_low : (d e : EntryRecord) → key_cmp d e ≡ Less → d.block ≤ e.block
 follows_low d e h = then_less d.block e.block _ h
