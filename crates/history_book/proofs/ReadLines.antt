@@ -1,21 +1,17 @@
 -- A report from its first line to its last.
-use Rattle.std.proofs.Common.{◌≡◌, ◌≢◌, ◌⊎◌, ℕ, suc, zero, ◌+◌, ◌-◌, ◌<◌, ◌≤◌, ◌^◌, Bool, true, false, eqb, List, [], ◌∷◌, ◌++◌, length, map, take, get_or, Option, Some, None, refl, sym, ap, subst, ◌∙◌, arith, inl, inr, append_assoc}
-use Rattle.std.specs.Prelude.{slice_get, codes, decimal, filter_map, ◌||◌, if◌then◌else◌, IfSome}
-use Rattle.std.specs.declared.cmp.Ordering.{Ordering}
-use Rattle.std.specs.declared.cmp.Ordering.TheVariants.{Less, Greater}
+use Rattle.std.proofs.Common.{◌≡◌, ◌≢◌, ℕ, suc, zero, ◌+◌, ◌-◌, ◌<◌, ◌≤◌, ◌^◌, Bool, true, false, eqb, List, [], ◌∷◌, ◌++◌, length, map, take, get_or, Option, Some, None, refl, sym, ap, subst, ◌∙◌, arith, inl, inr, append_assoc}
+use Rattle.std.specs.Prelude.{slice_get, codes, decimal, ◌||◌, if◌then◌else◌}
+use Rattle.std.specs.declared.cmp.Ordering.TheVariants.{Less}
 use Rattle.std.specs.List.Sorted.{IsNonDecreasingBy}
-use Rattle.std.specs.List.{list_any}
 use Rattle.std.specs.Str.{bytes_eq}
-use Rattle.std.specs.Ordering.{nat_cmp, ordering_then}
-use Rattle.std.proofs.lemmas.Bool.{cases_lt, eq-eqb}
-use Rattle.std.proofs.lemmas.Bool.Decides.{nat_tests}
+use Rattle.std.proofs.lemmas.Bool.{cases_lt}
 use Rattle.std.proofs.lemmas.Fmt.{decimal_is_IsNumeral}
 use Rattle.std.proofs.lemmas.Str.Parse.{digit_from_value}
 use Rattle.std.proofs.lemmas.List.{append-nil, map-append, length-append, length-map, length-take-le, take_at, take-append-le}
 use Rattle.std.proofs.lemmas.List.Elements.{filter_map-append}
 use Rattle.std.proofs.lemmas.List.Folds.{list_any-append}
 use Rattle.std.proofs.lemmas.List.Sorted.{IsNonDecreasingBy-from_all_adjacent}
-use Rattle.std.proofs.lemmas.Option.{slice_get_within, get_or_from_slice_get, slice_get-get_or}
+use Rattle.std.proofs.lemmas.Option.{slice_get_within, slice_get-get_or}
 use Rattle.std.proofs.lemmas.Slice.Eq.{bytes_eq-Decides}
 use Rattle.text_lines.specs.Lines.{fields_of, line_of_fields, parts_of}
 use Rattle.text_lines.proofs.Joined.{line_from_fields}
@@ -33,7 +29,7 @@ use Rattle.history_book.specs.declared.reading.ReportLine.{ReportLine}
 use Rattle.history_book.specs.declared.reading.ReportLine.TheVariants.{Entry, Spent, End}
 use Rattle.history_book.specs.Books.{Book, IsBook}
 use Rattle.history_book.specs.Reports.{entry_fields, spent_fields, end_fields, report_lines, report_text}
-use Rattle.history_book.specs.ReportTexts.{field, entry_told, spent_told, entries_in, spent_in, has_end, line_cause, report_cause, report, MayFollow, MayFollowSpent, AreToldEntries, AreToldSpent, AreCounts, IsReport, key_cmp, last_of}
+use Rattle.history_book.specs.ReportTexts.{field, entry_told, spent_told, entries_in, spent_in, has_end, line_cause, report_cause, report, MayFollow, MayFollowSpent, AreToldEntries, AreToldSpent, IsReport, key_cmp, last_of}
 use Rattle.history_book.specs.ReportLines.{line_fields, MayStand, IsToldBy, IsAdded, missing_at}
 
 -- the lines of entries and spent writes
