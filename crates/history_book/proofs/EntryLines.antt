@@ -1,27 +1,25 @@
 -- What is wrong with an entry line, and the entry that it tells where nothing is.
-use Rattle.std.proofs.Common.{◌≡◌, ℕ, ◌<◌, ◌≤◌, Bool, true, false, eqb, List, [], ◌∷◌, length, get_or, Option, Some, None, Result, refl, sym, ap, subst, ◌∙◌, arith}
+use Rattle.std.proofs.Common.{◌≡◌, ℕ, ◌≤◌, Bool, true, false, eqb, List, [], ◌∷◌, length, get_or, Option, Some, None, refl, sym, ap, subst, ◌∙◌, arith}
 use Rattle.std.specs.Prelude.{slice_get, is_none, not, option_map, IfSome, ◌||◌}
 use Rattle.std.specs.declared.cmp.Ordering.{Ordering}
 use Rattle.std.specs.declared.cmp.Ordering.TheVariants.{Less, Equal, Greater}
 use Rattle.std.specs.Ordering.{is_lt}
 use Rattle.std.specs.Borrow.{Bor}
 use Rattle.text_lines.specs.Lines.{texts}
-use Rattle.text_lines.specs.Fields.{value_of, value_text, IsBytes}
+use Rattle.text_lines.specs.Fields.{value_of}
 use Rattle.text_lines.proofs.Values.{value_of-some}
 use Rattle.line_forms.specs.Kinds.{has_empty_field, has_wrong_count}
-use Rattle.line_forms.specs.Tables.{first_of, Gives}
+use Rattle.line_forms.specs.Tables.{first_of}
 use Rattle.line_forms.specs.Texts.{is_empty}
 use Rattle.line_forms.specs.declared.cause.Cause.{Cause}
 use Rattle.line_forms.specs.declared.cause.Cause.TheVariants.{UnknownWord, WrongCount, BadNumber, OutOfRange, BadValue, NotSorted}
-use Rattle.line_forms.specs.declared.refusal.LineRefusal.{LineRefusal}
-use Rattle.line_forms.proofs.Tables.{gives_same}
 use Rattle.history_book.specs.declared.entry.Kind.{Kind}
 use Rattle.history_book.specs.declared.entry.Entry.{Entry}
 use Rattle.history_book.specs.declared.entry.Spent.{Spent}
 use Rattle.history_book.specs.declared.reading.Numbers.{Numbers}
 use Rattle.history_book.specs.Reports.{entry_fields}
-use Rattle.history_book.specs.ReportTexts.{◌>>=◌, kind_told, numbers_told, numbers_in, entry_told, entry_with, entry_causes, value_causes, has_other_kind, has_other_size, is_bad_value, is_zero_mark, is_not_above, stands_above, key_cmp, last_of, field, IsRightAfter, MayFollow, IsTold}
-use Rattle.history_book.proofs.Spelling.{kind_spelled, numbers_spelled, NumbersSpelled}
+use Rattle.history_book.specs.ReportTexts.{◌>>=◌, kind_told, numbers_told, numbers_in, entry_told, entry_with, entry_causes, value_causes, has_other_kind, has_other_size, is_bad_value, is_zero_mark, is_not_above, stands_above, key_cmp, last_of, IsRightAfter, MayFollow, IsTold}
+use Rattle.history_book.proofs.Spelling.{kind_spelled, numbers_spelled}
 
 -- the table of an entry line's causes where the first three tests fail
 three_passed : (a b c d : Bool) (more : List (Bool × Cause)) (x : Option Cause) → a ≡ false → b ≡ false → c ≡ false → first_of ((d, BadNumber) ∷ more) ≡ x

@@ -1,5 +1,5 @@
 -- A history has no flaw exactly where it is legal and in time.
-use Rattle.std.proofs.Common.{◌≡◌, ◌≢◌, ◌⊎◌, ℕ, suc, zero, Option, take, ◌+◌, ◌-◌, ◌<◌, ◌≤◌, Bool, true, false, List, [], ◌∷◌, length, map, get_or, Some, None, refl, sym, ap, subst, ◌∙◌, arith, inl, inr}
+use Rattle.std.proofs.Common.{◌≡◌, ◌≢◌, ◌⊎◌, ℕ, suc, zero, Option, ◌-◌, ◌<◌, ◌≤◌, Bool, true, false, List, [], ◌∷◌, length, map, get_or, Some, None, refl, sym, ap, subst, ◌∙◌, arith, inl, inr}
 use Rattle.std.specs.Prelude.{slice_get, IfNone, IfSome, is_some}
 use Rattle.std.specs.List.Sorted.{IsNonDecreasingBy}
 use Rattle.std.specs.Str.{bytes_eq}
@@ -7,7 +7,6 @@ use Rattle.std.proofs.lemmas.Bool.{cases_eq, cases_lt}
 use Rattle.std.proofs.lemmas.List.{length-map}
 use Rattle.std.proofs.lemmas.Option.{slice_get_within, slice_get_cases, get_or_from_slice_get, slice_get-map}
 use Rattle.std.proofs.lemmas.Slice.Eq.{bytes_eq-Decides}
-use Rattle.protocol.specs.Count.{update}
 use Rattle.protocol.specs.History.{Entry as FullEntry, LegalFrom, legal_at, values_after}
 use Rattle.history_book.specs.declared.entry.Kind.{Kind}
 use Rattle.history_book.specs.declared.entry.Kind.TheVariants.{Read, Write, Foreign}
@@ -16,8 +15,8 @@ use Rattle.history_book.specs.declared.judging.FlawKind.{FlawKind}
 use Rattle.history_book.specs.declared.judging.FlawKind.TheVariants.{Value, Time}
 use Rattle.history_book.specs.declared.judging.Flaw.{Flaw}
 use Rattle.history_book.specs.declared.judging.Sweep.{Sweep}
-use Rattle.history_book.specs.Judging.{full_kind, entry_of, zeros_of, IsLegal, IsInTime, HasNoWrite, IsLastWrite, IsValueFlaw, IsTimeFlaw, IsFlaw, IsLeastFlaw, HasNoFlaw, TellsFirstFlaw}
-use Rattle.history_book.specs.Sweeps.{IsSweep, IsStartUpTo, IsOfBlockBefore, StartsAfter}
+use Rattle.history_book.specs.Judging.{full_kind, entry_of, zeros_of, IsLegal, IsInTime, HasNoWrite, IsLastWrite, IsValueFlaw, IsTimeFlaw, IsFlaw, HasNoFlaw, TellsFirstFlaw}
+use Rattle.history_book.specs.Sweeps.{IsSweep, IsOfBlockBefore}
 
 -- ---- a sweep comes to the next block
 

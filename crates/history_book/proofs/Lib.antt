@@ -1,5 +1,6 @@
 pub mod Stamped
 pub mod Orders
+pub mod Blocks
 pub mod Counted
 pub mod Sweeps
 pub mod Sorting

@@ -1,8 +1,7 @@
 -- What is wrong with the lines of spent writes and counts, and what they tell where nothing is.
-use Rattle.std.proofs.Common.{◌≡◌, ℕ, ◌<◌, ◌≤◌, ◌^◌, Bool, true, false, eqb, ltb, List, [], ◌∷◌, ◌++◌, length, get_or, take, drop, Option, Some, None, refl, sym, ap, subst, ◌∙◌, arith}
-use Rattle.std.specs.Prelude.{slice_get, is_none, not, codes, decimal, IfSome, ◌||◌, nat_le, if◌then◌else◌}
+use Rattle.std.proofs.Common.{◌≡◌, ℕ, ◌<◌, ◌^◌, Bool, true, false, eqb, List, [], ◌∷◌, ◌++◌, length, get_or, take, drop, Option, Some, None, refl, sym, ap, subst, ◌∙◌, arith}
+use Rattle.std.specs.Prelude.{slice_get, is_none, not, codes, decimal, IfSome, ◌||◌, if◌then◌else◌}
 use Rattle.std.specs.Borrow.{Bor}
-use Rattle.std.specs.Str.{bytes_eq}
 use Rattle.std.proofs.lemmas.Bool.{eq-eqb}
 use Rattle.std.proofs.lemmas.Grind.{common_steps}
 use Rattle.std.proofs.lemmas.Slice.Eq.{bytes_eq-Decides}
@@ -11,13 +10,12 @@ use Rattle.text_lines.specs.Fields.{number_of}
 use Rattle.text_lines.proofs.Numbers.{number_of-some}
 use Rattle.line_forms.specs.Kinds.{has_empty_field, has_wrong_count}
 use Rattle.line_forms.specs.Tables.{first_of}
-use Rattle.line_forms.specs.declared.cause.Cause.{Cause}
 use Rattle.line_forms.specs.declared.cause.Cause.TheVariants.{UnknownWord, WrongCount, BadNumber, NotSorted, Count}
 use Rattle.history_book.specs.declared.entry.Entry.{Entry}
 use Rattle.history_book.specs.declared.entry.Spent.{Spent}
 use Rattle.history_book.specs.declared.entry.Counts.{Counts}
 use Rattle.history_book.specs.Reports.{spent_fields, end_fields}
-use Rattle.history_book.specs.ReportTexts.{◌>>=◌, field, spent_numbers, spent_told, has_name, count_told, count_numbers, counts_told, spent_causes, end_causes, has_other_name, is_not_later, are_other_counts, done_count, last_of, MayFollowSpent, IsToldSpent, AreCounts}
+use Rattle.history_book.specs.ReportTexts.{field, spent_numbers, spent_told, has_name, count_told, count_numbers, counts_told, spent_causes, end_causes, has_other_name, is_not_later, are_other_counts, done_count, last_of, MayFollowSpent, IsToldSpent, AreCounts}
 use Rattle.history_book.proofs.Spelling.{some_then}
 
 -- ---- spent writes

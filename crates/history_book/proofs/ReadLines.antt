@@ -1,21 +1,17 @@
 -- A report from its first line to its last.
-use Rattle.std.proofs.Common.{◌≡◌, ◌≢◌, ◌⊎◌, ℕ, suc, zero, ◌+◌, ◌-◌, ◌<◌, ◌≤◌, ◌^◌, Bool, true, false, eqb, List, [], ◌∷◌, ◌++◌, length, map, take, get_or, Option, Some, None, refl, sym, ap, subst, ◌∙◌, arith, inl, inr, append_assoc}
-use Rattle.std.specs.Prelude.{slice_get, codes, decimal, filter_map, ◌||◌, if◌then◌else◌, IfSome}
-use Rattle.std.specs.declared.cmp.Ordering.{Ordering}
-use Rattle.std.specs.declared.cmp.Ordering.TheVariants.{Less, Greater}
+use Rattle.std.proofs.Common.{◌≡◌, ◌≢◌, ℕ, suc, zero, ◌+◌, ◌-◌, ◌<◌, ◌≤◌, ◌^◌, Bool, true, false, eqb, List, [], ◌∷◌, ◌++◌, length, map, take, get_or, Option, Some, None, refl, sym, ap, subst, ◌∙◌, arith, inl, inr, append_assoc}
+use Rattle.std.specs.Prelude.{slice_get, codes, decimal, ◌||◌, if◌then◌else◌}
+use Rattle.std.specs.declared.cmp.Ordering.TheVariants.{Less}
 use Rattle.std.specs.List.Sorted.{IsNonDecreasingBy}
-use Rattle.std.specs.List.{list_any}
 use Rattle.std.specs.Str.{bytes_eq}
-use Rattle.std.specs.Ordering.{nat_cmp, ordering_then}
-use Rattle.std.proofs.lemmas.Bool.{cases_lt, eq-eqb}
-use Rattle.std.proofs.lemmas.Bool.Decides.{nat_tests}
+use Rattle.std.proofs.lemmas.Bool.{cases_lt}
 use Rattle.std.proofs.lemmas.Fmt.{decimal_is_IsNumeral}
 use Rattle.std.proofs.lemmas.Str.Parse.{digit_from_value}
 use Rattle.std.proofs.lemmas.List.{append-nil, map-append, length-append, length-map, length-take-le, take_at, take-append-le}
 use Rattle.std.proofs.lemmas.List.Elements.{filter_map-append}
 use Rattle.std.proofs.lemmas.List.Folds.{list_any-append}
 use Rattle.std.proofs.lemmas.List.Sorted.{IsNonDecreasingBy-from_all_adjacent}
-use Rattle.std.proofs.lemmas.Option.{slice_get_within, get_or_from_slice_get, slice_get-get_or}
+use Rattle.std.proofs.lemmas.Option.{slice_get_within, slice_get-get_or}
 use Rattle.std.proofs.lemmas.Slice.Eq.{bytes_eq-Decides}
 use Rattle.text_lines.specs.Lines.{fields_of, line_of_fields, parts_of}
 use Rattle.text_lines.proofs.Joined.{line_from_fields}
@@ -24,6 +20,7 @@ use Rattle.line_forms.specs.Texts.{IsFault, IsFaultless, ReadsTo, end_causes, en
 use Rattle.line_forms.specs.declared.cause.Cause.{Cause}
 use Rattle.line_forms.specs.declared.cause.Cause.TheVariants.{Empty, MissingLine, UnknownWord}
 use Rattle.line_forms.proofs.Texts.{reads_none, reads_on, line_fault, end_fault, needed, cut_short, read_all, text_read}
+use Rattle.history_book.proofs.Blocks.{then_less}
 use Rattle.history_book.proofs.Times.{slice_get-take}
 use Rattle.history_book.specs.declared.entry.Entry.{Entry as EntryRecord}
 use Rattle.history_book.specs.declared.entry.Spent.{Spent as SpentRecord}
@@ -32,7 +29,7 @@ use Rattle.history_book.specs.declared.reading.ReportLine.{ReportLine}
 use Rattle.history_book.specs.declared.reading.ReportLine.TheVariants.{Entry, Spent, End}
 use Rattle.history_book.specs.Books.{Book, IsBook}
 use Rattle.history_book.specs.Reports.{entry_fields, spent_fields, end_fields, report_lines, report_text}
-use Rattle.history_book.specs.ReportTexts.{field, entry_told, spent_told, entries_in, spent_in, has_end, line_cause, report_cause, report, MayFollow, MayFollowSpent, AreToldEntries, AreToldSpent, AreCounts, IsReport, key_cmp, last_of}
+use Rattle.history_book.specs.ReportTexts.{field, entry_told, spent_told, entries_in, spent_in, has_end, line_cause, report_cause, report, MayFollow, MayFollowSpent, AreToldEntries, AreToldSpent, IsReport, key_cmp, last_of}
 use Rattle.history_book.specs.ReportLines.{line_fields, MayStand, IsToldBy, IsAdded, missing_at}
 
 -- the lines of entries and spent writes
@@ -283,13 +280,6 @@ pub text_is : (text : List ℕ) (book : Book) (lines : List (List ℕ)) (rest : 
 text_is text book lines rest h none = text_read report text (report_lines book) rest (subst (λ (ls : List (List ℕ)). ReadsTo report text ls rest) h.lines_are h.reads) none
 
 -- ---- entries in order stand together by block
-
-then_less : (a b : ℕ) (o : Ordering) → ordering_then (nat_cmp a b) o ≡ Less → a ≤ b
-then_less a b o h =
-    elim (cases_lt b a) [
-      | inl lt ↦ let over : nat_cmp a b ≡ Greater = grind (arith, nat_tests) in let clash : Greater ≡ Less = sym (ap (λ (p : Ordering). ordering_then p o) over) ∙ h in absurd cc
-      | inr le ↦ le
-    ]
 
 follows_low : (d e : EntryRecord) → key_cmp d e ≡ Less → d.block ≤ e.block
 follows_low d e h = then_less d.block e.block _ h

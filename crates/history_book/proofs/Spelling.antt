@@ -1,23 +1,20 @@
 -- What the fields of an entry line spell.
-use Rattle.std.proofs.Common.{◌≡◌, ◌≢◌, ◌⊎◌, ℕ, ◌+◌, ◌<◌, ◌≤◌, ◌^◌, Bool, true, false, cond, List, [], ◌∷◌, ◌++◌, length, get_or, Option, Some, None, refl, sym, ap, subst, ◌∙◌, arith, lit≤, lit<, append_assoc, inl, inr}
-use Rattle.std.specs.Prelude.{codes, decimal, option_map, option_and_then, IfSome, IsSomeAnd, if◌then◌else◌}
-use Rattle.std.specs.Borrow.{Bor}
+use Rattle.std.proofs.Common.{◌≡◌, ◌⊎◌, ℕ, ◌<◌, ◌≤◌, ◌^◌, Bool, true, false, List, [], ◌∷◌, ◌++◌, Option, Some, None, refl, sym, ap, subst, ◌∙◌, arith, lit≤, lit<, append_assoc, inl, inr}
+use Rattle.std.specs.Prelude.{codes, decimal, option_map, if◌then◌else◌}
 use Rattle.std.specs.Str.{bytes_eq}
 use Rattle.std.specs.List.{join_with_byte}
 use Rattle.std.proofs.lemmas.Slice.Eq.{bytes_eq-Decides}
 use Rattle.std.proofs.lemmas.List.Splits.{join_with_byte-slice_split}
-use Rattle.text_lines.specs.Lines.{parts_at, texts, Lacks}
-use Rattle.text_lines.specs.Fields.{number_of, value_of, value_text, IsBytes}
-use Rattle.text_lines.proofs.Numbers.{number_of-some, number_of-decimal}
-use Rattle.text_lines.proofs.Values.{value_of-some, value_of-text}
-use Rattle.text_lines.proofs.Joined.{only_part, part_before, Lacks-decimal}
+use Rattle.text_lines.specs.Lines.{parts_at, Lacks}
+use Rattle.text_lines.specs.Fields.{number_of}
+use Rattle.text_lines.proofs.Numbers.{number_of-some}
+use Rattle.text_lines.proofs.Joined.{only_part, Lacks-decimal}
 use Rattle.history_book.specs.declared.entry.Kind.{Kind}
 use Rattle.history_book.specs.declared.entry.Kind.TheVariants.{Read, Write, Foreign}
-use Rattle.history_book.specs.declared.entry.Entry.{Entry}
 use Rattle.history_book.specs.declared.reading.StampNumbers.{StampNumbers}
 use Rattle.history_book.specs.declared.reading.Numbers.{Numbers}
-use Rattle.history_book.specs.Reports.{kind_word, place_text, stamp_text, entry_fields}
-use Rattle.history_book.specs.ReportTexts.{◌>>=◌, kind_told, stamp_of_parts, stamp_told, some_place, no_place, start_told, end_told, numbers_told, entry_with, IsPlace, IsPlaceOrNone, HasPlaces}
+use Rattle.history_book.specs.Reports.{kind_word, place_text}
+use Rattle.history_book.specs.ReportTexts.{◌>>=◌, kind_told, stamp_of_parts, stamp_told, some_place, no_place, start_told, end_told, numbers_told, IsPlace, IsPlaceOrNone, HasPlaces}
 
 -- ---- steps that may fail
 

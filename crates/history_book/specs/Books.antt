@@ -1,5 +1,5 @@
 -- What contracts see of a history.
-use Rattle.std.specs.Prelude.{ℕ, ◌<◌, ◌^◌, List, length}
+use Rattle.std.specs.Prelude.{◌<◌, ◌^◌, List, length}
 use Rattle.std.specs.List.Sorted.{IsNonDecreasingBy}
 use Rattle.history_book.specs.declared.entry.Entry.{Entry}
 use Rattle.history_book.specs.declared.entry.Spent.{Spent}

@@ -10,9 +10,9 @@ mod judging;
 pub mod laws;
 mod reading;
 mod report;
-mod sweep;
 #[cfg(test)]
 mod report_tests;
+mod sweep;
 #[cfg(test)]
 mod tests;
 

@@ -4,6 +4,7 @@ ghost use Rattle.stamp_order.specs.Stamps.{same_stamp};
 ghost use Rattle.protocol.specs.Seen.{record_of};
 ghost use Rattle.protocol.specs.History.{Entry as FullEntry, IsSorted};
 ghost use Rattle.protocol.specs.Report.{Ascend};
+ghost use Rattle.history_book.specs.Books.{IsBook};
 ghost use Rattle.history_book.specs.Tellings.{AreRecords, IsHistoryOf, told_entry};
 ghost use Rattle.history_book.specs.Drafts.{entry_of, entries_of, entries_at, candidates, HaveStarts, AreCandidates, AreKept, IsNextMark, is_reading, is_of_some};
 
@@ -22,7 +23,7 @@ pub fn entries(
 ) -> Result<ItemList<Entry>, NoMemory>
     requires { AreRecords (map record_of records.now) first.now }
     ensures history { IfOk result (λ entries. (h : List FullEntry) × IsHistoryOf (map record_of records.now) first.now h × (entries ≡ map (told_entry h) h)) }
-    ensures few { IfOk result (λ entries. length entries < 2 ^ 32) }
+    ensures book { IfOk result (λ entries. IsBook entries) }
 {
     let drafts = sorted_drafts(alloc, records)?;
     let kept = kept(alloc, drafts.as_slice(), first)?;

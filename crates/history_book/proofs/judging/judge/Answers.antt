@@ -4,7 +4,6 @@ use Rattle.std.proofs.lemmas.Option.{slice_get_read}
 use Rattle.history_book.specs.declared.entry.Entry.{Entry}
 use Rattle.history_book.specs.Books.{IsBook}
 use Rattle.history_book.specs.Judging.{HasNoFlaw}
-use Rattle.history_book.specs.Sweeps.{IsSweep}
 use Rattle.history_book.proofs.Flaws.{moved, sound, told_flawed, where_none}
 use Rattle.history_book.proofs.Times.{same_entry}
 use Rattle.history_book.proofs.judging.judge.Goals as goal

@@ -1,4 +1,3 @@
-use Rattle.std.proofs.Common.{◌≤◌, arith, rules}
 use Rattle.history_book.proofs.Times.{no_end, no_start, low_starts, front_length, found}
 use Rattle.history_book.proofs.judging.time_flaw.Goals as goal
 

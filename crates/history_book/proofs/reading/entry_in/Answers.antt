@@ -1,12 +1,10 @@
-use Rattle.std.proofs.Common.{◌≡◌, ℕ, List, [], ◌∷◌, length, get_or, Some, None, false, refl, sym, ap, subst, ◌∙◌, arith}
-use Rattle.std.specs.Prelude.{slice_get}
+use Rattle.std.proofs.Common.{◌≡◌, ℕ, List, [], get_or, Some, None, false, sym, ap, ◌∙◌, arith}
 use Rattle.std.specs.Borrow.{Bor}
 use Rattle.std.proofs.lemmas.Grind.{common_steps}
 use Rattle.text_lines.specs.Lines.{texts}
 use Rattle.text_lines.specs.Fields.{value_of}
 use Rattle.line_forms.specs.Kinds.{has_empty_field}
-use Rattle.line_forms.specs.Tables.{first_of, Gives}
-use Rattle.line_forms.specs.declared.cause.Cause.TheVariants.{BadNumber}
+use Rattle.line_forms.specs.Tables.{first_of}
 use Rattle.line_forms.proofs.Tables.{gives_same}
 use Rattle.history_book.specs.declared.entry.Entry.{Entry}
 use Rattle.history_book.specs.Reports.{entry_fields}

@@ -1,4 +1,4 @@
-use Rattle.std.proofs.Common.{◌≡◌, ℕ, ◌+◌, ◌<◌, ◌^◌, [], List, length, Option, Some, None, sym, ap, subst, ◌∙◌, arith}
+use Rattle.std.proofs.Common.{◌≡◌, ◌<◌, ◌^◌, List, length, Option, Some, None, sym, ap, subst, ◌∙◌, arith}
 use Rattle.text_lines.specs.Lines.{fields_of}
 use Rattle.line_forms.specs.Texts.{IsRefusal}
 use Rattle.line_forms.proofs.Tables.{refusal_here, err_is}
@@ -8,7 +8,7 @@ use Rattle.history_book.specs.declared.entry.Counts.{Counts}
 use Rattle.history_book.specs.declared.reading.ReportLine.{ReportLine}
 use Rattle.history_book.specs.ReportTexts.{line_cause, report}
 use Rattle.history_book.specs.ReportLines.{line_fields, MayStand, IsToldBy, IsAdded}
-use Rattle.history_book.proofs.ReadLines.{Told, told_lines, IsRead, IsEnded, IsNext, book_of, next_line, end_line, line_wrong, text_faultless, text_is, is_book, few_entries}
+use Rattle.history_book.proofs.ReadLines.{IsRead, IsEnded, IsNext, book_of, next_line, end_line, line_wrong, text_faultless, text_is, is_book, few_entries}
 use Rattle.history_book.proofs.reading.read.Goals as goal
 
 pub returns-in-Err-clause-fault : goal.returns-in-Err-clause-fault

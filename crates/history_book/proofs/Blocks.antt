@@ -1,0 +1,37 @@
+-- Sorted entries stand by block.
+use Rattle.std.proofs.Common.{◌≡◌, ℕ, ◌+◌, ◌<◌, ◌≤◌, List, [], ◌∷◌, length, map, get_or, sym, ap, ◌∙◌, arith, inl, inr}
+use Rattle.std.specs.declared.cmp.Ordering.{Ordering}
+use Rattle.std.specs.declared.cmp.Ordering.TheVariants.{Less, Greater}
+use Rattle.std.specs.Ordering.{nat_cmp, ordering_then}
+use Rattle.std.specs.List.Sorted.{IsNonDecreasingBy}
+use Rattle.std.proofs.lemmas.Bool.{cases_lt}
+use Rattle.std.proofs.lemmas.Bool.Decides.{nat_tests}
+use Rattle.std.proofs.lemmas.List.{length-map, get_or-map}
+use Rattle.std.proofs.lemmas.List.Sorted.{IsNonDecreasingBy-from_all_adjacent}
+use Rattle.protocol.specs.History.{Entry as FullEntry, entry_cmp, IsSorted}
+use Rattle.protocol.proofs.Entries.{sorted_before}
+use Rattle.history_book.specs.declared.entry.Entry.{Entry}
+use Rattle.history_book.specs.Tellings.{told_entry}
+
+pub then_less : (a b : ℕ) (o : Ordering) → ordering_then (nat_cmp a b) o ≡ Less → a ≤ b
+then_less a b o h =
+    elim (cases_lt b a) [
+      | inl lt ↦ let over : nat_cmp a b ≡ Greater = grind (arith, nat_tests) in let clash : Greater ≡ Less = sym (ap (λ (p : Ordering). ordering_then p o) over) ∙ h in absurd cc
+      | inr le ↦ le
+    ]
+
+less_block : (e f : FullEntry) → entry_cmp e f ≡ Less → e.block ≤ f.block
+unfolding entry_cmp
+less_block e f h = then_less e.block f.block _ h
+
+pub told_blocks : (all h : List FullEntry) → IsSorted h → IsNonDecreasingBy (λ e. e.block) (map (told_entry all) h)
+told_blocks all h sorted = IsNonDecreasingBy-from_all_adjacent (λ (e : Entry). e.block) (map (told_entry all) h) (adjacent h sorted)
+  where
+    adjacent : (h : List FullEntry) → IsSorted h → (k : ℕ) (d : Entry) → k + 1 < length (map (told_entry all) h) → (get_or (map (told_entry all) h) k d).block ≤ (get_or (map (told_entry all) h) (k + 1) d).block
+    adjacent [] s k d lt = absurd (omega (arith, lt))
+    adjacent (x ∷ es) s k d lt =
+        let within : k + 1 < length (x ∷ es) = omega (arith, lt, length-map (x ∷ es) (told_entry all)) in
+        let here = get_or-map (told_entry all) (x ∷ es) k x d (omega (arith, within)) in
+        let next = get_or-map (told_entry all) (x ∷ es) (k + 1) x d within in
+        let up = less_block (get_or (x ∷ es) k x) (get_or (x ∷ es) (k + 1) x) (sorted_before (x ∷ es) (k + 1) k x s within (omega arith)) in
+        rw (here, next) up
