@@ -1,6 +1,7 @@
 -- Each line lets at most one version be accepted.
 use Rattle.std.proofs.Common.{◌≡◌, ℕ, ◌+◌, ◌≤◌, ◌<◌, Bool, true, false, List, [], ◌∷◌, ◌++◌, length, Option, refl, sym, ap, ◌∙◌, cond, arith}
 use Rattle.std.specs.Prelude.{slice_get}
+use Rattle.std.proofs.lemmas.List.{length-append}
 use Rattle.std.specs.declared.option.Option.TheVariants.{None, Some}
 use Rattle.wire_forms.specs.declared.Body.TheVariants.{Ask as Asks, Answer as Answers}
 use Rattle.protocol.specs.Messages.{Ask, Reply, Body, Message}
@@ -17,7 +18,7 @@ use Rattle.run_words.specs.declared.line.Line.TheVariants.{Write, Read, Resend, 
 
 one_more-length : {A : Type 0} (xs : List A) (x : Option A) → length (one_more xs x) ≤ length xs + 1
 one_more-length xs None = omega arith
-one_more-length xs (Some x) = grind (arith)
+one_more-length xs (Some x) = let e : length (xs ++ x ∷ []) ≡ length xs + 1 = length-append xs (x ∷ []) in omega (arith, e)
 
 -- how many asks an event gives to a node
 abbrev given_by : Event → ℕ

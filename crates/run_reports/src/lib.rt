@@ -1,7 +1,7 @@
 //! The history of a world, and what holds of the history of every run.
 #![tactic(auto)]
 
-ghost use Rattle.std.specs.Prelude.{◌<◌, ◌^◌, List, IfOk};
+ghost use Rattle.std.specs.Prelude.{◌<◌, ◌^◌, ◌-◌, List, IfOk};
 ghost use Rattle.protocol.specs.Setting.{first_stamp};
 ghost use Rattle.protocol.specs.History.{Entry as FullEntry};
 ghost use Rattle.history_book.specs.Tellings.{Tells};
@@ -16,7 +16,7 @@ use world_steps::World;
 /// The history of the run that leads to a world. Whatever starts, deliveries, losses, repeats, crashes and lies the run's lines
 /// make, it is one of plain registers, and in time.
 pub fn history_of(alloc: Global, world: &World) -> Result<History, NoMemory>
-    requires { world.now.seen.place < 2 ^ 31 }
+    requires { world.now.seen.place < 2 ^ 31 - 1 }
     ensures { IfOk result (λ book. (h : List FullEntry) × Tells world.now.seen.records (first_stamp (setting_in world.now)) h book × AreRegisters (setting_in world.now) (world_in world.now) h) }
 {
     world.is_reached();
