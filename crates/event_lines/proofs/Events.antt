@@ -1,5 +1,5 @@
 -- An event line that was read from a line's word and what follows it.
-use Rattle.std.proofs.Common.{◌≡◌, ℕ, Bool, true, List, [], ◌∷◌, Option, Some, None, Result, refl, sym, ap, ◌∙◌, inl, inr}
+use Rattle.std.proofs.Common.{◌≡◌, ℕ, List, [], ◌∷◌, Option, Some, Result, sym, ap, ◌∙◌, inl, inr}
 use Rattle.std.specs.Prelude.{find}
 use Rattle.std.specs.Str.{bytes_eq}
 use Rattle.std.proofs.lemmas.Bool.{cases_Bool}
@@ -8,12 +8,11 @@ use Rattle.quorum_rules.specs.Limits.{Numbers}
 use Rattle.text_lines.specs.Lines.{fields_of, line_of_fields}
 use Rattle.text_lines.proofs.Joined.{line_from_fields}
 use Rattle.line_forms.specs.Tables.{Gives}
-use Rattle.line_forms.specs.declared.cause.Cause.{Cause}
 use Rattle.line_forms.specs.declared.refusal.LineRefusal.{LineRefusal}
 use Rattle.line_forms.proofs.Tables.{gives_same}
 use Rattle.event_lines.specs.declared.line.ReplayLine.{ReplayLine}
 use Rattle.event_lines.specs.Forms.{rest_cause, line_cause, event_cause}
-use Rattle.event_lines.specs.Lines.{IsEventLine, IsSpelled, event_fields, event_text}
+use Rattle.event_lines.specs.Lines.{IsEventLine, IsSpelled, event_text}
 use Rattle.event_lines.specs.Words.{Word, word_text, words, word_of}
 
 found : (field : List ℕ) (ws : List Word) (word : Word) → find (λ w. bytes_eq field (word_text w)) ws ≡ Some word → field ≡ word_text word

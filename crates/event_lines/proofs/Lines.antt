@@ -1,15 +1,14 @@
 -- The text of an event line as a line of a script.
-use Rattle.std.proofs.Common.{◌≡◌, ◌≢◌, lit<, ℕ, List, [], ◌∷◌, Option, Some, None, refl, sym, ap, ◌∙◌}
+use Rattle.std.proofs.Common.{◌≡◌, ◌≢◌, lit<, ℕ, List, ◌∷◌, Some, None, sym, ap, ◌∙◌}
 use Rattle.std.specs.Prelude.{codes}
 use Rattle.quorum_rules.specs.Limits.{Numbers}
 use Rattle.text_lines.specs.Lines.{fields_of, Lacks}
 use Rattle.wire_forms.specs.declared.message.Request.{Request}
 use Rattle.wire_forms.specs.declared.message.Request.TheVariants.{Time, Read as Reads, Write as Writes}
-use Rattle.wire_forms.specs.declared.message.Reply.{Reply}
 use Rattle.wire_forms.specs.declared.message.Reply.TheVariants.{TimeIs, Found, Nothing, Ack, Refused}
 use Rattle.wire_forms.specs.declared.message.Body.{Body}
 use Rattle.wire_forms.specs.declared.message.Body.TheVariants.{Ask as Asks, Answer as Answers}
-use Rattle.wire_forms.specs.Texts.{IsRequest, IsReply, IsBody, HasShortRequest, HasLimits}
+use Rattle.wire_forms.specs.Texts.{IsRequest, IsBody, HasShortRequest, HasLimits}
 use Rattle.run_words.specs.declared.line.Line.{Line}
 use Rattle.run_words.specs.declared.line.Line.TheVariants.{Lie, Tell, Poke, Prune, Back, Restart}
 use Rattle.line_forms.specs.declared.cause.Cause.TheVariants.{UnknownWord}

@@ -12,17 +12,17 @@ use Rattle.wire_forms.specs.declared.message.Body.TheVariants.{Answer}
 use Rattle.wire_forms.specs.declared.message.Reply.TheVariants.{Ack}
 use Rattle.wire_forms.specs.declared.rule.Rule.{Rule}
 use Rattle.wire_forms.specs.declared.rule.Rule.TheVariants.{Silent, Old, Top, Bad}
-use Rattle.wire_forms.specs.Texts.{IsMessage, message_fields, text_of}
+use Rattle.wire_forms.specs.Texts.{IsMessage, message_fields}
 use Rattle.wire_forms.proofs.Unique.{message_unique}
 use Rattle.run_words.specs.declared.line.Line.{Line}
 use Rattle.run_words.specs.declared.line.Line.TheVariants as lines
 use Rattle.event_lines.specs.declared.line.ReplayLine.{ReplayLine}
 use Rattle.event_lines.specs.declared.line.ReplayLine.TheVariants as replay
-use Rattle.event_lines.specs.Lines.{IsClient, IsNode, IsBlock, IsValue, IsEventLine, event_fields, event_text, rule_text}
+use Rattle.event_lines.specs.Lines.{IsClient, IsNode, IsBlock, IsEventLine, event_fields, event_text, rule_text}
 use Rattle.event_lines.specs.Words.{Form, Speech, Word, word_of}
 use Rattle.event_lines.specs.declared.word.Form.TheVariants.{Write, Read, Resend, Call, Give, Hear, Lost, Crash, False, Sound, Mix, Put, Get, Next}
 use Rattle.event_lines.specs.declared.word.Speech.TheVariants.{Lie, Tell, Poke}
-use Rattle.event_lines.specs.declared.word.Word.TheVariants.{Form as Fields, Speech as Message_}
+use Rattle.event_lines.specs.declared.word.Word.TheVariants.{Form as Fields, Speech as Spoken}
 use Rattle.event_lines.proofs.Accepted.{event_apart}
 
 -- ---- what fields spell, by their place
@@ -63,7 +63,7 @@ speech_of Poke m = replay.Plain (lines.Poke m)
 abbrev word_in : Option Word → Message → List (List ℕ) → ReplayLine
 word_in None m fields = replay.Next 0
 word_in (Some (Fields form)) m fields = form_in form fields
-word_in (Some (Message_ speech)) m fields = speech_of speech m
+word_in (Some (Spoken speech)) m fields = speech_of speech m
 
 -- the line of these fields, where its message, if it has one, is m
 abbrev line_in : Message → List (List ℕ) → ReplayLine

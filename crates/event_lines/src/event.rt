@@ -53,6 +53,7 @@ fn first_word(line: &[u8]) -> (&[u8], Option<&[u8]>)
     }
 }
 
+/// The line of a form, from what follows the space behind its word, if there is one.
 fn read_form(
     alloc: Global,
     config: &Config,
@@ -70,6 +71,7 @@ fn read_form(
     }
 }
 
+/// The line of a form, from the fields behind its word.
 fn read_fields(
     alloc: Global,
     config: &Config,
@@ -117,6 +119,7 @@ fn has_words(form: Form, fields: &[&[u8]]) -> bool
     }
 }
 
+/// Whether `node` or `client` follows `crash`, or nothing.
 fn has_crash_word(fields: &[&[u8]]) -> bool
     ensures { (c : Numbers) → result ≡ list_any (has_its_words (texts fields.now)) (forms_of c Form.Crash) }
 {
@@ -126,6 +129,7 @@ fn has_crash_word(fields: &[&[u8]]) -> bool
     }
 }
 
+/// Whether the third field behind `false`, if there is one, is a rule.
 fn has_rule(fields: &[&[u8]]) -> bool
     ensures { (c : Numbers) → result ≡ list_any (has_its_words (texts fields.now)) (forms_of c Form.False) }
 {

@@ -171,6 +171,7 @@ pub fn sound(
     }))
 }
 
+/// The values of `len` bytes that two fields spell.
 fn two_values(
     alloc: Global,
     first: &[u8],

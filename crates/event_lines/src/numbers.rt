@@ -33,28 +33,31 @@ pub fn is_block(config: &Config, block: u32) -> bool
     block < config.blocks()
 }
 
-pub fn client(client: &[u8]) -> Result<u32, LineRefusal>
-    requires { has_empty_field (client.now ∷ []) ≡ false }
-    ensures { Gives (λ read. IsClient read × (client.now ≡ decimal read)) (form_cause (kinds.client ∷ []) (client.now ∷ [])) result }
+/// The client that a field spells.
+pub fn client(field: &[u8]) -> Result<u32, LineRefusal>
+    requires { has_empty_field (field.now ∷ []) ≡ false }
+    ensures { Gives (λ read. IsClient read × (field.now ≡ decimal read)) (form_cause (kinds.client ∷ []) (field.now ∷ [])) result }
 {
-    let client = number_u32(client).ok_or(Cause::BadNumber)?;
+    let client = number_u32(field).ok_or(Cause::BadNumber)?;
     if !is_client(client) {
         return Err(LineRefusal::Cause(Cause::OutOfRange));
     }
     Ok(client)
 }
 
-pub fn node(config: &Config, node: &[u8]) -> Result<u8, LineRefusal>
-    requires { has_empty_field (node.now ∷ []) ≡ false }
-    ensures { Gives (λ read. IsNode config.now read × (node.now ≡ decimal read)) (form_cause (kinds.node config.now.n ∷ []) (node.now ∷ [])) result }
+/// The node that a field spells.
+pub fn node(config: &Config, field: &[u8]) -> Result<u8, LineRefusal>
+    requires { has_empty_field (field.now ∷ []) ≡ false }
+    ensures { Gives (λ read. IsNode config.now read × (field.now ≡ decimal read)) (form_cause (kinds.node config.now.n ∷ []) (field.now ∷ [])) result }
 {
-    let node = number_u8(node).ok_or(Cause::BadNumber)?;
+    let node = number_u8(field).ok_or(Cause::BadNumber)?;
     if !is_node(config, node) {
         return Err(LineRefusal::Cause(Cause::OutOfRange));
     }
     Ok(node)
 }
 
+/// The client and the block that two fields spell.
 pub fn client_and_block(
     config: &Config,
     client: &[u8],
@@ -72,6 +75,7 @@ pub fn client_and_block(
     Ok((client, block))
 }
 
+/// The client and the node that two fields spell.
 pub fn client_and_node(
     config: &Config,
     client: &[u8],
@@ -89,6 +93,7 @@ pub fn client_and_node(
     Ok((client, node))
 }
 
+/// The node and the number of a message that two fields spell.
 pub fn node_and_message(
     config: &Config,
     node: &[u8],
@@ -106,6 +111,7 @@ pub fn node_and_message(
     Ok((node, message))
 }
 
+/// The client, and a number of any size, that two fields spell.
 pub fn client_and_u64(client: &[u8], more: &[u8]) -> Result<(u32, u64), LineRefusal>
     requires { has_empty_field (client.now ∷ more.now ∷ []) ≡ false }
     ensures { Gives (λ read. IsClient read.0 × (read.1 < 2 ^ 64) × (client.now ≡ decimal read.0) × (more.now ≡ decimal read.1))
@@ -128,6 +134,7 @@ pub struct Forged {
     pub time: u64,
 }
 
+/// What four fields spell: a client, a node, a block and a time.
 pub fn read_forged(
     config: &Config,
     client: &[u8],

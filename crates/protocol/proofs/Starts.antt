@@ -41,7 +41,7 @@ all_push : (x : ℕ) (ns : List ℕ) (n : ℕ) → AllByRecursion (λ y. x < y) 
 all_push x [] n h l = (l, tt)
 all_push x (m ∷ ns) n h l = (h.0, all_push x ns n h.1 l)
 
-ascend_push : (ns : List ℕ) (n : ℕ) → Ascend ns → AllByRecursion (λ m. m < n) ns → Ascend (ns ++ n ∷ [])
+pub ascend_push : (ns : List ℕ) (n : ℕ) → Ascend ns → AllByRecursion (λ m. m < n) ns → Ascend (ns ++ n ∷ [])
 ascend_push [] n h l = (tt, tt)
 ascend_push (m ∷ ns) n h l = (all_push m ns n h.0 l.0, ascend_push ns n h.1 l.1)
 

@@ -1,5 +1,5 @@
 -- A client starts an operation: its seat, its record and its messages.
-use Rattle.std.proofs.Common.{◌≡◌, ℕ, ◌+◌, ◌<◌, ◌≤◌, List, [], ◌∷◌, ◌++◌, length, map, get_or, Option, refl, sym, ◌∙◌, ap, subst, arith}
+use Rattle.std.proofs.Common.{◌≡◌, ℕ, ◌+◌, ◌<◌, List, [], ◌∷◌, ◌++◌, length, map, get_or, refl, sym, ◌∙◌, ap, subst, arith}
 use Rattle.std.specs.Prelude.{slice_get, slice_set}
 use Rattle.std.specs.declared.option.Option.TheVariants.{None, Some}
 use Rattle.std.specs.Vec.{with_item}
@@ -11,7 +11,7 @@ use Rattle.protocol.specs.Count.{update}
 use Rattle.protocol.specs.Messages.{Message}
 use Rattle.protocol.specs.Instance.{setting}
 use Rattle.protocol.specs.Operations.{Task, first_work, begun, mail}
-use Rattle.protocol.specs.World.{World, Record, open_record, chosen_stamp, last_op, started_by}
+use Rattle.protocol.specs.World.{Record, open_record, chosen_stamp, last_op, started_by}
 use Rattle.protocol.specs.Seen.{SeenTask, task_at, started_task, record_of, ops_of, block_of, work_of}
 use Rattle.protocol.proofs.Seeing.{begun-seen, length-begun}
 use Rattle.client_core.specs.Clients.{ClientView, started, with_started, mail_of}

@@ -1,20 +1,20 @@
 -- What a change of one seat, of its record and of the place leaves of a kept world.
-use Rattle.std.proofs.Common.{◌≡◌, ◌⊎◌, ℕ, ◌+◌, ◌<◌, ◌≤◌, List, [], ◌∷◌, ◌++◌, length, map, get_or, Option, refl, sym, ◌∙◌, ap, inl, inr, arith}
+use Rattle.std.proofs.Common.{◌≡◌, ℕ, ◌<◌, ◌≤◌, suc, List, [], ◌∷◌, ◌++◌, length, map, Option, refl, sym, ◌∙◌, ap, inl, inr, arith}
 use Rattle.std.specs.Prelude.{slice_get, slice_set}
 use Rattle.std.specs.Option.{option_map}
 use Rattle.std.specs.declared.option.Option.TheVariants.{None, Some}
 use Rattle.std.specs.List.{AllByRecursion}
 use Rattle.std.proofs.Math.Seq.{map-set_same}
-use Rattle.std.proofs.lemmas.List.{length-set, map-append, map-set, set-get_or}
-use Rattle.std.proofs.lemmas.Option.{slice_get_within, get_or_from_slice_get, slice_get-map}
+use Rattle.std.proofs.lemmas.List.{length-set, map-append, map-set}
+use Rattle.std.proofs.lemmas.Option.{get_or_from_slice_get, slice_get-map}
 use Rattle.quorum_rules.specs.Limits.{Numbers}
 use Rattle.run_words.specs.declared.record.Record.{Record as Told}
 use Rattle.protocol.specs.World.{Record, open_record}
-use Rattle.protocol.specs.Report.{Ascend}
 use Rattle.protocol.specs.Seen.{SeenTask, task_at, record_of}
+use Rattle.protocol.proofs.Starts.{ascend_push}
 use Rattle.world_steps.specs.declared.host.Host.{Host}
 use Rattle.world_steps.specs.declared.seat.Seat.{Seat}
-use Rattle.world_steps.specs.Seats.{IsWorld, IsSeat, IsTaskOf, IsUnderWay}
+use Rattle.world_steps.specs.Seats.{IsWorld, IsSeat, IsTaskOf}
 use Rattle.world_steps.proofs.Places.{slice_get-set_cases, slice_get-set_other, slice_get-push, slice_get-push_cases}
 
 -- a task stays told where the place is raised, and the record of its number is what it was
@@ -31,18 +31,10 @@ seat_kept : (c : Numbers) (records more : List Record) (p q k : ℕ) (s : Seat)
 seat_kept c records more p q k s l told h =
     record { config = h.config; id = h.id; task = task_kept c records more p q k s.start s.record s.client.seen.task l told h.task }
 
--- an ascending list with one more above all of it
-all_push : (x : ℕ) (ns : List ℕ) (n : ℕ) → AllByRecursion (λ y. x < y) ns → x < n → AllByRecursion (λ y. x < y) (ns ++ n ∷ [])
-all_push x [] n h l = (l, tt)
-all_push x (m ∷ ns) n h l = (h.0, all_push x ns n h.1 l)
-
-ascend_push : (ns : List ℕ) (n : ℕ) → Ascend ns → AllByRecursion (λ m. m < n) ns → Ascend (ns ++ n ∷ [])
-ascend_push [] n h l = (tt, tt)
-ascend_push (m ∷ ns) n h l = (all_push m ns n h.0 l.0, ascend_push ns n h.1 l.1)
-
+-- the records' starts are below a greater place
 all_below : (rs : List Told) (n : ℕ) → ((k : ℕ) (r : Told) → slice_get rs k ≡ Some r → r.start < n) → AllByRecursion (λ m. m < n) (map (λ r. r.start) rs)
 all_below [] n h = tt
-all_below (r ∷ rs) n h = (h 0 r refl, all_below rs n (λ k x e. h (Rattle.std.proofs.Common.suc k) x e))
+all_below (r ∷ rs) n h = (h 0 r refl, all_below rs n (λ k x e. h (suc k) x e))
 
 module _ (c : Numbers) (hosts : List Host) (seats : List Seat) (records : List Told) (p : ℕ) (h : IsWorld c hosts seats records p) where
   -- each client has a seat
@@ -114,7 +106,7 @@ module _ (c : Numbers) (hosts : List Host) (seats : List Seat) (records : List T
       ];
       ascend = rw map-append (ascend_push (map (λ r. r.start) records) new.start h.ascend (all_below records new.start (λ j r e. let m = h.placed j r e in omega (arith, m, later, start))));
       placed = λ j x e. elim (slice_get-push_cases records new j x e) [
-        | inl f ↦ (let g : x.start ≡ new.start = ap (λ (y : Told). y.start) f in omega (arith, g, start))
+        | inl f ↦ (let g : x.start ≡ new.start = ap (λ (y : Told). y.start) f.1 in omega (arith, g, start))
         | inr f ↦ (let m = h.placed j x f in omega (arith, m, later))
       ];
     }

@@ -9,3 +9,6 @@ pub mod Hosted
 pub mod Settling
 pub mod Taking
 pub mod Begun
+pub mod Back
+pub mod Resent
+pub mod Beginning

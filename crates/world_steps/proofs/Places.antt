@@ -1,7 +1,7 @@
 -- Items of a list by their places, when one is replaced or added.
-use Rattle.std.proofs.Common.{◌≡◌, ◌⊎◌, ℕ, zero, suc, ◌<◌, List, [], ◌∷◌, ◌++◌, length, get_or, Option, refl, sym, ◌∙◌, ap, inl, inr, arith, eqb}
+use Rattle.std.proofs.Common.{◌≡◌, ◌⊎◌, ℕ, zero, suc, ◌<◌, List, [], ◌∷◌, ◌++◌, length, get_or, refl, sym, ◌∙◌, ap, inl, inr, arith}
 use Rattle.std.specs.Prelude.{slice_get, slice_set}
-use Rattle.std.specs.declared.option.Option.TheVariants.{None, Some}
+use Rattle.std.specs.declared.option.Option.TheVariants.{Some}
 use Rattle.std.proofs.lemmas.Bool.Decides.{eqb_tells}
 use Rattle.std.proofs.lemmas.List.{length-set, get_or-set_same, get_or-set_other}
 use Rattle.std.proofs.lemmas.Option.{slice_get_within, slice_get-get_or, get_or_from_slice_get}
@@ -38,8 +38,8 @@ pub slice_get-end : {A : Type 0} (xs : List A) (x : A) → slice_get (xs ++ x �
 slice_get-end [] x = refl
 slice_get-end (z ∷ zs) x = slice_get-end zs x
 
-pub slice_get-push_cases : {A : Type 0} (xs : List A) (x : A) (k : ℕ) (y : A) → slice_get (xs ++ x ∷ []) k ≡ Some y → (y ≡ x) ⊎ (slice_get xs k ≡ Some y)
-slice_get-push_cases [] x zero y e = inl (cc)
+pub slice_get-push_cases : {A : Type 0} (xs : List A) (x : A) (k : ℕ) (y : A) → slice_get (xs ++ x ∷ []) k ≡ Some y → ((k ≡ length xs) × (y ≡ x)) ⊎ (slice_get xs k ≡ Some y)
+slice_get-push_cases [] x zero y e = inl (refl, cc)
 slice_get-push_cases [] x (suc k) y e = absurd (cc)
 slice_get-push_cases (z ∷ zs) x zero y e = inr e
-slice_get-push_cases (z ∷ zs) x (suc k) y e = slice_get-push_cases zs x k y e
+slice_get-push_cases (z ∷ zs) x (suc k) y e = elim (slice_get-push_cases zs x k y e) [ inl h ↦ inl (ap suc h.0, h.1) | inr h ↦ inr h ]

@@ -1,7 +1,7 @@
 -- A seat's client, as the world of the definitions has it, and that world when the seat is another one.
-use Rattle.std.proofs.Common.{◌≡◌, ◌⊎◌, ℕ, ◌+◌, ◌<◌, ◌≤◌, Bool, List, length, map, get_or, Option, refl, sym, ◌∙◌, ap, inl, inr, arith}
-use Rattle.std.specs.Prelude.{slice_get, slice_set, slice_index_or}
-use Rattle.std.specs.declared.option.Option.TheVariants.{None, Some}
+use Rattle.std.proofs.Common.{◌≡◌, ℕ, ◌<◌, Bool, false, List, length, map, get_or, Option, refl, sym, ◌∙◌, ap, inl, inr, arith}
+use Rattle.std.specs.Prelude.{slice_get, slice_set}
+use Rattle.std.specs.declared.option.Option.TheVariants.{Some}
 use Rattle.std.specs.Vec.{with_item}
 use Rattle.std.proofs.Math.Seq.{map-set_same}
 use Rattle.std.proofs.lemmas.List.{length-map, map-set, get_or-map}
@@ -12,15 +12,15 @@ use Rattle.protocol.specs.Messages.{Message}
 use Rattle.protocol.specs.Setting.{Setting}
 use Rattle.protocol.specs.Operations.{Task}
 use Rattle.protocol.specs.World.{World}
-use Rattle.protocol.specs.Seen.{SeenClient, SeenWorld, SeenTask, client_at, new_client, started_task, world_of, record_of}
+use Rattle.protocol.specs.Seen.{SeenClient, SeenWorld, client_at, new_client, started_task, world_of, record_of}
 use Rattle.protocol.proofs.Counting.{update-cases}
 use Rattle.protocol.proofs.Seeing.{funext, life-set, started-set, task-begun, client_crashed-set}
 use Rattle.world_steps.specs.declared.seat.Seat.{Seat}
 use Rattle.world_steps.specs.declared.state.State.TheInside.{Inside}
 use Rattle.world_steps.specs.contracts.state.State.{the_view}
-use Rattle.world_steps.specs.Worlds.{WorldView, setting_in, world_in}
+use Rattle.world_steps.specs.Worlds.{setting_in, world_in}
 
--- a function with what it has already
+-- a function whose value is set to what it is
 pub update-known : {A : Type 0} (f : ℕ → A) (k : ℕ) (v : A) → v ≡ f k → update f k v ≡ f
 update-known f k v e = funext _ _ (λ j. elim (update-cases f k v j) [ inl h ↦ h.1 ∙ e ∙ ap f (sym h.0) | inr h ↦ h.1 ])
 
@@ -84,4 +84,4 @@ module _ (w : Inside) (k : ℕ) (inside : k < length w.seats.items) where
     task-seat i = started_task ((get_or-map (λ (x : Seat). x.start) w.seats.items k old 0 inside ∙ ap (λ (x : Seat). x.start) (sym there)) i) (client-seat i).task
 
     pub crashed-seat : (world_in (the_view w)).client_crashed k ≡ old.crashed
-    crashed-seat = get_or-map (λ (x : Seat). x.crashed) w.seats.items k old Rattle.std.proofs.Common.false inside ∙ ap (λ (x : Seat). x.crashed) (sym there)
+    crashed-seat = get_or-map (λ (x : Seat). x.crashed) w.seats.items k old false inside ∙ ap (λ (x : Seat). x.crashed) (sym there)

@@ -1,5 +1,5 @@
 -- A client becomes the one that heard a message, and its record tells how its operation stands.
-use Rattle.std.proofs.Common.{◌≡◌, ◌⊎◌, ℕ, zero, suc, ◌+◌, ◌<◌, ◌≤◌, Bool, true, false, cond, ◌&&◌, List, [], ◌∷◌, length, map, get_or, Option, refl, sym, ◌∙◌, ap, subst, inl, inr, arith, eqb}
+use Rattle.std.proofs.Common.{◌≡◌, ◌⊎◌, ℕ, zero, suc, ◌<◌, Bool, true, false, cond, ◌&&◌, List, [], ◌∷◌, length, map, get_or, Option, refl, sym, ◌∙◌, ap, subst, inl, inr, arith, eqb}
 use Rattle.std.specs.Prelude.{slice_get, slice_set, IfSome}
 use Rattle.std.specs.Option.{option_map}
 use Rattle.std.specs.declared.option.Option.TheVariants.{None, Some}
@@ -11,40 +11,35 @@ use Rattle.std.proofs.lemmas.Simd.{map-map}
 use Rattle.std.specs.Vec.{with_item}
 use Rattle.run_words.specs.declared.record.Record.{Record as Told}
 use Rattle.protocol.specs.Count.{update}
-use Rattle.protocol.specs.Messages.{Message, Stamp}
-use Rattle.protocol.specs.Operations.{Task, Work, Outcome}
-use Rattle.protocol.specs.World.{World, Record, open_record, with_record, replaced_by, chosen_stamp}
+use Rattle.protocol.specs.Messages.{Stamp}
+use Rattle.protocol.specs.Operations.{Task, Outcome}
+use Rattle.protocol.specs.World.{Record, open_record, with_record, replaced_by, chosen_stamp}
 use Rattle.protocol.specs.Report.{Ascend}
 use Rattle.protocol.specs.Seen.{SeenTask, task_at, started_task, record_of}
 use Rattle.client_core.specs.Clients.{ClientView}
 use Rattle.world_steps.specs.declared.seat.Seat.{Seat}
 use Rattle.world_steps.specs.declared.state.State.TheInside.{Inside}
 use Rattle.world_steps.specs.contracts.state.State.{the_view}
-use Rattle.world_steps.specs.Worlds.{setting_in, world_in}
-use Rattle.world_steps.specs.Seats.{IsWorld, IsSeat, IsTaskOf, IsUnderWay}
-use Rattle.world_steps.specs.Turns.{IsSame, MayGoOn, Becomes, settled}
+use Rattle.world_steps.specs.Worlds.{world_in}
+use Rattle.world_steps.specs.Seats.{IsWorld, IsTaskOf, IsUnderWay}
+use Rattle.world_steps.specs.Turns.{IsSame, Becomes, settled}
 use Rattle.world_steps.proofs.Places.{slice_get-set_same}
 use Rattle.world_steps.proofs.Holding.{told}
-use Rattle.world_steps.proofs.Seated.{update-known, world-seat, client-seat, task-seat, crashed-seat, seat-there}
+use Rattle.world_steps.proofs.Seated.{update-known, world-seat, task-seat, crashed-seat, seat-there}
 
 -- ---- the record of an operation is the one that began at its place
 
-not_replaced : (new : Record) (xs : List Record) → AllByRecursion (λ y. new.start < y) (map (λ r. r.start) xs) → with_record xs new ≡ xs
-not_replaced new [] h = refl
-not_replaced new (x ∷ xs) h = λ i. at (eqb x.client new.client) (eqb x.start new.start) (eqb_tells x.start new.start) i ∷ not_replaced new xs h.1 i
+kept_apart : (new x : Record) → (x.start ≡ new.start → ⊥) → replaced_by new x ≡ x
+kept_apart new x apart = at (eqb x.client new.client) (eqb x.start new.start) (eqb_tells x.start new.start)
   where
     at : (a b : Bool) → ((b ≡ true) × (x.start ≡ new.start)) ⊎ ((b ≡ false) × (x.start ≡ new.start → ⊥)) → cond (a && b) new x ≡ x
     at false b e = refl
-    at true b (inl e) = absurd (let l = h.0 in let q = e.1 in omega (arith, l, q))
+    at true b (inl e) = absurd (apart e.1)
     at true b (inr e) = rw (e.0) refl
 
-kept_before : (new x : Record) → x.start < new.start → replaced_by new x ≡ x
-kept_before new x l = at (eqb x.client new.client) (eqb x.start new.start) (eqb_tells x.start new.start)
-  where
-    at : (a b : Bool) → ((b ≡ true) × (x.start ≡ new.start)) ⊎ ((b ≡ false) × (x.start ≡ new.start → ⊥)) → cond (a && b) new x ≡ x
-    at false b e = refl
-    at true b (inl e) = absurd (let q = e.1 in omega (arith, l, q))
-    at true b (inr e) = rw (e.0) refl
+not_replaced : (new : Record) (xs : List Record) → AllByRecursion (λ y. new.start < y) (map (λ r. r.start) xs) → with_record xs new ≡ xs
+not_replaced new [] h = refl
+not_replaced new (x ∷ xs) h = λ i. kept_apart new x (λ e. let l = h.0 in omega (arith, l, e)) i ∷ not_replaced new xs h.1 i
 
 replaced_here : (new x : Record) → x.client ≡ new.client → x.start ≡ new.start → replaced_by new x ≡ new
 replaced_here new x e f = at (eqb x.client new.client) (eqb x.start new.start) (eqb_tells x.client new.client) (eqb_tells x.start new.start)
@@ -59,6 +54,7 @@ above_all y [] i x h e = absurd (cc)
 above_all y (z ∷ zs) zero x h e = let q : z ≡ x = cc in subst (λ (r : Record). y < r.start) q h.0
 above_all y (z ∷ zs) (suc i) x h e = above_all y zs i x h.1 e
 
+-- so to put a record in its place is to set the one of its number
 pub with_record-set : (rs : List Record) (i : ℕ) (old new : Record) → Ascend (map (λ r. r.start) rs) → slice_get rs i ≡ Some old → old.client ≡ new.client → old.start ≡ new.start → slice_set rs i new ≡ with_record rs new
 with_record-set [] i old new h e f g = absurd (cc)
 with_record-set (x ∷ xs) zero old new h e f g =
@@ -67,7 +63,7 @@ with_record-set (x ∷ xs) zero old new h e f g =
     ∷ sym (not_replaced new xs (subst (λ n. AllByRecursion (λ y. n < y) (map (λ r. r.start) xs)) (ap (λ (r : Record). r.start) q ∙ g) h.0)) j
 with_record-set (x ∷ xs) (suc i) old new h e f g =
     let l = above_all x.start xs i old h.0 e in
-    λ j. sym (kept_before new x (omega (arith, l, g))) j ∷ with_record-set xs i old new h.1 e f g j
+    λ j. sym (kept_apart new x (λ q. omega (arith, l, g, q))) j ∷ with_record-set xs i old new h.1 e f g j
 
 -- ---- the change of a seat and its record
 

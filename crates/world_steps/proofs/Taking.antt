@@ -1,18 +1,19 @@
 -- What a client takes is what it hears.
-use Rattle.std.proofs.Common.{◌≡◌, ◌⊎◌, ℕ, ◌+◌, ◌-◌, ◌<◌, ◌≤◌, Bool, true, false, cond, List, [], ◌∷◌, ◌++◌, length, get_or, Option, refl, sym, ◌∙◌, ap, subst, inl, inr, arith, eqb, ltb}
-use Rattle.std.specs.Prelude.{IfSome}
+use Rattle.std.proofs.Common.{◌≡◌, ◌⊎◌, ℕ, ◌+◌, ◌-◌, ◌<◌, ◌≤◌, Bool, true, false, cond, List, [], ◌∷◌, ◌++◌, length, map, get_or, Option, refl, sym, ◌∙◌, ap, subst, inl, inr, arith, eqb, ltb}
+use Rattle.std.specs.Prelude.{IfSome, slice_get, slice_index_or}
 use Rattle.std.specs.declared.option.Option.TheVariants.{None, Some}
 use Rattle.std.proofs.lemmas.List.{append-nil, append_assoc}
 use Rattle.std.proofs.lemmas.Bool.Decides.{eqb_tells}
 use Rattle.std.proofs.lemmas.Option.{slice_get_cases}
-use Rattle.protocol.specs.Messages.{Reply, Body, Message}
-use Rattle.wire_forms.specs.declared.message.Body.TheVariants.{Answer as Answers}
+use Rattle.quorum_rules.specs.Limits.{Numbers}
+use Rattle.protocol.specs.Count.{update}
+use Rattle.protocol.specs.Messages.{Reply, Message}
 use Rattle.protocol.specs.Setting.{Setting}
 use Rattle.protocol.specs.Instance.{setting}
-use Rattle.protocol.specs.Operations.{Task, Decision, answered, decide}
+use Rattle.protocol.specs.Operations.{Task, Outcome, Decision, answered, decide}
 use Rattle.protocol.specs.Operations.Decision.{GoesOn, Ends as EndsWith}
-use Rattle.protocol.specs.World.{World, heard, heard_by, stamp_of_outcome}
-use Rattle.protocol.specs.Seen.{SeenTask, Hearing, client_at, task_at, started_task, seen_goes_on, seen_counted, is_counted, answers_of, by_decision, after_counting, hearing}
+use Rattle.protocol.specs.World.{World, heard, heard_by, with_record, chosen_stamp}
+use Rattle.protocol.specs.Seen.{SeenTask, record_of, chosen_of, Hearing, client_at, task_at, started_task, seen_goes_on, seen_counted, is_counted, answers_of, by_decision, after_counting, hearing}
 use Rattle.protocol.specs.Seen.Hearing.{Ignored, Counted, Begins, Ended}
 use Rattle.protocol.proofs.Seeing.{length-goes_on, length-counted, after_hearing, heard_by-seen}
 use Rattle.client_core.specs.Clients.{ClientView, with_task, hears, told}
@@ -24,8 +25,8 @@ use Rattle.world_steps.specs.contracts.state.State.{the_view}
 use Rattle.world_steps.specs.Worlds.{WorldView, setting_in, world_in}
 use Rattle.world_steps.specs.Seats.{IsWorld, IsTaskOf}
 use Rattle.world_steps.specs.Steps.{seated, IsAnswer}
-use Rattle.world_steps.specs.Turns.{IsTurn, next_mail, goes_to, IsSame, MayGoOn, Becomes, MayTake, settled, taken}
-use Rattle.world_steps.proofs.Seated.{client-seat, seat-there}
+use Rattle.world_steps.specs.Turns.{IsTurn, next_mail, goes_to, IsSame, Becomes, MayTake, settled, taken}
+use Rattle.world_steps.proofs.Seated.{client-seat}
 
 -- the operation u follows t
 record IsNext (n : ℕ) (t u : SeenTask) : Type 0 where
@@ -74,11 +75,11 @@ Fits n place o = IfSome o (λ t. (length t.answers ≡ n) × (t.phase ≤ place)
 pub fits-seat : (w : Inside) → IsWorld w.config w.hosts.items w.seats.items w.records w.place → (k : ℕ) → k ≤ 1000 → Fits w.config.n w.place (client_at (the_view w).seen k).task
 fits-seat w good k l = at (slice_get_cases w.seats.items k).1
   where
-    task : (seat : Seat) (o : Option SeenTask) → IsTaskOf w.config (Rattle.std.proofs.Common.map Rattle.protocol.specs.Seen.record_of w.records) w.place k seat.start seat.record o → Fits w.config.n w.place o
+    task : (seat : Seat) (o : Option SeenTask) → IsTaskOf w.config (map record_of w.records) w.place k seat.start seat.record o → Fits w.config.n w.place o
     task seat None h = tt
     task seat (Some t) h = (h.answers, h.phases)
 
-    at : ((x : Seat) × (k < length w.seats.items) × (Rattle.std.specs.Prelude.slice_get w.seats.items k ≡ Some x) × (get_or w.seats.items k x ≡ x)) ⊎ ((length w.seats.items ≤ k) × (Rattle.std.specs.Prelude.slice_get w.seats.items k ≡ None)) → Fits w.config.n w.place (client_at (the_view w).seen k).task
+    at : ((x : Seat) × (k < length w.seats.items) × (slice_get w.seats.items k ≡ Some x) × (get_or w.seats.items k x ≡ x)) ⊎ ((length w.seats.items ≤ k) × (slice_get w.seats.items k ≡ None)) → Fits w.config.n w.place (client_at (the_view w).seen k).task
     at (inl h) = subst (λ x. Fits w.config.n w.place x.task) (sym (client-seat w k h.1 h.0 (sym h.3))) (task h.0 h.0.client.seen.task (good.seat k h.0 h.2).task)
     at (inr h) = absurd (let e = good.clients in let q = h.0 in omega (arith, e, q, l))
 
@@ -102,9 +103,6 @@ module _ (v : WorldView) (k place : ℕ) (m : Message) (answer : IsAnswer k m) (
       started = ap (λ (x : ClientView). x.seen.started) e ∙ sym started;
     }
 
-    start : ℕ
-    start = Rattle.std.specs.Prelude.slice_index_or v.seen.starts k 0
-
     goes-on : (o : Option SeenTask) → Fits v.config.n v.seen.place o → (u : SeenTask) → goes_to (hears (seated v k) o m) ≡ Some u → (n : ℕ) → Becomes now.config now.seen.place (started_task n o) (Some u)
     goes-on None fit u e n = absurd (cc)
     goes-on (Some t) fit u e n =
@@ -112,11 +110,11 @@ module _ (v : WorldView) (k place : ℕ) (m : Message) (answer : IsAnswer k m) (
         record {
           block = next.block;
           work = next.work;
-          answers = next.answers ∙ ap (λ (c : Rattle.quorum_rules.specs.Limits.Numbers). c.n) (sym config);
+          answers = next.answers ∙ ap (λ (c : Numbers). c.n) (sym config);
           phases = (let p = next.phase in let q = fit.1 in omega (arith, p, q, later, at_place));
         }
 
-    ends : (o : Option SeenTask) (outcome : Rattle.protocol.specs.Operations.Outcome) → hears (seated v k) o m ≡ Ended outcome → (n : ℕ) → Becomes now.config now.seen.place (started_task n o) None
+    ends : (o : Option SeenTask) (outcome : Outcome) → hears (seated v k) o m ≡ Ended outcome → (n : ℕ) → Becomes now.config now.seen.place (started_task n o) None
     ends None outcome e n = absurd (cc)
     ends (Some t) outcome e n = tt
 
@@ -127,9 +125,9 @@ module _ (v : WorldView) (k place : ℕ) (m : Message) (answer : IsAnswer k m) (
         at Same h = tt
         at (Goes new) h =
             let e : new.seen.task ≡ Some h.0 = ap (λ (x : ClientView). x.seen.task) h.2 in
-            (same-client new (Some h.0) h.2, (h.0, e), rw (task, e) (goes-on (client_at v.seen k).task fit h.0 h.1 (Rattle.std.specs.Prelude.slice_index_or v.seen.starts k 0)))
+            (same-client new (Some h.0) h.2, (h.0, e), rw (task, e) (goes-on (client_at v.seen k).task fit h.0 h.1 (slice_index_or v.seen.starts k 0)))
         at (Ends new outcome) h =
-            (same-client new None h.1, ap (λ (x : ClientView). x.seen.task) h.1, rw task (ends (client_at v.seen k).task outcome h.0 (Rattle.std.specs.Prelude.slice_index_or v.seen.starts k 0)))
+            (same-client new None h.1, ap (λ (x : ClientView). x.seen.task) h.1, rw task (ends (client_at v.seen k).task outcome h.0 (slice_index_or v.seen.starts k 0)))
 
   -- ---- and then it heard the message
   module _ (w : World) (start : ℕ) where
@@ -145,17 +143,17 @@ module _ (v : WorldView) (k place : ℕ) (m : Message) (answer : IsAnswer k m) (
         let q : u ≡ is.0 = (let e = is.1 in cc) in
         let e : new.seen.task ≡ Some u = ap (λ (x : ClientView). x.seen.task) is.2 ∙ ap Some (sym q) in
         let n = next u refl in
-        ap (λ (o : Option SeenTask). settled (mailed (Counted u)) k (task_at start t) o None (Rattle.protocol.specs.Seen.chosen_of o) None) e
+        ap (λ (o : Option SeenTask). settled (mailed (Counted u)) k (task_at start t) o None (chosen_of o) None) e
         ∙ (λ i. record w {
           pool = w.pool ++ [];
-          task = Rattle.protocol.specs.Count.update w.task k (Some (task_at start u));
-          records = Rattle.protocol.specs.World.with_record w.records (record {
+          task = update w.task k (Some (task_at start u));
+          records = with_record w.records (record {
             client = k;
             block = sym n.block i;
             work = sym n.work i;
             start = start;
             end = None;
-            stamp = Rattle.protocol.specs.World.chosen_stamp u.work u.stage;
+            stamp = chosen_stamp u.work u.stage;
             outcome = None;
           });
           place = place;
@@ -164,17 +162,17 @@ module _ (v : WorldView) (k place : ℕ) (m : Message) (answer : IsAnswer k m) (
         let q : u ≡ is.0 = (let e = is.1 in cc) in
         let e : new.seen.task ≡ Some u = ap (λ (x : ClientView). x.seen.task) is.2 ∙ ap Some (sym q) in
         let n = next u refl in
-        ap (λ (o : Option SeenTask). settled (mailed (Begins u)) k (task_at start t) o None (Rattle.protocol.specs.Seen.chosen_of o) None) e
+        ap (λ (o : Option SeenTask). settled (mailed (Begins u)) k (task_at start t) o None (chosen_of o) None) e
         ∙ (λ i. record w {
           pool = (mailed (Begins u)).pool;
-          task = Rattle.protocol.specs.Count.update w.task k (Some (task_at start u));
-          records = Rattle.protocol.specs.World.with_record w.records (record {
+          task = update w.task k (Some (task_at start u));
+          records = with_record w.records (record {
             client = k;
             block = sym n.block i;
             work = sym n.work i;
             start = start;
             end = None;
-            stamp = Rattle.protocol.specs.World.chosen_stamp u.work u.stage;
+            stamp = chosen_stamp u.work u.stage;
             outcome = None;
           });
           place = place;
@@ -189,13 +187,10 @@ module _ (v : WorldView) (k place : ℕ) (m : Message) (answer : IsAnswer k m) (
       ∙ ap (λ (o : Option Task). heard_by (setting_in v) w place k o m answer.1) (sym task)
       ∙ ap (heard (setting_in v) w place k m) (sym answer.2)
     where
-      n : ℕ
-      n = Rattle.std.specs.Prelude.slice_index_or v.seen.starts k 0
-
       at : (o : Option SeenTask) → Fits v.config.n v.seen.place o → IsTurn (seated v k) (hears (seated v k) o m) turn
-          → taken (record w { pool = w.pool ++ next_mail (seated v k) (hears (seated v k) o m); place = place }) k (started_task (Rattle.std.specs.Prelude.slice_index_or v.seen.starts k 0) o) turn ≡ heard_by (setting_in v) w place k (started_task (Rattle.std.specs.Prelude.slice_index_or v.seen.starts k 0) o) m answer.1
+          → taken (record w { pool = w.pool ++ next_mail (seated v k) (hears (seated v k) o m); place = place }) k (started_task (slice_index_or v.seen.starts k 0) o) turn ≡ heard_by (setting_in v) w place k (started_task (slice_index_or v.seen.starts k 0) o) m answer.1
       at None f h = λ i. record w { pool = append-nil w.pool i; place = place }
       at (Some t) f h =
-          takes w (Rattle.std.specs.Prelude.slice_index_or v.seen.starts k 0) t (hears (seated v k) (Some t) m) turn (λ u g. hearing_next (setting_in v) k t u m answer.1 f.0 (ap goes_to (sym (told-is t)) ∙ g)) h
-          ∙ ap (after_hearing (setting_in v) w place k (Rattle.std.specs.Prelude.slice_index_or v.seen.starts k 0) t) (told-is t)
-          ∙ sym (heard_by-seen (setting_in v) w place k (Rattle.std.specs.Prelude.slice_index_or v.seen.starts k 0) t f.0 m answer.1)
+          takes w (slice_index_or v.seen.starts k 0) t (hears (seated v k) (Some t) m) turn (λ u g. hearing_next (setting_in v) k t u m answer.1 f.0 (ap goes_to (sym (told-is t)) ∙ g)) h
+          ∙ ap (after_hearing (setting_in v) w place k (slice_index_or v.seen.starts k 0) t) (told-is t)
+          ∙ sym (heard_by-seen (setting_in v) w place k (slice_index_or v.seen.starts k 0) t f.0 m answer.1)

@@ -4,3 +4,4 @@ pub mod Steps
 pub mod Actors
 pub mod Acceptances
 pub mod Turns
+pub mod Beginnings

@@ -5,7 +5,9 @@ ghost use Rattle.std.specs.declared.option.Option.TheVariants.{None};
 ghost use Rattle.protocol.specs.Messages.{Message as Messages};
 ghost use Rattle.protocol.specs.World.{sent, heard, happens, Fits, chosen_stamp, stamp_of_outcome};
 ghost use Rattle.protocol.specs.World.Event.{Start, Resend as Resends, CrashClient as ClientCrashes, Back as ComesBack};
-ghost use Rattle.protocol.specs.Seen.{client_at, block_of, work_of, phase_of};
+ghost use Rattle.protocol.specs.Seen.{client_at, block_of, work_of, phase_of, outstanding_of};
+ghost use Rattle.protocol.specs.Count.{collect};
+ghost use Rattle.protocol.specs.Instance.{setting};
 ghost use Rattle.world_steps.specs.Worlds.{setting_in, world_in};
 ghost use Rattle.run_words.specs.declared.record.Record.{Record as Told};
 ghost use Rattle.client_core.specs.Clients.{hears};
@@ -16,6 +18,7 @@ use crate::state::State;
 use crate::turn::Turn;
 use client_core::{Client, Heard};
 use lists::{Copied, ItemList, NoMemory};
+use quorum_rules::Config;
 use run_words::{Outcome, Record};
 use stamp_order::Stamp;
 use std::alloc::Global;
@@ -67,7 +70,12 @@ impl State {
         ensures lying_clients { OnOk result (self.new.lying_clients ≡ self.old.lying_clients) }
         ensures err { OnErr result (self.new ≡ self.old) }
     {
-        Err(NoMemory)
+        let mail = outstanding(
+            self.alloc,
+            &self.seats[client as usize].client,
+            &self.config,
+        )?;
+        self.send(place, mail)
     }
 
     /// What the message makes of the client, and the messages of the next phase if one begins.
@@ -228,16 +236,32 @@ impl State {
         ensures lying_clients { OnOk result (self.new.lying_clients ≡ self.old.lying_clients) }
         ensures err { OnErr result (self.new ≡ self.old) }
     {
-        Err(NoMemory)
+        let life = self.seats[client as usize].client.life() + 1;
+        let again = Client::again(self.alloc, &self.config, client, life)?;
+        let seat = &mut self.seats[client as usize];
+        seat.client = again;
+        seat.crashed = false;
+        self.place = place;
+        Ok(())
     }
 }
 
+/// The messages of the client's present phase, none if it is idle.
+fn outstanding(alloc: Global, client: &Client, config: &Config) -> Result<Mail, NoMemory>
+    requires { client.now.config ≡ config.now }
+    ensures { IfOk result (λ mail. mail ≡ collect config.now.n (outstanding_of (setting config.now) client.now.id client.now.seen.task)) }
+{
+    let mut mail = ItemList::new(alloc);
+    for node in 0..config.n() as u8 {
+        if let Some(message) = client.outstanding(node)? {
+            mail.push(message)?;
+        }
+    }
+    Ok(mail)
+}
+
 /// What a message makes of a client, and the messages of the next phase if one begins.
-fn turn_of(
-    alloc: Global,
-    mut hearer: Client,
-    message: &Message,
-) -> Result<(Turn, Mail), NoMemory>
+fn turn_of(alloc: Global, mut hearer: Client, message: &Message) -> Result<(Turn, Mail), NoMemory>
     requires { phase_of hearer.seen.task < 2 ^ 64 - 1 }
     ensures turn { IfOk result (λ r. IsTurn hearer (hears hearer hearer.seen.task message.now) r.0) }
     ensures mail { IfOk result (λ r. r.1 ≡ next_mail hearer (hears hearer hearer.seen.task message.now)) }

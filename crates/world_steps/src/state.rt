@@ -1,12 +1,16 @@
 ghost use Rattle.std.specs.Prelude.{◌≡◌, ◌<◌, List, length, IfOk};
 ghost use Rattle.protocol.specs.Instance.{setting_of};
 ghost use Rattle.wire_forms.specs.Liars.{has_number};
+ghost use Rattle.quorum_rules.specs.Limits.{IsValid};
 ghost use Rattle.protocol.specs.World.{start_world};
 ghost use Rattle.world_steps.specs.Worlds.{setting_in, world_in, AreLiars};
+ghost use Rattle.world_steps.specs.Beginnings.{AreNewHosts, AreNewSeats};
 
 use crate::host::Host;
 use crate::seat::Seat;
+use client_core::Client;
 use lists::{ItemList, NoMemory};
+use node_core::Node;
 use quorum_rules::Config;
 use run_words::{Accepted, Record};
 use std::alloc::Global;
@@ -69,6 +73,51 @@ impl State {
         ensures liars { IfOk result (λ w. setting_in w ≡ setting_of config.now (has_number liars.now.nodes) (has_number liars.now.clients)) }
         ensures start { IfOk result (λ w. world_in w ≡ start_world (setting_in w)) }
     {
-        Err(NoMemory)
+        Ok(State {
+            alloc,
+            config: *config,
+            first: First::of(alloc, config)?,
+            pool: ItemList::new(alloc),
+            hosts: new_hosts(alloc, config, liars)?,
+            seats: new_seats(alloc, config, liars)?,
+            records: ItemList::new(alloc),
+            accepted: ItemList::new(alloc),
+            place: 0,
+        })
     }
+}
+
+/// The nodes before anything took place.
+fn new_hosts(alloc: Global, config: &Config, liars: &Liars) -> Result<Vec<Host>, NoMemory>
+    ensures valid { IsValid config.now }
+    ensures count { IfOk result (λ hosts. length hosts.items ≡ config.now.n) }
+    ensures hosts { IfOk result (λ hosts. AreNewHosts config.now (has_number liars.now.nodes) hosts.items) }
+{
+    let mut hosts = Vec::new(alloc);
+    for number in 0..config.n() as u8 {
+        hosts.push(Host {
+            node: Node::new(alloc, config, number)?,
+            crashed: false,
+            lying: liars.node(number),
+        })?;
+    }
+    Ok(hosts)
+}
+
+/// The clients of the numbers from 0 to 1000 before their first operations.
+fn new_seats(alloc: Global, config: &Config, liars: &Liars) -> Result<Vec<Seat>, NoMemory>
+    ensures count { IfOk result (λ seats. length seats.items ≡ 1001) }
+    ensures seats { IfOk result (λ seats. AreNewSeats config.now (has_number liars.now.clients) seats.items) }
+{
+    let mut seats = Vec::new(alloc);
+    for id in 0..1001 {
+        seats.push(Seat {
+            client: Client::new(alloc, config, id)?,
+            start: 0,
+            record: 0,
+            crashed: false,
+            lying: liars.client(id),
+        })?;
+    }
+    Ok(seats)
 }

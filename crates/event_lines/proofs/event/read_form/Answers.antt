@@ -1,4 +1,4 @@
-use Rattle.std.proofs.Common.{◌≡◌, ◌∙◌}
+use Rattle.std.proofs.Common.{◌≡◌}
 use Rattle.text_lines.specs.Lines.{fields_of, texts}
 use Rattle.event_lines.proofs.event.read_form.Goals as goal
 

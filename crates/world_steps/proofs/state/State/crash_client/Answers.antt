@@ -1,6 +1,6 @@
-use Rattle.std.proofs.Common.{◌≡◌, ◌<◌, true, length, refl, sym, ◌∙◌, ap, arith}
+use Rattle.std.proofs.Common.{◌<◌, true, length, refl, sym, ◌∙◌, ap, arith}
 use Rattle.protocol.specs.Count.{update}
-use Rattle.world_steps.specs.Worlds.{setting_in, world_in}
+use Rattle.world_steps.specs.Worlds.{world_in}
 use Rattle.world_steps.specs.contracts.state.State.{the_view}
 use Rattle.world_steps.proofs.Holding.{raised, seated}
 use Rattle.world_steps.proofs.Seated.{update-known, world-seat, lying-seat, client-seat, task-seat, seat-there}

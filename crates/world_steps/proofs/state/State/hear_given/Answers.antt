@@ -1,5 +1,5 @@
-use Rattle.std.proofs.Common.{◌≡◌, ◌<◌, ◌∷◌, ◌++◌, [], length, refl, sym, ◌∙◌, ap, subst, arith}
-use Rattle.protocol.specs.World.{World, sent}
+use Rattle.std.proofs.Common.{◌∷◌, [], refl, ◌∙◌, ap, subst}
+use Rattle.protocol.specs.World.{World}
 use Rattle.protocol.specs.Seen.{client_at}
 use Rattle.world_steps.specs.Worlds.{setting_in, world_in}
 use Rattle.world_steps.specs.Steps.{handles}

@@ -1,8 +1,7 @@
-use Rattle.std.proofs.Common.{◌≡◌, ◌<◌, ◌∷◌, ◌++◌, [], length, refl, sym, ◌∙◌, ap, subst, arith}
+use Rattle.std.proofs.Common.{◌∷◌, [], refl, ◌∙◌, ap, subst}
 use Rattle.protocol.specs.World.{World, sent}
 use Rattle.protocol.specs.Seen.{client_at}
 use Rattle.world_steps.specs.Worlds.{setting_in, world_in}
-use Rattle.world_steps.specs.Steps.{handles}
 use Rattle.world_steps.proofs.Taking.{Fits, fits-seat, may-take, heard-taken, sent-together}
 use Rattle.world_steps.proofs.state.State.hear_sent.Goals as goal
 

@@ -1,4 +1,4 @@
-use Rattle.std.proofs.Common.{◌≡◌, ◌<◌, length, refl, sym, ◌∙◌, ap, subst, arith}
+use Rattle.std.proofs.Common.{◌≡◌, refl, sym, ◌∙◌, ap, subst}
 use Rattle.std.specs.Prelude.{IfSome}
 use Rattle.world_steps.specs.Worlds.{world_in}
 use Rattle.std.specs.Vec.{with_item}
@@ -16,11 +16,13 @@ tell-requires c =
     (subst (λ v. Becomes v.config v.seen.place ((world_in v).task c.args.client) c.args.hearer.seen.task) (sym c.self.view_is) c.requires.task)
 
 pub invariant_of-self : goal.invariant_of-self
-invariant_of-self c =
-    (settle-kept c.self.inside c.args.client (seat-within _ _ _ _ _ c.self.invariant.0 c.args.client c.requires.client) c.index_mut-seat.result.now c.index_mut-seat.ensures.value c.self.invariant.0
-    c.args.hearer (subst (λ v. IsSame v c.args.client c.args.hearer) (sym c.self.view_is) c.requires.hearer) c.args.end c.args.stamp c.args.outcome
-    (subst (λ v. Becomes v.config v.seen.place ((world_in v).task c.args.client) c.args.hearer.seen.task) (sym c.self.view_is) c.requires.task)
-    c.requires.told c.tell.new.records c.tell.ensures, c.self.invariant.1)
+invariant_of-self c = (
+  settle-kept c.self.inside c.args.client (seat-within _ _ _ _ _ c.self.invariant.0 c.args.client c.requires.client) c.index_mut-seat.result.now c.index_mut-seat.ensures.value c.self.invariant.0
+      c.args.hearer (subst (λ v. IsSame v c.args.client c.args.hearer) (sym c.self.view_is) c.requires.hearer) c.args.end c.args.stamp c.args.outcome
+      (subst (λ v. Becomes v.config v.seen.place ((world_in v).task c.args.client) c.args.hearer.seen.task) (sym c.self.view_is) c.requires.task)
+      c.requires.told c.tell.new.records c.tell.ensures,
+  c.self.invariant.1,
+)
 
 pub returns-clause-world : goal.returns-clause-world
 returns-clause-world c =

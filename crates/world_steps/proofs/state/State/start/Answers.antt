@@ -1,8 +1,6 @@
-use Rattle.std.proofs.Common.{◌≡◌, ◌<◌, ◌∷◌, ◌++◌, [], length, refl, sym, ◌∙◌, ap, subst, arith}
-use Rattle.std.specs.Vec.{with_item}
+use Rattle.std.proofs.Common.{refl, sym, ◌∙◌, ap, arith}
 use Rattle.protocol.specs.World.{started_by}
 use Rattle.client_core.specs.Clients.{ClientView, started, with_started, mail_of}
-use Rattle.world_steps.specs.contracts.state.State.{the_view}
 use Rattle.world_steps.specs.Worlds.{setting_in, world_in}
 use Rattle.world_steps.specs.Steps.{seated}
 use Rattle.world_steps.proofs.Holding.{seat-within}
@@ -13,10 +11,12 @@ use Rattle.world_steps.proofs.state.State.start.Goals as goal
 pub invariant_of-self-2 : goal.invariant_of-self-2
 invariant_of-self-2 c =
     let is = c.in_ok-starter.ensures.same ∙ ap (λ v. seated v c.args.client) (sym c.self.view_is) in
-    rw c.len-index.ensures
-    (begun-kept c.self.inside c.args.client (seat-within _ _ _ _ _ c.self.invariant.0 c.args.client c.requires.client) c.index_mut-seat.result.now c.index_mut-seat.ensures.value c.self.invariant.0
-    c.args.op c.args.place (let l = c.requires.later in let e = ap (λ v. v.seen.place) c.self.view_is in omega (arith, l, e)) c.start.new.self
-    (c.in_ok-mail.ensures.ok ∙ ap (λ (x : ClientView). with_started x (started x c.args.op)) is) c.add.new.records c.in_ok-add.ensures.told, c.self.invariant.1)
+    rw c.len-index.ensures (
+      begun-kept c.self.inside c.args.client (seat-within _ _ _ _ _ c.self.invariant.0 c.args.client c.requires.client) c.index_mut-seat.result.now c.index_mut-seat.ensures.value c.self.invariant.0
+          c.args.op c.args.place (let l = c.requires.later in let e = ap (λ v. v.seen.place) c.self.view_is in omega (arith, l, e)) c.start.new.self
+          (c.in_ok-mail.ensures.ok ∙ ap (λ (x : ClientView). with_started x (started x c.args.op)) is) c.add.new.records c.in_ok-add.ensures.told,
+      c.self.invariant.1,
+    )
 
 pub returns-clause-ok : goal.returns-clause-ok
 returns-clause-ok c =

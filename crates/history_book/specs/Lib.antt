@@ -1,0 +1,4 @@
+pub mod Books
+pub mod Tellings
+pub mod Reports
+pub mod Drafts

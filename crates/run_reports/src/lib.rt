@@ -1,0 +1,24 @@
+//! The history of a world, and what holds of the history of every run.
+#![tactic(auto)]
+
+ghost use Rattle.std.specs.Prelude.{◌<◌, ◌^◌, List, IfOk};
+ghost use Rattle.protocol.specs.Setting.{first_stamp};
+ghost use Rattle.protocol.specs.History.{Entry as FullEntry};
+ghost use Rattle.history_book.specs.Tellings.{Tells};
+ghost use Rattle.world_steps.specs.Worlds.{setting_in, world_in};
+ghost use Rattle.run_reports.specs.Registers.{AreRegisters};
+
+use history_book::History;
+use lists::NoMemory;
+use std::alloc::Global;
+use world_steps::World;
+
+/// The history of the run that leads to a world. Whatever starts, deliveries, losses, repeats, crashes and lies the run's lines
+/// make, it is one of plain registers, and in time.
+pub fn history_of(alloc: Global, world: &World) -> Result<History, NoMemory>
+    requires { world.now.seen.place < 2 ^ 31 }
+    ensures { IfOk result (λ book. (h : List FullEntry) × Tells world.now.seen.records (first_stamp (setting_in world.now)) h book × AreRegisters (setting_in world.now) (world_in world.now) h) }
+{
+    world.is_reached();
+    history_book::history_of(alloc, world.records(), world.first_stamp())
+}

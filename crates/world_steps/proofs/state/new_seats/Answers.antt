@@ -1,0 +1,14 @@
+use Rattle.std.proofs.Common.{false, sym, ◌∙◌, ap, subst, arith}
+use Rattle.std.proofs.lemmas.Grind.{common_steps}
+use Rattle.wire_forms.specs.Liars.{has_number}
+use Rattle.world_steps.specs.Beginnings.{new_seat, AreNewSeats}
+use Rattle.world_steps.proofs.Beginning.{seats-push}
+use Rattle.world_steps.proofs.state.new_seats.Goals as goal
+
+pub loop-id-preserved : goal.loop-id-preserved
+loop-id-preserved c = record {
+  count = grind (arith, common_steps);
+  new =
+      subst (AreNewSeats c.args.config.now (has_number c.args.liars.now.clients)) (sym c.in_ok-push.ensures.items)
+      (seats-push c.args.config.now (has_number c.args.liars.now.clients) c.loop-id.seats.items _ c.loop-id.invariant.new ((λ i. record { client = c.in_ok-new.ensures i; start = 0; «record» = 0; crashed = false; lying = c.client.ensures i }) ∙ ap (new_seat c.args.config.now (has_number c.args.liars.now.clients)) (sym c.loop-id.invariant.count)));
+}
