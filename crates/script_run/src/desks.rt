@@ -218,7 +218,7 @@ fn play(world: &mut World, place: u64, line: &Line) -> Result<(), LineRefusal>
     requires fits { FitsLine (setting_in world.now) line.now }
     ensures allowed { OnOk result (option_map Step (fault (setting_in world.old) (world_in world.old) line.now) ≡ None) }
     ensures ok { OnOk result (world_in world.new ≡ plays (setting_in world.old) (world_in world.old) place line.now) }
-    ensures cluster { OnOk result (world.new.config ≡ world.old.config) }
+    ensures cluster { world.new.config ≡ world.old.config }
     ensures setting { OnOk result (setting_in world.new ≡ setting_in world.old) }
     ensures cause { (c : Causes) → IsErrOf result (LineRefusal.Cause c) → option_map Step (fault (setting_in world.old) (world_in world.old) line.now) ≡ Some c }
 {

@@ -5,7 +5,7 @@ ghost use Rattle.protocol.specs.Instance.{setting_of};
 ghost use Rattle.line_forms.specs.declared.cause.Cause.{Cause as Causes};
 ghost use Rattle.script_text.specs.Replays.{IsReplay};
 ghost use Rattle.world_steps.specs.Worlds.{setting_in, world_in};
-ghost use Rattle.script_run.specs.Performing.{Desks, Performs, StopsAt};
+ghost use Rattle.script_run.specs.Performing.{Desks as TheDesks, Performs, StopsAt};
 
 use crate::desks::Desks;
 use line_forms::{ScriptRefusal, refused};
@@ -20,7 +20,7 @@ pub fn perform(alloc: Global, replay: &Replay) -> Result<World, ScriptRefusal>
     requires { IsReplay replay.now.config replay.now.liars replay.now.lines }
     ensures cluster { IfOk result (λ w. w.config ≡ replay.now.config) }
     ensures liars { IfOk result (λ w. setting_in w ≡ setting_of replay.now.config (has_number replay.now.liars.nodes) (has_number replay.now.liars.clients)) }
-    ensures run { IfOk result (λ w. (d : Desks) × Performs (setting_in w) w.config replay.now.lines d × (d.world ≡ world_in w)) }
+    ensures run { IfOk result (λ w. (d : TheDesks) × Performs (setting_in w) w.config replay.now.lines d × (d.world ≡ world_in w)) }
     ensures placed { IfOk result (λ w. w.seen.place ≡ length replay.now.lines) }
     // The lines of a script are two head lines, one for each liar, and the event lines.
     ensures stop { (line : ℕ) (cause : Causes) → IsErrOf result (ScriptRefusal.Fault (record { line = line; cause = cause }))

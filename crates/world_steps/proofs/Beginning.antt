@@ -97,7 +97,7 @@ module _ (w : Inside) (liars : Liars) (hosts : AreNewHosts w.config (has_number 
   kept-begin valid records = record {
     valid = valid;
     nodes = nodes;
-    host = λ i h e. subst (IsHost w.config i) (sym (hosts i h e)) (record { config = refl; number = refl });
+    host = λ i h e. subst (IsHost w.config i) (sym (hosts i h e)) (record { config = refl; number = refl; blocks = length-replicate w.config.blocks (first_version (setting w.config) i ∷ []) });
     clients = clients;
     seat = λ k x e. subst (IsSeat w.config (map record_of w.records) w.place k) (sym (seats k x e)) (record { config = refl; id = refl; task = tt });
     ascend = subst (λ (rs : List Told). Ascend (map (λ r. r.start) rs)) (sym records) tt;
