@@ -44,7 +44,7 @@ formed_body (Answers reply) h = formed_reply reply h
 
 -- a line of a script for this cluster
 pub fits_line : (c : Numbers) (nodes clients : ℕ → Bool) (line : Line) → IsLine c line → FitsLine (setting_of c nodes clients) line
-fits_line c nodes clients (Write client block value) h = (h.1.0.there, h.1.1.whole, bytes_of value h.1.1.bytes)
+fits_line c nodes clients (Write client block value) h = (h.1.there, (h.2.whole, bytes_of value h.2.bytes))
 fits_line c nodes clients (Read client block) h = h.1.there
 fits_line c nodes clients (Resend client) h = tt
 fits_line c nodes clients (Call client node) h = tt
@@ -56,9 +56,9 @@ fits_line c nodes clients (CrashClient client) h = tt
 fits_line c nodes clients (Lie m) h = formed_body m.body h.body
 fits_line c nodes clients (Tell m) h = formed_body m.body h.0.body
 fits_line c nodes clients (Poke m) h = formed_body m.body h.0.body
-fits_line c nodes clients (False client node rule) h = h.1.1
-fits_line c nodes clients (Sound client node block time value) h = (h.1.1.1.1.whole, bytes_of value h.1.1.1.1.bytes)
-fits_line c nodes clients (Mix client node block time value other) h = ((h.1.1.1.1.0.whole, bytes_of value h.1.1.1.1.0.bytes), (h.1.1.1.1.1.whole, bytes_of other h.1.1.1.1.1.bytes))
+fits_line c nodes clients (False client node rule) h = h.2
+fits_line c nodes clients (Sound client node block time value) h = (h.4.whole, bytes_of value h.4.bytes)
+fits_line c nodes clients (Mix client node block time value other) h = ((h.4.whole, bytes_of value h.4.bytes), (h.5.whole, bytes_of other h.5.bytes))
 fits_line c nodes clients (Prune node block) h = absurd h
 fits_line c nodes clients (Back client) h = tt
 fits_line c nodes clients (Restart node) h = tt

@@ -1,5 +1,5 @@
 -- Desks of which one changes.
-use Rattle.std.proofs.Common.{◌≡◌, ℕ, ◌<◌, suc, List, [], ◌∷◌, refl, sym, ap, subst, ◌∙◌, length, get_or, replicate, inl, inr, arith}
+use Rattle.std.proofs.Common.{◌≡◌, ℕ, ◌<◌, zero, suc, List, [], ◌∷◌, refl, sym, ap, subst, ◌∙◌, length, get_or, replicate, inl, inr, arith}
 use Rattle.std.specs.Prelude.{slice_index_or, slice_get, slice_set}
 use Rattle.std.specs.List.{All}
 use Rattle.std.specs.declared.option.Option.TheVariants.{None, Some}

@@ -1,5 +1,5 @@
 -- The latest read among records, from the last record on.
-use Rattle.std.proofs.Common.{◌≡◌, ℕ, ◌+◌, ◌<◌, suc, List, [], ◌∷◌, Option, map, ap, ◌∙◌, length, get_or, drop}
+use Rattle.std.proofs.Common.{◌≡◌, ℕ, ◌+◌, ◌<◌, zero, suc, List, [], ◌∷◌, Option, map, ap, ◌∙◌, length, get_or, drop}
 use Rattle.std.proofs.lemmas.List.{drop_more}
 use Rattle.std.specs.declared.option.Option.TheVariants.{None, Some}
 use Rattle.run_words.specs.declared.record.Record.{Record as Told}

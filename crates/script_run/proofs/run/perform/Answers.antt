@@ -1,0 +1,32 @@
+use Rattle.std.proofs.Common.{◌≡◌, ◌+◌, ◌<◌, ℕ, refl, sym, ap, subst, ◌∙◌, length, get_or, take, arith, List}
+use Rattle.std.specs.declared.option.Option.TheVariants.{None, Some}
+use Rattle.wire_forms.specs.Liars.{has_number}
+use Rattle.quorum_rules.specs.Limits.{Numbers}
+use Rattle.protocol.specs.Setting.{Setting}
+use Rattle.protocol.specs.Instance.{setting_of}
+use Rattle.line_forms.specs.declared.cause.Cause.{Cause as Causes}
+use Rattle.event_lines.specs.declared.line.ReplayLine.{ReplayLine}
+use Rattle.script_run.specs.Performing.{cause_of, after_line, start_desks}
+use Rattle.script_run.specs.Performing.{Desks as TheDesks}
+use Rattle.script_run.specs.Desks.{desks_in}
+use Rattle.script_run.proofs.Leading.{leads_next, stops_here, after-place, told_at}
+use Rattle.script_run.proofs.run.perform.Goals as goal
+
+pub returns-in-Err-clause-stop : goal.returns-in-Err-clause-stop
+returns-in-Err-clause-stop c = λ line cause e.
+    let config = c.args.replay.now.config in
+    let s = setting_of config (has_number c.args.replay.now.liars.nodes) (has_number c.args.replay.now.liars.clients) in
+    let lines = c.args.replay.now.lines in
+    let i = c.loop-line.line-index in
+    let inv = c.loop-line.invariant in
+    let x = c.line-item.result in
+    let d = desks_in c.loop-line.desks in
+    let item : x ≡ get_or lines i x = c.line-item.is ∙ ap (λ (ls : List ReplayLine). get_or ls i x) c.as_slice-line-items.ensures in
+    let lt : i < length lines = subst (λ (ls : List ReplayLine). i < length ls) c.as_slice-line-items.ensures c.loop-line-test.true in
+    let told = told_at _ line c.in-Err.refusal cause (sym c.refused.ensures ∙ cc) in
+    let why : cause_of s config d x ≡ Some cause =
+    subst (λ (n : Numbers). cause_of s n d x ≡ Some cause) inv.cluster (subst (λ (z : Setting). cause_of z c.loop-line.desks.world.config d x ≡ Some cause) inv.setting (c.in-Err.ensures.cause cause (ap _ told.0))) in
+    let before = c.lines_before.ensures.is in
+    let place = inv.place in
+    let number = told.1 in
+    (i, stops_here s config d lines i x cause lt item inv.leads why, omega arith)
