@@ -1,9 +1,10 @@
 -- Desks of which one changes.
 use Rattle.std.proofs.Common.{◌≡◌, ℕ, ◌<◌, zero, suc, List, [], ◌∷◌, refl, sym, ap, subst, ◌∙◌, length, get_or, replicate, inl, inr, arith}
-use Rattle.std.specs.Prelude.{slice_index_or, slice_get, slice_set}
+use Rattle.std.specs.Prelude.{slice_index_or, slice_get, slice_set, Result, Ok, Err, OnOk}
 use Rattle.std.specs.List.{All}
 use Rattle.std.specs.declared.option.Option.TheVariants.{None, Some}
-use Rattle.std.proofs.lemmas.List.{get_or-set_same, length-set, length-replicate}
+use Rattle.std.proofs.lemmas.List.{length-set, length-replicate, get_or_read}
+use Rattle.std.proofs.lemmas.List.Elements.{All-head, All-tail}
 use Rattle.std.proofs.lemmas.Option.{get_or_from_slice_get, slice_get-get_or, slice_get_within}
 use Rattle.quorum_rules.specs.Limits.{Numbers}
 use Rattle.protocol.specs.Count.{update}
@@ -23,6 +24,11 @@ none = []
 -- desks with this world
 abbrev pub with_left : World → (ℕ → List BlockStep) → Desks
 with_left w left = record { world = w; left = left }
+
+-- what follows where something took place
+pub on_ok : {T E A B : Type 0} (r : Result T E) → (A → B) → OnOk r A → OnOk r B
+on_ok (Ok x) f h = f h
+on_ok (Err e) f h = tt
 
 -- another world, and other steps
 pub both : (w z : World) (f g : ℕ → List BlockStep) → w ≡ z → f ≡ g → with_left w f ≡ with_left z g
@@ -68,3 +74,18 @@ module _ (c : Numbers) where
           | inr f ↦ subst (λ (z : List BlockStep). All (Fits c) z) (sym f.1 ∙ sym both ∙ at) (desk_fits left k h (omega (arith, same, within)))
         ];
   }
+
+  module _ (left : List (List BlockStep)) (i : ℕ) (step : BlockStep) (more : List BlockStep) (h : AreDesks c left) (l : i < length left) (x : List BlockStep) (at : x ≡ get_or left i x) (is : x ≡ step ∷ more) where
+    -- the steps of a desk whose first one is taken
+    pub desk_is : get_or left i none ≡ step ∷ more
+    desk_is = sym (get_or_read left i x l at none) ∙ is
+
+    all_fit : All (Fits c) (step ∷ more)
+    all_fit = subst (λ (z : List BlockStep). All (Fits c) z) desk_is (desk_fits left i h l)
+
+    -- the one taken fits, and so do the desks that are left
+    pub step_fits : Fits c step
+    step_fits = All-head (Fits c) step more all_fit
+
+    pub desks_stay : AreDesks c (slice_set left i more)
+    desks_stay = set_desk left i more h l (All-tail (Fits c) step more all_fit)

@@ -1,4 +1,6 @@
 use Rattle.std.proofs.Common.{◌≡◌, ◌+◌, ◌<◌, ℕ, refl, sym, ap, subst, ◌∙◌, length, get_or, take, arith, List}
+use Rattle.std.specs.Prelude.{Err}
+use Rattle.line_forms.specs.declared.refusal.LineRefusal.{LineRefusal}
 use Rattle.std.specs.declared.option.Option.TheVariants.{None, Some}
 use Rattle.wire_forms.specs.Liars.{has_number}
 use Rattle.quorum_rules.specs.Limits.{Numbers}
@@ -25,8 +27,11 @@ returns-in-Err-clause-stop c = λ line cause e.
     let lt : i < length lines = subst (λ (ls : List ReplayLine). i < length ls) c.as_slice-line-items.ensures c.loop-line-test.true in
     let told = told_at _ line c.in-Err.refusal cause (sym c.refused.ensures ∙ cc) in
     let why : cause_of s config d x ≡ Some cause =
-    subst (λ (n : Numbers). cause_of s n d x ≡ Some cause) inv.cluster (subst (λ (z : Setting). cause_of z c.loop-line.desks.world.config d x ≡ Some cause) inv.setting (c.in-Err.ensures.cause cause (ap _ told.0))) in
+    subst (λ (n : Numbers). cause_of s n d x ≡ Some cause) inv.cluster (subst (λ (z : Setting). cause_of z c.loop-line.desks.world.config d x ≡ Some cause) inv.setting (c.in-Err.ensures.cause cause (ap (λ (r : LineRefusal). Err r) told.0))) in
     let before = c.lines_before.ensures.is in
     let place = inv.place in
     let number = told.1 in
     (i, stops_here s config d lines i x cause lt item inv.leads why, omega arith)
+
+pub loop-line-preserved : goal.loop-line-preserved
+loop-line-preserved c = ?
