@@ -44,19 +44,20 @@ chosen true o v e = e
 chosen false o v e = absurd cc
 
 module _ (client block : ℕ) where
-  -- what a latest read gives, some record gives
-  mutual
-    latest-gave : (rs : List Record) (v : List ℕ) → latest_read client block rs ≡ Some v → (r : Record) × Contains rs r × (value_given r.outcome ≡ Some v)
-    latest-gave [] v e = absurd cc
-    latest-gave (r ∷ rs) v e = later r rs v (latest_read client block rs) refl e
+  later : (r : Record) (rs : List Record) (v : List ℕ) (o : Option (List ℕ))
+      → (latest_read client block rs ≡ Some v → (x : Record) × Contains rs x × (value_given x.outcome ≡ Some v))
+      → latest_read client block rs ≡ o → or_else o (read_by client block r) ≡ Some v
+      → (x : Record) × Contains (r ∷ rs) x × (value_given x.outcome ≡ Some v)
+  later r rs v (Some x) rest f g =
+      let more = rest (f ∙ g) in
+      let l = more.1.1 in
+      (more.0, (suc more.1.0, omega arith, more.1.2), more.2)
+  later r rs v None rest f g = (r, (0, omega arith, refl), chosen _ (value_given r.outcome) v g)
 
-    later : (r : Record) (rs : List Record) (v : List ℕ) (o : Option (List ℕ)) → latest_read client block rs ≡ o → or_else o (read_by client block r) ≡ Some v
-        → (x : Record) × Contains (r ∷ rs) x × (value_given x.outcome ≡ Some v)
-    later r rs v (Some x) f g =
-        let more = latest-gave rs v (f ∙ g) in
-        let l = more.1.1 in
-        (more.0, (suc more.1.0, omega arith, more.1.2), more.2)
-    later r rs v None f g = (r, (0, omega arith, refl), chosen _ (value_given r.outcome) v g)
+  -- what a latest read gives, some record gives
+  latest-gave : (rs : List Record) (v : List ℕ) → latest_read client block rs ≡ Some v → (r : Record) × Contains rs r × (value_given r.outcome ≡ Some v)
+  latest-gave [] v e = absurd cc
+  latest-gave (r ∷ rs) v e = later r rs v (latest_read client block rs) (latest-gave rs v) refl e
 
   -- what it gives is as long as a block
   pub latest-size : (w : WorldView) → IsReached w → (v : List ℕ) → latest_read client block w.seen.records ≡ Some v → length v ≡ w.config.size
