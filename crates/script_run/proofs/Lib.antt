@@ -1,0 +1,5 @@
+pub mod Reading
+pub mod Leading
+pub mod Counting
+pub mod Keeping
+pub mod Fitting

@@ -47,50 +47,51 @@ abbrev pub latest_read : ℕ → ℕ → List Record → Option (List ℕ)
 latest_read client block [] = None
 latest_read client block (r ∷ rs) = or_else (latest_read client block rs) (read_by client block r)
 
-module _ (s : Setting) (c : Numbers) where
+-- why a command can't begin: its range, or steps that are left of an earlier one
+abbrev pub command_cause : Option DeviceFault → List BlockStep → Option Cause
+command_cause (Some f) left = Some (Device f)
+command_cause None [] = None
+command_cause None (step ∷ more) = Some QueueBusy
+
+module _ (s : Setting) where
   -- the operation that a step starts: a read, a write of the whole block, or a write of the client's latest read of it with the step's bytes in their place
   abbrev pub started_by : World → ℕ → BlockStep → Line
   started_by w client (Reads k) = Read client k
   started_by w client (Whole k value) = Write client k value
   started_by w client (Merge k at bytes) = Write client k (merged (unwrap_or (latest_read client k w.records) (zeros s)) at bytes)
 
-  -- why a command can't begin: its range, or steps that are left of an earlier one
-  abbrev pub command_cause : Option DeviceFault → List BlockStep → Option Cause
-  command_cause (Some f) left = Some (Device f)
-  command_cause None [] = None
-  command_cause None (step ∷ more) = Some QueueBusy
-
   -- why the next step can't start
   abbrev pub next_cause : World → ℕ → List BlockStep → Option Cause
   next_cause w client [] = Some NoCommand
   next_cause w client (step ∷ more) = option_map Step (fault s w (started_by w client step))
-
-  -- why a line can't take place
-  abbrev pub cause_of : Desks → ReplayLine → Option Cause
-  cause_of d (Plain line) = option_map Step (fault s d.world line)
-  cause_of d (Put client offset bytes) = command_cause (fault_of c (Puts offset bytes)) (d.left client)
-  cause_of d (Get client offset len) = command_cause (fault_of c (Gets offset len)) (d.left client)
-  cause_of d (Next client) = next_cause d.world client (d.left client)
-
-  -- a command begins, and nothing else takes place
-  abbrev pub begun : Desks → ℕ → ℕ → DeviceOp → Desks
-  begun d place client op = record { world = only_place s d.world place; left = update d.left client (steps_of c op) }
 
   -- the first step that is left starts
   abbrev pub stepped : Desks → ℕ → ℕ → List BlockStep → Desks
   stepped d place client [] = d
   stepped d place client (step ∷ more) = record { world = plays s d.world place (started_by d.world client step); left = update d.left client more }
 
+  -- before anything took place
+  abbrev pub start_desks : Desks
+  start_desks = record { world = start_world s; left = λ client. [] }
+
+module _ (s : Setting) (c : Numbers) where
+  -- why a line can't take place
+  abbrev pub cause_of : Desks → ReplayLine → Option Cause
+  cause_of d (Plain line) = option_map Step (fault s d.world line)
+  cause_of d (Put client offset bytes) = command_cause (fault_of c (Puts offset bytes)) (d.left client)
+  cause_of d (Get client offset len) = command_cause (fault_of c (Gets offset len)) (d.left client)
+  cause_of d (Next client) = next_cause s d.world client (d.left client)
+
+  -- a command begins, and nothing else takes place
+  abbrev pub begun : Desks → ℕ → ℕ → DeviceOp → Desks
+  begun d place client op = record { world = only_place s d.world place; left = update d.left client (steps_of c op) }
+
   -- what there is after a line
   abbrev pub after_line : Desks → ℕ → ReplayLine → Desks
   after_line d place (Plain line) = record { world = plays s d.world place line; left = d.left }
   after_line d place (Put client offset bytes) = begun d place client (Puts offset bytes)
   after_line d place (Get client offset len) = begun d place client (Gets offset len)
-  after_line d place (Next client) = stepped d place client (d.left client)
-
-  -- before anything took place
-  abbrev pub start_desks : Desks
-  start_desks = record { world = start_world s; left = λ client. [] }
+  after_line d place (Next client) = stepped s d place client (d.left client)
 
   -- the lines take place one after the other, the first at this place, and lead to the last desks
   abbrev pub LeadsTo : Desks → ℕ → List ReplayLine → Desks → Type 0
@@ -99,7 +100,7 @@ module _ (s : Setting) (c : Numbers) where
 
   -- the run of a replay's lines: places count its lines from 1
   abbrev pub Performs : List ReplayLine → Desks → Type 0
-  Performs lines last = LeadsTo start_desks 1 lines last
+  Performs lines last = LeadsTo (start_desks s) 1 lines last
 
   -- after so many lines have taken place, the next one can't, and this is why
   pub record StopsAt (lines : List ReplayLine) (done : ℕ) (cause : Cause) : Type 0 where

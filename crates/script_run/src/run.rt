@@ -1,16 +1,17 @@
-ghost use Rattle.std.specs.Prelude.{◌≡◌, ◌+◌, ℕ, length, IfOk, IsErrOf};
+ghost use Rattle.std.specs.Prelude.{◌≡◌, ◌+◌, ◌≤◌, ℕ, length, All, IfOk, IsErrOf};
 ghost use Rattle.std.specs.declared.option.Option.TheVariants.{None, Some};
-ghost use Rattle.wire_forms.specs.Liars.{has_number};
+ghost use Rattle.wire_forms.specs.Liars.{has_number, IsAscending};
 ghost use Rattle.protocol.specs.Instance.{setting_of};
 ghost use Rattle.line_forms.specs.declared.cause.Cause.{Cause as Causes};
 ghost use Rattle.script_text.specs.Replays.{IsReplay};
 ghost use Rattle.world_steps.specs.Worlds.{setting_in, world_in};
-ghost use Rattle.script_run.specs.Performing.{Desks, Performs, StopsAt};
+ghost use Rattle.script_run.specs.Performing.{Desks as TheDesks, Performs, StopsAt};
 
 use crate::desks::Desks;
-use line_forms::ScriptRefusal;
+use line_forms::{ScriptRefusal, refused};
 use script_text::Replay;
 use std::alloc::Global;
+use wire_forms::Liars;
 use world_steps::World;
 
 /// The world to which the lines of a replay lead. The first line that can't take place is refused with its number in the
@@ -19,12 +20,47 @@ pub fn perform(alloc: Global, replay: &Replay) -> Result<World, ScriptRefusal>
     requires { IsReplay replay.now.config replay.now.liars replay.now.lines }
     ensures cluster { IfOk result (λ w. w.config ≡ replay.now.config) }
     ensures liars { IfOk result (λ w. setting_in w ≡ setting_of replay.now.config (has_number replay.now.liars.nodes) (has_number replay.now.liars.clients)) }
-    ensures run { IfOk result (λ w. (d : Desks) × Performs (setting_in w) w.config replay.now.lines d × (d.world ≡ world_in w)) }
+    ensures run { IfOk result (λ w. (d : TheDesks) × Performs (setting_in w) w.config replay.now.lines d × (d.world ≡ world_in w)) }
     ensures placed { IfOk result (λ w. w.seen.place ≡ length replay.now.lines) }
     // The lines of a script are two head lines, one for each liar, and the event lines.
     ensures stop { (line : ℕ) (cause : Causes) → IsErrOf result (ScriptRefusal.Fault (record { line = line; cause = cause }))
         → (done : ℕ) × StopsAt (setting_of replay.now.config (has_number replay.now.liars.nodes) (has_number replay.now.liars.clients)) replay.now.config replay.now.lines done cause
         × (line ≡ 2 + length replay.now.liars.nodes + length replay.now.liars.clients + done + 1) }
 {
-    Err(ScriptRefusal::NoMemory)
+    let mut desks = Desks::new(alloc, &replay.config, &replay.liars)?;
+    let mut place = 0;
+    for line in replay.lines.as_slice() {
+        place += 1;
+        if let Err(refusal) = desks.perform(place, line) {
+            return Err(refused(lines_before(&replay.liars) + place, refusal));
+        }
+    }
+    Ok(desks.into_world())
+}
+
+/// How many lines of a script stand before its event lines: two head lines, and one for each liar.
+fn lines_before(liars: &Liars) -> u64
+    requires nodes { length liars.now.nodes ≤ 256 }
+    requires clients { All (λ k. (1 ≤ k) × (k ≤ 1000)) liars.now.clients }
+    requires ascending { IsAscending liars.now.clients }
+    ensures is { result ≡ 2 + length liars.now.nodes + length liars.now.clients }
+    ensures small { result ≤ 1258 }
+{
+    2 + liars.nodes() as u64 + clients_of(liars)
+}
+
+/// How many clients are declared lying.
+fn clients_of(liars: &Liars) -> u64
+    requires clients { All (λ k. (1 ≤ k) × (k ≤ 1000)) liars.now.clients }
+    requires ascending { IsAscending liars.now.clients }
+    ensures is { result ≡ length liars.now.clients }
+    ensures small { result ≤ 1000 }
+{
+    let mut count = 0;
+    for client in 1..1001 {
+        if liars.client(client) {
+            count += 1;
+        }
+    }
+    count
 }

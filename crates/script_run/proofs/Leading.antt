@@ -1,0 +1,65 @@
+-- Lines that lead on from where lines lead to.
+use Rattle.std.proofs.Common.{◌≡◌, ℕ, ◌+◌, ◌<◌, List, [], ◌∷◌, ◌++◌, refl, sym, ap, subst, ◌∙◌, length, get_or, take, drop, arith}
+use Rattle.std.proofs.lemmas.List.{drop_more, take_more, take-append-drop, length-take-le}
+use Rattle.std.specs.declared.option.Option.TheVariants.{None, Some}
+use Rattle.quorum_rules.specs.Limits.{Numbers}
+use Rattle.protocol.specs.Setting.{Setting}
+use Rattle.block_device.specs.declared.steps.BlockStep.{BlockStep}
+use Rattle.line_forms.specs.Tables.{refused_at}
+use Rattle.line_forms.specs.declared.cause.Cause.{Cause}
+use Rattle.line_forms.specs.declared.refusal.LineRefusal.{LineRefusal}
+use Rattle.line_forms.specs.declared.refusal.LineRefusal.TheVariants as lines
+use Rattle.line_forms.specs.declared.refusal.ScriptFault.{ScriptFault}
+use Rattle.line_forms.specs.declared.refusal.ScriptRefusal.TheVariants as scripts
+use Rattle.event_lines.specs.declared.line.ReplayLine.{ReplayLine}
+use Rattle.event_lines.specs.declared.line.ReplayLine.TheVariants.{Plain, Put, Get, Next}
+use Rattle.script_run.specs.Performing.{Desks, cause_of, next_cause, after_line, stepped, start_desks, LeadsTo, StopsAt}
+
+module _ (s : Setting) (c : Numbers) where
+  -- one line more
+  pub leads_more : (d e last : Desks) (place at : ℕ) (xs : List ReplayLine) (line : ReplayLine) → LeadsTo s c d place xs e → at ≡ place + length xs
+      → cause_of s c e line ≡ None → last ≡ after_line s c e at line → LeadsTo s c d place (xs ++ line ∷ []) last
+  leads_more d e last place at [] line h p none f =
+      let same : at ≡ place = omega arith in
+      (subst (λ (z : Desks). cause_of s c z line ≡ None) h none, f ∙ ap (λ (z : Desks). after_line s c z at line) h ∙ ap (λ (p : ℕ). after_line s c d p line) same)
+  leads_more d e last place at (x ∷ xs) line h p none f = (h.0, leads_more (after_line s c d place x) e last (place + 1) at xs line h.1 (omega arith) none f)
+
+  -- the next line of these
+  pub leads_next : (d e last : Desks) (at : ℕ) (xs : List ReplayLine) (i : ℕ) (line : ReplayLine) → i < length xs → line ≡ get_or xs i line → LeadsTo s c d 1 (take i xs) e → at ≡ i + 1
+      → cause_of s c e line ≡ None → last ≡ after_line s c e at line → LeadsTo s c d 1 (take (i + 1) xs) last
+  leads_next d e last at xs i line l is h p none f =
+      let long : length (take i xs) ≡ i = length-take-le i xs (omega arith) in
+      subst (λ (zs : List ReplayLine). LeadsTo s c d 1 zs last) (sym (take_more xs i line l ∙ ap (λ (z : ReplayLine). take i xs ++ z ∷ []) (sym is)))
+      (leads_more d e last 1 at (take i xs) line h (omega (arith, long)) none f)
+
+  -- the next line of these can't take place
+  pub stops_here : (e : Desks) (xs : List ReplayLine) (i : ℕ) (line : ReplayLine) (cause : Cause) → i < length xs → line ≡ get_or xs i line → LeadsTo s c (start_desks s) 1 (take i xs) e
+      → cause_of s c e line ≡ Some cause → StopsAt s c xs i cause
+  stops_here e xs i line cause l is h f = record {
+    front = take i xs;
+    line = line;
+    rest = drop (i + 1) xs;
+    parts = sym (take-append-drop i xs) ∙ ap (λ (zs : List ReplayLine). take i xs ++ zs) (drop_more xs i line l ∙ ap (λ (z : ReplayLine). z ∷ drop (i + 1) xs) (sym is));
+    counted = length-take-le i xs (omega arith);
+    desks = e;
+    performed = h;
+    stopped = f;
+  }
+
+  stepped-place : (d : Desks) (place client : ℕ) (left : List BlockStep) → next_cause s d.world client left ≡ None → (stepped s d place client left).world.place ≡ place
+  stepped-place d place client [] e = absurd cc
+  stepped-place d place client (step ∷ more) e = refl
+
+  -- a line that takes place leaves the world at its place
+  pub after-place : (d : Desks) (place : ℕ) (line : ReplayLine) → cause_of s c d line ≡ None → (after_line s c d place line).world.place ≡ place
+  after-place d place (Plain line) e = refl
+  after-place d place (Put client offset bytes) e = refl
+  after-place d place (Get client offset len) e = refl
+  after-place d place (Next client) e = stepped-place d place client (d.left client) e
+
+-- a script's refusal tells the line's number and cause
+pub told_at : (n line : ℕ) (refusal : LineRefusal) (cause : Cause) → refused_at n refusal ≡ scripts.Fault (record { line = line; cause = cause }) → (refusal ≡ lines.Cause cause) × (line ≡ n)
+told_at n line lines.NoMemory cause e = absurd cc
+told_at n line (lines.Cause c) cause e =
+    let same : ◌≡◌ {A = ScriptFault} (record { line = n; cause = c }) (record { line = line; cause = cause }) = cc in
+    (ap lines.Cause (ap (λ (f : ScriptFault). f.cause) same), sym (ap (λ (f : ScriptFault). f.line) same))
