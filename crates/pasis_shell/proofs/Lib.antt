@@ -1,4 +1,3 @@
 pub mod Forms
 pub mod Accepted
-pub mod FirstPath
-pub mod Heads
+mod Replaying

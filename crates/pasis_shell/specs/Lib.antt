@@ -1,4 +1,4 @@
 pub mod Words
 pub mod Statuses
-pub mod FirstPath
+pub mod Replays
 pub mod Texts

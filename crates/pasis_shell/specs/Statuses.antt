@@ -4,6 +4,8 @@ use Rattle.outside_io.specs.declared.reading.ReadRefusal.{ReadRefusal}
 use Rattle.outside_io.specs.declared.reading.ReadRefusal.TheVariants as reading
 use Rattle.pasis_shell.specs.declared.status.Status.{Status}
 use Rattle.pasis_shell.specs.declared.status.Status.TheVariants.{Done, BadWords, BadScript, ReadFault, WriteFault, NoMemory, TooLong, NotBuilt}
+use Rattle.line_forms.specs.declared.refusal.ScriptRefusal.{ScriptRefusal}
+use Rattle.line_forms.specs.declared.refusal.ScriptRefusal.TheVariants as scripts
 use Rattle.pasis_shell.specs.declared.text.Refusal.{Refusal}
 use Rattle.pasis_shell.specs.declared.text.Refusal.TheVariants as refusals
 
@@ -48,3 +50,8 @@ CanStopBefore (BadScript line cause) = ⊤
 CanStopBefore Done = ⊥
 CanStopBefore BadWords = ⊥
 CanStopBefore WriteFault = ⊥
+
+-- why no text is written for a script that is refused so
+abbrev pub refusal_of : ScriptRefusal → Refusal
+refusal_of scripts.NoMemory = refusals.NoMemory
+refusal_of (scripts.Fault fault) = refusals.BadScript fault

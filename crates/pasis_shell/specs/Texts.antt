@@ -1,8 +1,8 @@
 -- What a command writes for an input, and when it writes nothing.
-use Rattle.std.specs.Prelude.{ℕ, ◌≡◌, ◌≤◌, ⊤, List, [], length, Option}
+use Rattle.std.specs.Prelude.{ℕ, ◌≡◌, ◌⊎◌, ◌≤◌, ⊤, List, [], length, Option}
 use Rattle.std.specs.Io.KnownBytes.{Consumes, IsAtEnd}
 use Rattle.outside_io.specs.declared.reading.TheConstants.{LIMIT}
-use Rattle.pasis_shell.specs.FirstPath.{IsBuilt}
+use Rattle.pasis_shell.specs.Replays.{Replays, Stops}
 use Rattle.pasis_shell.specs.Words.{words_of}
 use Rattle.pasis_shell.specs.declared.words.Command.{Command}
 use Rattle.pasis_shell.specs.declared.words.Command.TheVariants.{Replay, Run, Trace, Check, Sum, Soak}
@@ -11,6 +11,7 @@ use Rattle.pasis_shell.specs.declared.text.Refusal.TheVariants.{NoMemory, NotBui
 use Rattle.quorum_rules.specs.Limits.{Numbers}
 use Rattle.line_forms.specs.declared.refusal.ScriptFault.{ScriptFault}
 use Rattle.line_forms.specs.Texts.{IsFault, IsFaultless}
+use Rattle.script_text.specs.Replays.{replay_script}
 use Rattle.script_text.specs.Sum.{IsSum, sum_text, sum_script}
 use Rattle.sum_text.specs.Shown.{shown_text}
 
@@ -25,25 +26,25 @@ pub record Shows (input text : List ℕ) : Type 0 where
 
 -- the command writes this text for the input
 abbrev pub Writes : Command → List ℕ → List ℕ → Type 0
-Writes Replay input text = IsBuilt input
+Writes Replay input text = Replays input text
 Writes Run input text = ⊥
 Writes Trace input text = ⊥
 Writes Check input text = ⊥
 Writes Sum input text = Shows input text
 Writes (Soak number) input text = ⊥
 
--- the command, or this form of its input, isn't built yet
+-- the command isn't built yet
 abbrev pub IsUnbuilt : Command → List ℕ → Type 0
-IsUnbuilt Replay input = IsBuilt input → ⊥
+IsUnbuilt Replay input = ⊥
 IsUnbuilt Run input = ⊤
 IsUnbuilt Trace input = ⊤
 IsUnbuilt Check input = ⊤
 IsUnbuilt Sum input = ⊥
 IsUnbuilt (Soak number) input = ⊤
 
--- the fault is the input's: its first line that has a cause, and that line's first cause
+-- the fault is the input's: its first line that has a cause, and that line's first cause; or, where no line has one, the first line of a script that can't take place
 abbrev pub HasFault : Command → List ℕ → ScriptFault → Type 0
-HasFault Replay input fault = ⊥
+HasFault Replay input fault = IsFault replay_script input fault.line fault.cause ⊎ Stops input fault
 HasFault Run input fault = ⊥
 HasFault Trace input fault = ⊥
 HasFault Check input fault = ⊥

@@ -1,8 +1,8 @@
 //! The top call: words, an input that is read to its end, a text that is written whole, and a status.
 #![tactic(auto)]
 
-mod first_path;
 pub mod gate;
+mod replay;
 pub mod status;
 pub mod text;
 pub mod top;

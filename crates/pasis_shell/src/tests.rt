@@ -95,11 +95,14 @@ fn a_cluster_alone_has_an_empty_history(rt: HostRuntime) -> Result<(), Fail> {
 }
 
 #[test]
-fn a_script_without_its_last_call_is_not_built(rt: HostRuntime) -> Result<(), Fail> {
+fn a_read_without_its_last_answer_is_pending(rt: HostRuntime) -> Result<(), Fail> {
     let script = WRITE_AND_READ.strip_suffix("call 2 2\n").unwrap_or("");
     let (status, sink) = replayed(rt.alloc(), script, None, None)?;
-    assert_eq!(rt; status, Status::NotBuilt { line: 1 });
-    assert_eq!(rt; sink.taken().len(), 0);
+    assert_eq!(rt; status, Status::Done);
+    assert_eq!(rt;
+        sink.taken(),
+        b"0 1.1.1 write 1 1 7 x0100\nend done=1 spent=0 pending=1 repaired=0 rounds=0\n".as_slice()
+    );
     Ok(())
 }
 

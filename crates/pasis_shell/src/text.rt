@@ -1,7 +1,9 @@
-ghost use Rattle.std.specs.Prelude.{IfOk, IfErr};
+ghost use Rattle.std.specs.Prelude.{◌≡◌, IfOk, IfErr};
 ghost use Rattle.pasis_shell.specs.Texts.{Writes, Refuses};
+ghost use Rattle.pasis_shell.specs.Statuses.{refusal_of};
+ghost use Rattle.pasis_shell.specs.declared.text.Refusal.TheVariants as refusals;
 
-use crate::first_path;
+use crate::replay::report_of;
 use crate::words::Command;
 use cross_sum::Bytes;
 use line_forms::{ScriptFault, ScriptRefusal};
@@ -15,21 +17,28 @@ use sum_text::print_sum;
 pub enum Refusal {
     /// No memory was found.
     NoMemory,
-    /// The command, or what this line of the input asks for, isn't built yet.
+    /// The command isn't built yet.
     NotBuilt { line: u64 },
     /// The input is refused at the line and for the cause that the fault has.
     BadScript(ScriptFault),
 }
 
-// The report of a script.
-fn replay_of(alloc: Global, input: &Bytes) -> Result<Bytes, Refusal>
-    ensures text { IfOk result (λ text. Writes Command.Replay input.now text) }
-    ensures refused { IfErr result (λ refusal. Refuses Command.Replay input.now refusal) }
-{
-    match first_path::replay(alloc, input.as_slice()) {
-        Ok(Some(report)) => Ok(report),
-        Ok(None) => Err(Refusal::NotBuilt { line: 1 }),
-        Err(NoMemory) => Err(Refusal::NoMemory),
+impl From<ScriptRefusal> for Refusal {
+    ghost from_gives = { λ r e. e ≡ refusal_of r };
+
+    fn from(refusal: ScriptRefusal) -> Refusal {
+        match refusal {
+            ScriptRefusal::NoMemory => Refusal::NoMemory,
+            ScriptRefusal::Fault(fault) => Refusal::BadScript(fault),
+        }
+    }
+}
+
+impl From<NoMemory> for Refusal {
+    ghost from_gives = { λ _ e. e ≡ refusals.NoMemory };
+
+    fn from(_: NoMemory) -> Refusal {
+        Refusal::NoMemory
     }
 }
 
@@ -38,14 +47,8 @@ fn sum_of(alloc: Global, input: &Bytes) -> Result<Bytes, Refusal>
     ensures text { IfOk result (λ text. Writes Command.Sum input.now text) }
     ensures refused { IfErr result (λ refusal. Refuses Command.Sum input.now refusal) }
 {
-    match read_sum(alloc, input.as_slice()) {
-        Ok((config, value)) => match print_sum(alloc, &config, &value) {
-            Ok(text) => Ok(text),
-            Err(NoMemory) => Err(Refusal::NoMemory),
-        },
-        Err(ScriptRefusal::NoMemory) => Err(Refusal::NoMemory),
-        Err(ScriptRefusal::Fault(fault)) => Err(Refusal::BadScript(fault)),
-    }
+    let (config, value) = read_sum(alloc, input.as_slice())?;
+    Ok(print_sum(alloc, &config, &value)?)
 }
 
 /// The text that a command writes for an input.
@@ -54,7 +57,7 @@ pub fn text_of(alloc: Global, command: Command, input: &Bytes) -> Result<Bytes, 
     ensures refused { IfErr result (λ refusal. Refuses command input.now refusal) }
 {
     match command {
-        Command::Replay => replay_of(alloc, input),
+        Command::Replay => report_of(alloc, input),
         Command::Sum => sum_of(alloc, input),
         _ => Err(Refusal::NotBuilt { line: 1 }),
     }

@@ -1,0 +1,42 @@
+use Rattle.std.proofs.Common.{rules, subst, sym, ap, ◌∙◌, Err, ◌≡◌, ◌<◌, ◌-◌, ◌^◌, List, IfOk, IfErr, ℕ, ◌+◌, ◌*◌, ◌≤◌, length, ◌/◌, ◌%◌, Bool, true, false, nat_eq, nat_lt, [], ◌∷◌, ◌++◌, slice_index_or, slice_set, bit_and, bit_or, Fits, w8, w32, w64, Bor, MutBor}
+use Rattle.protocol.specs.Setting.{first_stamp}
+use Rattle.protocol.specs.History.{Entry}
+use Rattle.history_book.specs.Books.{Book}
+use Rattle.history_book.specs.Tellings.{Tells}
+use Rattle.history_book.specs.Reports.{report_text}
+use Rattle.world_steps.specs.Worlds.{setting_in, world_in}
+use Rattle.run_reports.specs.Registers.{AreRegisters}
+use Rattle.pasis_shell.specs.Texts.{Writes, Refuses}
+use Rattle.pasis_shell.proofs.replay.report_of.Goals as goal
+
+use Rattle.line_forms.specs.declared.refusal.ScriptRefusal.{ScriptRefusal}
+use Rattle.line_forms.specs.Texts.{IsFaultless}
+use Rattle.script_text.specs.Replays.{Spells, replay_script}
+use Rattle.pasis_shell.specs.declared.words.Command.TheVariants.{Replay}
+use Rattle.pasis_shell.specs.Replays.{IsScript}
+use Rattle.pasis_shell.proofs.Replaying.{replays, refuses}
+
+-- src/replay.rt:34:1
+pub returns-in-Ok-clause-text : goal.returns-in-Ok-clause-text
+returns-in-Ok-clause-text c =
+    let r = c.in_ok-replay.replay in
+    let e = c.as_slice.ensures.value in
+    let script : IsScript c.args.input.now r.config r.liars r.lines = record {
+    replay = c.in_ok-replay.ensures.replay;
+    spelled = subst (λ t. Spells t r.config r.liars r.lines) e c.in_ok-replay.ensures.spelled;
+    faultless = subst (λ t. IsFaultless replay_script t) e c.in_ok-replay.ensures.faultless;
+    } in
+    replays c.args.input.now r.config r.liars r.lines script c.in_ok-told-in-Ok.field-0 c.in-Ok.world c.in-Ok.ensures.cluster c.in-Ok.ensures.liars c.in-Ok.ensures.run c.in_ok-told-in-Ok.ensures
+
+-- src/replay.rt:31:1
+pub returns-clause-refused : goal.returns-clause-refused
+returns-clause-refused c =
+    let r = c.in_ok-replay.replay in
+    let e = c.as_slice.ensures.value in
+    let script : IsScript c.args.input.now r.config r.liars r.lines = record {
+    replay = c.in_ok-replay.ensures.replay;
+    spelled = subst (λ t. Spells t r.config r.liars r.lines) e c.in_ok-replay.ensures.spelled;
+    faultless = subst (λ t. IsFaultless replay_script t) e c.in_ok-replay.ensures.faultless;
+    } in
+    subst (λ z. Refuses Replay c.args.input.now z) (sym c.from.ensures)
+    (refuses c.args.input.now r.config r.liars r.lines script c.in-Err.refusal (λ line cause k. c.perform.ensures.stop line cause (c.in-Err.is ∙ ap (λ (z : ScriptRefusal). Err z) k)))
