@@ -33,17 +33,17 @@ module _ (input : List ℕ) (c : Numbers) (liars : Liars) (lines : List ReplayLi
       let s = cluster_of c liars in
       let d = run.0 in
       record {
-      config = c;
-      liars = liars;
-      lines = lines;
-      script = script;
-      desks = d;
-      run = subst (λ (z : Setting). Performs z c lines d) cluster (subst (λ (k : Numbers). Performs (setting_in w) k lines d) same run.1);
-      history = report.0;
-      book = report.1;
-      tells = subst (λ (v : World). Tells v.records (first_stamp s) report.0 report.1) (sym run.2) (subst (λ (z : Setting). Tells w.seen.records (first_stamp z) report.0 report.1) cluster report.2);
-      shown = report.4;
-      registers = subst (λ (v : World). AreRegisters s v report.0) (sym run.2) (subst (λ (z : Setting). AreRegisters z (world_in w) report.0) cluster report.3);
+        config = c;
+        liars = liars;
+        lines = lines;
+        script = script;
+        desks = d;
+        run = subst (λ (z : Setting). Performs z c lines d) cluster (subst (λ (k : Numbers). Performs (setting_in w) k lines d) same run.1);
+        history = report.0;
+        book = report.1;
+        tells = subst (λ (v : World). Tells v.records (first_stamp s) report.0 report.1) (sym run.2) (subst (λ (z : Setting). Tells w.seen.records (first_stamp z) report.0 report.1) cluster report.2);
+        shown = report.4;
+        registers = subst (λ (v : World). AreRegisters s v report.0) (sym run.2) (subst (λ (z : Setting). AreRegisters z (world_in w) report.0) cluster report.3);
       }
 
   -- where it stops

@@ -35,9 +35,9 @@ pub leads_on : (old new : WorldView) (place : ℕ) (line : Line) → IsReached o
 leads_on old new place line reached later fits fine e f g h =
     let same : new ≡ at old new.seen = same_cluster old.config new.config old.lying_nodes new.lying_nodes old.lying_clients new.lying_clients f g h new.seen in
     subst IsReached (sym same) (record {
-    cluster = reached.cluster;
-    lines = reached.lines ++ (place, line) ∷ [];
-    run = one_more_line (setting_in old) reached.lines (world_in old) place line reached.run later fits fine (world_in (at old new.seen)) (ap world_in (sym same) ∙ e);
+      cluster = reached.cluster;
+      lines = reached.lines ++ (place, line) ∷ [];
+      run = one_more_line (setting_in old) reached.lines (world_in old) place line reached.run later fits fine (world_in (at old new.seen)) (ap world_in (sym same) ∙ e);
     })
 
 -- whether a line took place or was refused, lines still lead to the world
@@ -55,7 +55,7 @@ begins v c liars valid same few lies start =
     let named = count_named v.config.n liars.nodes in
     let most : length liars.nodes ≤ v.config.b = subst (λ z. length liars.nodes ≤ z.b) (sym same) few.few in
     record {
-    cluster = record { config = valid; few = subst (λ (f : ℕ → Bool). count v.config.n f ≤ v.config.b) (sym by) (omega (arith, named, most)) };
-    lines = [];
-    run = start;
+      cluster = record { config = valid; few = subst (λ (f : ℕ → Bool). count v.config.n f ≤ v.config.b) (sym by) (omega (arith, named, most)) };
+      lines = [];
+      run = start;
     }

@@ -46,7 +46,18 @@ impl State {
         ensures err { OnErr result (self.new ≡ self.old) }
     {
         match line {
-            Line::Write { client, block, value } => self.start(place, *client, Op::Write { block: *block, value: value.copy()? }),
+            Line::Write {
+                client,
+                block,
+                value,
+            } => self.start(
+                place,
+                *client,
+                Op::Write {
+                    block: *block,
+                    value: value.copy()?,
+                },
+            ),
             Line::Read { client, block } => self.start(place, *client, Op::Read { block: *block }),
             Line::Resend { client } => self.resend(place, *client),
             Line::Call { client, node } => self.call(place, *client, *node),
@@ -68,11 +79,24 @@ impl State {
             Line::Tell { message } => self.hear_sent(place, message.client, message.copy()?),
             Line::Poke { message } => self.poke(place, message.copy()?),
             Line::False { client, node, rule } => self.tell_false(place, *client, *node, *rule),
-            Line::Sound { client, node, block, time, value } => {
+            Line::Sound {
+                client,
+                node,
+                block,
+                time,
+                value,
+            } => {
                 let message = self.sound_ask(*client, *node, *block, *time, value)?;
                 self.poke(place, message)
             }
-            Line::Mix { client, node, block, time, value, other } => {
+            Line::Mix {
+                client,
+                node,
+                block,
+                time,
+                value,
+                other,
+            } => {
                 let message = self.mix_ask(*client, *node, *block, *time, value, other)?;
                 self.poke(place, message)
             }

@@ -8,7 +8,6 @@ use Rattle.world_steps.specs.Worlds.{setting_in, world_in}
 use Rattle.run_reports.specs.Registers.{AreRegisters}
 use Rattle.pasis_shell.specs.Texts.{Writes, Refuses}
 use Rattle.pasis_shell.proofs.replay.report_of.Goals as goal
-
 use Rattle.line_forms.specs.declared.refusal.ScriptRefusal.{ScriptRefusal}
 use Rattle.line_forms.specs.Texts.{IsFaultless}
 use Rattle.script_text.specs.Replays.{Spells, replay_script}
@@ -22,9 +21,9 @@ returns-in-Ok-clause-text c =
     let r = c.in_ok-replay.replay in
     let e = c.as_slice.ensures.value in
     let script : IsScript c.args.input.now r.config r.liars r.lines = record {
-    replay = c.in_ok-replay.ensures.replay;
-    spelled = subst (λ t. Spells t r.config r.liars r.lines) e c.in_ok-replay.ensures.spelled;
-    faultless = subst (λ t. IsFaultless replay_script t) e c.in_ok-replay.ensures.faultless;
+      replay = c.in_ok-replay.ensures.replay;
+      spelled = subst (λ t. Spells t r.config r.liars r.lines) e c.in_ok-replay.ensures.spelled;
+      faultless = subst (λ t. IsFaultless replay_script t) e c.in_ok-replay.ensures.faultless;
     } in
     replays c.args.input.now r.config r.liars r.lines script c.in_ok-told-in-Ok.field-0 c.in-Ok.world c.in-Ok.ensures.cluster c.in-Ok.ensures.liars c.in-Ok.ensures.run c.in_ok-told-in-Ok.ensures
 
@@ -34,9 +33,9 @@ returns-clause-refused c =
     let r = c.in_ok-replay.replay in
     let e = c.as_slice.ensures.value in
     let script : IsScript c.args.input.now r.config r.liars r.lines = record {
-    replay = c.in_ok-replay.ensures.replay;
-    spelled = subst (λ t. Spells t r.config r.liars r.lines) e c.in_ok-replay.ensures.spelled;
-    faultless = subst (λ t. IsFaultless replay_script t) e c.in_ok-replay.ensures.faultless;
+      replay = c.in_ok-replay.ensures.replay;
+      spelled = subst (λ t. Spells t r.config r.liars r.lines) e c.in_ok-replay.ensures.spelled;
+      faultless = subst (λ t. IsFaultless replay_script t) e c.in_ok-replay.ensures.faultless;
     } in
     subst (λ z. Refuses Replay c.args.input.now z) (sym c.from.ensures)
     (refuses c.args.input.now r.config r.liars r.lines script c.in-Err.refusal (λ line cause k. c.perform.ensures.stop line cause (c.in-Err.is ∙ ap (λ (z : ScriptRefusal). Err z) k)))

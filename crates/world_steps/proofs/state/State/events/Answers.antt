@@ -7,7 +7,6 @@ use Rattle.run_words.specs.declared.line.Line.TheVariants as lines
 use Rattle.world_steps.specs.Worlds.{setting_in, world_in}
 use Rattle.world_steps.specs.Steps.{IsPlayedBy, IsWorking, IsAskOf}
 use Rattle.world_steps.proofs.state.State.events.Goals as goal
-
 use Rattle.std.proofs.lemmas.Result.{on_ok_weaker}
 use Rattle.protocol.specs.World.{heard, sent}
 use Rattle.protocol.proofs.Playing.{no_fault}
@@ -29,10 +28,10 @@ returns-in-Hear-clause-ok c =
     let there = is_pooled s c.args.place w c.in-Hear.message (no_fault s w line (rw c.in-Hear.is at c.requires.allowed)).message in
     rw c.in-Hear.is (on_ok_weaker c.hear.result
     (λ e. record {
-    world = e ∙ heard_plays s c.args.place w c.in-Hear.client c.in-Hear.message there.0 there.1;
-    config = search rules;
-    lying_nodes = search rules;
-    lying_clients = search rules;
+      world = e ∙ heard_plays s c.args.place w c.in-Hear.client c.in-Hear.message there.0 there.1;
+      config = search rules;
+      lying_nodes = search rules;
+      lying_clients = search rules;
     })
     (c.hear.ensures.ok there.0 there.1))
 
@@ -43,9 +42,9 @@ returns-in_ok-copy-in-Tell-clause-ok c =
     let w = world_in c.args.self.now in
     rw c.in-Tell.is (on_ok_weaker c.hear_sent.result
     (λ e. record {
-    world = e ∙ ap (λ (z : Messages). heard s (sent s w c.args.place (z ∷ [])) c.args.place c.in-Tell.message.client z z.body) c.in_ok-copy-in-Tell.ensures ∙ told_plays s c.args.place w c.in-Tell.message;
-    config = search rules;
-    lying_nodes = search rules;
-    lying_clients = search rules;
+      world = e ∙ ap (λ (z : Messages). heard s (sent s w c.args.place (z ∷ [])) c.args.place c.in-Tell.message.client z z.body) c.in_ok-copy-in-Tell.ensures ∙ told_plays s c.args.place w c.in-Tell.message;
+      config = search rules;
+      lying_nodes = search rules;
+      lying_clients = search rules;
     })
     c.hear_sent.ensures.ok)

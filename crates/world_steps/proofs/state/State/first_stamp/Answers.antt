@@ -8,7 +8,6 @@ use Rattle.run_words.specs.declared.line.Line.TheVariants as lines
 use Rattle.world_steps.specs.Worlds.{setting_in, world_in}
 use Rattle.world_steps.specs.Steps.{IsPlayedBy, IsWorking, IsAskOf}
 use Rattle.world_steps.proofs.state.State.first_stamp.Goals as goal
-
 use Rattle.wire_forms.specs.declared.first.First.{First}
 use Rattle.protocol.specs.Instance.{setting}
 use Rattle.protocol.proofs.Firsts.{first_stamp_is}

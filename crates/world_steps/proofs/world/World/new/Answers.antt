@@ -9,7 +9,6 @@ use Rattle.protocol.specs.Seen.{record_of}
 use Rattle.run_words.specs.declared.line.StepFault.{StepFault as Faults}
 use Rattle.world_steps.specs.Worlds.{setting_in, world_in, AreLiars, IsReached}
 use Rattle.world_steps.proofs.world.World.new.Goals as goal
-
 use Rattle.quorum_rules.specs.Limits.{IsValid}
 use Rattle.world_steps.proofs.Reached.{begins}
 
