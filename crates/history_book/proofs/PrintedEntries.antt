@@ -1,52 +1,35 @@
 -- An entry that may stand at a place of a report is told by its fields, and its line has no cause there.
-use Rattle.std.proofs.Common.{◌≡◌, ℕ, ◌+◌, ◌<◌, ◌≤◌, ◌^◌, Bool, true, false, ◌||◌, ◌&&◌, leb, ltb, eqb, List, [], ◌∷◌, ◌++◌, length, Option, Some, None, refl, sym, ap, subst, ◌∙◌, arith, lit<, lit≤}
-use Rattle.std.specs.Prelude.{slice_get, codes, decimal, not, IfSome, IsSomeAnd, if◌then◌else◌}
+use Rattle.std.proofs.Common.{◌≡◌, ℕ, ◌<◌, ◌≤◌, ◌^◌, Bool, true, false, ◌||◌, ◌&&◌, leb, ltb, eqb, List, [], ◌∷◌, length, Option, Some, None, refl, sym, ap, ◌∙◌, arith, lit<, lit≤}
+use Rattle.std.specs.Prelude.{slice_get, codes, decimal, not, IfSome}
 use Rattle.std.specs.declared.cmp.Ordering.{Ordering}
 use Rattle.std.specs.declared.cmp.Ordering.TheVariants.{Less}
 use Rattle.std.specs.Ordering.{is_lt}
-use Rattle.std.specs.Str.{bytes_eq}
 use Rattle.std.specs.Str.Parse.{AllDigits}
 use Rattle.std.proofs.lemmas.Bool.Decides.{nat_tests}
 use Rattle.std.proofs.lemmas.Fmt.{decimal_is_IsNumeral, decimal_nonempty}
-use Rattle.std.proofs.lemmas.Slice.Eq.{bytes_eq-Decides}
 use Rattle.std.proofs.lemmas.Str.Parse.{digit_from_value}
 use Rattle.text_lines.specs.Lines.{fields_of, line_of_fields, parts_at}
-use Rattle.text_lines.specs.Fields.{number_of, value_of, value_text}
+use Rattle.text_lines.specs.Fields.{value_text}
 use Rattle.text_lines.proofs.Numbers.{number_of-decimal}
 use Rattle.text_lines.proofs.Values.{value_of-text}
 use Rattle.text_lines.proofs.Joined.{parts-joined, Lacks-decimal}
 use Rattle.line_forms.specs.Tables.{first_of}
-use Rattle.line_forms.specs.declared.cause.Cause.{Cause}
 use Rattle.line_forms.specs.declared.cause.Cause.TheVariants.{OutOfRange, BadValue, NotSorted}
 use Rattle.history_book.specs.declared.entry.Kind.{Kind}
 use Rattle.history_book.specs.declared.entry.Kind.TheVariants.{Read, Write, Foreign}
 use Rattle.history_book.specs.declared.entry.Entry.{Entry as EntryRecord}
 use Rattle.history_book.specs.declared.entry.Spent.{Spent as SpentRecord}
-use Rattle.history_book.specs.declared.entry.Counts.{Counts}
 use Rattle.history_book.specs.declared.reading.Numbers.{Numbers}
-use Rattle.history_book.specs.declared.reading.StampNumbers.{StampNumbers}
-use Rattle.history_book.specs.declared.reading.ReportLine.TheVariants.{Entry, Spent, End}
-use Rattle.history_book.specs.Reports.{kind_word, place_text, stamp_text, entry_fields, spent_fields, end_fields}
-use Rattle.history_book.specs.ReportTexts.{◌>>=◌, IsPlace, IsPlaceOrNone, HasPlaces, IsTold, IsToldSpent, MayFollow, MayFollowSpent, AreCounts, last_of, stamp_of_parts, stamp_told, start_told, end_told, numbers_told, spent_numbers, count_told, count_numbers, entry_told, spent_told, counts_told, entry_with, entry_causes, value_causes, has_other_size, is_bad_value, is_not_later, stands_above, begins_with_digit, line_cause, key_cmp, field}
+use Rattle.history_book.specs.declared.reading.ReportLine.TheVariants.{Entry}
+use Rattle.history_book.specs.Reports.{kind_word, place_text, stamp_text, entry_fields}
+use Rattle.history_book.specs.ReportTexts.{◌>>=◌, IsPlaceOrNone, HasPlaces, IsTold, MayFollow, last_of, stamp_told, start_told, end_told, numbers_told, entry_told, entry_with, entry_causes, value_causes, has_other_size, is_bad_value, stands_above, begins_with_digit, line_cause, key_cmp, field}
 use Rattle.history_book.proofs.Spelling.{kind_back, stamp_parts, dots}
 use Rattle.history_book.proofs.EntryLines.{Seven, with_numbers, told_entry}
-use Rattle.history_book.proofs.OtherLines.{spent_right, counts_right}
+use Rattle.history_book.proofs.OtherLines.{three_none}
 use Rattle.history_book.proofs.ReadLines.{IsRead}
-use Rattle.history_book.proofs.Words.{IsWord, AreWords, word_decimal, word_value, word_kind, word_append, none_empty, not_zero, fields_apart}
+use Rattle.history_book.proofs.Words.{IsWord, AreWords, wide, word_decimal, word_value, word_kind, word_append, none_empty, not_zero, fields_apart, differs_from_number}
 
 -- ---- places
-
--- a number is no hyphen
-no_hyphen : (n : ℕ) → n < 2 ^ 64 → bytes_eq (decimal n) (codes "-") ≡ false
-no_hyphen n lt = by_test (bytes_eq (decimal n) (codes "-")) refl
-  where
-    by_test : (b : Bool) → bytes_eq (decimal n) (codes "-") ≡ b → bytes_eq (decimal n) (codes "-") ≡ false
-    by_test false e = e
-    by_test true e =
-        let is : decimal n ≡ codes "-" = (bytes_eq-Decides (decimal n) (codes "-")).0 e in
-        let digits = rw is at ((decimal_is_IsNumeral n lt).0.1) in
-        let d = digit_from_value 45 digits.0 in
-        absurd (omega arith)
 
 start_back : (kind : Kind) (start end : Option ℕ) → HasPlaces kind start end → start_told kind (place_text start) ≡ Some start
 start_back Read None end h = absurd h.0
@@ -60,7 +43,7 @@ end_back : (kind : Kind) (start end : Option ℕ) → HasPlaces kind start end �
 end_back Read start None h = absurd h.1
 end_back Read start (Some p) h = rw (number_of-decimal (2 ^ 64) p (lit≤ tt) h.1) refl
 end_back Write start None h = refl
-end_back Write start (Some p) h = rw (no_hyphen p h.1, number_of-decimal (2 ^ 64) p (lit≤ tt) h.1) refl
+end_back Write start (Some p) h = rw (differs_from_number p 45 [] h.1 (λ figure. omega arith), number_of-decimal (2 ^ 64) p (lit≤ tt) h.1) refl
 end_back Foreign start None h = refl
 end_back Foreign start (Some p) h = absurd (let clash : Some p ≡ None = h.1 in cc)
 
@@ -90,9 +73,6 @@ word_end Foreign start (Some p) h = absurd (let clash : Some p ≡ None = h.1 in
 
 word_dot : IsWord (codes ".")
 word_dot = record { some = lit< tt; space = refl; newline = refl }
-
-wide : (n : ℕ) → n < 2 ^ 32 → n < 2 ^ 64
-wide n lt = omega arith
 
 word_stamp : (e : EntryRecord) → IsTold e → IsWord (stamp_text e)
 word_stamp e h =
@@ -166,9 +146,6 @@ right_place (Some d) e h = ap (λ (o : Ordering). not (is_lt o)) h
 either_false : (a b : Bool) → a ≡ false → b ≡ false → (a || b) ≡ false
 either_false a b p q = rw (p, q) refl
 
-three_false : (a b c : Bool) → a ≡ false → b ≡ false → c ≡ false → first_of ((a, OutOfRange) ∷ (b, BadValue) ∷ (c, NotSorted) ∷ []) ≡ None
-three_false a b c p q r = rw (p, q, r) refl
-
 -- nothing is wrong with an entry that may follow
 no_entry_cause : (before : List EntryRecord) (e : EntryRecord) → MayFollow before e → first_of (entry_causes before [] (entry_fields e)) ≡ None
 no_entry_cause before e h =
@@ -177,7 +154,7 @@ no_entry_cause before e h =
     let seven : Seven before [] e.kind (decimal e.block) (stamp_text e) (kind_word e.kind) (decimal e.client) (place_text e.start) (place_text e.end) (value_text e.value) = record { none = refl; word = kind_back e.kind; full = full } in
     with_numbers before [] e.kind (decimal e.block) (stamp_text e) (kind_word e.kind) (decimal e.client) (place_text e.start) (place_text e.end) (value_text e.value) (numbers_of e) seven (numbers_back e told)
     ∙ ap (λ (o : Option (List ℕ)). first_of (value_causes before e.kind (numbers_of e) o)) (value_of-text e.value told.bytes)
-    ∙ three_false (eqb e.mark 0) (is_bad_value before (Some e.value)) (not (stands_above (last_of before) e)) (not_zero e.mark told.mark)
+    ∙ three_none (eqb e.mark 0) (is_bad_value before (Some e.value)) (not (stands_above (last_of before) e)) OutOfRange BadValue NotSorted (not_zero e.mark told.mark)
     (either_false (eqb (length e.value) 0) (has_other_size before e.value) (not_zero (length e.value) told.some_bytes) (right_size before e.value h.size))
     (right_place (last_of before) e h.above)
 

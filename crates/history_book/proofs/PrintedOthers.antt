@@ -11,10 +11,7 @@ use Rattle.history_book.specs.Reports.{count_text, spent_fields, end_fields, fur
 use Rattle.history_book.specs.ReportTexts.{IsToldSpent, MayFollowSpent, AreCounts, last_of, spent_numbers, count_told, count_numbers, spent_told, counts_told, is_not_later, line_cause}
 use Rattle.history_book.proofs.OtherLines.{spent_right, counts_right}
 use Rattle.history_book.proofs.ReadLines.{IsRead}
-use Rattle.history_book.proofs.Words.{IsWord, AreWords, word_decimal, word_append, none_empty, fields_apart}
-
-wide : (n : ℕ) → n < 2 ^ 32 → n < 2 ^ 64
-wide n lt = omega arith
+use Rattle.history_book.proofs.Words.{IsWord, AreWords, wide, word_decimal, word_append, none_empty, fields_apart}
 
 -- ---- spent writes
 

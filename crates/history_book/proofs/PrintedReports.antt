@@ -1,37 +1,30 @@
 -- The report of a book that has one is accepted, and is the report of no other.
-use Rattle.std.proofs.Common.{◌≡◌, ℕ, ◌+◌, List, [], ◌∷◌, ◌++◌, length, map, take, get_or, Some, None, refl, sym, ap, subst, ◌∙◌, append_assoc, arith}
-use Rattle.std.specs.Prelude.{slice_get, codes}
+use Rattle.std.proofs.Common.{◌≡◌, ℕ, List, [], ◌∷◌, ◌++◌, length, map, take, get_or, Some, None, refl, sym, ap, subst, ◌∙◌, append_assoc}
+use Rattle.std.specs.Prelude.{slice_get, codes, decimal}
 use Rattle.std.proofs.Math.Seq.{get_or-append_seam}
 use Rattle.std.proofs.lemmas.List.{append-nil, take_at}
 use Rattle.std.proofs.lemmas.List.Elements.{filter_map-append}
-use Rattle.text_lines.specs.Lines.{parts_of, fields_of, line_of_fields, text_of_lines}
+use Rattle.text_lines.specs.Lines.{parts_of, fields_of, text_of_lines}
+use Rattle.text_lines.specs.Fields.{value_text}
 use Rattle.line_forms.specs.Texts.{IsFaultless}
 use Rattle.history_book.specs.declared.entry.Entry.{Entry as EntryRecord}
 use Rattle.history_book.specs.declared.entry.Spent.{Spent as SpentRecord}
 use Rattle.history_book.specs.declared.entry.Counts.{Counts}
 use Rattle.history_book.specs.declared.reading.ReportLine.TheVariants.{End}
 use Rattle.history_book.specs.Books.{Book}
-use Rattle.history_book.specs.Reports.{kind_word, place_text, stamp_text, entry_fields, spent_fields, end_fields, entry_line, spent_line, end_line, report_text}
-use Rattle.text_lines.specs.Fields.{value_text}
-use Rattle.std.specs.Prelude.{decimal}
-use Rattle.history_book.specs.Reports.{count_text, further_counts}
+use Rattle.history_book.specs.Reports.{kind_word, place_text, stamp_text, entry_line, spent_line, end_line, count_text, further_counts, report_text}
 use Rattle.history_book.specs.ReportTexts.{entry_told, spent_told, counts_told, entries_in, spent_in, report, MayFollow, MayFollowSpent, AreToldEntries, AreToldSpent, IsReport}
-use Rattle.history_book.proofs.ReadLines as read
-use Rattle.history_book.proofs.ReadLines.{Told, told_lines, told_none, next_entry, next_spent, text_faultless, IsEnded}
+use Rattle.history_book.proofs.ReadLines.{Told, told_lines, told_none, slice_get-seam, next_entry, next_spent, book_of, end_line as end_line_read, text_faultless, IsEnded}
 use Rattle.history_book.proofs.Words.{first_apart}
 use Rattle.history_book.proofs.PrintedEntries.{entry_words, entry_read}
 use Rattle.history_book.proofs.PrintedOthers.{spent_words, spent_read, end_words, end_read, end_apart, counts_back}
 
 -- ---- what stands in the middle of a list
 
-at_seam : {A : Type 0} (xs : List A) (y : A) (ys : List A) → slice_get (xs ++ y ∷ ys) (length xs) ≡ Some y
-at_seam [] y ys = refl
-at_seam (x ∷ xs) y ys = at_seam xs y ys
-
 -- each element is right after those before it, so one in the middle is
 right_there : {A : Type 0} (P : List A → A → Type 0) (xs : List A) (y : A) (ys all : List A) → xs ++ y ∷ ys ≡ all → ((i : ℕ) (x : A) → slice_get all i ≡ Some x → P (take i all) x) → P xs y
 right_there {A} P xs y ys all e h =
-    let there : slice_get all (length xs) ≡ Some y = ap (λ (zs : List A). slice_get zs (length xs)) (sym e) ∙ at_seam xs y ys in
+    let there : slice_get all (length xs) ≡ Some y = ap (λ (zs : List A). slice_get zs (length xs)) (sym e) ∙ slice_get-seam xs y ys in
     let front : take (length xs) all ≡ xs = ap (take (length xs)) (sym e) ∙ take_at xs (y ∷ ys) (length xs) refl in
     subst (λ (zs : List A). P zs y) front (h (length xs) y there)
 
@@ -76,7 +69,7 @@ pub report_accepted : (book : Book) → IsReport book → IsFaultless report (re
 report_accepted book h =
     let text = report_text book in
     let ended : IsEnded text book.entries book.spent [] book.entries book.spent book.counts =
-    read.end_line text book.entries book.spent (text_of_lines (end_line book.counts ∷ [])) (end_line book.counts) [] (End book.counts) book.entries book.spent book.counts (report_told book h) (end_parts book h) (end_read book.entries book.spent book.counts h.counts) (refl, refl, refl) in
+    end_line_read text book.entries book.spent (text_of_lines (end_line book.counts ∷ [])) (end_line book.counts) [] (End book.counts) book.entries book.spent book.counts (report_told book h) (end_parts book h) (end_read book.entries book.spent book.counts h.counts) (refl, refl, refl) in
     text_faultless text book ended.0 [] ended.1 refl
 
 -- ---- what the parts of a report tell
@@ -112,4 +105,4 @@ one_report a b h g e =
     let told_a : counts_told (fields_of (end_line a.counts)) ≡ Some a.counts = ap counts_told (end_apart a.entries a.spent a.counts h.counts) ∙ counts_back a.entries a.spent a.counts h.counts in
     let told_b : counts_told (fields_of (end_line b.counts)) ≡ Some b.counts = ap counts_told (end_apart b.entries b.spent b.counts g.counts) ∙ counts_back b.entries b.spent b.counts g.counts in
     let counts : a.counts ≡ b.counts = same_counts a.counts b.counts (sym told_a ∙ ap (λ (l : List ℕ). counts_told (fields_of l)) line ∙ told_b) in
-    ap (λ (es : List EntryRecord). read.book_of es a.spent a.counts) entries ∙ ap (λ (xs : List SpentRecord). read.book_of b.entries xs a.counts) spent ∙ ap (λ (c : Counts). read.book_of b.entries b.spent c) counts
+    ap (λ (es : List EntryRecord). book_of es a.spent a.counts) entries ∙ ap (λ (xs : List SpentRecord). book_of b.entries xs a.counts) spent ∙ ap (λ (c : Counts). book_of b.entries b.spent c) counts

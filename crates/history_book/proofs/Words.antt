@@ -1,9 +1,13 @@
 -- Printed fields: a line of them comes apart as it was put together.
-use Rattle.std.proofs.Common.{◌≡◌, ℕ, ◌+◌, ◌<◌, ◌≤◌, ◌^◌, false, eqb, List, [], ◌∷◌, ◌++◌, length, refl, arith, lit<}
-use Rattle.std.specs.Prelude.{codes, decimal}
+use Rattle.std.proofs.Common.{◌≡◌, ℕ, ◌<◌, ◌^◌, Bool, true, false, eqb, List, [], ◌∷◌, ◌++◌, length, refl, arith, lit<}
+use Rattle.std.specs.Prelude.{decimal}
 use Rattle.std.specs.List.{AllByRecursion}
-use Rattle.std.proofs.lemmas.Fmt.{decimal_nonempty}
+use Rattle.std.specs.Str.{bytes_eq}
+use Rattle.std.specs.Int.{IsInRange}
+use Rattle.std.proofs.lemmas.Fmt.{decimal_is_IsNumeral, decimal_nonempty}
 use Rattle.std.proofs.lemmas.List.{length-append}
+use Rattle.std.proofs.lemmas.Slice.Eq.{bytes_eq-Decides}
+use Rattle.std.proofs.lemmas.Str.Parse.{digit_from_value}
 use Rattle.text_lines.specs.Lines.{fields_of, line_of_fields, parts_of, text_of_lines, Lacks, AllLack}
 use Rattle.text_lines.specs.Fields.{value_text}
 use Rattle.text_lines.proofs.Joined.{parts-joined, Lacks-append, Lacks-decimal, Lacks-value_text}
@@ -18,6 +22,21 @@ pub record IsWord (text : List ℕ) : Type 0 where
   pub some : 0 < length text
   pub space : Lacks 32 text
   pub newline : Lacks 10 text
+
+-- a text whose first byte is no figure is no number's
+pub differs_from_number : (n c : ℕ) (word : List ℕ) → n < 2 ^ 64 → (IsInRange 48 57 c → ⊥) → bytes_eq (decimal n) (c ∷ word) ≡ false
+differs_from_number n c word lt other = by_test (bytes_eq (decimal n) (c ∷ word)) refl
+  where
+    by_test : (b : Bool) → bytes_eq (decimal n) (c ∷ word) ≡ b → bytes_eq (decimal n) (c ∷ word) ≡ false
+    by_test false e = e
+    by_test true e =
+        let is : decimal n ≡ c ∷ word = (bytes_eq-Decides (decimal n) (c ∷ word)).0 e in
+        let digits = rw is at ((decimal_is_IsNumeral n lt).0.1) in
+        absurd (other (digit_from_value c digits.0))
+
+-- a number of 32 bits is one of 64
+pub wide : (n : ℕ) → n < 2 ^ 32 → n < 2 ^ 64
+wide n lt = omega arith
 
 pub word_decimal : (n : ℕ) → n < 2 ^ 64 → IsWord (decimal n)
 word_decimal n lt = record { some = decimal_nonempty n lt; space = Lacks-decimal 32 n (lit< tt) lt; newline = Lacks-decimal 10 n (lit< tt) lt }
