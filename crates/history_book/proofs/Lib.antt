@@ -16,3 +16,5 @@ pub mod Spelling
 pub mod EntryLines
 pub mod OtherLines
 pub mod ReadLines
+pub mod Reported
+pub mod Judged
