@@ -20,3 +20,5 @@ pub mod Words
 pub mod PrintedEntries
 pub mod PrintedOthers
 pub mod PrintedReports
+pub mod Reported
+pub mod Judged
