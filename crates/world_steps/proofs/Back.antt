@@ -27,7 +27,7 @@ module _ (w : Inside) (k : ℕ) (inside : k < length w.seats.items) (seat : Seat
       (record {
         config = ap (λ (x : ClientView). x.config) is;
         id = ap (λ (x : ClientView). x.id) is;
-        task = subst (IsTaskOf w.config (map record_of w.records) w.place k seat.start seat.record) (sym (ap (λ (x : ClientView). x.seen.task) is)) tt;
+        task = subst (IsTaskOf w.config (map record_of w.records) w.place k seat.start seat.index) (sym (ap (λ (x : ClientView). x.seen.task) is)) tt;
       }))
       place later
 

@@ -40,7 +40,7 @@ module _ (w : Inside) (k : ℕ) (inside : k < length w.seats.items) (seat : Seat
   task = started (seated (the_view w) k) op
 
   abbrev new_seat : Seat
-  new_seat = record seat { client = next; start = place; «record» = length w.records }
+  new_seat = record seat { client = next; start = place; index = length w.records }
 
   abbrev new_told : Told
   new_told = record { client = k; op = op; start = place; end = None; stamp = None; outcome = None }

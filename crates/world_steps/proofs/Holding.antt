@@ -26,10 +26,10 @@ task_kept c records more p q k start index (Some t) l told h =
     record { answers = h.answers; phases = (let r = h.phases in omega (arith, r, l)); told = told t refl h.told }
 
 seat_kept : (c : Numbers) (records more : List Record) (p q k : ℕ) (s : Seat)
-    → p ≤ q → ((t : SeenTask) → s.client.seen.task ≡ Some t → slice_get records s.record ≡ Some (open_record k (task_at s.start t)) → slice_get more s.record ≡ Some (open_record k (task_at s.start t)))
+    → p ≤ q → ((t : SeenTask) → s.client.seen.task ≡ Some t → slice_get records s.index ≡ Some (open_record k (task_at s.start t)) → slice_get more s.index ≡ Some (open_record k (task_at s.start t)))
     → IsSeat c records p k s → IsSeat c more q k s
 seat_kept c records more p q k s l told h =
-    record { config = h.config; id = h.id; task = task_kept c records more p q k s.start s.record s.client.seen.task l told h.task }
+    record { config = h.config; id = h.id; task = task_kept c records more p q k s.start s.index s.client.seen.task l told h.task }
 
 -- the records' starts are below a greater place
 all_below : (rs : List Told) (n : ℕ) → ((k : ℕ) (r : Told) → slice_get rs k ≡ Some r → r.start < n) → AllByRecursion (λ m. m < n) (map (λ r. r.start) rs)
@@ -87,10 +87,10 @@ module _ (c : Numbers) (hosts : List Host) (seats : List Seat) (records : List T
           ];
         }
       where
-        other : (j : ℕ) (x : Seat) (t : SeenTask) → (j ≡ k → ⊥) → slice_get (map record_of records) x.record ≡ Some (open_record j (task_at x.start t))
-            → slice_get (map record_of (slice_set records index new)) x.record ≡ Some (open_record j (task_at x.start t))
+        other : (j : ℕ) (x : Seat) (t : SeenTask) → (j ≡ k → ⊥) → slice_get (map record_of records) x.index ≡ Some (open_record j (task_at x.start t))
+            → slice_get (map record_of (slice_set records index new)) x.index ≡ Some (open_record j (task_at x.start t))
         other j x t ne e =
-            rw map-set (slice_get-set_other (map record_of records) index (record_of new) x.record (open_record j (task_at x.start t))
+            rw map-set (slice_get-set_other (map record_of records) index (record_of new) x.index (open_record j (task_at x.start t))
             (λ same. ne (only j x t (sym e ∙ ap (λ i. slice_get (map record_of records) i) same ∙ slice_get-map record_of records index ∙ ap (option_map record_of) there ∙ ap Some is))) e)
 
     -- or a record of its own is added, of a greater place
@@ -102,7 +102,7 @@ module _ (c : Numbers) (hosts : List Host) (seats : List Seat) (records : List T
       clients = length-set seats k s ∙ h.clients;
       seat = λ j x e. elim (slice_get-set_cases seats k s j x e) [
         | inl f ↦ rw (f.0, f.1) seat
-        | inr f ↦ seat_kept c (map record_of records) (map record_of (records ++ new ∷ [])) p q j x (omega (arith, later)) (λ t g there. rw map-append (slice_get-push (map record_of records) (record_of new) x.record _ there)) (h.seat j x f.1)
+        | inr f ↦ seat_kept c (map record_of records) (map record_of (records ++ new ∷ [])) p q j x (omega (arith, later)) (λ t g there. rw map-append (slice_get-push (map record_of records) (record_of new) x.index _ there)) (h.seat j x f.1)
       ];
       ascend = rw map-append (ascend_push (map (λ r. r.start) records) new.start h.ascend (all_below records new.start (λ j r e. let m = h.placed j r e in omega (arith, m, later, start))));
       placed = λ j x e. elim (slice_get-push_cases records new j x e) [

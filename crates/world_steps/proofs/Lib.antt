@@ -12,3 +12,4 @@ pub mod Begun
 pub mod Back
 pub mod Resent
 pub mod Beginning
+pub mod Alone

@@ -1,5 +1,5 @@
 -- A line's events put together from their parts.
-use Rattle.std.proofs.Common.{◌≡◌, ℕ, ◌<◌, Bool, true, false, List, [], ◌∷◌, ◌++◌, Option, refl, sym, ap, ◌∙◌, cond, length, inl, inr, arith}
+use Rattle.std.proofs.Common.{◌≡◌, ℕ, ◌<◌, Bool, true, false, List, [], ◌∷◌, Option, refl, sym, ap, ◌∙◌, cond, length, inl, inr, arith}
 use Rattle.std.specs.Prelude.{slice_get, nat_le, not}
 use Rattle.std.proofs.lemmas.Bool.Decides.{nat_tests}
 use Rattle.std.proofs.lemmas.Option.{slice_get_cases}
@@ -8,7 +8,7 @@ use Rattle.std.specs.declared.option.Option.TheVariants.{None, Some}
 use Rattle.wire_forms.specs.declared.Body.TheVariants.{Ask as Asks, Answer as Answers}
 use Rattle.protocol.specs.Messages.{Ask, Reply, Body, Message}
 use Rattle.protocol.specs.Setting.{Setting}
-use Rattle.protocol.specs.Operations.{Task, Decision, decide, outstanding, ask_of, answered, counted}
+use Rattle.protocol.specs.Operations.{Task, Decision, decide, outstanding, ask_of, counted}
 use Rattle.protocol.specs.World.Event.{Lie as Lies}
 use Rattle.protocol.specs.Operations.Decision.{GoesOn, Ends}
 use Rattle.protocol.specs.World.{World, only_place, happens, sent, given, heard, heard_by, counts, advanced, decided, answer_of, all_happen}

@@ -1,5 +1,5 @@
 -- Lines lead on from where lines lead to.
-use Rattle.std.proofs.Common.{◌≡◌, ℕ, ◌<◌, ◌≤◌, Bool, false, length, arith, List, [], ◌∷◌, ◌++◌, refl, sym, ap, subst, ◌∙◌}
+use Rattle.std.proofs.Common.{◌≡◌, ℕ, ◌<◌, ◌≤◌, Bool, false, length, arith, List, [], ◌∷◌, ◌++◌, sym, ap, subst, ◌∙◌}
 use Rattle.std.specs.Prelude.{Result, Ok, Err, OnOk, OnErr, slice_index_or}
 use Rattle.std.specs.declared.option.Option.TheVariants.{None}
 use Rattle.quorum_rules.specs.Limits.{Numbers, IsValid}
@@ -8,8 +8,8 @@ use Rattle.protocol.specs.Count.{count}
 use Rattle.protocol.proofs.Counting.{count_named}
 use Rattle.protocol.specs.Setting.{Setting}
 use Rattle.protocol.specs.World.{World, start_world}
-use Rattle.protocol.specs.Lines.{Line, Run, IsRun, FitsLine, fault, plays}
-use Rattle.protocol.specs.Instance.{IsCluster, setting_of}
+use Rattle.protocol.specs.Lines.{Line, IsRun, FitsLine, fault, plays}
+use Rattle.protocol.specs.Instance.{setting_of}
 use Rattle.protocol.specs.Seen.{SeenWorld}
 use Rattle.protocol.proofs.Kept.{run_parts}
 use Rattle.world_steps.specs.Worlds.{WorldView, setting_in, world_in, IsReached, AreLiars}

@@ -69,20 +69,20 @@ with_record-set (x ∷ xs) (suc i) old new h e f g =
 
 module _ (w : Inside) (k : ℕ) (inside : k < length w.seats.items) (seat : Seat) (there : seat ≡ get_or w.seats.items k seat) (good : IsWorld w.config w.hosts.items w.seats.items w.records w.place) where
   -- the record of an operation under way
-  pub record-there : (t : SeenTask) → seat.client.seen.task ≡ Some t → (r : Told) × (slice_get w.records seat.record ≡ Some r) × (record_of r ≡ open_record k (task_at seat.start t))
-  record-there t e = at (slice_get w.records seat.record) refl
+  pub record-there : (t : SeenTask) → seat.client.seen.task ≡ Some t → (r : Told) × (slice_get w.records seat.index ≡ Some r) × (record_of r ≡ open_record k (task_at seat.start t))
+  record-there t e = at (slice_get w.records seat.index) refl
     where
-      way : IsUnderWay w.config (map record_of w.records) w.place k seat.start seat.record t
-      way = subst (IsTaskOf w.config (map record_of w.records) w.place k seat.start seat.record) e (good.seat k seat (seat-there w k inside seat there)).task
+      way : IsUnderWay w.config (map record_of w.records) w.place k seat.start seat.index t
+      way = subst (IsTaskOf w.config (map record_of w.records) w.place k seat.start seat.index) e (good.seat k seat (seat-there w k inside seat there)).task
 
-      at : (o : Option Told) → slice_get w.records seat.record ≡ o → (r : Told) × (o ≡ Some r) × (record_of r ≡ open_record k (task_at seat.start t))
-      at None f = absurd (let g : option_map record_of None ≡ Some (open_record k (task_at seat.start t)) = ap (option_map record_of) (sym f) ∙ sym (slice_get-map record_of w.records seat.record) ∙ way.told in cc)
-      at (Some r) f = (r, refl, (let g : option_map record_of (Some r) ≡ Some (open_record k (task_at seat.start t)) = ap (option_map record_of) (sym f) ∙ sym (slice_get-map record_of w.records seat.record) ∙ way.told in cc))
+      at : (o : Option Told) → slice_get w.records seat.index ≡ o → (r : Told) × (o ≡ Some r) × (record_of r ≡ open_record k (task_at seat.start t))
+      at None f = absurd (let g : option_map record_of None ≡ Some (open_record k (task_at seat.start t)) = ap (option_map record_of) (sym f) ∙ sym (slice_get-map record_of w.records seat.index) ∙ way.told in cc)
+      at (Some r) f = (r, refl, (let g : option_map record_of (Some r) ≡ Some (open_record k (task_at seat.start t)) = ap (option_map record_of) (sym f) ∙ sym (slice_get-map record_of w.records seat.index) ∙ way.told in cc))
 
-  pub record-within : (t : SeenTask) → seat.client.seen.task ≡ Some t → seat.record < length w.records
-  record-within t e = let r = record-there t e in slice_get_within w.records seat.record r.0 r.1
+  pub record-within : (t : SeenTask) → seat.client.seen.task ≡ Some t → seat.index < length w.records
+  record-within t e = let r = record-there t e in slice_get_within w.records seat.index r.0 r.1
 
-  module _ (t : SeenTask) (under_way : seat.client.seen.task ≡ Some t) (hearer : ClientView) (same : IsSame (the_view w) k hearer) (end : Option ℕ) (stamp : Option Stamp) (outcome : Option Outcome) (r : Told) (known : slice_get w.records seat.record ≡ Some r)
+  module _ (t : SeenTask) (under_way : seat.client.seen.task ≡ Some t) (hearer : ClientView) (same : IsSame (the_view w) k hearer) (end : Option ℕ) (stamp : Option Stamp) (outcome : Option Outcome) (r : Told) (known : slice_get w.records seat.index ≡ Some r)
       (opened : record_of r ≡ open_record k (task_at seat.start t)) where
     -- the record that tells how the operation stands
     abbrev new_record : Told
@@ -95,28 +95,28 @@ module _ (w : Inside) (k : ℕ) (inside : k < length w.seats.items) (seat : Seat
     new_told = ap (λ (x : Record). record x { end = end; stamp = stamp; outcome = outcome }) opened
 
     next_seat : (o : Option SeenTask) → hearer.seen.task ≡ o → Becomes w.config w.place (Some (task_at seat.start t)) o → IfSome o (λ u. (end ≡ None) × (stamp ≡ chosen_stamp u.work u.stage) × (outcome ≡ None))
-        → IsTaskOf w.config (map record_of (slice_set w.records seat.record new_record)) w.place k seat.start seat.record o
+        → IsTaskOf w.config (map record_of (slice_set w.records seat.index new_record)) w.place k seat.start seat.index o
     next_seat None e may told = tt
     next_seat (Some u) e may told = record {
       answers = may.answers;
       phases = may.phases;
       told =
-          slice_get-map record_of (slice_set w.records seat.record new_record) seat.record
-          ∙ ap (option_map record_of) (slice_get-set_same w.records seat.record new_record (slice_get_within w.records seat.record r known))
+          slice_get-map record_of (slice_set w.records seat.index new_record) seat.index
+          ∙ ap (option_map record_of) (slice_get-set_same w.records seat.index new_record (slice_get_within w.records seat.index r known))
           ∙ ap Some (new_told ∙ (λ i. record { client = k; block = sym may.block i; work = sym may.work i; start = seat.start; end = told.0 i; stamp = told.1 i; outcome = told.2 i }));
     }
 
     pub world-kept : Becomes w.config w.place (Some (task_at seat.start t)) hearer.seen.task → IfSome hearer.seen.task (λ u. (end ≡ None) × (stamp ≡ chosen_stamp u.work u.stage) × (outcome ≡ None))
-        → IsWorld w.config w.hosts.items (slice_set w.seats.items k new_seat) (slice_set w.records seat.record new_record) w.place
+        → IsWorld w.config w.hosts.items (slice_set w.seats.items k new_seat) (slice_set w.records seat.index new_record) w.place
     world-kept may standing =
-        told w.config w.hosts.items w.seats.items w.records w.place good k new_seat seat.record r new_record (open_record k (task_at seat.start t)) known opened refl refl
+        told w.config w.hosts.items w.seats.items w.records w.place good k new_seat seat.index r new_record (open_record k (task_at seat.start t)) known opened refl refl
         (λ j x u e. let q : open_record j (task_at x.start u) ≡ open_record k (task_at seat.start t) = cc in ap (λ (y : Record). y.client) q)
         (record { config = same.config; id = same.id; task = next_seat hearer.seen.task refl may standing })
 
-    pub world-settled : world_in (the_view (record w { seats = with_item w.seats k new_seat; records = slice_set w.records seat.record new_record }))
+    pub world-settled : world_in (the_view (record w { seats = with_item w.seats k new_seat; records = slice_set w.records seat.index new_record }))
         ≡ settled (world_in (the_view w)) k (task_at seat.start t) hearer.seen.task end stamp outcome
     world-settled =
-        world-seat w k inside new_seat w.pool (slice_set w.records seat.record new_record) w.place
+        world-seat w k inside new_seat w.pool (slice_set w.records seat.index new_record) w.place
         ∙ (λ i. record (world_in (the_view w)) {
           task = update (world_in (the_view w)).task k (started_task seat.start hearer.seen.task);
           life = update-known (world_in (the_view w)).life k hearer.seen.life same.life i;
@@ -125,12 +125,12 @@ module _ (w : Inside) (k : ℕ) (inside : k < length w.seats.items) (seat : Seat
           records = records_are i;
         })
       where
-        records_are : map record_of (slice_set w.records seat.record new_record) ≡ with_record (map record_of w.records) (record { client = k; block = t.block; work = t.work; start = seat.start; end = end; stamp = stamp; outcome = outcome })
+        records_are : map record_of (slice_set w.records seat.index new_record) ≡ with_record (map record_of w.records) (record { client = k; block = t.block; work = t.work; start = seat.start; end = end; stamp = stamp; outcome = outcome })
         records_are =
-            map-set record_of w.records seat.record new_record
-            ∙ ap (slice_set (map record_of w.records) seat.record) new_told
-            ∙ with_record-set (map record_of w.records) seat.record (open_record k (task_at seat.start t)) _ (rw map-map good.ascend)
-            (slice_get-map record_of w.records seat.record ∙ ap (option_map record_of) known ∙ ap Some opened) refl refl
+            map-set record_of w.records seat.index new_record
+            ∙ ap (slice_set (map record_of w.records) seat.index) new_told
+            ∙ with_record-set (map record_of w.records) seat.index (open_record k (task_at seat.start t)) _ (rw map-map good.ascend)
+            (slice_get-map record_of w.records seat.index ∙ ap (option_map record_of) known ∙ ap Some opened) refl refl
 
   -- all of it, where an operation is under way
   module _ (hearer : ClientView) (same : IsSame (the_view w) k hearer) (end : Option ℕ) (stamp : Option Stamp) (outcome : Option Outcome) (may : Becomes w.config w.place ((world_in (the_view w)).task k) hearer.seen.task) where
@@ -144,12 +144,12 @@ module _ (w : Inside) (k : ℕ) (inside : k < length w.seats.items) (seat : Seat
     task-is : (world_in (the_view w)).task k ≡ Some (task_at seat.start task-there.0)
     task-is = task-seat w k inside seat there ∙ ap (started_task seat.start) task-there.1
 
-    pub settle-within : seat.record < length w.records
+    pub settle-within : seat.index < length w.records
     settle-within = record-within task-there.0 task-there.1
 
     module _ (standing : IfSome hearer.seen.task (λ u. (end ≡ None) × (stamp ≡ chosen_stamp u.work u.stage) × (outcome ≡ None))) (records : List Told)
-        (are : (r : Told) → slice_get w.records seat.record ≡ Some r → records ≡ slice_set w.records seat.record (record r { end = end; stamp = stamp; outcome = outcome })) where
-      known : (r : Told) × (slice_get w.records seat.record ≡ Some r) × (record_of r ≡ open_record k (task_at seat.start task-there.0))
+        (are : (r : Told) → slice_get w.records seat.index ≡ Some r → records ≡ slice_set w.records seat.index (record r { end = end; stamp = stamp; outcome = outcome })) where
+      known : (r : Told) × (slice_get w.records seat.index ≡ Some r) × (record_of r ≡ open_record k (task_at seat.start task-there.0))
       known = record-there task-there.0 task-there.1
 
       pub settle-kept : IsWorld w.config w.hosts.items (slice_set w.seats.items k (record seat { client = hearer })) records w.place

@@ -75,7 +75,7 @@ Fits n place o = IfSome o (λ t. (length t.answers ≡ n) × (t.phase ≤ place)
 pub fits-seat : (w : Inside) → IsWorld w.config w.hosts.items w.seats.items w.records w.place → (k : ℕ) → k ≤ 1000 → Fits w.config.n w.place (client_at (the_view w).seen k).task
 fits-seat w good k l = at (slice_get_cases w.seats.items k).1
   where
-    task : (seat : Seat) (o : Option SeenTask) → IsTaskOf w.config (map record_of w.records) w.place k seat.start seat.record o → Fits w.config.n w.place o
+    task : (seat : Seat) (o : Option SeenTask) → IsTaskOf w.config (map record_of w.records) w.place k seat.start seat.index o → Fits w.config.n w.place o
     task seat None h = tt
     task seat (Some t) h = (h.answers, h.phases)
 

@@ -13,7 +13,7 @@ new_host c lies i = record { node = new_node c i; crashed = false; lying = lies 
 
 -- the client of this number, before its first operation
 abbrev pub new_seat : Numbers → (ℕ → Bool) → ℕ → Seat
-new_seat c lies k = record { client = record { config = c; id = k; seen = new_client }; start = 0; «record» = 0; crashed = false; lying = lies k }
+new_seat c lies k = record { client = record { config = c; id = k; seen = new_client }; start = 0; index = 0; crashed = false; lying = lies k }
 
 -- each host is new
 abbrev pub AreNewHosts : Numbers → (ℕ → Bool) → List Host → Type 0

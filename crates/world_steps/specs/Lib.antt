@@ -5,3 +5,5 @@ pub mod Actors
 pub mod Acceptances
 pub mod Turns
 pub mod Beginnings
+pub mod Starts
+pub mod Events

@@ -30,7 +30,7 @@ IsTaskOf c records place client start index (Some t) = IsUnderWay c records plac
 pub record IsSeat (c : Numbers) (records : List Record) (place k : ℕ) (seat : Seat) : Type 0 where
   pub config : seat.client.config ≡ c
   pub id : seat.client.id ≡ k
-  pub task : IsTaskOf c records place k seat.start seat.record seat.client.seen.task
+  pub task : IsTaskOf c records place k seat.start seat.index seat.client.seen.task
 
 -- a world of this cluster: its nodes, and the clients of the numbers from 0 to 1000; the records ascend by start, none above the place
 pub record IsWorld (c : Numbers) (hosts : List Host) (seats : List Seat) (records : List Told) (place : ℕ) : Type 0 where

@@ -55,7 +55,7 @@ impl State {
         let seat = &mut self.seats[client as usize];
         seat.client = starter;
         seat.start = place;
-        seat.record = index;
+        seat.index = index;
         self.place = place;
         Ok(())
     }
@@ -141,7 +141,7 @@ impl State {
     {
         let seat = &mut self.seats[client as usize];
         seat.client = hearer;
-        let index = seat.record;
+        let index = seat.index;
         tell(&mut self.records, index, end, stamp, outcome);
     }
 

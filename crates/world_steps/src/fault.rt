@@ -250,7 +250,7 @@ impl State {
     {
         match self.seats.get(client as usize) {
             Some(seat) if !seat.crashed && !seat.client.is_idle() => {
-                match self.records.get(seat.record) {
+                match self.records.get(seat.index) {
                     Some(record) => block_of(&record.op) == block,
                     None => false,
                 }

@@ -4,8 +4,10 @@
 
 mod actors;
 mod clients;
+pub mod event;
 mod fault;
 mod host;
+pub mod laws;
 mod lying;
 mod nodes;
 mod play;
@@ -15,6 +17,10 @@ mod state;
 mod turn;
 pub mod world;
 
+pub use event::Event;
 pub use refusal::StepRefusal;
 pub use run_words::{Accepted, How, Line, Nodes, Outcome, Record, StepFault};
 pub use world::World;
+
+#[cfg(test)]
+mod tests;

@@ -7,7 +7,7 @@ pub struct Seat {
     /// The place at which its last operation started, 0 before its first.
     pub start: u64,
     /// The number of that operation's record.
-    pub record: usize,
+    pub index: usize,
     pub crashed: bool,
     /// Whether it is declared lying. Its client is idle then.
     pub lying: bool,

@@ -114,7 +114,7 @@ fn new_seats(alloc: Global, config: &Config, liars: &Liars) -> Result<Vec<Seat>,
         seats.push(Seat {
             client: Client::new(alloc, config, id)?,
             start: 0,
-            record: 0,
+            index: 0,
             crashed: false,
             lying: liars.client(id),
         })?;

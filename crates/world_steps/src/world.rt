@@ -8,7 +8,9 @@ ghost use Rattle.protocol.specs.Lines.{fault, plays, FitsLine};
 ghost use Rattle.protocol.specs.Seen.{record_of};
 ghost use Rattle.run_words.specs.declared.line.StepFault.{StepFault as Faults};
 ghost use Rattle.world_steps.specs.Worlds.{setting_in, world_in, AreLiars, IsReached};
+ghost use Rattle.world_steps.specs.Events.{line_of, Happens};
 
+use crate::event::Event;
 use crate::refusal::StepRefusal;
 use crate::state::State;
 use lists::NoMemory;
@@ -62,6 +64,23 @@ impl World {
         ensures unchanged { OnErr result (self.new ≡ self.old) }
     {
         self.state.play(place, line)
+    }
+
+    /// Does the event, and nothing else, at one place. An event that can't take place is refused with the first fault that it
+    /// meets. After any refusal nothing has changed.
+    pub fn step(&mut self, place: u64, event: &Event) -> Result<(), StepRefusal>
+        requires later { self.now.seen.place < place }
+        requires fits { FitsLine (setting_in self.now) (line_of event.now) }
+        ensures allowed { OnOk result (fault (setting_in self.old) (world_in self.old) (line_of event.now) ≡ None) }
+        ensures ok { OnOk result (world_in self.new ≡ plays (setting_in self.old) (world_in self.old) place (line_of event.now)) }
+        ensures happens { OnOk result (Happens (setting_in self.old) (world_in self.old) place event.now (world_in self.new)) }
+        ensures cluster { OnOk result (self.new.config ≡ self.old.config) }
+        ensures setting { OnOk result (setting_in self.new ≡ setting_in self.old) }
+        ensures fault { (f : Faults) → IsErrOf result (StepRefusal.Fault f) → fault (setting_in self.old) (world_in self.old) (line_of event.now) ≡ Some f }
+        ensures unchanged { OnErr result (self.new ≡ self.old) }
+    {
+        let line = event.line()?;
+        self.play(place, &line)
     }
 
     /// Every message that was ever sent, in order.

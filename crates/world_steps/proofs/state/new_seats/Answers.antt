@@ -10,5 +10,5 @@ loop-id-preserved c = record {
   count = grind (arith, common_steps);
   new =
       subst (AreNewSeats c.args.config.now (has_number c.args.liars.now.clients)) (sym c.in_ok-push.ensures.items)
-      (seats-push c.args.config.now (has_number c.args.liars.now.clients) c.loop-id.seats.items _ c.loop-id.invariant.new ((λ i. record { client = c.in_ok-new.ensures i; start = 0; «record» = 0; crashed = false; lying = c.client.ensures i }) ∙ ap (new_seat c.args.config.now (has_number c.args.liars.now.clients)) (sym c.loop-id.invariant.count)));
+      (seats-push c.args.config.now (has_number c.args.liars.now.clients) c.loop-id.seats.items _ c.loop-id.invariant.new ((λ i. record { client = c.in_ok-new.ensures i; start = 0; index = 0; crashed = false; lying = c.client.ensures i }) ∙ ap (new_seat c.args.config.now (has_number c.args.liars.now.clients)) (sym c.loop-id.invariant.count)));
 }

@@ -31,5 +31,5 @@ returns-clause-ok c =
 pub returns-clause-lying_clients : goal.returns-clause-lying_clients
 returns-clause-lying_clients c =
     lying-seat c.self.inside c.args.client (seat-within _ _ _ _ _ c.self.invariant.0 c.args.client c.requires.client)
-    (record c.index_mut-seat.result.now { client = c.start.new.self; start = c.args.place; «record» = c.len-index.result }) c.index_mut-seat.result.now c.index_mut-seat.ensures.value refl
+    (record c.index_mut-seat.result.now { client = c.start.new.self; start = c.args.place; index = c.len-index.result }) c.index_mut-seat.result.now c.index_mut-seat.ensures.value refl
     ∙ ap (λ v. v.lying_clients) c.self.view_is

@@ -1,13 +1,8 @@
-use Rattle.std.proofs.Common.{rules, subst, sym, ◌≡◌, ◌<◌, OnOk, OnErr, IfOk, IsErrOf, map, ℕ, ◌+◌, ◌-◌, ◌*◌, ◌≤◌, length, ◌/◌, ◌%◌, Bool, true, false, nat_eq, nat_lt, List, [], ◌∷◌, ◌++◌, slice_index_or, slice_set, bit_and, bit_or, Fits, w8, w32, w64, Bor, MutBor}
+use Rattle.std.proofs.Common.{subst, sym, ◌≡◌, ◌<◌, OnOk, IsErrOf}
 use Rattle.std.specs.declared.option.Option.TheVariants.{None, Some}
-use Rattle.wire_forms.specs.Liars.{has_number}
-use Rattle.protocol.specs.Instance.{setting_of}
-use Rattle.protocol.specs.World.{start_world}
-use Rattle.protocol.specs.Setting.{first_stamp}
 use Rattle.protocol.specs.Lines.{fault, plays, FitsLine}
-use Rattle.protocol.specs.Seen.{record_of}
 use Rattle.run_words.specs.declared.line.StepFault.{StepFault as Faults}
-use Rattle.world_steps.specs.Worlds.{setting_in, world_in, AreLiars, IsReached}
+use Rattle.world_steps.specs.Worlds.{setting_in, world_in}
 use Rattle.world_steps.proofs.world.World.play.Goals as goal
 use Rattle.world_steps.specs.declared.refusal.StepRefusal.TheVariants as StepRefusals
 use Rattle.world_steps.proofs.Reached.{still_reached}
