@@ -12,7 +12,7 @@ use Rattle.line_forms.specs.declared.refusal.ScriptRefusal.{ScriptRefusal}
 use Rattle.line_forms.specs.Texts.{IsFaultless}
 use Rattle.script_text.specs.Replays.{Spells, replay_script}
 use Rattle.pasis_shell.specs.declared.words.Command.TheVariants.{Replay}
-use Rattle.pasis_shell.specs.Replays.{IsScript}
+use Rattle.pasis_shell.specs.Replays.{IsScript, Replays}
 use Rattle.pasis_shell.proofs.Replaying.{replays, refuses}
 
 -- src/replay.rt:34:1
@@ -24,8 +24,11 @@ returns-in-Ok-clause-text c =
       replay = c.in_ok-replay.ensures.replay;
       spelled = subst (λ t. Spells t r.config r.liars r.lines) e c.in_ok-replay.ensures.spelled;
       faultless = subst (λ t. IsFaultless replay_script t) e c.in_ok-replay.ensures.faultless;
-    } in
-    replays c.args.input.now r.config r.liars r.lines script c.in_ok-told-in-Ok.field-0 c.in-Ok.world c.in-Ok.ensures.cluster c.in-Ok.ensures.liars c.in-Ok.ensures.run c.in_ok-told-in-Ok.ensures
+    } in (
+      subst (λ (t : List ℕ). Replays c.args.input.now t) (sym c.of.ensures.text)
+          (replays c.args.input.now r.config r.liars r.lines script c.in_ok-told-in-Ok.field-0 c.in-Ok.world c.in-Ok.ensures.cluster c.in-Ok.ensures.liars c.in-Ok.ensures.run c.in_ok-told-in-Ok.ensures),
+      c.of.ensures.flaw,
+    )
 
 -- src/replay.rt:31:1
 pub returns-clause-refused : goal.returns-clause-refused
