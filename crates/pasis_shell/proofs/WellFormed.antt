@@ -1,5 +1,5 @@
 -- Which inputs are refused for want of memory alone.
-use Rattle.std.proofs.Common.{◌≡◌, ℕ, ◌+◌, ◌-◌, List, [], ◌∷◌, ◌++◌, Bool, true, false, refl, sym, ap, subst, inl, inr}
+use Rattle.std.proofs.Common.{◌≡◌, ℕ, ◌+◌, ◌-◌, List, [], ◌∷◌, ◌++◌, true, false, refl, sym, ap, subst, inl, inr}
 use Rattle.std.specs.Prelude.{◌==◌}
 use Rattle.std.specs.declared.option.Option.TheVariants.{None, Some}
 use Rattle.quorum_rules.specs.Limits.{Numbers}

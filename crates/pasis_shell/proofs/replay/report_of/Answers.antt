@@ -1,12 +1,5 @@
-use Rattle.std.proofs.Common.{rules, subst, sym, ap, ◌∙◌, Err, ◌≡◌, ◌<◌, ◌-◌, ◌^◌, List, IfOk, IfErr, ℕ, ◌+◌, ◌*◌, ◌≤◌, length, ◌/◌, ◌%◌, Bool, true, false, nat_eq, nat_lt, [], ◌∷◌, ◌++◌, slice_index_or, slice_set, bit_and, bit_or, Fits, w8, w32, w64, Bor, MutBor}
-use Rattle.protocol.specs.Setting.{first_stamp}
-use Rattle.protocol.specs.History.{Entry}
-use Rattle.history_book.specs.Books.{Book}
-use Rattle.history_book.specs.Tellings.{Tells}
-use Rattle.history_book.specs.Reports.{report_text}
-use Rattle.world_steps.specs.Worlds.{setting_in, world_in}
-use Rattle.run_reports.specs.Registers.{AreRegisters}
-use Rattle.pasis_shell.specs.Texts.{Writes, Refuses}
+use Rattle.std.proofs.Common.{subst, sym, ap, ◌∙◌, Err, List, ℕ}
+use Rattle.pasis_shell.specs.Texts.{Refuses}
 use Rattle.pasis_shell.proofs.replay.report_of.Goals as goal
 use Rattle.line_forms.specs.declared.refusal.ScriptRefusal.{ScriptRefusal}
 use Rattle.line_forms.specs.Texts.{IsFaultless}
