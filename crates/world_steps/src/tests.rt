@@ -70,14 +70,32 @@ fn exchange(world: &mut World, client: u32, first: u64) -> Result<(), StepRefusa
     Ok(())
 }
 
-// Who does the operation, at which places it starts and ends, and the time and client of its stamp.
-fn told(record: &Record) -> (u32, u64, Option<u64>, Option<(u64, u32)>) {
-    let stamp = record.stamp.map(|stamp| (stamp.time, stamp.client));
-    (record.client, record.start, record.end, stamp)
+// Client 1 writes and client 2 reads, in 20 events.
+fn run(alloc: Global) -> Result<World, Fail> {
+    let mut world = cluster(alloc)?;
+    writes(alloc, &mut world)?;
+    exchange(&mut world, 1, 0)?;
+    exchange(&mut world, 1, 6)?;
+    start(&mut world, 2, Op::Read { block: 0 })?;
+    exchange(&mut world, 2, 12)?;
+    Ok(world)
 }
 
-fn gave(outcome: &Option<Outcome>) -> bool {
-    match outcome {
+// Whether the operation is of this client and took place between these places, with the stamp of client 1 and time 1.
+fn is_told(record: &Record, client: u32, start: u64, end: u64) -> bool {
+    record.client == client
+        && record.start == start
+        && record.end == Some(end)
+        && matches!(record.stamp, Some(stamp) if stamp.time == 1 && stamp.client == 1)
+}
+
+fn wrote(record: &Record) -> bool {
+    matches!(&record.outcome, Some(Outcome::Wrote(stamp)) if stamp.time == 1)
+}
+
+// Whether the read gave 1, 0 in one round, and stored nothing.
+fn gave(record: &Record) -> bool {
+    match &record.outcome {
         Some(
             Outcome::Gave {
                 stamp,
@@ -97,54 +115,50 @@ fn gave(outcome: &Option<Outcome>) -> bool {
 
 #[test]
 fn writes_and_reads_event_by_event(rt: HostRuntime) -> Result<(), Fail> {
-    let mut world = cluster(rt.alloc())?;
-    writes(rt.alloc(), &mut world)?;
-    exchange(&mut world, 1, 0)?;
-    exchange(&mut world, 1, 6)?;
-    start(&mut world, 2, Op::Read { block: 0 })?;
-    exchange(&mut world, 2, 12)?;
-    assert_eq!(rt; (world.place(), world.pool().len()), (20, 18));
-    assert_eq!(rt; world.records().len(), 2);
+    let world = run(rt.alloc())?;
+    assert!(rt; world.place() == 20 && world.pool().len() == 18 && world.records().len() == 2);
     let Some(write) = world.records().get(0) else {
         return Err(Fail::from("there is a write"));
     };
-    assert_eq!(rt; told(write), (1, 1, Some(13), Some((1, 1))));
-    assert!(rt; matches!(&write.outcome, Some(Outcome::Wrote(stamp)) if stamp.time == 1));
+    assert!(rt; is_told(write, 1, 1, 13) && wrote(write));
     let Some(read) = world.records().get(1) else {
         return Err(Fail::from("there is a read"));
     };
-    assert_eq!(rt; told(read), (2, 14, Some(20), Some((1, 1))));
-    assert!(rt; gave(&read.outcome));
+    assert!(rt; is_told(read, 2, 14, 20) && gave(read));
     Ok(())
 }
 
-// The fault for which the event is refused.
-fn fault_of(world: &mut World, event: &Event) -> Result<StepFault, Fail>
+// Whether the event is refused for this fault, and nothing changes.
+fn refuses(world: &mut World, event: &Event, fault: StepFault) -> bool
     requires { FitsLine (setting_in world.now) (line_of event.now) }
     ensures { world.new.config ≡ world.old.config }
 {
     let sent = world.pool().len();
     let place = world.place();
-    let Err(StepRefusal::Fault(fault)) = step(world, event) else {
-        return Err(Fail::from("the event is refused for a fault"));
-    };
-    if world.pool().len() != sent || world.place() != place {
-        return Err(Fail::from("a refusal changes nothing"));
-    }
-    Ok(fault)
+    let answer = step(world, event);
+    answer == Err(StepRefusal::Fault(fault)) && world.pool().len() == sent && world.place() == place
 }
 
-// An ask for the time in the name of a client.
-fn ask_of(client: u32) -> Message {
-    Message {
-        client,
+fn refuses_give(world: &mut World, node: u8, message: u64, fault: StepFault) -> bool {
+    refuses(world, &Event::Give { node, message }, fault)
+}
+
+// A start of a client that does something is refused, and a lie of a client that isn't declared lying.
+fn refuses_start_and_lie(world: &mut World) -> bool
+    requires { world.now.config ≡ numbers 3 0 0 2 1 2 1 }
+{
+    let op = Op::Read { block: 0 };
+    let message = Message {
+        client: 2,
         node: 1,
         tag: Tag { op: 0, phase: 0 },
         body: Body::Ask(Ask {
             block: 0,
             request: Request::Time,
         }),
-    }
+    };
+    refuses(world, &Event::Start { client: 1, op }, StepFault::Busy)
+        && refuses(world, &Event::Lie(message), StepFault::NotALiar)
 }
 
 // Client 1 has sent messages 0 to 2, an ask to each node, when node 0 crashes.
@@ -152,13 +166,7 @@ fn ask_of(client: u32) -> Message {
 fn refuses_each_event_by_its_first_fault(rt: HostRuntime) -> Result<(), Fail> {
     let mut world = cluster(rt.alloc())?;
     writes(rt.alloc(), &mut world)?;
-    let busy = Event::Start {
-        client: 1,
-        op: Op::Read { block: 0 },
-    };
-    assert_eq!(rt; fault_of(&mut world, &busy)?, StepFault::Busy);
-    let lie = Event::Lie(ask_of(2));
-    assert_eq!(rt; fault_of(&mut world, &lie)?, StepFault::NotALiar);
+    assert!(rt; refuses_start_and_lie(&mut world));
     step(&mut world, &Event::CrashNode { node: 0 })?;
     for (node, message, fault) in [
         (3u8, 0u64, StepFault::NoSuchActor),
@@ -166,12 +174,18 @@ fn refuses_each_event_by_its_first_fault(rt: HostRuntime) -> Result<(), Fail> {
         (1, 2, StepFault::WrongReceiver),
         (0, 0, StepFault::Crashed),
     ] {
-        let give = Event::Give { node, message };
-        assert_eq!(rt; fault_of(&mut world, &give)?, fault);
+        assert!(rt;
+            refuses_give(&mut world, node, message, fault),
+            "at {node}, {message}"
+        );
     }
-    let idle = Event::Resend { client: 2 };
-    assert_eq!(rt; fault_of(&mut world, &idle)?, StepFault::Idle);
-    let liar = Event::CrashClient { client: 9 };
-    assert_eq!(rt; fault_of(&mut world, &liar)?, StepFault::IsALiar);
+    assert!(rt; refuses(&mut world, &Event::Resend { client: 2 }, StepFault::Idle));
+    assert!(rt;
+        refuses(
+            &mut world,
+            &Event::CrashClient { client: 9 },
+            StepFault::IsALiar
+        )
+    );
     Ok(())
 }
