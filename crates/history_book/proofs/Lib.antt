@@ -2,6 +2,8 @@ pub mod Stamped
 pub mod Orders
 pub mod Blocks
 pub mod Counted
+pub mod Reported
+pub mod Judged
 pub mod Sweeps
 pub mod Sorting
 pub mod Marking

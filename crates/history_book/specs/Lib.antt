@@ -1,4 +1,5 @@
 pub mod Books
+pub mod Numbers
 pub mod Tellings
 pub mod Reports
 pub mod Drafts

@@ -1,7 +1,8 @@
-ghost use Rattle.std.specs.Prelude.{◌≡◌, ◌<◌, ◌^◌, length, map, sum_by, count_by, option_map, IfOk};
+ghost use Rattle.std.specs.Prelude.{◌≡◌, ◌<◌, ◌^◌, length, map, sum_by, count_by, option_map, IfOk, IfSome, All};
 ghost use Rattle.protocol.specs.Seen.{record_of};
 ghost use Rattle.protocol.specs.Report.{is_done, is_spent, is_pending, is_repaired, rounds_of, spent_write, spent_writes, counts_of};
 ghost use Rattle.history_book.specs.Tellings.{told_spent, told_counts};
+ghost use Rattle.history_book.specs.Numbers.{HasClient};
 
 use crate::entry::{Counts, Spent};
 use lists::{ItemList, NoMemory};
@@ -10,7 +11,8 @@ use std::alloc::Global;
 
 /// The writes that found no time left, in the order of their records.
 pub fn spent_writes(alloc: Global, records: &[Record]) -> Result<ItemList<Spent>, NoMemory>
-    ensures { IfOk result (λ spent. spent ≡ map told_spent (spent_writes (map record_of records.now))) }
+    ensures spent { IfOk result (λ spent. spent ≡ map told_spent (spent_writes (map record_of records.now))) }
+    ensures numbers { IfOk result (λ spent. All HasClient spent) }
 {
     let mut spent = ItemList::new(alloc);
     for operation in records {
@@ -22,8 +24,11 @@ pub fn spent_writes(alloc: Global, records: &[Record]) -> Result<ItemList<Spent>
 }
 
 fn spent_write(operation: &Record) -> Option<Spent>
-    ensures { result ≡ option_map told_spent (spent_write (record_of operation.now) operation.now.outcome operation.now.end) }
+    ensures write { result ≡ option_map told_spent (spent_write (record_of operation.now) operation.now.outcome operation.now.end) }
+    ensures numbers { IfSome result HasClient }
 {
+    // Says that the number is one of its type.
+    prove!(operation.client <= u32::MAX);
     match (&operation.outcome, operation.end) {
         (Some(Outcome::Spent), Some(end)) => Some(Spent {
             client: operation.client,

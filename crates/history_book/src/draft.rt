@@ -4,6 +4,7 @@ ghost use Rattle.protocol.specs.Seen.{record_of};
 ghost use Rattle.protocol.specs.History.{entry_cmp, place_cmp};
 ghost use Rattle.protocol.specs.Report.{AreRivals};
 ghost use Rattle.history_book.specs.Tellings.{told_entry, told_with};
+ghost use Rattle.history_book.specs.Numbers.{HasNumbers};
 ghost use Rattle.history_book.specs.Drafts.{entry_of, candidate, is_of_version, foreign_of, is_reading};
 
 use crate::entry::{Entry, Kind};
@@ -76,8 +77,12 @@ impl<'a> Draft<'a> {
 
     /// The entry under its mark.
     pub fn entry(&self, mark: u32) -> Result<Entry, NoMemory>
-        ensures { IfOk result (λ entry. entry ≡ told_with mark (entry_of self.now)) }
+        ensures entry { IfOk result (λ entry. entry ≡ told_with mark (entry_of self.now)) }
+        ensures numbers { IfOk result HasNumbers }
     {
+        // Says that the numbers are those of their types.
+        prove!(self.block <= u32::MAX && self.client <= u32::MAX);
+        prove!(self.stamp.time <= u64::MAX && self.stamp.client <= u32::MAX);
         Ok(Entry {
             block: self.block,
             time: self.stamp.time,

@@ -2,6 +2,7 @@ ghost use Rattle.std.specs.Prelude.{◌≡◌, List, map, IfOk};
 ghost use Rattle.protocol.specs.Seen.{record_of};
 ghost use Rattle.protocol.specs.History.{Entry as FullEntry};
 ghost use Rattle.history_book.specs.Books.{Book, IsBook};
+ghost use Rattle.history_book.specs.Numbers.{HaveNumbers};
 ghost use Rattle.history_book.specs.Tellings.{Tells, AreRecords};
 
 use crate::counts::{counts_of, spent_writes};
@@ -60,7 +61,8 @@ impl History {
 /// first stamp aside, with the value of the first of these reads. `NoMemory` comes only where no memory is found.
 pub fn history_of(alloc: Global, records: &[Record], first: &Stamp) -> Result<History, NoMemory>
     requires { AreRecords (map record_of records.now) first.now }
-    ensures { IfOk result (λ history. (h : List FullEntry) × Tells (map record_of records.now) first.now h history) }
+    ensures tells { IfOk result (λ history. (h : List FullEntry) × Tells (map record_of records.now) first.now h history) }
+    ensures numbers { IfOk result (λ history. HaveNumbers history) }
 {
     Ok(History {
         entries: entries(alloc, records, first)?,

@@ -1,10 +1,11 @@
-ghost use Rattle.std.specs.Prelude.{◌≡◌, ◌≤◌, ◌*◌, ◌-◌, ◌<◌, ◌^◌, ◌++◌, ◌&&◌, not, List, length, map, reverse, slice_get, IfOk, IfSome, MatchOption, OnOk, Some, if◌then◌else◌, option_map, option_copied};
+ghost use Rattle.std.specs.Prelude.{◌≡◌, ◌≤◌, ◌*◌, ◌-◌, ◌<◌, ◌^◌, ◌++◌, ◌&&◌, not, List, length, map, reverse, slice_get, IfOk, IfSome, MatchOption, OnOk, Some, if◌then◌else◌, option_map, option_copied, All};
 ghost use Rattle.std.specs.List.Sorted.{IsPermutation};
 ghost use Rattle.stamp_order.specs.Stamps.{same_stamp};
 ghost use Rattle.protocol.specs.Seen.{record_of};
 ghost use Rattle.protocol.specs.History.{Entry as FullEntry, IsSorted};
 ghost use Rattle.protocol.specs.Report.{Ascend};
 ghost use Rattle.history_book.specs.Books.{IsBook};
+ghost use Rattle.history_book.specs.Numbers.{HasNumbers};
 ghost use Rattle.history_book.specs.Tellings.{AreRecords, IsHistoryOf, told_entry};
 ghost use Rattle.history_book.specs.Drafts.{entry_of, entries_of, entries_at, candidates, HaveStarts, AreCandidates, AreKept, IsNextMark, is_reading, is_of_some};
 
@@ -24,6 +25,7 @@ pub fn entries(
     requires { AreRecords (map record_of records.now) first.now }
     ensures history { IfOk result (λ entries. (h : List FullEntry) × IsHistoryOf (map record_of records.now) first.now h × (entries ≡ map (told_entry h) h)) }
     ensures book { IfOk result (λ entries. IsBook entries) }
+    ensures numbers { IfOk result (λ entries. All HasNumbers entries) }
 {
     let drafts = sorted_drafts(alloc, records)?;
     let kept = kept(alloc, drafts.as_slice(), first)?;
@@ -132,7 +134,8 @@ fn keep<'a>(
 fn marked(alloc: Global, drafts: &[Draft<'_>]) -> Result<ItemList<Entry>, NoMemory>
     requires sorted { IsSorted (entries_of drafts.now) }
     requires few { length drafts.now < 2 ^ 32 }
-    ensures { IfOk result (λ entries. entries ≡ map (told_entry (entries_of drafts.now)) (entries_of drafts.now)) }
+    ensures entries { IfOk result (λ entries. entries ≡ map (told_entry (entries_of drafts.now)) (entries_of drafts.now)) }
+    ensures numbers { IfOk result (λ entries. All HasNumbers entries) }
 {
     let mut entries = ItemList::new(alloc);
     let mut last: Option<(&Draft<'_>, u32)> = None;

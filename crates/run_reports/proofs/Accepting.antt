@@ -1,17 +1,17 @@
 -- Each line lets at most one version be accepted.
-use Rattle.std.proofs.Common.{◌≡◌, ℕ, ◌+◌, ◌≤◌, ◌<◌, Bool, true, false, List, [], ◌∷◌, ◌++◌, length, Option, refl, sym, ap, ◌∙◌, cond, arith}
+use Rattle.std.proofs.Common.{◌≡◌, ℕ, ◌+◌, ◌≤◌, Bool, true, false, List, [], ◌∷◌, ◌++◌, length, Option, refl, ap, cond, arith}
 use Rattle.std.specs.Prelude.{slice_get}
 use Rattle.std.proofs.lemmas.List.{length-append}
 use Rattle.std.specs.declared.option.Option.TheVariants.{None, Some}
 use Rattle.wire_forms.specs.declared.Body.TheVariants.{Ask as Asks, Answer as Answers}
-use Rattle.protocol.specs.Messages.{Ask, Reply, Body, Message}
+use Rattle.protocol.specs.Messages.{Reply, Body, Message}
 use Rattle.protocol.specs.Count.{one_more}
 use Rattle.protocol.specs.Setting.{Setting}
 use Rattle.protocol.specs.Nodes.{accepts}
-use Rattle.protocol.specs.Operations.{Task, Decision, decide, answered, counted}
+use Rattle.protocol.specs.Operations.{Task, Decision, decide, counted}
 use Rattle.protocol.specs.Operations.Decision.{GoesOn, Ends}
 use Rattle.stamp_order.specs.declared.Stamp.{Stamp}
-use Rattle.protocol.specs.World.{World, Event, Accepted, accepted_at, happens, all_happen, only_place, heard, heard_by, counts, advanced, decided, moved, resent_by, given, pruned_at, greatest_given}
+use Rattle.protocol.specs.World.{World, Event, Accepted, accepted_at, happens, all_happen, only_place, heard, heard_by, counts, advanced, decided, resent_by, given, pruned_at, greatest_given}
 use Rattle.protocol.specs.World.Event.{Start, Resend as Resends, Give as Gives, Hear as Hears, CrashNode as NodeCrashes, CrashClient as ClientCrashes, Lie as Lies, Prune as Prunes, Back as ComesBack}
 use Rattle.protocol.specs.Lines.{Line, Run, events, plays, called, told, falsely_told, given_at, heard_at, false_answer}
 use Rattle.run_words.specs.declared.line.Line.TheVariants.{Write, Read, Resend, Call, Give, Hear, Lost, CrashNode, CrashClient, Lie, Tell, Poke, False, Sound, Mix, Prune, Back, Restart}

@@ -1,16 +1,16 @@
 -- The records of a world are those of a run.
-use Rattle.std.proofs.Common.{◌≡◌, ◌↔◌, ℕ, ◌+◌, ◌*◌, ◌^◌, ◌-◌, ◌≤◌, ◌<◌, Bool, true, false, List, [], ◌∷◌, suc, length, map, Option, refl, sym, ap, ◌∙◌, cond, arith}
+use Rattle.std.proofs.Common.{◌≡◌, ℕ, ◌+◌, ◌*◌, ◌^◌, ◌-◌, ◌≤◌, ◌<◌, Bool, true, false, List, [], ◌∷◌, suc, length, map, Option, refl, cond, arith}
 use Rattle.std.specs.Prelude.{sum_by, not, ◌&&◌, ◌==◌}
 use Rattle.std.proofs.lemmas.List.{length-map}
 use Rattle.std.proofs.lemmas.Nat.{mul-le}
 use Rattle.std.proofs.lemmas.List.Sums.{sum_by-cons}
 use Rattle.std.specs.declared.option.Option.TheVariants.{None, Some}
-use Rattle.std.specs.List.{Contains, AllByRecursion}
+use Rattle.std.specs.List.{Contains}
 use Rattle.run_words.specs.declared.outcome.Outcome.TheVariants.{Wrote, Spent, Gave, Outvoted}
 use Rattle.protocol.specs.Setting.{Setting, IsValid, first_stamp}
 use Rattle.protocol.specs.Operations.{Outcome}
 use Rattle.protocol.specs.World.{World, Record, Accepted, start_world}
-use Rattle.protocol.specs.Lines.{Line, Run, IsRun}
+use Rattle.protocol.specs.Lines.{Line, IsRun}
 use Rattle.protocol.specs.Bounds.{pairs, different, is_among}
 use Rattle.protocol.specs.Report.{Ascend, rounds_of}
 use Rattle.protocol.proofs.Theorem.{run_keys, run_bounded, run_legal, run_in_time, run_sound}
@@ -68,7 +68,7 @@ module _ (s : Setting) (lines : List (ℕ × Line)) (w : World) (good : IsValid 
           let all = all_accepted in
           omega (arith, bound, some, all)
 
-  records_few : length w.records ≤ w.place + 1
+  pub records_few : length w.records ≤ w.place + 1
   records_few =
       let up : Ascend (map (λ (r : Record). r.start) w.records) = run_in_order s lines w good run in
       let few = starts_few w.place (map (λ (r : Record). r.start) w.records) up
@@ -76,7 +76,7 @@ module _ (s : Setting) (lines : List (ℕ × Line)) (w : World) (good : IsValid 
       let e = length-map w.records (λ (r : Record). r.start) in
       omega (arith, few, e)
 
-  rounds_few : sum_by (λ (r : Record). rounds_of r.outcome) w.records < 2 ^ 64
+  pub rounds_few : sum_by (λ (r : Record). rounds_of r.outcome) w.records < 2 ^ 64
   rounds_few =
       let sum = sum_few (2 * w.place + 1) w.records read_few in
       let few = records_few in

@@ -3,8 +3,10 @@
 
 ghost use Rattle.std.specs.Prelude.{◌<◌, ◌^◌, ◌-◌, List, IfOk};
 ghost use Rattle.protocol.specs.Setting.{first_stamp};
-ghost use Rattle.protocol.specs.History.{Entry as FullEntry};
+ghost use Rattle.protocol.specs.History.{Entry as FullEntry, NoClash};
 ghost use Rattle.history_book.specs.Tellings.{Tells};
+ghost use Rattle.history_book.specs.ReportTexts.{IsReport};
+ghost use Rattle.history_book.specs.Judging.{IsLegal, IsInTime};
 ghost use Rattle.world_steps.specs.Worlds.{setting_in, world_in};
 ghost use Rattle.run_reports.specs.Registers.{AreRegisters};
 
@@ -14,10 +16,12 @@ use std::alloc::Global;
 use world_steps::World;
 
 /// The history of the run that leads to a world. Whatever starts, deliveries, losses, repeats, crashes and lies the run's lines
-/// make, it is one of plain registers, and in time.
+/// make, it is one of plain registers, and in time; and it is a history that a report tells, legal and in time for the judge.
 pub fn history_of(alloc: Global, world: &World) -> Result<History, NoMemory>
     requires { world.now.seen.place < 2 ^ 31 - 1 }
-    ensures { IfOk result (λ book. (h : List FullEntry) × Tells world.now.seen.records (first_stamp (setting_in world.now)) h book × AreRegisters (setting_in world.now) (world_in world.now) h) }
+    ensures registers { IfOk result (λ book. (h : List FullEntry) × Tells world.now.seen.records (first_stamp (setting_in world.now)) h book × AreRegisters (setting_in world.now) (world_in world.now) h) }
+    ensures report { IfOk result IsReport }
+    ensures plain { IfOk result (λ book. NoClash (setting_in world.now) (world_in world.now) → IsLegal book.entries × IsInTime book.entries) }
 {
     world.is_reached();
     history_book::history_of(alloc, world.records(), world.first_stamp())

@@ -32,7 +32,7 @@ returns-clause-history c =
     let kept : AreKept first (entries_of drafts) (entries_of c.in_ok-kept.kept.items) = rw c.as_slice.ensures.value at c.in_ok-kept.ensures.kept in
     let told = kept_history rs drafts c.in_ok-drafts.ensures.candidates first c.requires c.in_ok-drafts.ensures.sorted c.in_ok-kept.kept.items kept in
     let is : IsHistoryOf rs first h = rw c.as_slice-2.ensures.value told in
-    IfOk-weaker c.marked.result (λ es. es ≡ map (told_entry h) h) _ (λ es e. (h, is, e)) c.marked.ensures
+    IfOk-weaker c.marked.result (λ es. es ≡ map (told_entry h) h) _ (λ es e. (h, is, e)) c.marked.ensures.entries
 
 pub returns-clause-book : goal.returns-clause-book
 returns-clause-book c =
@@ -47,4 +47,4 @@ returns-clause-book c =
     let sorted : IsSorted h = rw c.as_slice-2.ensures.value kept.sorted in
     IfOk-weaker c.marked.result (λ es. es ≡ map (told_entry h) h) (λ es. IsBook es)
     (λ es e. record { few = omega (arith, m, ap length e, length-map h (told_entry h), length-map c.as_slice-2.result.now entry_of); blocks = rw e (told_blocks h h sorted) })
-    c.marked.ensures
+    c.marked.ensures.entries

@@ -1,5 +1,7 @@
 use Rattle.std.proofs.Common.{ℕ, List, [], ◌∷◌, ◌++◌, map, take, ap, ◌∙◌}
+use Rattle.std.proofs.lemmas.List.Elements.{All-push}
 use Rattle.history_book.specs.declared.entry.Entry.{Entry}
+use Rattle.history_book.specs.Numbers.{HasNumbers}
 use Rattle.history_book.specs.Tellings.{told_entry, told_with}
 use Rattle.history_book.specs.Drafts.{entry_of, entries_of}
 use Rattle.history_book.proofs.Steps.{marked_step, told_step, room}
@@ -17,7 +19,8 @@ loop-draft-preserved c =
     record {
       entries = c.in_ok-push.ensures.ok
           ∙ ap (λ (es : List Entry). es ++ c.in_ok-entry.field-0 ∷ []) c.loop-draft.invariant.entries
-          ∙ ap (λ (e : Entry). map (told_entry (entries_of ds)) (entries_of (take i ds)) ++ e ∷ []) (c.in_ok-entry.ensures ∙ ap (λ (n : ℕ). told_with n (entry_of d)) m.mark)
+          ∙ ap (λ (e : Entry). map (told_entry (entries_of ds)) (entries_of (take i ds)) ++ e ∷ []) (c.in_ok-entry.ensures.entry ∙ ap (λ (n : ℕ). told_with n (entry_of d)) m.mark)
           ∙ told_step (entries_of ds) ds i d c.loop-draft-test.true c.draft-item.is;
+      numbers = rw c.in_ok-push.ensures.ok (All-push HasNumbers c.loop-draft.entries c.in_ok-entry.field-0 c.loop-draft.invariant.numbers c.in_ok-entry.ensures.numbers);
       last = m;
     }
