@@ -2,3 +2,4 @@ pub mod Forms
 pub mod Accepted
 mod Replaying
 pub mod WellFormed
+mod Legal

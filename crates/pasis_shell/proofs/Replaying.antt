@@ -7,10 +7,9 @@ use Rattle.line_forms.specs.declared.refusal.ScriptFault.{ScriptFault}
 use Rattle.event_lines.specs.declared.line.ReplayLine.{ReplayLine}
 use Rattle.protocol.specs.Setting.{Setting, first_stamp}
 use Rattle.protocol.specs.World.{World}
-use Rattle.protocol.specs.History.{Entry}
-use Rattle.history_book.specs.Books.{Book}
+use Rattle.protocol.specs.History.{NoClash}
 use Rattle.history_book.specs.Tellings.{Tells}
-use Rattle.history_book.specs.Reports.{report_text}
+use Rattle.history_book.specs.Judging.{IsLegal, IsInTime}
 use Rattle.world_steps.specs.Worlds.{WorldView, setting_in, world_in}
 use Rattle.run_reports.specs.Registers.{AreRegisters}
 use Rattle.script_run.specs.Performing.{Desks, Performs, StopsAt}
@@ -19,11 +18,7 @@ use Rattle.line_forms.specs.declared.refusal.ScriptRefusal.TheVariants as script
 use Rattle.pasis_shell.specs.declared.words.Command.TheVariants.{Replay}
 use Rattle.pasis_shell.specs.Statuses.{refusal_of}
 use Rattle.pasis_shell.specs.Texts.{Refuses}
-use Rattle.pasis_shell.specs.Replays.{cluster_of, IsScript, Replays, Stops}
-
--- the text is the report of the world's history
-abbrev IsReportOf : WorldView → List ℕ → Type 0
-IsReportOf w text = (h : List Entry) × (book : Book) × Tells w.seen.records (first_stamp (setting_in w)) h book × AreRegisters (setting_in w) (world_in w) h × (text ≡ report_text book)
+use Rattle.pasis_shell.specs.Replays.{cluster_of, IsReportOf, IsScript, Replays, Stops}
 
 module _ (input : List ℕ) (c : Numbers) (liars : Liars) (lines : List ReplayLine) (script : IsScript input c liars lines) where
   -- the report of the world to which the script's run leads
@@ -39,11 +34,13 @@ module _ (input : List ℕ) (c : Numbers) (liars : Liars) (lines : List ReplayLi
         script = script;
         desks = d;
         run = subst (λ (z : Setting). Performs z c lines d) cluster (subst (λ (k : Numbers). Performs (setting_in w) k lines d) same run.1);
-        history = report.0;
-        book = report.1;
-        tells = subst (λ (v : World). Tells v.records (first_stamp s) report.0 report.1) (sym run.2) (subst (λ (z : Setting). Tells w.seen.records (first_stamp z) report.0 report.1) cluster report.2);
-        shown = report.4;
-        registers = subst (λ (v : World). AreRegisters s v report.0) (sym run.2) (subst (λ (z : Setting). AreRegisters z (world_in w) report.0) cluster report.3);
+        history = report.history;
+        book = report.book;
+        tells = subst (λ (v : World). Tells v.records (first_stamp s) report.history report.book) (sym run.2) (subst (λ (z : Setting). Tells w.seen.records (first_stamp z) report.history report.book) cluster report.tells);
+        shown = report.shown;
+        registers = subst (λ (v : World). AreRegisters s v report.history) (sym run.2) (subst (λ (z : Setting). AreRegisters z (world_in w) report.history) cluster report.registers);
+        told = report.told;
+        plain = subst (λ (v : World). NoClash s v → IsLegal report.book.entries × IsInTime report.book.entries) (sym run.2) (subst (λ (z : Setting). NoClash z (world_in w) → IsLegal report.book.entries × IsInTime report.book.entries) cluster report.plain);
       }
 
   -- where it stops

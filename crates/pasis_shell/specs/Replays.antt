@@ -8,16 +8,29 @@ use Rattle.event_lines.specs.declared.line.ReplayLine.{ReplayLine}
 use Rattle.script_text.specs.Replays.{IsReplay, Spells, replay_script}
 use Rattle.protocol.specs.Setting.{Setting, first_stamp}
 use Rattle.protocol.specs.Instance.{setting_of}
-use Rattle.protocol.specs.History.{Entry}
+use Rattle.protocol.specs.History.{Entry, NoClash}
 use Rattle.history_book.specs.Books.{Book}
 use Rattle.history_book.specs.Tellings.{Tells}
 use Rattle.history_book.specs.Reports.{report_text}
+use Rattle.history_book.specs.ReportTexts.{IsReport}
+use Rattle.history_book.specs.Judging.{IsLegal, IsInTime}
+use Rattle.world_steps.specs.Worlds.{WorldView, setting_in, world_in}
 use Rattle.run_reports.specs.Registers.{AreRegisters}
 use Rattle.script_run.specs.Performing.{Desks, Performs, StopsAt}
 
 -- the setting of a cluster in which these lie
 abbrev pub cluster_of : Numbers → Liars → Setting
 cluster_of c liars = setting_of c (has_number liars.nodes) (has_number liars.clients)
+
+-- the text is the report of the history of the world's records
+pub record IsReportOf (w : WorldView) (text : List ℕ) : Type 0 where
+  pub history : List Entry
+  pub book : Book
+  pub tells : Tells w.seen.records (first_stamp (setting_in w)) history book
+  pub registers : AreRegisters (setting_in w) (world_in w) history
+  pub told : IsReport book
+  pub plain : NoClash (setting_in w) (world_in w) → IsLegal book.entries × IsInTime book.entries
+  pub shown : text ≡ report_text book
 
 -- the input is a script: it spells a cluster, who lies in it, and event lines
 pub record IsScript (input : List ℕ) (c : Numbers) (liars : Liars) (lines : List ReplayLine) : Type 0 where
@@ -41,6 +54,9 @@ pub record Replays (input text : List ℕ) : Type 0 where
   pub shown : text ≡ report_text book
   -- whatever starts, deliveries, losses, repeats, crashes and lies the lines make: it is a legal history of one register per block, and in time
   pub registers : AreRegisters (cluster_of config liars) desks.world history
+  -- it is a history that a report tells, and for the judge too it is legal and in time
+  pub told : IsReport book
+  pub plain : NoClash (cluster_of config liars) desks.world → IsLegal book.entries × IsInTime book.entries
 
 -- the input is a script, and this is why a line of it can't take place when its turn comes
 pub record Stops (input : List ℕ) (fault : ScriptFault) : Type 0 where

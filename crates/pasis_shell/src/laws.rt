@@ -1,5 +1,5 @@
 //! What the words of the top call cover. Each law is a function with nothing to do.
-ghost use Rattle.std.specs.Prelude.{ℕ, List};
+ghost use Rattle.std.specs.Prelude.{◌≡◌, ℕ, List, Option, None};
 ghost use Rattle.quorum_rules.specs.Limits.{Numbers};
 ghost use Rattle.wire_forms.specs.Liars.{Liars};
 ghost use Rattle.event_lines.specs.declared.line.ReplayLine.{ReplayLine};
@@ -9,7 +9,10 @@ ghost use Rattle.script_run.specs.Performing.{Desks, Performs};
 ghost use Rattle.history_book.specs.Books.{Book};
 ghost use Rattle.history_book.specs.Reports.{report_text};
 ghost use Rattle.history_book.specs.ReportTexts.{IsReport};
-ghost use Rattle.pasis_shell.specs.Replays.{cluster_of};
+ghost use Rattle.history_book.specs.declared.judging.Flaw.{Flaw};
+ghost use Rattle.protocol.specs.History.{NoClash};
+ghost use Rattle.pasis_shell.specs.Replays.{cluster_of, Replays};
+ghost use Rattle.pasis_shell.specs.Verdicts.{Judges};
 ghost use Rattle.pasis_shell.specs.Texts.{IsAccepted};
 ghost use Rattle.pasis_shell.specs.Words.{words_of};
 
@@ -24,4 +27,10 @@ pub fn well_formed_inputs_are_accepted()
         → IsAccepted (words_of Command.Replay) input }
     ensures sums { (c : Numbers) (v : List ℕ) → IsSum c v → IsAccepted (words_of Command.Sum) (sum_text c v) }
     ensures reports { (book : Book) → IsReport book → IsAccepted (words_of Command.Check) (report_text book) }
+{}
+
+/// What `replay` writes is a report that `check` finds legal, where no two different strings that were seen share a digest.
+pub fn replays_are_legal()
+    ensures { (input text verdict : List ℕ) (flaw : Option Flaw) → (r : Replays input text)
+        → NoClash (cluster_of r.config r.liars) r.desks.world → Judges text verdict flaw → flaw ≡ None }
 {}

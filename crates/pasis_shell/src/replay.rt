@@ -1,11 +1,5 @@
-ghost use Rattle.std.specs.Prelude.{◌≡◌, ◌<◌, ◌-◌, ◌^◌, List, IfOk, IfErr};
-ghost use Rattle.protocol.specs.Setting.{first_stamp};
-ghost use Rattle.protocol.specs.History.{Entry};
-ghost use Rattle.history_book.specs.Books.{Book};
-ghost use Rattle.history_book.specs.Tellings.{Tells};
-ghost use Rattle.history_book.specs.Reports.{report_text};
-ghost use Rattle.world_steps.specs.Worlds.{setting_in, world_in};
-ghost use Rattle.run_reports.specs.Registers.{AreRegisters};
+ghost use Rattle.std.specs.Prelude.{◌<◌, ◌-◌, ◌^◌, IfOk, IfErr};
+ghost use Rattle.pasis_shell.specs.Replays.{IsReportOf};
 ghost use Rattle.pasis_shell.specs.Texts.{Writes, Refuses};
 
 use crate::text::{Answer, Refusal};
@@ -21,7 +15,7 @@ use std::alloc::Global;
 // The report of a world's history.
 fn told(alloc: Global, world: &World) -> Result<Bytes, NoMemory>
     requires { world.now.seen.place < 2 ^ 31 - 1 }
-    ensures { IfOk result (λ text. (h : List Entry) × (book : Book) × Tells world.now.seen.records (first_stamp (setting_in world.now)) h book × AreRegisters (setting_in world.now) (world_in world.now) h × (text ≡ report_text book)) }
+    ensures { IfOk result (λ text. IsReportOf world.now text) }
 {
     let history = history_of(alloc, world)?;
     print(alloc, &history)
