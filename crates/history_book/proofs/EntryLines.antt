@@ -52,7 +52,7 @@ no_numbers entries spent kind b s w c st e v h none =
     seven_causes entries spent kind b s w c st e v (Some BadNumber) h (ap (λ (o : Option Numbers). first_of ((is_none o, BadNumber) ∷ (is_zero_mark o, OutOfRange) ∷ (is_bad_value entries (value_of v), BadValue) ∷ (is_not_above entries (entry_told (b ∷ s ∷ w ∷ c ∷ st ∷ e ∷ v ∷ [])), NotSorted) ∷ [])) is)
 
 -- the entry of right numbers
-told_entry : (kind : Kind) (b s w c st e v : List ℕ) (n : Numbers) → kind_told w ≡ Some kind → numbers_told kind b s c st e ≡ Some n → entry_told (b ∷ s ∷ w ∷ c ∷ st ∷ e ∷ v ∷ []) ≡ (value_of v >>= (λ x. Some (entry_with kind n x)))
+pub told_entry : (kind : Kind) (b s w c st e v : List ℕ) (n : Numbers) → kind_told w ≡ Some kind → numbers_told kind b s c st e ≡ Some n → entry_told (b ∷ s ∷ w ∷ c ∷ st ∷ e ∷ v ∷ []) ≡ (value_of v >>= (λ x. Some (entry_with kind n x)))
 told_entry kind b s w c st e v n word some =
     ap (λ (o : Option Kind). o >>= (λ k. numbers_told k b s c st e >>= (λ m. value_of v >>= (λ x. Some (entry_with k m x))))) word
     ∙ ap (λ (o : Option Numbers). o >>= (λ m. value_of v >>= (λ x. Some (entry_with kind m x)))) some

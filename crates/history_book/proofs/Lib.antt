@@ -16,3 +16,7 @@ pub mod Spelling
 pub mod EntryLines
 pub mod OtherLines
 pub mod ReadLines
+pub mod Words
+pub mod PrintedEntries
+pub mod PrintedOthers
+pub mod PrintedReports

@@ -10,6 +10,7 @@ use Rattle.text_lines.specs.Fields.{number_of}
 use Rattle.text_lines.proofs.Numbers.{number_of-some}
 use Rattle.line_forms.specs.Kinds.{has_empty_field, has_wrong_count}
 use Rattle.line_forms.specs.Tables.{first_of}
+use Rattle.line_forms.specs.declared.cause.Cause.{Cause}
 use Rattle.line_forms.specs.declared.cause.Cause.TheVariants.{UnknownWord, WrongCount, BadNumber, NotSorted, Count}
 use Rattle.history_book.specs.declared.entry.Entry.{Entry}
 use Rattle.history_book.specs.declared.entry.Spent.{Spent}
@@ -20,8 +21,8 @@ use Rattle.history_book.proofs.Spelling.{some_then}
 
 -- ---- spent writes
 
-three_none : (a b c : Bool) → a ≡ false → b ≡ false → c ≡ false → first_of ((a, WrongCount) ∷ (b, BadNumber) ∷ (c, NotSorted) ∷ []) ≡ None
-three_none a b c p q r = rw (p, q, r) refl
+pub three_none : (a b c : Bool) (x y z : Cause) → a ≡ false → b ≡ false → c ≡ false → first_of ((a, x) ∷ (b, y) ∷ (c, z) ∷ []) ≡ None
+three_none a b c x y z p q r = rw (p, q, r) refl
 
 record SpentSpelled (c s e : List ℕ) (x : Spent) : Type 0 where
   pub client : decimal x.client ≡ c
@@ -51,7 +52,7 @@ pub spent_right : (spent : List Spent) (w c s e : List ℕ) (x : Spent) → w �
 spent_right spent w c s e x word full told later =
     let S = spent_spelled c s e x told in
     let fields = w ∷ c ∷ s ∷ e ∷ [] in (
-      three_none (has_wrong_count 4 fields) (is_none (spent_told fields)) (is_not_later (last_of spent) (spent_told fields)) full (ap is_none told) (ap (is_not_later (last_of spent)) told ∙ later),
+      three_none (has_wrong_count 4 fields) (is_none (spent_told fields)) (is_not_later (last_of spent) (spent_told fields)) WrongCount BadNumber NotSorted full (ap is_none told) (ap (is_not_later (last_of spent)) told ∙ later),
       (rw (S.client, S.start, S.end, word) refl, record { told = S.told; later = later_than (last_of spent) x later }, told),
     )
 

@@ -5,14 +5,11 @@ use Rattle.std.specs.declared.cmp.Ordering.TheVariants.{Less}
 use Rattle.std.specs.List.Sorted.{IsNonDecreasingBy}
 use Rattle.std.specs.Str.{bytes_eq}
 use Rattle.std.proofs.lemmas.Bool.{cases_lt}
-use Rattle.std.proofs.lemmas.Fmt.{decimal_is_IsNumeral}
-use Rattle.std.proofs.lemmas.Str.Parse.{digit_from_value}
 use Rattle.std.proofs.lemmas.List.{append-nil, map-append, length-append, length-map, length-take-le, take_at, take-append-le}
 use Rattle.std.proofs.lemmas.List.Elements.{filter_map-append}
 use Rattle.std.proofs.lemmas.List.Folds.{list_any-append}
 use Rattle.std.proofs.lemmas.List.Sorted.{IsNonDecreasingBy-from_all_adjacent}
 use Rattle.std.proofs.lemmas.Option.{slice_get_within, slice_get-get_or}
-use Rattle.std.proofs.lemmas.Slice.Eq.{bytes_eq-Decides}
 use Rattle.text_lines.specs.Lines.{fields_of, line_of_fields, parts_of}
 use Rattle.text_lines.proofs.Joined.{line_from_fields}
 use Rattle.line_forms.specs.Tables.{first_of}
@@ -22,6 +19,7 @@ use Rattle.line_forms.specs.declared.cause.Cause.TheVariants.{Empty, MissingLine
 use Rattle.line_forms.proofs.Texts.{reads_none, reads_on, line_fault, end_fault, needed, cut_short, read_all, text_read}
 use Rattle.history_book.proofs.Blocks.{then_less}
 use Rattle.history_book.proofs.Times.{slice_get-take}
+use Rattle.history_book.proofs.Words.{differs_from_number}
 use Rattle.history_book.specs.declared.entry.Entry.{Entry as EntryRecord}
 use Rattle.history_book.specs.declared.entry.Spent.{Spent as SpentRecord}
 use Rattle.history_book.specs.declared.entry.Counts.{Counts}
@@ -70,9 +68,9 @@ slice_get-front [] x i lt = absurd (omega arith)
 slice_get-front (y ∷ xs) x zero lt = refl
 slice_get-front (y ∷ xs) x (suc i) lt = slice_get-front xs x i (omega arith)
 
-slice_get-end : {A : Type 0} (xs : List A) (x : A) → slice_get (xs ++ x ∷ []) (length xs) ≡ Some x
-slice_get-end [] x = refl
-slice_get-end (y ∷ xs) x = slice_get-end xs x
+pub slice_get-seam : {A : Type 0} (xs : List A) (y : A) (ys : List A) → slice_get (xs ++ y ∷ ys) (length xs) ≡ Some y
+slice_get-seam [] y ys = refl
+slice_get-seam (x ∷ xs) y ys = slice_get-seam xs y ys
 
 -- each element is right after those before it
 abbrev EachIsRight : {A : Type 0} → (List A → A → Type 0) → List A → Type 0
@@ -88,7 +86,7 @@ one_more {A} P xs x each here i y at =
           let size = length-append xs (x ∷ []) in
           let within = slice_get_within (xs ++ x ∷ []) i y at in
           let same : length xs ≡ i = omega arith in
-          let some : Some x ≡ Some y = sym (slice_get-end xs x) ∙ ap (slice_get (xs ++ x ∷ [])) same ∙ at in
+          let some : Some x ≡ Some y = sym (slice_get-seam xs x []) ∙ ap (slice_get (xs ++ x ∷ [])) same ∙ at in
           let is : x ≡ y = cc in
           let front : take i (xs ++ x ∷ []) ≡ xs = ap (λ (n : ℕ). take n (xs ++ x ∷ [])) (sym same) ∙ take_at xs (x ∷ []) (length xs) refl in
           subst (λ (ys : List A). P ys y) (sym front) (subst (λ (z : A). P xs z) is here)
@@ -97,15 +95,7 @@ one_more {A} P xs x each here i y at =
 -- ---- the next line is read
 
 not_the_end : (n : ℕ) → n < 2 ^ 64 → bytes_eq (decimal n) (codes "end") ≡ false
-not_the_end n lt = by_test (bytes_eq (decimal n) (codes "end")) refl
-  where
-    by_test : (b : Bool) → bytes_eq (decimal n) (codes "end") ≡ b → bytes_eq (decimal n) (codes "end") ≡ false
-    by_test false e = e
-    by_test true e =
-        let is : decimal n ≡ codes "end" = (bytes_eq-Decides (decimal n) (codes "end")).0 e in
-        let digits = rw is at ((decimal_is_IsNumeral n lt).0.1) in
-        let d = digit_from_value 101 digits.0 in
-        absurd (omega arith)
+not_the_end n lt = differs_from_number n 101 (codes "nd") lt (λ figure. omega arith)
 
 or_false : (a b : Bool) → a ≡ false → b ≡ false → (a || (b || false)) ≡ false
 or_false a b p q = rw (p, q) refl

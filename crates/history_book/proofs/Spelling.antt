@@ -25,7 +25,7 @@ some_then (Some a) f b h = (a, refl, h)
 
 -- ---- stamps
 
-stamp_parts : (field : List ℕ) (ps : List (List ℕ)) → parts_at 46 field ≡ ps → stamp_told field ≡ stamp_of_parts ps
+pub stamp_parts : (field : List ℕ) (ps : List (List ℕ)) → parts_at 46 field ≡ ps → stamp_told field ≡ stamp_of_parts ps
 unfolding stamp_told
 stamp_parts field ps h = ap stamp_of_parts h
 
@@ -158,7 +158,7 @@ pub record StampSpelled (field : List ℕ) (n : StampNumbers) : Type 0 where
   pub writer : n.writer < 2 ^ 32
   pub mark : n.mark < 2 ^ 32
 
-dots : (a b c : List ℕ) → ((a ++ codes ".") ++ b) ++ codes "." ++ c ≡ a ++ 46 ∷ (b ++ 46 ∷ c)
+pub dots : (a b c : List ℕ) → ((a ++ codes ".") ++ b) ++ codes "." ++ c ≡ a ++ 46 ∷ (b ++ 46 ∷ c)
 dots a b c = simp append_assoc
 
 parts_spelled : (ps : List (List ℕ)) (n : StampNumbers) → stamp_of_parts ps ≡ Some n → StampSpelled (join_with_byte 46 ps) n

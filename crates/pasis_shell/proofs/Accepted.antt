@@ -1,6 +1,6 @@
 -- An input that is accepted, and meets no fault, is answered.
-use Rattle.std.proofs.Common.{◌≡◌, ℕ, ◌≤◌, ◌+◌, List, ◌++◌, length, ap, sym, subst, ◌∙◌, refl, arith, inr, append-nil, length-append}
-use Rattle.std.specs.Prelude.{Option, Some, None, ◌⊎◌}
+use Rattle.std.proofs.Common.{◌≡◌, ℕ, ◌≤◌, ◌+◌, List, ◌++◌, length, ap, sym, subst, ◌∙◌, refl, arith, append-nil, length-append}
+use Rattle.std.specs.Prelude.{Option, Some, None}
 use Rattle.outside_io.specs.Given.{GaveExactly}
 use Rattle.line_forms.specs.declared.cause.Cause.{Cause}
 use Rattle.line_forms.specs.declared.refusal.ScriptFault.{ScriptFault}
@@ -8,7 +8,7 @@ use Rattle.pasis_shell.specs.Words.{words_of}
 use Rattle.pasis_shell.specs.Texts.{Refuses, IsAccepted, IsRefusedFor, GivesAll}
 use Rattle.pasis_shell.specs.Statuses.{CanStopBefore}
 use Rattle.pasis_shell.specs.declared.status.Status.{Status}
-use Rattle.pasis_shell.specs.declared.status.Status.TheVariants.{Done, BadWords, BadScript, ReadFault, WriteFault, NoMemory, TooLong, NotBuilt}
+use Rattle.pasis_shell.specs.declared.status.Status.TheVariants.{Done, Illegal, BadWords, BadScript, ReadFault, WriteFault, NoMemory, TooLong, NotBuilt}
 use Rattle.pasis_shell.specs.declared.words.Command.{Command}
 use Rattle.pasis_shell.specs.declared.words.Command.TheVariants.{Replay, Run, Trace, Check, Sum, Soak}
 use Rattle.pasis_shell.specs.declared.text.Refusal.{Refusal}
@@ -51,12 +51,13 @@ fault_memory : (fault : ScriptFault) → refusals.BadScript fault ≡ refusals.N
 fault_memory fault e = cc
 
 -- of the statuses without a text, want of memory alone is left
-pub memory_alone : (status : Status) (command : Command) (words : List (List ℕ)) (before after : Option (List ℕ)) (input : List ℕ) (most : ℕ) → CanStopBefore status → words ≡ words_of command → before ≡ Some input → length input ≤ most → IsAccepted words input → (status ≡ ReadFault → ⊥) → (status ≡ TooLong → GaveExactly (most + 1) before after) → ((line : ℕ) → status ≡ NotBuilt line → IsRefusedFor command before after (refusals.NotBuilt line)) → ((line : ℕ) (cause : Cause) → status ≡ BadScript line cause → IsRefusedFor command before after (refusals.BadScript (record { line = line; cause = cause }))) → (status ≡ Done) ⊎ (status ≡ NoMemory)
-memory_alone NoMemory command words before after input most can w e small accepted no_fault long refused bad = inr refl
+pub memory_alone : (status : Status) (command : Command) (words : List (List ℕ)) (before after : Option (List ℕ)) (input : List ℕ) (most : ℕ) → CanStopBefore status → words ≡ words_of command → before ≡ Some input → length input ≤ most → IsAccepted words input → (status ≡ ReadFault → ⊥) → (status ≡ TooLong → GaveExactly (most + 1) before after) → ((line : ℕ) → status ≡ NotBuilt line → IsRefusedFor command before after (refusals.NotBuilt line)) → ((line : ℕ) (cause : Cause) → status ≡ BadScript line cause → IsRefusedFor command before after (refusals.BadScript (record { line = line; cause = cause }))) → status ≡ NoMemory
+memory_alone NoMemory command words before after input most can w e small accepted no_fault long refused bad = refl
 memory_alone ReadFault command words before after input most can w e small accepted no_fault long refused bad = absurd (no_fault refl)
 memory_alone TooLong command words before after input most can w e small accepted no_fault long refused bad = absurd (too_much before after input most e small (long refl))
 memory_alone (NotBuilt line) command words before after input most can w e small accepted no_fault long refused bad = absurd (not_built_memory line (memory_missing command words before after input (refusals.NotBuilt line) w e accepted (refused line refl)))
 memory_alone (BadScript line cause) command words before after input most can w e small accepted no_fault long refused bad = absurd (fault_memory (record { line = line; cause = cause }) (memory_missing command words before after input (refusals.BadScript (record { line = line; cause = cause })) w e accepted (bad line cause refl)))
 memory_alone Done command words before after input most can w e small accepted no_fault long refused bad = absurd can
+memory_alone (Illegal flaw) command words before after input most can w e small accepted no_fault long refused bad = absurd can
 memory_alone BadWords command words before after input most can w e small accepted no_fault long refused bad = absurd can
 memory_alone WriteFault command words before after input most can w e small accepted no_fault long refused bad = absurd can

@@ -1,3 +1,4 @@
 pub mod Forms
 pub mod Accepted
 mod Replaying
+pub mod WellFormed

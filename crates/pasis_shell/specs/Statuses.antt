@@ -1,9 +1,11 @@
 -- The statuses and their numbers.
-use Rattle.std.specs.Prelude.{ℕ, ⊤}
+use Rattle.std.specs.Prelude.{ℕ, ⊤, Option}
+use Rattle.std.specs.declared.option.Option.TheVariants.{None, Some}
+use Rattle.history_book.specs.declared.judging.Flaw.{Flaw}
 use Rattle.outside_io.specs.declared.reading.ReadRefusal.{ReadRefusal}
 use Rattle.outside_io.specs.declared.reading.ReadRefusal.TheVariants as reading
 use Rattle.pasis_shell.specs.declared.status.Status.{Status}
-use Rattle.pasis_shell.specs.declared.status.Status.TheVariants.{Done, BadWords, BadScript, ReadFault, WriteFault, NoMemory, TooLong, NotBuilt}
+use Rattle.pasis_shell.specs.declared.status.Status.TheVariants.{Done, Illegal, BadWords, BadScript, ReadFault, WriteFault, NoMemory, TooLong, NotBuilt}
 use Rattle.line_forms.specs.declared.refusal.ScriptRefusal.{ScriptRefusal}
 use Rattle.line_forms.specs.declared.refusal.ScriptRefusal.TheVariants as scripts
 use Rattle.pasis_shell.specs.declared.text.Refusal.{Refusal}
@@ -11,6 +13,7 @@ use Rattle.pasis_shell.specs.declared.text.Refusal.TheVariants as refusals
 
 abbrev pub number_of : Status → ℕ
 number_of Done = 0
+number_of (Illegal flaw) = 1
 number_of BadWords = 2
 number_of (BadScript line cause) = 3
 number_of ReadFault = 4
@@ -29,12 +32,18 @@ status_of_refusal refusals.NoMemory = NoMemory
 status_of_refusal (refusals.NotBuilt line) = NotBuilt line
 status_of_refusal (refusals.BadScript fault) = BadScript fault.line fault.cause
 
+-- the status of a text that was written whole, by the flaw that was found
+abbrev pub status_of_flaw : Option Flaw → Status
+status_of_flaw None = Done
+status_of_flaw (Some flaw) = Illegal flaw
+
 -- the status can come before the input was read to its end
 abbrev pub CanStopReading : Status → Type 0
 CanStopReading NoMemory = ⊤
 CanStopReading ReadFault = ⊤
 CanStopReading TooLong = ⊤
 CanStopReading Done = ⊥
+CanStopReading (Illegal flaw) = ⊥
 CanStopReading BadWords = ⊥
 CanStopReading WriteFault = ⊥
 CanStopReading (NotBuilt line) = ⊥
@@ -48,6 +57,7 @@ CanStopBefore TooLong = ⊤
 CanStopBefore (NotBuilt line) = ⊤
 CanStopBefore (BadScript line cause) = ⊤
 CanStopBefore Done = ⊥
+CanStopBefore (Illegal flaw) = ⊥
 CanStopBefore BadWords = ⊥
 CanStopBefore WriteFault = ⊥
 

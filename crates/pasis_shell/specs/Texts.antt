@@ -1,8 +1,12 @@
 -- What a command writes for an input, and when it writes nothing.
 use Rattle.std.specs.Prelude.{ℕ, ◌≡◌, ◌⊎◌, ◌≤◌, ⊤, List, [], length, Option}
+use Rattle.std.specs.declared.option.Option.TheVariants.{None}
 use Rattle.std.specs.Io.KnownBytes.{Consumes, IsAtEnd}
 use Rattle.outside_io.specs.declared.reading.TheConstants.{LIMIT}
+use Rattle.history_book.specs.declared.judging.Flaw.{Flaw}
+use Rattle.history_book.specs.ReportTexts.{report}
 use Rattle.pasis_shell.specs.Replays.{Replays, Stops}
+use Rattle.pasis_shell.specs.Verdicts.{Judges}
 use Rattle.pasis_shell.specs.Words.{words_of}
 use Rattle.pasis_shell.specs.declared.words.Command.{Command}
 use Rattle.pasis_shell.specs.declared.words.Command.TheVariants.{Replay, Run, Trace, Check, Sum, Soak}
@@ -24,21 +28,21 @@ pub record Shows (input text : List ℕ) : Type 0 where
   pub faultless : IsFaultless sum_script input
   pub shown : text ≡ shown_text config.n config.m value
 
--- the command writes this text for the input
-abbrev pub Writes : Command → List ℕ → List ℕ → Type 0
-Writes Replay input text = Replays input text
-Writes Run input text = ⊥
-Writes Trace input text = ⊥
-Writes Check input text = ⊥
-Writes Sum input text = Shows input text
-Writes (Soak number) input text = ⊥
+-- the command writes this text for the input; the flaw is what `check` finds, and no other command has one
+abbrev pub Writes : Command → List ℕ → List ℕ → Option Flaw → Type 0
+Writes Replay input text flaw = Replays input text × (flaw ≡ None)
+Writes Run input text flaw = ⊥
+Writes Trace input text flaw = ⊥
+Writes Check input text flaw = Judges input text flaw
+Writes Sum input text flaw = Shows input text × (flaw ≡ None)
+Writes (Soak number) input text flaw = ⊥
 
 -- the command isn't built yet
 abbrev pub IsUnbuilt : Command → List ℕ → Type 0
 IsUnbuilt Replay input = ⊥
 IsUnbuilt Run input = ⊤
 IsUnbuilt Trace input = ⊤
-IsUnbuilt Check input = ⊤
+IsUnbuilt Check input = ⊥
 IsUnbuilt Sum input = ⊥
 IsUnbuilt (Soak number) input = ⊤
 
@@ -47,7 +51,7 @@ abbrev pub HasFault : Command → List ℕ → ScriptFault → Type 0
 HasFault Replay input fault = IsFault replay_script input fault.line fault.cause ⊎ Stops input fault
 HasFault Run input fault = ⊥
 HasFault Trace input fault = ⊥
-HasFault Check input fault = ⊥
+HasFault Check input fault = IsFault report input fault.line fault.cause
 HasFault Sum input fault = IsFault sum_script input fault.line fault.cause
 HasFault (Soak number) input fault = ⊥
 
@@ -70,17 +74,17 @@ IsGiven Trace before after input = GivesAll before after input
 IsGiven Check before after input = GivesAll before after input
 IsGiven Sum before after input = GivesAll before after input
 
--- the text is what the command writes for what it was given
-abbrev pub AnswersFor : Command → Option (List ℕ) → Option (List ℕ) → List ℕ → Type 0
-AnswersFor command before after text = (input : List ℕ) × IsGiven command before after input × Writes command input text
+-- the text is what the command writes for what it was given, and the flaw what it finds
+abbrev pub AnswersFor : Command → Option (List ℕ) → Option (List ℕ) → List ℕ → Option Flaw → Type 0
+AnswersFor command before after text flaw = (input : List ℕ) × IsGiven command before after input × Writes command input text flaw
 
 -- the command refuses what it was given
 abbrev pub IsRefusedFor : Command → Option (List ℕ) → Option (List ℕ) → Refusal → Type 0
 IsRefusedFor command before after refusal = (input : List ℕ) × IsGiven command before after input × Refuses command input refusal
 
--- the text is what the command of these words writes for what it was given
-abbrev pub Answers : List (List ℕ) → Option (List ℕ) → Option (List ℕ) → List ℕ → Type 0
-Answers words before after text = (command : Command) × (words ≡ words_of command) × AnswersFor command before after text
+-- the text is what the command of these words writes for what it was given, and the flaw what it finds
+abbrev pub Answers : List (List ℕ) → Option (List ℕ) → Option (List ℕ) → List ℕ → Option Flaw → Type 0
+Answers words before after text flaw = (command : Command) × (words ≡ words_of command) × AnswersFor command before after text flaw
 
 -- the command of these words refuses what it was given
 abbrev pub IsRefused : List (List ℕ) → Option (List ℕ) → Option (List ℕ) → Refusal → Type 0

@@ -8,7 +8,7 @@ ghost use Rattle.world_steps.specs.Worlds.{setting_in, world_in};
 ghost use Rattle.run_reports.specs.Registers.{AreRegisters};
 ghost use Rattle.pasis_shell.specs.Texts.{Writes, Refuses};
 
-use crate::text::Refusal;
+use crate::text::{Answer, Refusal};
 use crate::words::Command;
 use cross_sum::Bytes;
 use history_book::print;
@@ -28,13 +28,13 @@ fn told(alloc: Global, world: &World) -> Result<Bytes, NoMemory>
 }
 
 /// The report of the history of the run of a script's lines.
-pub fn report_of(alloc: Global, input: &Bytes) -> Result<Bytes, Refusal>
-    ensures text { IfOk result (λ text. Writes Command.Replay input.now text) }
+pub fn report_of(alloc: Global, input: &Bytes) -> Result<Answer, Refusal>
+    ensures text { IfOk result (λ answer. Writes Command.Replay input.now answer.text answer.flaw) }
     ensures refused { IfErr result (λ refusal. Refuses Command.Replay input.now refusal) }
 {
     let replay = read_replay(alloc, input.as_slice())?;
     match perform(alloc, &replay) {
-        Ok(world) => Ok(told(alloc, &world)?),
+        Ok(world) => Ok(Answer::of(told(alloc, &world)?)),
         Err(refusal) => Err(Refusal::from(refusal)),
     }
 }

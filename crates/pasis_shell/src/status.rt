@@ -1,7 +1,8 @@
 ghost use Rattle.std.specs.Prelude.{◌≡◌};
-ghost use Rattle.pasis_shell.specs.Statuses.{number_of, status_of_read, status_of_refusal};
+ghost use Rattle.pasis_shell.specs.Statuses.{number_of, status_of_flaw, status_of_read, status_of_refusal};
 
 use crate::text::Refusal;
+use history_book::Flaw;
 use line_forms::Cause;
 use outside_io::ReadRefusal;
 use std::fmt;
@@ -11,6 +12,8 @@ use std::fmt;
 pub enum Status {
     /// The text was written whole and flushed.
     Done,
+    /// The text was written whole and flushed. The history isn't one of plain registers, and this is its first flaw.
+    Illegal(Flaw),
     /// The words are those of no command. Nothing was read.
     BadWords,
     /// The text is refused: the first line that has a cause, counted from 1, and its first cause.
@@ -34,6 +37,7 @@ impl Status {
     {
         match self {
             Status::Done => 0,
+            Status::Illegal(_) => 1,
             Status::BadWords => 2,
             Status::BadScript { .. } => 3,
             Status::ReadFault => 4,
@@ -50,6 +54,7 @@ impl fmt::Display for Status {
     fn fmt<W: fmt::Write>(&self, f: &mut fmt::Formatter<W>) -> fmt::Result {
         match self {
             Status::Done => write!(f, "pasis: done"),
+            Status::Illegal(_) => write!(f, "pasis: illegal history"),
             Status::BadWords => write!(f, "pasis: bad words"),
             Status::BadScript { line, cause } => write_refusal(f, *line, *cause),
             Status::ReadFault => write!(f, "pasis: read fault"),
@@ -71,6 +76,16 @@ fn write_refusal<W: fmt::Write>(f: &mut fmt::Formatter<W>, line: u64, cause: Cau
 }
 
 impl Status {
+    /// The status of a text that was written whole, by the flaw that was found.
+    pub fn of_flaw(flaw: Option<Flaw>) -> Status
+        ensures { result ≡ status_of_flaw flaw }
+    {
+        match flaw {
+            Some(flaw) => Status::Illegal(flaw),
+            None => Status::Done,
+        }
+    }
+
     /// The status of an input that was not read.
     pub fn of_read(refusal: ReadRefusal) -> Status
         ensures { result ≡ status_of_read refusal }

@@ -1,5 +1,6 @@
 use crate::{OpenGate, Status, pasis};
 use cross_sum::Bytes;
+use history_book::{Flaw, FlawKind};
 use line_forms::Cause;
 use lists::NoMemory;
 use outside_io::{Calls, MemorySink, MemorySource};
@@ -163,6 +164,7 @@ fn an_input_of_one_byte_too_many_is_too_long(rt: HostRuntime) -> Result<(), Fail
 #[test]
 fn each_status_has_its_line(rt: HostRuntime) -> Result<(), Fail> {
     let lines = [
+        (illegal(FlawKind::Time, 1, 3), "pasis: illegal history"),
         (Status::BadWords, "pasis: bad words"),
         (Status::ReadFault, "pasis: read fault"),
         (Status::WriteFault, "pasis: write fault"),
@@ -231,5 +233,109 @@ fn sum_refuses_its_first_faulty_line(rt: HostRuntime) -> Result<(), Fail> {
         assert_eq!(rt; status, expected);
         assert_eq!(rt; sink.taken().len(), 0);
     }
+    Ok(())
+}
+
+// Two foreign writes under one time and client, each of them read.
+const TWO_FOREIGN_WRITES: &str = "0 5.9.1 foreign 9 - - x0700
+0 5.9.1 read 1 3 11 x0700
+0 5.9.2 foreign 9 - - x0800
+0 5.9.2 read 2 12 20 x0800
+end done=2 spent=0 pending=0 repaired=2 rounds=2
+";
+
+// The read ends before the write of the smaller stamp begins.
+const READ_TOO_EARLY: &str = "0 1.1.1 write 1 10 20 x01
+0 2.9.1 foreign 9 - - x02
+0 2.9.1 read 2 1 5 x02
+end done=2 spent=0 pending=0 repaired=0 rounds=1
+";
+
+// The same, and the read gives another value than was written.
+const READ_OF_ANOTHER_VALUE: &str = "0 1.1.1 write 1 10 20 x01
+0 2.9.1 foreign 9 - - x02
+0 2.9.1 read 2 1 5 x03
+end done=2 spent=0 pending=0 repaired=0 rounds=1
+";
+
+fn illegal(kind: FlawKind, first: u32, second: u32) -> Status {
+    Status::Illegal(Flaw {
+        kind,
+        first,
+        second,
+    })
+}
+
+fn checked(
+    alloc: Global,
+    report: &[u8],
+    failing_write: Option<u64>,
+) -> Result<(Status, MemorySink), NoMemory> {
+    let input = Bytes::of(alloc, report)?;
+    outcome_of(alloc, &["check"], input, None, failing_write)
+}
+
+#[test]
+fn check_judges_reports(rt: HostRuntime) -> Result<(), Fail> {
+    let cases = [
+        (TWO_FOREIGN_WRITES, Status::Done, "legal\n"),
+        (
+            READ_TOO_EARLY,
+            illegal(FlawKind::Time, 1, 3),
+            "illegal time 1 3\n",
+        ),
+        (
+            READ_OF_ANOTHER_VALUE,
+            illegal(FlawKind::Value, 2, 3),
+            "illegal value 2 3\n",
+        ),
+    ];
+    for (report, expected, line) in cases {
+        let (status, sink) = checked(rt.alloc(), report.as_bytes(), None)?;
+        assert_eq!(rt; status, expected);
+        assert_eq!(rt; sink.taken(), line.as_bytes());
+    }
+    assert_eq!(rt; illegal(FlawKind::Time, 1, 3).number(), 1);
+    Ok(())
+}
+
+#[test]
+fn check_refuses_its_first_faulty_line(rt: HostRuntime) -> Result<(), Fail> {
+    let cases = [
+        ("", refused(1, Cause::Empty)),
+        (
+            "0 5.9.1 foreign 9 - - x0700\n0 5.9.1 foreign 9 - - x0700\n",
+            refused(2, Cause::NotSorted),
+        ),
+        (
+            "0 5.9.1 foreign 9 - - x0700\nend done=1 spent=0 pending=0 repaired=0 rounds=0\n",
+            refused(2, Cause::Count),
+        ),
+    ];
+    for (report, expected) in cases {
+        let (status, sink) = checked(rt.alloc(), report.as_bytes(), None)?;
+        assert_eq!(rt; status, expected);
+        assert_eq!(rt; sink.taken().len(), 0);
+    }
+    Ok(())
+}
+
+// `illegal time 1 3` and its newline take three writes.
+#[test]
+fn check_finds_no_flaw_where_its_line_is_not_flushed(rt: HostRuntime) -> Result<(), Fail> {
+    let (status, sink) = checked(rt.alloc(), READ_TOO_EARLY.as_bytes(), Some(3))?;
+    assert_eq!(rt; status, Status::WriteFault);
+    assert_eq!(rt; sink.taken(), b"illegal time 1 3\n".as_slice());
+    let (status, _) = checked(rt.alloc(), READ_TOO_EARLY.as_bytes(), Some(4))?;
+    assert_eq!(rt; status, illegal(FlawKind::Time, 1, 3));
+    Ok(())
+}
+
+#[test]
+fn what_replay_writes_is_legal(rt: HostRuntime) -> Result<(), Fail> {
+    let (_, replayed) = replayed(rt.alloc(), WRITE_AND_READ, None, None)?;
+    let (status, sink) = checked(rt.alloc(), replayed.taken(), None)?;
+    assert_eq!(rt; status, Status::Done);
+    assert_eq!(rt; sink.taken(), b"legal\n".as_slice());
     Ok(())
 }

@@ -1,11 +1,13 @@
-ghost use Rattle.std.specs.Prelude.{◌≡◌, IfOk, IfErr};
+ghost use Rattle.std.specs.Prelude.{◌≡◌, ◌<◌, ◌^◌, length, IfOk, IfErr};
 ghost use Rattle.pasis_shell.specs.Texts.{Writes, Refuses};
 ghost use Rattle.pasis_shell.specs.Statuses.{refusal_of};
 ghost use Rattle.pasis_shell.specs.declared.text.Refusal.TheVariants as refusals;
 
+use crate::check::verdict_of;
 use crate::replay::report_of;
 use crate::words::Command;
 use cross_sum::Bytes;
+use history_book::Flaw;
 use line_forms::{ScriptFault, ScriptRefusal};
 use lists::NoMemory;
 use script_text::read_sum;
@@ -42,22 +44,42 @@ impl From<NoMemory> for Refusal {
     }
 }
 
+/// What a command writes for an input.
+#[derive(Drop)]
+pub struct Answer {
+    pub text: Bytes,
+    /// The first flaw of a history that isn't one of plain registers. Only `check` tells one.
+    pub flaw: Option<Flaw>,
+}
+
+impl Answer {
+    /// A text that tells no flaw.
+    pub fn of(text: Bytes) -> Answer
+        ensures text { result.text ≡ text }
+        ensures flaw { result.flaw ≡ None }
+    {
+        Answer { text, flaw: None }
+    }
+}
+
 // The fragments, digests and verifier of a value.
-fn sum_of(alloc: Global, input: &Bytes) -> Result<Bytes, Refusal>
-    ensures text { IfOk result (λ text. Writes Command.Sum input.now text) }
+fn sum_of(alloc: Global, input: &Bytes) -> Result<Answer, Refusal>
+    ensures text { IfOk result (λ answer. Writes Command.Sum input.now answer.text answer.flaw) }
     ensures refused { IfErr result (λ refusal. Refuses Command.Sum input.now refusal) }
 {
     let (config, value) = read_sum(alloc, input.as_slice())?;
-    Ok(print_sum(alloc, &config, &value)?)
+    Ok(Answer::of(print_sum(alloc, &config, &value)?))
 }
 
-/// The text that a command writes for an input.
-pub fn text_of(alloc: Global, command: Command, input: &Bytes) -> Result<Bytes, Refusal>
-    ensures text { IfOk result (λ text. Writes command input.now text) }
+/// What a command writes for an input, and the flaw that it finds.
+pub fn text_of(alloc: Global, command: Command, input: &Bytes) -> Result<Answer, Refusal>
+    requires { length input.now < 2 ^ 32 }
+    ensures text { IfOk result (λ answer. Writes command input.now answer.text answer.flaw) }
     ensures refused { IfErr result (λ refusal. Refuses command input.now refusal) }
 {
     match command {
         Command::Replay => report_of(alloc, input),
+        Command::Check => verdict_of(alloc, input),
         Command::Sum => sum_of(alloc, input),
         _ => Err(Refusal::NotBuilt { line: 1 }),
     }

@@ -1,18 +1,11 @@
-use Rattle.std.proofs.Common.{rules, subst, sym, ap, ◌∙◌, Err, ◌≡◌, ◌<◌, ◌-◌, ◌^◌, List, IfOk, IfErr, ℕ, ◌+◌, ◌*◌, ◌≤◌, length, ◌/◌, ◌%◌, Bool, true, false, nat_eq, nat_lt, [], ◌∷◌, ◌++◌, slice_index_or, slice_set, bit_and, bit_or, Fits, w8, w32, w64, Bor, MutBor}
-use Rattle.protocol.specs.Setting.{first_stamp}
-use Rattle.protocol.specs.History.{Entry}
-use Rattle.history_book.specs.Books.{Book}
-use Rattle.history_book.specs.Tellings.{Tells}
-use Rattle.history_book.specs.Reports.{report_text}
-use Rattle.world_steps.specs.Worlds.{setting_in, world_in}
-use Rattle.run_reports.specs.Registers.{AreRegisters}
-use Rattle.pasis_shell.specs.Texts.{Writes, Refuses}
+use Rattle.std.proofs.Common.{subst, sym, ap, ◌∙◌, Err, List, ℕ}
+use Rattle.pasis_shell.specs.Texts.{Refuses}
 use Rattle.pasis_shell.proofs.replay.report_of.Goals as goal
 use Rattle.line_forms.specs.declared.refusal.ScriptRefusal.{ScriptRefusal}
 use Rattle.line_forms.specs.Texts.{IsFaultless}
 use Rattle.script_text.specs.Replays.{Spells, replay_script}
 use Rattle.pasis_shell.specs.declared.words.Command.TheVariants.{Replay}
-use Rattle.pasis_shell.specs.Replays.{IsScript}
+use Rattle.pasis_shell.specs.Replays.{IsScript, Replays}
 use Rattle.pasis_shell.proofs.Replaying.{replays, refuses}
 
 -- src/replay.rt:34:1
@@ -24,8 +17,11 @@ returns-in-Ok-clause-text c =
       replay = c.in_ok-replay.ensures.replay;
       spelled = subst (λ t. Spells t r.config r.liars r.lines) e c.in_ok-replay.ensures.spelled;
       faultless = subst (λ t. IsFaultless replay_script t) e c.in_ok-replay.ensures.faultless;
-    } in
-    replays c.args.input.now r.config r.liars r.lines script c.in_ok-told-in-Ok.field-0 c.in-Ok.world c.in-Ok.ensures.cluster c.in-Ok.ensures.liars c.in-Ok.ensures.run c.in_ok-told-in-Ok.ensures
+    } in (
+      subst (λ (t : List ℕ). Replays c.args.input.now t) (sym c.of.ensures.text)
+          (replays c.args.input.now r.config r.liars r.lines script c.in_ok-told-in-Ok.field-0 c.in-Ok.world c.in-Ok.ensures.cluster c.in-Ok.ensures.liars c.in-Ok.ensures.run c.in_ok-told-in-Ok.ensures),
+      c.of.ensures.flaw,
+    )
 
 -- src/replay.rt:31:1
 pub returns-clause-refused : goal.returns-clause-refused

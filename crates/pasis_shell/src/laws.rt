@@ -1,0 +1,27 @@
+//! What the words of the top call cover. Each law is a function with nothing to do.
+ghost use Rattle.std.specs.Prelude.{ℕ, List};
+ghost use Rattle.quorum_rules.specs.Limits.{Numbers};
+ghost use Rattle.wire_forms.specs.Liars.{Liars};
+ghost use Rattle.event_lines.specs.declared.line.ReplayLine.{ReplayLine};
+ghost use Rattle.script_text.specs.Replays.{IsReplay, Spells};
+ghost use Rattle.script_text.specs.Sum.{IsSum, sum_text};
+ghost use Rattle.script_run.specs.Performing.{Desks, Performs};
+ghost use Rattle.history_book.specs.Books.{Book};
+ghost use Rattle.history_book.specs.Reports.{report_text};
+ghost use Rattle.history_book.specs.ReportTexts.{IsReport};
+ghost use Rattle.pasis_shell.specs.Replays.{cluster_of};
+ghost use Rattle.pasis_shell.specs.Texts.{IsAccepted};
+ghost use Rattle.pasis_shell.specs.Words.{words_of};
+
+use crate::words::Command;
+
+/// What well-formed inputs are accepted, so that the program answers them unless the outside fails or memory is wanting: a
+/// script whose lines can take place one after the other, a configuration with a value of its blocks' length, and the report of
+/// a history.
+pub fn well_formed_inputs_are_accepted()
+    ensures replays { (input : List ℕ) (c : Numbers) (liars : Liars) (lines : List ReplayLine) (desks : Desks)
+        → IsReplay c liars lines → Spells input c liars lines → Performs (cluster_of c liars) c lines desks
+        → IsAccepted (words_of Command.Replay) input }
+    ensures sums { (c : Numbers) (v : List ℕ) → IsSum c v → IsAccepted (words_of Command.Sum) (sum_text c v) }
+    ensures reports { (book : Book) → IsReport book → IsAccepted (words_of Command.Check) (report_text book) }
+{}
