@@ -1,9 +1,10 @@
 //! A run that grows line by line, and its script.
-ghost use Rattle.std.specs.Prelude.{◌≡◌, ◌<◌};
+ghost use Rattle.std.specs.Prelude.{IfOk};
 ghost use Rattle.event_lines.specs.Lines.{IsEventLine};
 
 use event_lines::{ReplayLine, read_event};
 use line_forms::{Cause, LineRefusal, ScriptRefusal};
+use lists::NoMemory;
 use quorum_rules::Config;
 use run_words::Record;
 use script_text::read_replay;
@@ -51,17 +52,41 @@ impl Played {
     /// Plays a line at the next place and adds it to the script. A line that can't take place is left out. A line that is none,
     /// and a line of the device, is refused.
     pub fn add(&mut self, line: &[u8]) -> Result<bool, LineRefusal> {
-        let event = read_event(self.alloc, &self.config, line)?;
+        let event = self.event(line)?;
+        let takes_place = self.play(&event)?;
+        if takes_place {
+            self.write(line)?;
+        }
+        Ok(takes_place)
+    }
+
+    fn event(&self, line: &[u8]) -> Result<ReplayLine, LineRefusal>
+        ensures { IfOk result (λ event. IsEventLine self.now.config event) }
+    {
+        read_event(self.alloc, &self.config, line)
+    }
+
+    // Plays a line of a script, and tells whether it takes place.
+    fn play(&mut self, event: &ReplayLine) -> Result<bool, LineRefusal>
+        requires { IsEventLine self.now.config event.now }
+    {
+        let ReplayLine::Plain(line) = event else {
+            return Err(LineRefusal::Cause(Cause::UnknownWord));
+        };
         let place = self.world.place();
         if place == u64::MAX {
             return Err(LineRefusal::Cause(Cause::TooManyLines));
         }
-        if !play(&mut self.world, &self.config, place + 1, &event)? {
-            return Ok(false);
+        match self.world.play(place + 1, line) {
+            Ok(()) => Ok(true),
+            Err(StepRefusal::Fault(_)) => Ok(false),
+            Err(StepRefusal::NoMemory) => Err(LineRefusal::NoMemory),
         }
+    }
+
+    fn write(&mut self, line: &[u8]) -> Result<(), NoMemory> {
         self.script.add(line)?;
-        self.script.add_newline()?;
-        Ok(true)
+        self.script.add_newline()
     }
 
     /// The script of the lines that took place.
@@ -82,27 +107,5 @@ impl Played {
     /// How many lines took place.
     pub fn place(&self) -> u64 {
         self.world.place()
-    }
-}
-
-// Plays a line of a script, and tells whether it takes place.
-fn play(
-    world: &mut World,
-    config: &Config,
-    place: u64,
-    line: &ReplayLine,
-) -> Result<bool, LineRefusal>
-    requires same { world.now.config ≡ config.now }
-    requires line { IsEventLine config.now line.now }
-    requires later { world.now.seen.place < place }
-    ensures cluster { world.new.config ≡ world.old.config }
-{
-    match line {
-        ReplayLine::Plain(line) => match world.play(place, line) {
-            Ok(()) => Ok(true),
-            Err(StepRefusal::Fault(_)) => Ok(false),
-            Err(StepRefusal::NoMemory) => Err(LineRefusal::NoMemory),
-        },
-        _ => Err(LineRefusal::Cause(Cause::UnknownWord)),
     }
 }
