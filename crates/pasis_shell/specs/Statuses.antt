@@ -1,11 +1,14 @@
--- The statuses and their numbers.
-use Rattle.std.specs.Prelude.{ℕ, ⊤, Option}
+-- The statuses, their numbers and the lines that tell of them.
+use Rattle.std.specs.Prelude.{ℕ, ⊤, List, [], ◌++◌, Option, codes}
+use Rattle.std.specs.Fmt.{decimal}
 use Rattle.std.specs.declared.option.Option.TheVariants.{None, Some}
 use Rattle.history_book.specs.declared.judging.Flaw.{Flaw}
 use Rattle.outside_io.specs.declared.reading.ReadRefusal.{ReadRefusal}
 use Rattle.outside_io.specs.declared.reading.ReadRefusal.TheVariants as reading
 use Rattle.pasis_shell.specs.declared.status.Status.{Status}
 use Rattle.pasis_shell.specs.declared.status.Status.TheVariants.{Done, Illegal, BadWords, BadScript, ReadFault, WriteFault, NoMemory, TooLong, NotBuilt}
+use Rattle.line_forms.specs.Numbers.{cause_number, carried_number}
+use Rattle.line_forms.specs.declared.cause.Cause.{Cause}
 use Rattle.line_forms.specs.declared.refusal.ScriptRefusal.{ScriptRefusal}
 use Rattle.line_forms.specs.declared.refusal.ScriptRefusal.TheVariants as scripts
 use Rattle.pasis_shell.specs.declared.text.Refusal.{Refusal}
@@ -21,6 +24,27 @@ number_of WriteFault = 5
 number_of NoMemory = 6
 number_of TooLong = 8
 number_of (NotBuilt line) = 9
+
+-- the number of the fault that a cause carries, after its point
+abbrev pub fault_text : Option ℕ → List ℕ
+fault_text None = []
+fault_text (Some fault) = codes "." ++ decimal fault
+
+-- the numbers of a cause, and of the fault that it carries
+abbrev pub cause_text : Cause → List ℕ
+cause_text cause = decimal (cause_number cause) ++ fault_text (carried_number cause)
+
+-- the line that tells of a status
+abbrev pub status_text : Status → List ℕ
+status_text Done = codes "pasis: done"
+status_text (Illegal flaw) = codes "pasis: illegal history"
+status_text BadWords = codes "pasis: bad words"
+status_text (BadScript line cause) = codes "pasis: line " ++ decimal line ++ codes ": cause " ++ cause_text cause
+status_text ReadFault = codes "pasis: read fault"
+status_text WriteFault = codes "pasis: write fault"
+status_text NoMemory = codes "pasis: no memory"
+status_text TooLong = codes "pasis: input too long"
+status_text (NotBuilt line) = codes "pasis: line " ++ decimal line ++ codes ": not built"
 
 abbrev pub status_of_read : ReadRefusal → Status
 status_of_read reading.NoMemory = NoMemory

@@ -1,5 +1,7 @@
-ghost use Rattle.std.specs.Prelude.{◌≡◌};
-ghost use Rattle.pasis_shell.specs.Statuses.{number_of, status_of_flaw, status_of_read, status_of_refusal};
+ghost use Rattle.std.specs.Prelude.{◌≡◌, Some};
+ghost use Rattle.std.specs.Fmt.{DisplaysOnOk};
+ghost use Rattle.pasis_shell.specs.declared.status.Status.TheVariants.{BadScript};
+ghost use Rattle.pasis_shell.specs.Statuses.{number_of, status_of_flaw, status_of_read, status_of_refusal, status_text};
 
 use crate::text::Refusal;
 use history_book::Flaw;
@@ -51,6 +53,8 @@ impl Status {
 
 /// What stands of a status on standard error.
 impl fmt::Display for Status {
+    ghost output = { λ status. Some (status_text status) };
+
     fn fmt<W: fmt::Write>(&self, f: &mut fmt::Formatter<W>) -> fmt::Result {
         match self {
             Status::Done => write!(f, "pasis: done"),
@@ -66,8 +70,10 @@ impl fmt::Display for Status {
     }
 }
 
-// The numbers of a cause, and of the fault that it carries.
-fn write_refusal<W: fmt::Write>(f: &mut fmt::Formatter<W>, line: u64, cause: Cause) -> fmt::Result {
+// The line that tells of a refused text: the numbers of its cause, and of the fault that the cause carries.
+fn write_refusal<W: fmt::Write>(f: &mut fmt::Formatter<W>, line: u64, cause: Cause) -> fmt::Result
+    ensures { DisplaysOnOk W.write_str_gives f.old result (Some (status_text (BadScript line cause))) f.new }
+{
     let number = cause.number();
     match cause.fault_number() {
         Some(fault) => write!(f, "pasis: line {line}: cause {number}.{fault}"),
