@@ -31,7 +31,6 @@ enum Work {
 
 /// A correct client. It runs one operation at a time. Contracts see the cluster's numbers, the client's own number, and
 /// what it does.
-#[derive(Drop)]
 pub struct Client {
     alloc: Global,
     config: Config,
@@ -41,6 +40,19 @@ pub struct Client {
     /// How many operations it has started since then.
     started: u32,
     work: Work,
+}
+
+impl Drop for Client {
+    fn drop(self) {
+        let Client {
+            alloc: _alloc,
+            config: _config,
+            id: _id,
+            life: _life,
+            started: _started,
+            work: _work,
+        } = self;
+    }
 }
 
 impl Model for Client {

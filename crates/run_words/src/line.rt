@@ -2,7 +2,6 @@ use cross_sum::Bytes;
 use wire_forms::{Message, Rule};
 
 /// A line of a script: what takes place at one place of a run.
-#[derive(Drop)]
 pub enum Line {
     /// The client starts a write.
     Write {
@@ -93,6 +92,70 @@ pub enum Line {
     Restart {
         node: u8,
     },
+}
+
+impl Drop for Line {
+    fn drop(self) {
+        match self {
+            Line::Write {
+                client: _client,
+                block: _block,
+                value: _value,
+            } => {}
+            Line::Read {
+                client: _client,
+                block: _block,
+            } => {}
+            Line::Resend { client: _client } => {}
+            Line::Call {
+                client: _client,
+                node: _node,
+            } => {}
+            Line::Give {
+                node: _node,
+                message: _message,
+            } => {}
+            Line::Hear {
+                client: _client,
+                message: _message,
+            } => {}
+            Line::Lost {
+                client: _client,
+                node: _node,
+            } => {}
+            Line::CrashNode { node: _node } => {}
+            Line::CrashClient { client: _client } => {}
+            Line::Lie { message: _message } => {}
+            Line::Tell { message: _message } => {}
+            Line::Poke { message: _message } => {}
+            Line::False {
+                client: _client,
+                node: _node,
+                rule: _rule,
+            } => {}
+            Line::Sound {
+                client: _client,
+                node: _node,
+                block: _block,
+                time: _time,
+                value: _value,
+            } => {}
+            Line::Mix {
+                client: _client,
+                node: _node,
+                block: _block,
+                time: _time,
+                value: _value,
+                other: _other,
+            } => {}
+            Line::Prune {
+                node: _node,
+                block: _block,
+            } => {}
+            Line::Back { client: _client } => {}
+            Line::Restart { node: _node } => {}
+        }
+    }
 }
 
 /// Why a line is refused: the first of these that it meets.

@@ -74,12 +74,22 @@ pub enum Body {
 }
 
 /// A message between a client and a node.
-#[derive(Drop)]
 pub struct Message {
     pub client: u32,
     pub node: u8,
     pub tag: Tag,
     pub body: Body,
+}
+
+impl Drop for Message {
+    fn drop(self) {
+        let Message {
+            client: _client,
+            node: _node,
+            tag: _tag,
+            body: _body,
+        } = self;
+    }
 }
 
 /// Messages, in the order in which they are sent.
