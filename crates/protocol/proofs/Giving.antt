@@ -24,7 +24,7 @@ use Rattle.protocol.specs.History.IsValue.{zeros_value, written, given}
 use Rattle.protocol.proofs.Counting.{update-cases, update-same}
 use Rattle.protocol.proofs.Lists.{Contains-one, one_more_cases, one_more_left, one_more_new}
 use Rattle.protocol.proofs.Order.{≼-refl, ≼-trans, ≼-time}
-use Rattle.protocol.proofs.Seen.{NoClash-before}
+use Rattle.protocol.proofs.Seen.{NoClash-before, NoClashFor-before}
 use Rattle.protocol.proofs.Keeping.{time_at_least, time_of_one, keeps-Contains, keeps-append, greatest_in_is, greatest_in_above, accepts_is, whole_if_taken, taken, keeps_is, has-down}
 use Rattle.protocol.proofs.Invariant.{AtWork, IsOwned, IsTagged, Quorum, IsQuorum, IsTask, IsStage, IsRecord, IsSafe, IsFresh, Fits, Accepts, IsStored, IsCovered, IsPassed}
 
@@ -369,6 +369,6 @@ module _ (s : Setting) (w : World) (safe : IsSafe s w) (place : ℕ) (later : w.
     answered = answered_after;
     tasks = tasks_after;
     records = records_after;
-    aimed = λ apart. safe.aimed (apart_before apart);
-    ordered = λ apart. safe.ordered (apart_before apart);
+    aimed = λ c z apart. safe.aimed c z (NoClashFor-before s w after apart_before z.work apart);
+    ordered = λ x y apart. safe.ordered x y (NoClashFor-before s w after apart_before y.work apart);
   }

@@ -148,6 +148,11 @@ module _ (s : Setting) where
   IsAfter stamp Reads later = stamp ≼ later
   IsAfter stamp (Writes written) later = stamp.time < later.time
 
+  -- what an operation that reads needs of digests; one that writes needs nothing
+  abbrev pub NoClashFor : World → Work → Type 0
+  NoClashFor w Reads = NoClash s w
+  NoClashFor w (Writes value) = Unit {0}
+
   pub record IsSafe (w : World) : Type 0 where
     -- a life has few operations, so that those of the next have greater numbers
     pub lives : (c : ℕ) → w.started c < 2 ^ 32
@@ -161,8 +166,7 @@ module _ (s : Setting) where
         → AtWork s w m task → Fits w m.node task.block task.stage reply
     pub tasks : (c : ℕ) (task : Task) → under_way w c ≡ Some task → IsTask w c task
     pub records : (r : Record) → Contains w.records r → IsRecord w r
-    -- under NoClash
-    pub aimed : NoClash s w → (x : Record) (end : ℕ) (stamp : Stamp) (c : ℕ) (task : Task) → Contains w.records x → x.end ≡ Some end → x.stamp ≡ Some stamp
+    pub aimed : (c : ℕ) (task : Task) → NoClashFor w task.work → (x : Record) (end : ℕ) (stamp : Stamp) → Contains w.records x → x.end ≡ Some end → x.stamp ≡ Some stamp
         → under_way w c ≡ Some task → task.block ≡ x.block → end < task.start → IsAimed stamp task.work task.stage
-    pub ordered : NoClash s w → (x y : Record) (end : ℕ) (stamp later : Stamp) → Contains w.records x → Contains w.records y → x.end ≡ Some end → x.stamp ≡ Some stamp
+    pub ordered : (x y : Record) → NoClashFor w y.work → (end : ℕ) (stamp later : Stamp) → Contains w.records x → Contains w.records y → x.end ≡ Some end → x.stamp ≡ Some stamp
         → y.stamp ≡ Some later → y.block ≡ x.block → end < y.start → IsAfter stamp y.work later

@@ -1,5 +1,5 @@
 -- The facts on every run.
-use Rattle.std.proofs.Common.{Option, ◌≡◌, ◌⊎◌, ◌↔◌, ℕ, ◌+◌, ◌<◌, length, map, count_by, Bool, true, false, List, [], ◌∷◌, ◌++◌, refl, inl, inr, arith, eqb}
+use Rattle.std.proofs.Common.{Option, ◌≡◌, ◌⊎◌, ◌↔◌, ℕ, ◌+◌, ◌<◌, length, map, count_by, Bool, true, false, List, [], ◌∷◌, ◌++◌, refl, sym, subst, inl, inr, arith, eqb}
 use Rattle.std.specs.Prelude.{slice_get}
 use Rattle.std.specs.declared.option.Option.TheVariants.{None, Some}
 use Rattle.std.specs.List.{Contains}
@@ -21,7 +21,8 @@ use Rattle.protocol.specs.History.{NoClash}
 use Rattle.protocol.specs.Facts.{IsTold, IsOutcomeOf, IsHonest, HasAccepted, IsHosted, IsKnown, IsComplete, AtWork, IsNotBehind, IsWorking}
 use Rattle.protocol.proofs.Counting.{cases_bool}
 use Rattle.protocol.proofs.Order.{same_stamp-≡, same_stamp-refl}
-use Rattle.protocol.proofs.Invariant.{IsSafe, IsRecord, IsOutcome, Quorum, IsQuorum, Fits, IsFresh, IsAimed, IsAfter}
+use Rattle.protocol.proofs.Invariant.{IsSafe, IsRecord, IsOutcome, Quorum, IsQuorum, Fits, IsFresh, IsAimed, IsAfter, NoClashFor}
+use Rattle.protocol.proofs.Seen.{NoClashFor-any}
 use Rattle.protocol.proofs.Origins.{IsKnownRequest}
 use Rattle.protocol.proofs.Plays.{IsRight, start_right, run_right}
 use Rattle.protocol.proofs.Choices.{only_open}
@@ -182,15 +183,15 @@ module _ (s : Setting) (lines : List (ℕ × Line)) (w : World) (good : IsValid 
 
   pub run_aim : NoClash s w → (x : Record) (end : ℕ) (stamp : Stamp) (c : ℕ) (task : Task) (bound : Bound) → Contains w.records x → x.end ≡ Some end → x.stamp ≡ Some stamp → under_way w c ≡ Some task → task.block ≡ x.block
       → end < task.start → task.stage ≡ Versions bound → has bound stamp ≡ true
-  run_aim apart x end stamp c task bound h e f busy b l stage = aimed_at s w stamp task.work task.stage bound stage (right.safe.aimed apart x end stamp c task h e f busy b l)
+  run_aim apart x end stamp c task bound h e f busy b l stage = aimed_at s w stamp task.work task.stage bound stage (right.safe.aimed c task (NoClashFor-any s w task.work apart) x end stamp h e f busy b l)
 
-  pub run_above : NoClash s w → (x y : Record) (end : ℕ) (stamp later : Stamp) (value : List ℕ) → Contains w.records x → Contains w.records y → x.end ≡ Some end → x.stamp ≡ Some stamp → y.work ≡ Writes value → y.stamp ≡ Some later
+  pub run_above : (x y : Record) (end : ℕ) (stamp later : Stamp) (value : List ℕ) → Contains w.records x → Contains w.records y → x.end ≡ Some end → x.stamp ≡ Some stamp → y.work ≡ Writes value → y.stamp ≡ Some later
       → y.block ≡ x.block → end < y.start → stamp.time < later.time
-  run_above apart x y end stamp later value h k e f work g b l = write_after s w stamp later y.work value work (right.safe.ordered apart x y end stamp later h k e f g b l)
+  run_above x y end stamp later value h k e f work g b l = write_after s w stamp later y.work value work (right.safe.ordered x y (subst (NoClashFor s w) (sym work) tt) end stamp later h k e f g b l)
 
   pub run_up : NoClash s w → (x y : Record) (end : ℕ) (stamp later : Stamp) → Contains w.records x → Contains w.records y → x.end ≡ Some end → x.stamp ≡ Some stamp → y.work ≡ Reads → y.stamp ≡ Some later → y.block ≡ x.block
       → end < y.start → stamp ≼ later
-  run_up apart x y end stamp later h k e f work g b l = read_after s w stamp later y.work work (right.safe.ordered apart x y end stamp later h k e f g b l)
+  run_up apart x y end stamp later h k e f work g b l = read_after s w stamp later y.work work (right.safe.ordered x y (NoClashFor-any s w y.work apart) end stamp later h k e f g b l)
 
 module _ (s : Setting) (lines : List (ℕ × Line)) (w : World) (good : IsValid s) (run : Run s (start_world s) lines w) where
   pub run_in_order : Ascend (starts w.records)

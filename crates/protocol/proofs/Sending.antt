@@ -22,7 +22,7 @@ use Rattle.protocol.proofs.Lists.{Contains-one}
 use Rattle.protocol.proofs.Order.{≼-trans, before_false}
 use Rattle.protocol.proofs.Keeping.{pruned_was, pruned_first, pruned_above, pruned_greatest}
 use Rattle.protocol.proofs.Mails.{in_mail, mail_asks, mail_answers}
-use Rattle.protocol.proofs.Seen.{NoClash-before}
+use Rattle.protocol.proofs.Seen.{NoClash-before, NoClashFor-before}
 use Rattle.protocol.proofs.Given.{IsGreatest, greatest_is}
 use Rattle.protocol.proofs.Invariant.{AtWork, IsOwned, IsTagged, Quorum, IsQuorum, IsStored, IsCovered, IsPassed, IsSafe}
 
@@ -143,8 +143,8 @@ module _ (s : Setting) (w : World) where
           running = λ z e f. k.running z (less.fewer r.client z e) f;
           completed = λ end stamp e f. quorum_after (IsQuorum s) r.block stamp end (k.completed end stamp e f);
         };
-        aimed = λ apart x end stamp c z h e f g. safe.aimed (apart_before apart) x end stamp c z h e f (less.fewer c z g);
-        ordered = λ apart. safe.ordered (apart_before apart);
+        aimed = λ c z apart x end stamp h e f g. safe.aimed c z (NoClashFor-before s w changed apart_before z.work apart) x end stamp h e f (less.fewer c z g);
+        ordered = λ x y apart. safe.ordered x y (NoClashFor-before s w changed apart_before y.work apart);
       }
 
 module _ (s : Setting) (w : World) (safe : IsSafe s w) (place : ℕ) (later : w.place ≤ place) where

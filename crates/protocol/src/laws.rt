@@ -136,11 +136,11 @@ pub fn freshness()
         → (m : Message) (reply : Reply) (task : Task) → Contains last.pool m → m.body ≡ Answers reply → m.node ≡ i → s.lying_client m.client ≡ false → AtWork s last m task → task.block ≡ block → w.place < task.start → IsNotBehind s last task stamp task.stage reply) }
 {}
 
-/// Where no two strings that were seen clash: an operation that began after another on its block had ended never asks below
-/// that one's stamp, a write chooses a time above the stamp's, and a read gives no lower stamp.
+/// Of an operation that began after another on its block had ended: a write chooses a time above that one's stamp; and where no
+/// two strings that were seen clash, a read never asks below the stamp and gives no lower one.
 pub fn order()
     ensures aim { InEachRun (λ s w. NoClash s w → (x : Record) (end : ℕ) (stamp : Stamp) (client : ℕ) (task : Task) (bound : Bound) → Contains w.records x → x.end ≡ Some end → x.stamp ≡ Some stamp → under_way w client ≡ Some task → task.block ≡ x.block → end < task.start → task.stage ≡ Versions bound → has bound stamp ≡ true) }
-    ensures writes_above { InEachRun (λ s w. NoClash s w → (x y : Record) (end : ℕ) (stamp later : Stamp) (value : List ℕ) → Contains w.records x → Contains w.records y → x.end ≡ Some end → x.stamp ≡ Some stamp → y.work ≡ Writes value → y.stamp ≡ Some later → y.block ≡ x.block → end < y.start → stamp.time < later.time) }
+    ensures writes_above { InEachRun (λ s w. (x y : Record) (end : ℕ) (stamp later : Stamp) (value : List ℕ) → Contains w.records x → Contains w.records y → x.end ≡ Some end → x.stamp ≡ Some stamp → y.work ≡ Writes value → y.stamp ≡ Some later → y.block ≡ x.block → end < y.start → stamp.time < later.time) }
     ensures reads_up { InEachRun (λ s w. NoClash s w → (x y : Record) (end : ℕ) (stamp later : Stamp) → Contains w.records x → Contains w.records y → x.end ≡ Some end → x.stamp ≡ Some stamp → y.work ≡ Reads → y.stamp ≡ Some later → y.block ≡ x.block → end < y.start → stamp ≼ later) }
 {}
 
