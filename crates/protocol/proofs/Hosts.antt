@@ -47,9 +47,9 @@ module _ (s : Setting) where
 
   module _ (w v : World) (i : ℕ) (ask : Ask) (more : (stamp : Stamp) → HasAccepted s w i ask.block stamp → HasAccepted s v i ask.block stamp) where
     grounded_more : (told : Reply) → IsGrounded s w i ask told → IsGrounded s v i ask told
-    grounded_more (TimeIs time) h = (h.0, more h.0 h.1, h.2)
-    grounded_more (Found u) h = more u.stamp h
-    grounded_more Nothing h = tt
+    grounded_more (TimeIs time) h = (h.0, h.1, more h.1 h.2, h.3)
+    grounded_more (Found u) h = (h.0, h.1, h.2, more u.stamp h.3)
+    grounded_more Nothing h = h
     grounded_more Ack h = (h.0, h.1, more h.0.stamp h.2)
     grounded_more (Refused reason) h = tt
 
@@ -112,14 +112,14 @@ module _ (s : Setting) where
         grows : (j block : ℕ) (stamp : Stamp) → HasAccepted s w j block stamp → HasAccepted s after j block stamp
         grows = accepted_more s w safe place later i inside upright m there to_i ask asks
 
-        found_grounded : (bound : Bound) (o : Option Version) → greatest_in bound (w.versions i ask.block) ≡ o → IsGrounded s after i ask (found o)
-        found_grounded bound None e = tt
-        found_grounded bound (Some u) e = grows i ask.block u.stamp (stored.kept u (greatest_in_is bound _ u e).0)
+        found_grounded : (bound : Bound) → ask.request ≡ Read bound → (o : Option Version) → greatest_in bound (w.versions i ask.block) ≡ o → IsGrounded s after i ask (found o)
+        found_grounded bound a None e = (bound, a)
+        found_grounded bound a (Some u) e = let g = greatest_in_is bound (w.versions i ask.block) u e in (bound, a, g.1, grows i ask.block u.stamp (stored.kept u g.0))
 
-        time_grounded : IsGrounded s after i ask (TimeIs (greatest_time (w.versions i ask.block)))
-        time_grounded = elim (time_of_one (w.versions i ask.block)) [
-          | inl e ↦ (first_stamp s, inl refl, e)
-          | inr h ↦ (h.0.stamp, grows i ask.block h.0.stamp (stored.kept h.0 h.1), h.2)
+        time_grounded : ask.request ≡ Time → IsGrounded s after i ask (TimeIs (greatest_time (w.versions i ask.block)))
+        time_grounded a = elim (time_of_one (w.versions i ask.block)) [
+          | inl e ↦ (a, first_stamp s, inl refl, e)
+          | inr h ↦ (a, h.0.stamp, grows i ask.block h.0.stamp (stored.kept h.0 h.1), h.2)
         ]
 
         write_grounded : (u : Version) → ask.request ≡ Write u → ask.block < s.blocks → (o : Option Reason) → refusal s i u ≡ o → IsGrounded s after i ask (acknowledged o)
@@ -127,8 +127,8 @@ module _ (s : Setting) where
         write_grounded u e l (Some reason) f = tt
 
         in_range : (request : Request) → ask.request ≡ request → ask.block < s.blocks → IsGrounded s after i ask (reply_in s i (w.versions i ask.block) request)
-        in_range Time e l = time_grounded
-        in_range (Read bound) e l = found_grounded bound (greatest_in bound (w.versions i ask.block)) refl
+        in_range Time e l = time_grounded e
+        in_range (Read bound) e l = found_grounded bound e (greatest_in bound (w.versions i ask.block)) refl
         in_range (Write u) e l = write_grounded u e l (refusal s i u) refl
 
         reply_grounded : IsGrounded s after i ask (reply s i (w.versions i ask.block) ask)

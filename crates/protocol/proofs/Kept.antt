@@ -142,7 +142,7 @@ module _ (s : Setting) (lines : List (ℕ × Line)) (w : World) (good : IsValid 
       same : (ask : Ask) (reply : Reply) → Rattle.protocol.specs.Facts.IsGrounded s v m.node ask reply → Rattle.protocol.specs.Facts.IsGrounded s (only_place s v place) m.node ask reply
       same ask (TimeIs time) g = g
       same ask (Found u) g = g
-      same ask Nothing g = tt
+      same ask Nothing g = g
       same ask Ack g = g
       same ask (Refused reason) g = tt
 

@@ -6,8 +6,8 @@ use Rattle.stamp_order.specs.declared.Stamp.{Stamp}
 use Rattle.stamp_order.specs.declared.Bound.{Bound}
 use Rattle.stamp_order.specs.Stamps.{has, ◌≼◌}
 use Rattle.protocol.specs.Messages.{Version, Ask, Reply, Message}
-use Rattle.wire_forms.specs.declared.Request.TheVariants.{Write}
-use Rattle.wire_forms.specs.declared.Reply.TheVariants.{TimeIs, Found, Ack}
+use Rattle.wire_forms.specs.declared.Request.TheVariants.{Time, Read, Write}
+use Rattle.wire_forms.specs.declared.Reply.TheVariants.{TimeIs, Found, Nothing, Ack, Refused}
 use Rattle.wire_forms.specs.declared.Body.TheVariants.{Ask as Asks}
 use Rattle.protocol.specs.Count.{count}
 use Rattle.protocol.specs.Setting.{Setting, first_stamp}
@@ -27,12 +27,13 @@ module _ (s : Setting) where
   abbrev pub HasAccepted : World → ℕ → ℕ → Stamp → Type 0
   HasAccepted w i block stamp = (stamp ≡ first_stamp s) ⊎ Contains w.accepted (record { node = i; block = block; stamp = stamp })
 
-  -- the time that node i told, the version that it found, or the write that it acknowledged goes back to a stamp that it accepted
+  -- node i's reply is of the kind that was asked, and the time that it told, the version that it found or the write that it acknowledged goes back to a stamp that it accepted
   abbrev pub IsGrounded : World → ℕ → Ask → Reply → Type 0
-  IsGrounded w i ask (TimeIs time) = (stamp : Stamp) × HasAccepted w i ask.block stamp × (time ≡ stamp.time)
-  IsGrounded w i ask (Found v) = HasAccepted w i ask.block v.stamp
+  IsGrounded w i ask (TimeIs time) = (ask.request ≡ Time) × (stamp : Stamp) × HasAccepted w i ask.block stamp × (time ≡ stamp.time)
+  IsGrounded w i ask (Found v) = (bound : Bound) × (ask.request ≡ Read bound) × (has bound v.stamp ≡ true) × HasAccepted w i ask.block v.stamp
+  IsGrounded w i ask Nothing = (bound : Bound) × (ask.request ≡ Read bound)
   IsGrounded w i ask Ack = (v : Version) × (ask.request ≡ Write v) × HasAccepted w i ask.block v.stamp
-  IsGrounded w i ask _ = Unit {0}
+  IsGrounded w i ask (Refused reason) = Unit {0}
 
   -- message k of the pool, a node's answer, was made from an ask that was sent before it, with its client, node and tag
   pub record IsHosted (w : World) (k : ℕ) (m : Message) (reply : Reply) : Type 0 where

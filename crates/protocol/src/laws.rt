@@ -108,8 +108,8 @@ pub fn replacements()
     ensures { (records : List Record) (r x : Record) → Contains (with_record records r) x ↔ ((x ≡ r × HasOperation records r) ⊎ (Contains records x × (IsSameOperation x r → ⊥))) }
 {}
 
-/// An honest node's answer was made from an ask that was sent before it, with its client and tag, and tells only of stamps
-/// that the node accepted. What the node keeps of a block it accepted, and it keeps a version of at least each stamp that it
+/// An honest node's answer was made from an ask that was sent before it, with its client and tag. It is of the kind that was
+/// asked, finds what the ask's bound has, and tells only of stamps that the node accepted. What the node keeps of a block it accepted, and it keeps a version of at least each stamp that it
 /// accepted.
 pub fn hosts()
     ensures hosted { InEachRun (λ s w. (k : ℕ) (m : Message) (reply : Reply) → slice_get w.pool k ≡ Some m → m.body ≡ Answers reply → IsHonest s m.node → IsHosted s w k m reply) }
