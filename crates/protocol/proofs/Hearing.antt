@@ -21,12 +21,12 @@ use Rattle.protocol.specs.Operations.Stage.{Times, Versions, Storing}
 use Rattle.run_words.specs.declared.outcome.Outcome.TheVariants.{Wrote, Spent, Gave, Outvoted}
 use Rattle.protocol.specs.Operations.Decision.{GoesOn, Ends}
 use Rattle.protocol.specs.World.{Record, World, moved, decided, advanced, open_record, closed_record, chosen_stamp, stamp_of_outcome, under_way}
-use Rattle.protocol.specs.History.{NoClash, IsValue}
+use Rattle.protocol.specs.History.{IsValue}
 use Rattle.protocol.specs.History.IsValue.{zeros_value, written, given}
 use Rattle.protocol.proofs.Counting.{both_true, shared}
 use Rattle.protocol.proofs.Mails.{in_mail}
 use Rattle.protocol.proofs.Seen.{NoClashFor-any}
-use Rattle.protocol.proofs.Invariant.{Quorum, IsQuorum, IsGood, IsGiven, IsStage, IsTask, IsOutcome, IsAimed, IsAfter, NoClashFor, IsSafe, Fits, Accepts}
+use Rattle.protocol.proofs.Invariant.{Quorum, IsGood, IsGiven, IsStage, IsTask, IsOutcome, IsAimed, IsAfter, NoClashFor, IsSafe, Fits, Accepts}
 use Rattle.protocol.proofs.Moving.{IsHeld, IsNext, IsMove, moved_safe}
 use Rattle.protocol.proofs.Rounds.{valid_was, honest_many, is_honest, drawn_above, some_pivot, pivot_above, pivot_time, candidate_size, candidate_good, not_poisonous, honest_valid, fits_at}
 use Rattle.protocol.proofs.Order.{same_stamp-≡, same_stamp-refl, ≼-cases}
@@ -239,7 +239,7 @@ module _ (s : Setting) (good : IsValid s) (w : World) (safe : IsSafe s w) (place
   counted_safe = moved_safe s w safe place later c task busy (Some full) [] (open_record c full) counting_move
 
   -- the quorum of a record on the task's block
-  quorum_of : (x : Record) (end : ℕ) (stamp : Stamp) → Contains w.records x → x.end ≡ Some end → x.stamp ≡ Some stamp → task.block ≡ x.block → Quorum s (IsQuorum s) w task.block stamp end
+  quorum_of : (x : Record) (end : ℕ) (stamp : Stamp) → Contains w.records x → x.end ≡ Some end → x.stamp ≡ Some stamp → task.block ≡ x.block → Quorum s w task.block stamp end
   quorum_of x end stamp h e f b = rw b ((safe.records x h).completed end stamp e f)
 
   module _ (enough : s.n ≤ answered s answers + s.t) where

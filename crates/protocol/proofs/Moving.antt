@@ -19,7 +19,7 @@ use Rattle.protocol.proofs.Counting.{update-cases}
 use Rattle.protocol.proofs.Lists.{Contains-map, Contains-map_cases}
 use Rattle.protocol.proofs.Mails.{mail_asks, mail_answers}
 use Rattle.protocol.proofs.Seen.{NoClash-before, NoClashFor-before}
-use Rattle.protocol.proofs.Invariant.{AtWork, IsOwned, IsTagged, Quorum, IsQuorum, IsTask, IsRecord, IsOutcome, IsAimed, IsAfter, NoClashFor, IsSafe, Fits, Accepts, IsOpen, IsFresh, IsStored, IsPassed}
+use Rattle.protocol.proofs.Invariant.{AtWork, IsOwned, IsTagged, Quorum, IsTask, IsRecord, IsOutcome, IsAimed, IsAfter, NoClashFor, IsSafe, Fits, Accepts, IsOpen, IsFresh, IsStored, IsPassed}
 use Rattle.protocol.proofs.Freshness.{IsFresh-more}
 use Rattle.protocol.proofs.Sending.{working}
 
@@ -237,8 +237,8 @@ module _ (s : Setting) (w : World) (safe : IsSafe s w) (place : ℕ) (later : w.
           record { version = v.version; there = v.there; above = v.above; how = elim v.how [ inl e ↦ inl e | inr p ↦ inr (passed_after b v.version.stamp p) ] };
     }
 
-    pub quorum_after : (Enough : (ℕ → Bool) → Type 0) (b : ℕ) (stamp : Stamp) (end : ℕ) → Quorum s Enough w b stamp end → Quorum s Enough after b stamp end
-    quorum_after Enough b stamp end q = record {
+    pub quorum_after : (b : ℕ) (stamp : Stamp) (end : ℕ) → Quorum s w b stamp end → Quorum s after b stamp end
+    quorum_after b stamp end q = record {
       members = q.members;
       enough = q.enough;
       are_honest = q.are_honest;
@@ -252,7 +252,7 @@ module _ (s : Setting) (w : World) (safe : IsSafe s w) (place : ℕ) (later : w.
       ];
     }
 
-    quorum_now : (stamp : Stamp) (end : ℕ) → end ≡ place → IsHeld s w r.block stamp → Quorum s (IsQuorum s) after r.block stamp end
+    quorum_now : (stamp : Stamp) (end : ℕ) → end ≡ place → IsHeld s w r.block stamp → Quorum s after r.block stamp end
     quorum_now stamp end e q = record {
       members = q.members;
       enough = q.enough;
@@ -287,7 +287,7 @@ module _ (s : Setting) (w : World) (safe : IsSafe s w) (place : ℕ) (later : w.
                 closed_end = i.closed_end;
                 running = λ z e f. elim (task_cases x.client z e)
                     [ inl q ↦ absurd (k.1 q.0 (f ∙ (move.nexts z q.1).start)) | inr q ↦ i.running z q.1 f ];
-                completed = λ end stamp e f. quorum_after (IsQuorum s) x.block stamp end (i.completed end stamp e f);
+                completed = λ end stamp e f. quorum_after x.block stamp end (i.completed end stamp e f);
               })
         ]
 

@@ -1,5 +1,5 @@
 -- A start keeps what holds in every world.
-use Rattle.std.proofs.Common.{◌≡◌, ◌⊎◌, ℕ, Bool, ◌+◌, ◌-◌, ◌^◌, ◌<◌, ◌≤◌, false, List, [], ◌∷◌, refl, sym, ◌∙◌, ap, inl, inr, arith}
+use Rattle.std.proofs.Common.{◌≡◌, ◌⊎◌, ℕ, ◌+◌, ◌-◌, ◌^◌, ◌<◌, ◌≤◌, false, List, [], ◌∷◌, refl, sym, ◌∙◌, ap, inl, inr, arith}
 use Rattle.std.specs.declared.option.Option.TheVariants.{None, Some}
 use Rattle.std.specs.List.{Contains}
 use Rattle.std.proofs.lemmas.List.Elements.{Contains-append_cases, Contains-append_left, Contains-append_right}
@@ -18,7 +18,7 @@ use Rattle.protocol.proofs.Counting.{update-cases}
 use Rattle.protocol.proofs.Lists.{Contains-one, Contains-collected}
 use Rattle.protocol.proofs.Mails.{in_mail, mail_asks, mail_answers}
 use Rattle.protocol.proofs.Seen.{NoClash-before, NoClashFor-before}
-use Rattle.protocol.proofs.Invariant.{AtWork, IsOwned, IsTagged, Quorum, IsQuorum, IsTask, IsStage, IsRecord, IsOutcome, IsAimed, IsAfter, NoClashFor, IsSafe, Fits as Fits', IsOpen, IsStored, IsPassed}
+use Rattle.protocol.proofs.Invariant.{AtWork, IsOwned, IsTagged, Quorum, IsTask, IsStage, IsRecord, IsOutcome, IsAimed, IsAfter, NoClashFor, IsSafe, Fits as Fits', IsOpen, IsStored, IsPassed}
 use Rattle.protocol.proofs.Forming.{first_formed}
 use Rattle.protocol.proofs.Freshness.{IsFresh-more}
 use Rattle.protocol.proofs.Sending.{working}
@@ -179,8 +179,8 @@ module _ (s : Setting) (w : World) (safe : IsSafe s w) (place : ℕ) (later : w.
         record { version = v.version; there = v.there; above = v.above; how = elim v.how [ inl e ↦ inl e | inr p ↦ inr (passed_after b v.version.stamp p) ] };
   }
 
-  pub quorum_after : (Enough : (ℕ → Bool) → Type 0) (b : ℕ) (stamp : Stamp) (end : ℕ) → Quorum s Enough w b stamp end → Quorum s Enough after b stamp end
-  quorum_after Enough b stamp end q = record {
+  pub quorum_after : (b : ℕ) (stamp : Stamp) (end : ℕ) → Quorum s w b stamp end → Quorum s after b stamp end
+  quorum_after b stamp end q = record {
     members = q.members;
     enough = q.enough;
     are_honest = q.are_honest;
@@ -207,7 +207,7 @@ module _ (s : Setting) (w : World) (safe : IsSafe s w) (place : ℕ) (later : w.
                 | inl q ↦ absurd (let o : r.start ≡ place = f ∙ ap (λ (t : Task). t.start) q.1 in omega (arith, o, i.start, later))
                 | inr q ↦ i.running task q.1 f
               ];
-              completed = λ end stamp e f. quorum_after (IsQuorum s) r.block stamp end (i.completed end stamp e f);
+              completed = λ end stamp e f. quorum_after r.block stamp end (i.completed end stamp e f);
             })
         | inr k ↦ rw k (record {
           start = omega arith;
