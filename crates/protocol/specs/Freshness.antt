@@ -1,5 +1,5 @@
 -- What an honest node's answer says of the stamps that the node had accepted when it answered.
-use Rattle.std.specs.Prelude.{◌≡◌, ℕ, ◌<◌, ◌≤◌, true, List, [], ◌∷◌, ◌++◌, length, Option}
+use Rattle.std.specs.Prelude.{◌≡◌, ℕ, ◌<◌, ◌≤◌, true, List, [], ◌∷◌, ◌++◌, length, Option, slice_get}
 use Rattle.std.specs.declared.option.Option.TheVariants.{None, Some}
 use Rattle.std.specs.List.{Contains, cons_option}
 use Rattle.stamp_order.specs.declared.Stamp.{Stamp}
@@ -47,6 +47,11 @@ module _ (s : Setting) where
   prunings w [] = []
   prunings w (l ∷ ls) = cons_option (pruning_of w l.0 l.1) (prunings (plays s w l.0 l.1) ls)
 
+  -- message k is sent at a line that is taken in this world
+  pub record IsSentAt (w : World) (place : ℕ) (line : Line) (k : ℕ) (m : Message) : Type 0 where
+    pub new : length w.pool ≤ k
+    pub sent : slice_get (plays s w place line).pool k ≡ Some m
+
   -- message k was sent at one of the lines, while this operation of its client was under way, and its tag names the operation
   pub record IsSentDuring (w : World) (lines : List (ℕ × Line)) (k : ℕ) (m : Message) (task : Task) : Type 0 where
     pub before : List (ℕ × Line)
@@ -57,7 +62,6 @@ module _ (s : Setting) where
     -- the world in which that line is taken
     pub world : World
     pub run : Run s w before world
-    pub unsent : length world.pool ≤ k
-    pub sent : k < length (plays s world place line).pool
+    pub at : IsSentAt world place line k m
     pub busy : under_way world m.client ≡ Some task
     pub op : m.tag.op ≡ task.op
