@@ -417,11 +417,11 @@ module _ (s : Setting) (good : IsValid s) where
       made_at = (line_taken Before w right_at.safe logged_at place later line fits fine).made k m told sent.new sent.sent body honest.1
 
       pub run_always : (h : IsHosted s (plays s w place line) k m told)
-          × (h.ask.block < s.blocks → (stamp : Stamp) → Accepts s w m.node h.ask.block stamp → IsNotBehind (HasPruned (prunings s (start_world s) lines) m.node h.ask.block place) stamp h.ask.request told)
+          × (h.ask.block < s.blocks → (stamp : Stamp) → Accepts s w m.node h.ask.block stamp → IsNotBehind (HasPruned s lines m.node h.ask.block place) stamp h.ask.request told)
       run_always = (
         made_at.0,
         λ below stamp a.
-            behind_as (IsWide s Before m.node made_at.0.ask.block) (HasPruned (prunings s (start_world s) lines) m.node made_at.0.ask.block place)
+            behind_as (IsWide s Before m.node made_at.0.ask.block) (HasPruned s lines m.node made_at.0.ask.block place)
             (λ bound wide p k node block. elim k [ inl q ↦ absurd q | inr q ↦ wide p q node block (let l = logged_at.past p (inr q) in omega (arith, l, later)) ])
             stamp made_at.0.ask.request told (made_at.1 below stamp a),
       )
@@ -467,7 +467,7 @@ module _ (s : Setting) (good : IsValid s) where
         one ∙ ap (λ (c : ℕ). b.0 c h.message.tag.op) h.client ∙ ap (λ (g : Tag). b.0 m.client g.op) h.tag ∙ ap (b.0 m.client) d.op ∙ sym two
 
     pub run_fresh : (stamp : Stamp) → Accepts s w m.node task.block stamp
-        → (h : IsHosted s last k m told) × (h.ask.block ≡ task.block) × IsNotBehind (HasPruned (prunings s (start_world s) (lines ++ more)) m.node task.block task.start) stamp h.ask.request told
+        → (h : IsHosted s last k m told) × (h.ask.block ≡ task.block) × IsNotBehind (HasPruned s (lines ++ more) m.node task.block task.start) stamp h.ask.request told
     run_fresh stamp a =
         let h = made_last.0 in
         let e = of_block h in
@@ -475,7 +475,7 @@ module _ (s : Setting) (good : IsValid s) where
         let lines_are : lines ++ more ≡ (lines ++ d.before) ++ (d.place, d.line) ∷ d.after = ap (λ (ls : List (ℕ × Line)). lines ++ ls) d.split ∙ sym (append_assoc lines d.before ((d.place, d.line) ∷ d.after)) in (
           h,
           e,
-          behind_as (IsWide s (Before (lines ++ d.before) d.world to_v) m.node h.ask.block) (HasPruned (prunings s (start_world s) (lines ++ more)) m.node task.block task.start)
+          behind_as (IsWide s (Before (lines ++ d.before) d.world to_v) m.node h.ask.block) (HasPruned s (lines ++ more) m.node task.block task.start)
               (λ bound wide p k node block. elim k [
                 | inl q ↦ absurd q
                 | inr q ↦ wide p (rw lines_are (more_prunings s (lines ++ d.before) ((d.place, d.line) ∷ d.after) (start_world s) p q)) node (block ∙ e) ((logged_at (lines ++ d.before) d.world to_v).early m.client task d.busy p (inr q) (block ∙ e))

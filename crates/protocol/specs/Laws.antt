@@ -20,7 +20,7 @@ use Rattle.protocol.specs.Lines.{Line, Rule, Run, IsRun, FitsLine, plays, fault,
 use Rattle.protocol.specs.Instance.{setting_of, IsCluster}
 use Rattle.protocol.specs.History.{Entry, IsHistory, IsEntry, Legal, InTime, NoClash, HasRead, HasLie, entry_cmp}
 use Rattle.protocol.specs.History.Kind.{Read, Foreign}
-use Rattle.protocol.specs.Report.{Ascend, AreRivals, mark, line_cmp, counts_of, is_ended, spent_writes}
+use Rattle.protocol.specs.Report.{Ascend, AreRivals, mark, line_cmp, counts_of, is_ended, SpentWrite, IsSpentWrite, spent_writes}
 use Rattle.protocol.specs.Facts.{IsTold, IsHonest, HasAccepted, IsHosted, IsKnown, IsComplete, IsWorking, Extends, HasGave, IsGreatestGiven, IsSameOperation, HasOperation, HasEnded}
 use Rattle.protocol.specs.Seen.{SeenTask, task_at, seen_begun, hearing}
 use Rattle.protocol.specs.Views.{IsFull, task_after, after_hearing}
@@ -28,10 +28,13 @@ use Rattle.protocol.specs.Freshness.{IsNotBehind, HasPruned, IsSentAt, IsSentDur
 
 -- the law holds of each cluster
 abbrev pub InEachCluster : (Setting → Type 0) → Type 0
-InEachCluster law = (c : Numbers) (lying_node lying_client : ℕ → Bool) → IsCluster c lying_node → law (setting_of c lying_node lying_client)
+InEachCluster law =
+    (c : Numbers) (lying_node lying_client : ℕ → Bool)
+    → IsCluster c lying_node
+    → law (setting_of c lying_node lying_client)
 
 module _ (s : Setting) (w : World) where
-  -- where no two different strings that were seen share a digest, a history is one of plain registers
+  -- where no two different strings that were seen share a digest, a history is that of plain registers
   abbrev pub HistoriesAreLegal : Type 0
   HistoriesAreLegal =
       (h : List Entry)
@@ -123,7 +126,8 @@ module _ (s : Setting) (w : World) where
   abbrev pub RunsComeApart : Type 0
   RunsComeApart =
       (lines more : List (ℕ × Line)) (last : World)
-      → Run s w (lines ++ more) last ↔ ((middle : World) × Run s w lines middle × Run s middle more last)
+      → Run s w (lines ++ more) last
+      ↔ ((middle : World) × Run s w lines middle × Run s middle more last)
 
   -- a line adds messages at the pool's end
   abbrev pub LinesExtendPool : Type 0
@@ -195,7 +199,7 @@ module _ (s : Setting) (w : World) where
       → x.stamp ≡ Some stamp
       → (stamp ≡ first_stamp s) ⊎ IsComplete s w x.block stamp
 
-  -- an honest node's answer that was sent at a line isn't behind what the node had accepted before the line
+  -- an honest node's answer isn't behind what the node had accepted before the line at which it was sent
   abbrev pub AnswersAreFresh : Type 0
   AnswersAreFresh =
       (lines : List (ℕ × Line)) (place : ℕ) (line : Line) (k : ℕ) (m : Message) (reply : Reply)
@@ -210,12 +214,13 @@ module _ (s : Setting) (w : World) where
       × (h.ask.block < s.blocks
       → (stamp : Stamp)
       → HasAccepted s w m.node h.ask.block stamp
-      → IsNotBehind (HasPruned (prunings s (start_world s) lines) m.node h.ask.block place) stamp h.ask.request reply)
+      → IsNotBehind (HasPruned s lines m.node h.ask.block place) stamp h.ask.request reply)
 
-  -- one that was sent later to an operation under way isn't behind what the node has accepted by now, where the bound has what the node pruned by before the operation began
+  -- nor is one that comes to an operation under way, where the bound has what was pruned before this began
   abbrev pub OperationsHearFresh : Type 0
   OperationsHearFresh =
-      (lines more : List (ℕ × Line)) (last : World) (k : ℕ) (m : Message) (reply : Reply) (task : Task) (stamp : Stamp)
+      (lines more : List (ℕ × Line)) (last : World)
+      → (k : ℕ) (m : Message) (reply : Reply) (task : Task) (stamp : Stamp)
       → IsRun s lines w
       → Run s w more last
       → IsSentDuring s w more k m task
@@ -224,7 +229,7 @@ module _ (s : Setting) (w : World) where
       → HasAccepted s w m.node task.block stamp
       → (h : IsHosted s last k m reply)
       × (h.ask.block ≡ task.block)
-      × IsNotBehind (HasPruned (prunings s (start_world s) (lines ++ more)) m.node task.block task.start) stamp h.ask.request reply
+      × IsNotBehind (HasPruned s (lines ++ more) m.node task.block task.start) stamp h.ask.request reply
 
   -- a read that began after an operation on its block had ended asks in no bound without that stamp
   abbrev pub ReadsAskUp : Type 0
@@ -267,7 +272,10 @@ module _ (s : Setting) (w : World) where
 
   -- what is counted as done are the entries that have an end
   abbrev pub DoneHaveEnded : Type 0
-  DoneHaveEnded = (h : List Entry) → IsHistory s w h → (counts_of w.records).done ≡ count_by is_ended h
+  DoneHaveEnded =
+      (h : List Entry)
+      → IsHistory s w h
+      → (counts_of w.records).done ≡ count_by is_ended h
 
   -- what is counted as spent are the spent writes
   abbrev pub SpentAreWrites : Type 0
@@ -276,7 +284,8 @@ module _ (s : Setting) (w : World) where
   -- each operation is counted as done, spent or pending
   abbrev pub AllAreCounted : Type 0
   AllAreCounted =
-      (counts_of w.records).done + (counts_of w.records).spent + (counts_of w.records).pending ≡ length w.records
+      (counts_of w.records).done + (counts_of w.records).spent + (counts_of w.records).pending
+      ≡ length w.records
 
   -- the spent writes stand in order of start
   abbrev pub SpentAscend : Type 0
@@ -287,7 +296,8 @@ module _ (s : Setting) (w : World) where
   SeenHears =
       (place client start : ℕ) (t : SeenTask) (m : Message) (reply : Reply)
       → IsFull s.n (Some t)
-      → heard_by s w place client (Some (task_at start t)) m reply ≡ after_hearing s w place client start t (hearing s client t m.node m.tag reply)
+      → heard_by s w place client (Some (task_at start t)) m reply
+      ≡ after_hearing s w place client start t (hearing s client t m.node m.tag reply)
 
 module _ (s : Setting) where
   -- an operation begins as it is seen to begin
@@ -315,6 +325,10 @@ module _ (s : Setting) where
       → IsFormedReply reply
 
 module _ (records : List Record) where
+  -- the spent writes are those that ended as spent
+  abbrev pub SpentAreThese : Type 0
+  SpentAreThese = (x : SpentWrite) → Contains (spent_writes records) x ↔ IsSpentWrite records x
+
   -- the stamp by which a block is pruned is the greatest that a read of it gave
   abbrev pub GivenIsGreatest : Type 0
   GivenIsGreatest =

@@ -3,24 +3,27 @@
 //! A law speaks of every cluster: any valid configuration, at most `b` of its nodes lying and any of its clients, with the real
 //! code and SHA-256; and of the last world of every run of it, whatever lines it has. A run's beginning is a run, so what is
 //! said of the last world holds in every world of the run.
-ghost use Rattle.std.specs.Prelude.{◌↔◌, List};
-ghost use Rattle.std.specs.List.{Contains};
+ghost use Rattle.std.specs.Prelude.{List};
 ghost use Rattle.protocol.specs.Setting.{Setting, IsValid};
 ghost use Rattle.protocol.specs.Instance.{InEachRun};
 ghost use Rattle.protocol.specs.World.{World, Record};
 ghost use Rattle.protocol.specs.History.{Entry};
 ghost use Rattle.protocol.specs.Bounds.{IsBounded, IsLow};
-ghost use Rattle.protocol.specs.Report.{SpentWrite, IsSpentWrite, spent_writes};
-ghost use Rattle.protocol.specs.Laws.{InEachCluster, HistoriesAreLegal, HistoriesAreInTime, ReadsAreSound, NoneIsOutvoted};
-ghost use Rattle.protocol.specs.Laws.{HasHistory, HistoriesAreOne, KeysAreOne, ValuesAreBlocks, ForeignWritesWereLied};
-ghost use Rattle.protocol.specs.Laws.{RefusesExactly, TakesTheAllowed, RunsComeApart, LinesExtendPool, RunsExtendPool};
+ghost use Rattle.protocol.specs.Laws.{InEachCluster, HistoriesAreLegal, HistoriesAreInTime};
+ghost use Rattle.protocol.specs.Laws.{ReadsAreSound, NoneIsOutvoted};
+ghost use Rattle.protocol.specs.Laws.{HasHistory, HistoriesAreOne, KeysAreOne, ValuesAreBlocks};
+ghost use Rattle.protocol.specs.Laws.{ForeignWritesWereLied};
+ghost use Rattle.protocol.specs.Laws.{RefusesExactly, TakesTheAllowed, RunsComeApart};
+ghost use Rattle.protocol.specs.Laws.{LinesExtendPool, RunsExtendPool};
 ghost use Rattle.protocol.specs.Laws.{TasksAreTold, SeenBegins, SeenHears, BeginsFull, StaysFull};
 ghost use Rattle.protocol.specs.Laws.{GivenIsGreatest, NoneIsGiven, OneIsReplaced, FalseIsFormed};
-ghost use Rattle.protocol.specs.Laws.{AnswersAreHosted, KeptWasAccepted, AcceptedIsReached, AcceptedIsKnown, AskedIsKnown};
+ghost use Rattle.protocol.specs.Laws.{AnswersAreHosted, KeptWasAccepted, AcceptedIsReached};
+ghost use Rattle.protocol.specs.Laws.{AcceptedIsKnown, AskedIsKnown};
 ghost use Rattle.protocol.specs.Laws.{CompletedIsHeld, AnswersAreFresh, OperationsHearFresh};
-ghost use Rattle.protocol.specs.Laws.{ReadsAskUp, WritesDrawAbove, ReadsGiveUp, StartsAscend, RecordsAreTold};
+ghost use Rattle.protocol.specs.Laws.{ReadsAskUp, WritesDrawAbove, ReadsGiveUp};
+ghost use Rattle.protocol.specs.Laws.{StartsAscend, RecordsAreTold};
 ghost use Rattle.protocol.specs.Laws.{MarksAreOne, MarksAscend, MarksFollow, LinesStandAlike};
-ghost use Rattle.protocol.specs.Laws.{DoneHaveEnded, SpentAreWrites, AllAreCounted, SpentAscend};
+ghost use Rattle.protocol.specs.Laws.{DoneHaveEnded, SpentAreWrites, AllAreCounted, SpentAreThese, SpentAscend};
 
 /// The code and the digest of a cluster keep what the proofs ask of them: lengths, bytes, digests, and that any `m` fragments
 /// of a block decode to it.
@@ -170,6 +173,6 @@ pub fn counts()
 
 /// The spent writes are those that ended as spent, by start.
 pub fn spent()
-    ensures are { (records : List Record) (x : SpentWrite) → Contains (spent_writes records) x ↔ IsSpentWrite records x }
+    ensures are { (records : List Record) → SpentAreThese records }
     ensures ascend { InEachRun SpentAscend }
 {}
