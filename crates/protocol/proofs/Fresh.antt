@@ -31,12 +31,11 @@ use Rattle.protocol.proofs.Starting as starting
 use Rattle.protocol.proofs.Giving as giving
 use Rattle.protocol.proofs.Heard.{filled, heard_case}
 use Rattle.protocol.proofs.Runs.{happens_safe, start_safe}
-use Rattle.protocol.proofs.Places.{all_place}
 use Rattle.protocol.proofs.Kept.{run_parts}
 use Rattle.protocol.proofs.Playing.{no_fault, allowed}
 use Rattle.protocol.proofs.Plays.{IsRight, start_right, plays_right, run_right}
 use Rattle.protocol.proofs.Inductions.{run_keeps}
-use Rattle.protocol.proofs.Growing.{Grows, grows_itself, grows_both, happens_more, plays_more, run_more, still_accepts}
+use Rattle.protocol.proofs.Growing.{Grows, all_place, grows_itself, grows_both, happens_more, plays_more, run_more, still_accepts}
 use Rattle.protocol.proofs.Hosts.{IsMade, AreHosted, still_made, happens_hosted, unsaid}
 use Rattle.protocol.proofs.OneBlock.{HasBlocks, happens_blocks, start_blocks}
 
@@ -193,7 +192,7 @@ module _ (s : Setting) (L : Pruning → Type 0) where
     one_within u h e none may = record {
       safe = happens_safe s good u h.safe place e may;
       logged = happens_logged good u h.safe place h.logged e none may;
-      grows = grows_both v u (happens s u place e) h.grows (happens_more s u place e);
+      grows = grows_both v u (happens s u place e) h.grows (happens_more s u place e).0;
       made = happens_hosted s (length v.pool) (IsFresh v) good u h.safe h.made
           (λ i l upright ask below stamp a. fresh_now u h.logged i l upright ask below stamp (still_accepts s v u h.grows i ask.block stamp a)) place e may;
     }

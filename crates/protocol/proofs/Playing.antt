@@ -1,5 +1,5 @@
 -- A line that isn't refused has events that are allowed one after the other.
-use Rattle.std.proofs.Common.{◌≡◌, ◌⊎◌, ℕ, zero, suc, ◌-◌, ◌%◌, ◌^◌, ◌<◌, ◌≤◌, Bool, true, false, cond, not, ◌||◌, ◌&&◌, List, [], ◌∷◌, ◌++◌, length, Option, refl, sym, ◌∙◌, ap, inl, inr, arith, eqb, ltb, leb}
+use Rattle.std.proofs.Common.{◌≡◌, ◌⊎◌, ℕ, zero, suc, ◌-◌, ◌%◌, ◌^◌, ◌<◌, ◌≤◌, Bool, true, false, cond, not, ◌&&◌, List, [], ◌∷◌, ◌++◌, length, Option, refl, sym, ◌∙◌, ap, inl, inr, arith, eqb, ltb, leb}
 use Rattle.std.specs.Prelude.{find, slice_get}
 use Rattle.std.specs.declared.option.Option.TheVariants.{None, Some}
 use Rattle.std.specs.List.{Contains, AllByRecursion}
@@ -18,6 +18,7 @@ use Rattle.protocol.specs.Lines.{Line, some_of, sender, takes_part, lies, named,
 use Rattle.run_words.specs.declared.line.Line.TheVariants.{Write, Read, Resend, Call, Give, Hear, Lost, CrashNode, CrashClient, Lie, Tell, Poke, False, Sound, Mix, Prune, Back, Restart}
 use Rattle.protocol.specs.Lines.Actor.{Node, Client}
 use Rattle.protocol.proofs.Counting.{both_true}
+use Rattle.protocol.proofs.Tests.{neither, not_false, not_leb, eqb_is}
 use Rattle.protocol.proofs.Lists.{Contains-slice_get}
 use Rattle.protocol.proofs.Invariant.{IsSafe}
 use Rattle.protocol.proofs.Sending.{is_under_way}
@@ -30,21 +31,13 @@ find_none p (x ∷ xs) h = at (p x) refl h (find_none p xs)
     at true e k rest = absurd (cc)
     at false e k rest = (e, rest k)
 
-pub or_false : (a c : Bool) → a || c ≡ false → (a ≡ false) × (c ≡ false)
-or_false true c h = absurd (cc)
-or_false false c h = (refl, h)
-
-pub not_false : (a : Bool) → not a ≡ false → a ≡ true
-not_false true h = refl
-not_false false h = absurd (cc)
-
 not_true : (a : Bool) → not a ≡ true → a ≡ false
 not_true true h = absurd (cc)
 not_true false h = refl
 
 some_none : {A : Type 0} (test : A → Bool) (xs : List A) → some_of test xs ≡ false → AllByRecursion (λ x. test x ≡ false) xs
 some_none test [] h = tt
-some_none test (x ∷ xs) h = let k = or_false (test x) (some_of test xs) h in (k.0, some_none test xs k.1)
+some_none test (x ∷ xs) h = let k = neither (test x) (some_of test xs) h in (k.0, some_none test xs k.1)
 
 count_none : (n : ℕ) (p : ℕ → Bool) (i : ℕ) → i < n → p i ≡ true → 0 < count n p
 count_none zero p i l e = absurd (omega arith)
@@ -136,11 +129,8 @@ module _ (s : Setting) (good : IsValid s) (w : World) (safe : IsSafe s w) (place
   quiet_is : (block : ℕ) → is_busy_at s w block ≡ false → IsQuiet s w block
   quiet_is block h c task e f =
       let n = (safe.tasks c task e).numbered in
-      let t : is_at block (under_way w c) ≡ true = rw e (tests f) in
+      let t : is_at block (under_way w c) ≡ true = rw e (eqb_is task.block block f) in
       none_above (count 1001 (λ c. is_at block (under_way w c))) h (count_none 1001 (λ c. is_at block (under_way w c)) c (omega (arith, n.1)) t)
-    where
-      tests : task.block ≡ block → eqb task.block block ≡ true
-      tests e = grind (arith, nat_tests)
 
   read_is : (o : Option Stamp) → is_missing o ≡ false → (stamp : Stamp) × (o ≡ Some stamp)
   read_is None h = absurd (cc)
@@ -242,16 +232,13 @@ module _ (s : Setting) (good : IsValid s) (w : World) (safe : IsSafe s w) (place
       ((soon, client_is c (fine.actors.0), fine.upright.0, not_false _ fine.down, few (w.life c) fine.fresh), tt)
   allowed (Restart i) fits fine = tt
 
-  below : (k n : ℕ) → leb n k ≡ false → k < n
-  below k n h = grind (arith, nat_tests)
-
   pub named_there : (line : Line) → NoFault s w line → Names s w line
   named_there (Write c block value) fine = tt
   named_there (Read c block) fine = tt
   named_there (Resend c) fine = tt
   named_there (Call c i) fine = task_is c fine.upright.0 fine.working
-  named_there (Give i k) fine = below k (length w.pool) fine.message
-  named_there (Hear c k) fine = below k (length w.pool) fine.message
+  named_there (Give i k) fine = not_leb k (length w.pool) fine.message
+  named_there (Hear c k) fine = not_leb k (length w.pool) fine.message
   named_there (Lost c i) fine = tt
   named_there (CrashNode i) fine = tt
   named_there (CrashClient c) fine = tt

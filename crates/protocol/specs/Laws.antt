@@ -15,7 +15,7 @@ use Rattle.protocol.specs.Setting.{Setting, IsBlock, Sound, first_stamp}
 use Rattle.protocol.specs.Operations.{Task, Work, begun}
 use Rattle.protocol.specs.Operations.Work.{Reads, Writes}
 use Rattle.protocol.specs.Operations.Stage.{Versions}
-use Rattle.protocol.specs.World.{World, Record, start_world, under_way, heard_by, greatest_given, with_record}
+use Rattle.protocol.specs.World.{World, Record, under_way, heard_by, greatest_given, with_record}
 use Rattle.protocol.specs.Lines.{Line, Rule, Run, IsRun, FitsLine, plays, fault, false_reply, IsPlayable}
 use Rattle.protocol.specs.Instance.{setting_of, IsCluster}
 use Rattle.protocol.specs.History.{Entry, IsHistory, IsEntry, Legal, InTime, NoClash, HasRead, HasLie, entry_cmp}
@@ -24,7 +24,7 @@ use Rattle.protocol.specs.Report.{Ascend, AreRivals, mark, line_cmp, counts_of, 
 use Rattle.protocol.specs.Facts.{IsTold, IsHonest, HasAccepted, IsHosted, IsKnown, IsComplete, IsWorking, Extends, HasGave, IsGreatestGiven, IsSameOperation, HasOperation, HasEnded}
 use Rattle.protocol.specs.Seen.{SeenTask, task_at, seen_begun, hearing}
 use Rattle.protocol.specs.Views.{IsFull, task_after, after_hearing}
-use Rattle.protocol.specs.Freshness.{IsNotBehind, HasPruned, IsSentAt, IsSentDuring, prunings}
+use Rattle.protocol.specs.Freshness.{IsNotBehind, HasPruned, IsSentAt, IsSentDuring}
 
 -- the law holds of each cluster
 abbrev pub InEachCluster : (Setting → Type 0) → Type 0
