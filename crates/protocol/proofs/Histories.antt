@@ -21,7 +21,7 @@ use Rattle.protocol.specs.History.IsValue.{written, given}
 use Rattle.protocol.specs.History.IsSeen.{sum_seen, fragment_seen}
 use Rattle.protocol.proofs.Order.{≼-refl, ≼-cases, before-≼, lower_time}
 use Rattle.protocol.proofs.Invariant.{IsSafe, IsGood, IsGiven, IsOutcome, IsAfter}
-use Rattle.protocol.proofs.Seen.{NoClashFor-any}
+use Rattle.protocol.proofs.Strings.{NoClashFor-any}
 use Rattle.protocol.proofs.Entries.{less_by_stamp, less_by_kind, less_by_end, not_back, not_self, sorted_before}
 use Rattle.protocol.proofs.Parts.{ascending_collect, length_collect}
 use Rattle.protocol.proofs.Lists.{Contains-collect}

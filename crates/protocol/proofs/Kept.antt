@@ -20,7 +20,7 @@ use Rattle.protocol.specs.Laws.{ReadsAskUp, WritesDrawAbove, ReadsGiveUp}
 use Rattle.protocol.proofs.Counting.{cases_bool}
 use Rattle.protocol.proofs.Order.{same_stamp-≡, same_stamp-refl}
 use Rattle.protocol.proofs.Invariant.{IsRecord, IsOutcome, Quorum, IsAimed, IsAfter, NoClashFor}
-use Rattle.protocol.proofs.Seen.{NoClashFor-any}
+use Rattle.protocol.proofs.Strings.{NoClashFor-any}
 use Rattle.protocol.proofs.Origins.{IsKnownRequest}
 use Rattle.protocol.proofs.Plays.{IsRight, start_right, run_right}
 use Rattle.protocol.proofs.Choices.{only_open}

@@ -19,7 +19,7 @@ use Rattle.protocol.proofs.Lists.{Contains-map}
 use Rattle.protocol.proofs.Mails.{mail_asks, mail_answers}
 use Rattle.protocol.proofs.Tests.{are_same}
 use Rattle.protocol.proofs.Replacing.{with_cases}
-use Rattle.protocol.proofs.Seen.{NoClash-before, NoClashFor-before}
+use Rattle.protocol.proofs.Strings.{NoClash-before, NoClashFor-before}
 use Rattle.protocol.proofs.Invariant.{AtWork, IsOwned, IsTagged, Quorum, IsTask, IsRecord, IsOutcome, IsAimed, IsAfter, NoClashFor, IsSafe, Fits, Accepts, IsOpen, IsFresh, IsStored, IsPassed}
 use Rattle.protocol.proofs.Freshness.{IsFresh-more}
 use Rattle.protocol.proofs.Sending.{working}

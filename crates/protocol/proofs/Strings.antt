@@ -1,4 +1,4 @@
--- What was seen stays seen.
+-- Strings that were seen stay seen, and what no clash of theirs gives.
 use Rattle.std.proofs.Common.{ℕ, List}
 use Rattle.std.specs.List.{Contains}
 use Rattle.protocol.specs.Messages.{Message}
