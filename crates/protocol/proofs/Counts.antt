@@ -18,10 +18,10 @@ use Rattle.protocol.specs.History.Kind.{Read, Write}
 use Rattle.protocol.specs.Report.{SpentWrite, IsSpentWrite, Ascend, spent_write, spent_writes, is_done, is_spent, is_pending, is_ended, counts_of}
 use Rattle.protocol.proofs.Counting.{cases_bool}
 use Rattle.protocol.proofs.Tests.{is_eqb, eqb_is}
-use Rattle.protocol.proofs.Histories.{outcome_at, not_outvoted}
+use Rattle.protocol.proofs.Histories.{outcome_at, not_outvoted, read_end}
 use Rattle.protocol.proofs.Keeping.{or_cases}
 use Rattle.protocol.proofs.Lists.{filter_is, filter_has, Contains-none, Contains-head, Contains-rest, Contains-cons_cases, Contains-map, Contains-map_cases}
-use Rattle.protocol.proofs.Entries.{not_self, member_of}
+use Rattle.protocol.proofs.Entries.{same_entry, not_self, member_of}
 use Rattle.protocol.proofs.Invariant.{IsSafe, IsRecord, IsOutcome}
 use Rattle.protocol.proofs.Apart.{IsApart}
 use Rattle.protocol.proofs.Starts.{starts}
@@ -116,9 +116,6 @@ distinct_entries (e ∷ es) sorted h = at (is_ended e) refl (distinct_entries es
 
 -- ---- completed operations are the entries that have an end
 
-entry_eq : (e f : Entry) → e.block ≡ f.block → e.stamp ≡ f.stamp → e.kind ≡ f.kind → e.client ≡ f.client → e.start ≡ f.start → e.end ≡ f.end → e.value ≡ f.value → e ≡ f
-entry_eq e f b t k c a z v j = record { block = b j; stamp = t j; kind = k j; client = c j; start = a j; end = z j; value = v j }
-
 no_end : (e : Entry) → e.end ≡ None → is_ended e ≡ true → ⊥
 no_end e q h = absurd (let k : not (is_pending None) ≡ true = rw q at h in cc)
 
@@ -130,13 +127,6 @@ unfolding start_of start_or
 start_is e n q = ap start_or q
 
 module _ (s : Setting) (w : World) (safe : IsSafe s w) (apart : IsApart w.records) where
-  ends : (r : Record) (outcome : Outcome) → Contains w.records r → r.outcome ≡ Some outcome → (end : ℕ) × (r.end ≡ Some end)
-  ends r outcome h e = at r.end refl
-    where
-      at : (o : Option ℕ) → r.end ≡ o → (end : ℕ) × (r.end ≡ Some end)
-      at None f = absurd (let k = (safe.records r h).open_end f in cc)
-      at (Some end) f = (end, f)
-
   -- an entry that has an end is a completed read's or a completed write's
   data Ended (e : Entry) : Type 0 where
     of_read : (r : Record) → Contains w.records r → (how : How) (rounds : ℕ) → r.outcome ≡ Some (Gave e.stamp e.value how rounds) → e.kind ≡ Read → e.block ≡ r.block → e.client ≡ r.client → e.start ≡ Some r.start → e.end ≡ r.end → Ended e
@@ -166,10 +156,10 @@ module _ (s : Setting) (w : World) (safe : IsSafe s w) (apart : IsApart w.record
   one_start e f (of_read r h how m o k b c a z) (of_read q l way n p j d g y x) same =
       let one = one_record e f r q h l a y same in
       let given = gave_stamp r.outcome e.stamp f.stamp e.value f.value how way m n o (ap (λ (t : Record). t.outcome) one ∙ p) in
-      entry_eq e f (b ∙ ap (λ (t : Record). t.block) one ∙ sym d) given.0 (k ∙ sym j) (c ∙ ap (λ (t : Record). t.client) one ∙ sym g) (a ∙ ap (λ (t : Record). Some t.start) one ∙ sym y) (z ∙ ap (λ (t : Record). t.end) one ∙ sym x) given.1
+      same_entry e f (b ∙ ap (λ (t : Record). t.block) one ∙ sym d) given.0 (k ∙ sym j) (c ∙ ap (λ (t : Record). t.client) one ∙ sym g) (a ∙ ap (λ (t : Record). Some t.start) one ∙ sym y) (z ∙ ap (λ (t : Record). t.end) one ∙ sym x) given.1
   one_start e f (of_write r h o v k b c a z) (of_write q l p u j d g y x) same =
       let one = one_record e f r q h l a y same in
-      entry_eq e f (b ∙ ap (λ (t : Record). t.block) one ∙ sym d) (wrote_stamp r.outcome e.stamp f.stamp o (ap (λ (t : Record). t.outcome) one ∙ p)) (k ∙ sym j) (c ∙ ap (λ (t : Record). t.client) one ∙ sym g) (a ∙ ap (λ (t : Record). Some t.start) one ∙ sym y) (z ∙ ap (λ (t : Record). t.end) one ∙ sym x)
+      same_entry e f (b ∙ ap (λ (t : Record). t.block) one ∙ sym d) (wrote_stamp r.outcome e.stamp f.stamp o (ap (λ (t : Record). t.outcome) one ∙ p)) (k ∙ sym j) (c ∙ ap (λ (t : Record). t.client) one ∙ sym g) (a ∙ ap (λ (t : Record). Some t.start) one ∙ sym y) (z ∙ ap (λ (t : Record). t.end) one ∙ sym x)
       (written r.work e.value f.value v (ap (λ (t : Record). t.work) one ∙ u))
   one_start e f (of_read r h how m o k b c a z) (of_write q l p u j d g y x) same =
       let one = one_record e f r q h l a y same in absurd (not_both_kinds r.outcome e.stamp f.stamp e.value how m o (ap (λ (t : Record). t.outcome) one ∙ p))
@@ -188,14 +178,14 @@ module _ (s : Setting) (w : World) (safe : IsSafe s w) (apart : IsApart w.record
     unfolding Found start_of start_or
     wrote_entry r there stamp o Reads e k = absurd k
     wrote_entry r there stamp o (Writes value) e k =
-        let z = ends r (Wrote stamp) there o in
+        let z = read_end s w safe r (Wrote stamp) there o in
         let x : Entry = record { block = r.block; stamp = stamp; kind = Write; client = r.client; start = Some r.start; end = r.end; value = value } in
         (x, (hist.1 x).1 (inr (inl (r, there, e, k.0, refl, refl, refl, refl, refl, inl o))), an_end x z.0 z.1, refl)
 
     gave_entry : (r : Record) → Contains w.records r → (stamp : Stamp) (value : List ℕ) (how : How) (rounds : ℕ) → r.outcome ≡ Some (Gave stamp value how rounds) → Found r
     unfolding Found start_of start_or
     gave_entry r there stamp value how rounds o =
-        let z = ends r (Gave stamp value how rounds) there o in
+        let z = read_end s w safe r (Gave stamp value how rounds) there o in
         let x : Entry = record { block = r.block; stamp = stamp; kind = Read; client = r.client; start = Some r.start; end = r.end; value = value } in
         (x, (hist.1 x).1 (inl (r, there, how, rounds, o, refl, refl, refl, refl, refl)), an_end x z.0 z.1, refl)
 

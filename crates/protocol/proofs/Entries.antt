@@ -105,3 +105,7 @@ sorted_before (e ∷ es) (suc i) (suc j) d s l k = sorted_before es i j d s.1 (o
 
 pub member_of : {X : Type 0} (P : X → Type 0) (xs : List X) (x : X) → AllByRecursion P xs → Contains xs x → P x
 member_of {X} P xs x h k = let e = k.2 in let p = each_of P xs k.0 x k.1 h in rw e at p
+
+-- entries that are equal part by part
+pub same_entry : (e f : Entry) → e.block ≡ f.block → e.stamp ≡ f.stamp → e.kind ≡ f.kind → e.client ≡ f.client → e.start ≡ f.start → e.end ≡ f.end → e.value ≡ f.value → e ≡ f
+same_entry e f a b c d g h k i = record { block = a i; stamp = b i; kind = c i; client = d i; start = g i; end = h i; value = k i }

@@ -18,7 +18,7 @@ use Rattle.protocol.specs.History.Kind.{Write, Foreign, Read}
 use Rattle.protocol.proofs.Counting.{cases_bool}
 use Rattle.protocol.proofs.Order.{same_stamp-≡, same_stamp-refl}
 use Rattle.protocol.proofs.Lists.{Contains-none, Contains-head, Contains-rest, Contains-cons_cases, Contains-one}
-use Rattle.protocol.proofs.Entries.{entry_total, member_of}
+use Rattle.protocol.proofs.Entries.{same_entry, entry_total, member_of}
 use Rattle.protocol.proofs.Searches.{find_write, find_read, FirstRead}
 use Rattle.protocol.proofs.Invariant.{IsSafe}
 use Rattle.protocol.proofs.Apart.{IsApart}
@@ -112,9 +112,6 @@ module _ (P : Entry → Type 0) (one : (e f : Entry) → P e → P f → entry_c
           (λ k. (r.2 e).1 (elim (Contains-cons_cases e x xs k) [ inl q ↦ inl q | inr l ↦ inr ((rest.2 e).1 l) ])),
         ),
       )
-
-same_entry : (e f : Entry) → e.block ≡ f.block → e.stamp ≡ f.stamp → e.kind ≡ f.kind → e.client ≡ f.client → e.start ≡ f.start → e.end ≡ f.end → e.value ≡ f.value → e ≡ f
-same_entry e f a b c d g h k i = record { block = a i; stamp = b i; kind = c i; client = d i; start = g i; end = h i; value = k i }
 
 module _ (s : Setting) (w : World) (safe : IsSafe s w) (apart : IsApart w.records) where
   abbrev rs : List Record

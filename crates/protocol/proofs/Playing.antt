@@ -31,10 +31,6 @@ find_none p (x ∷ xs) h = at (p x) refl h (find_none p xs)
     at true e k rest = absurd (cc)
     at false e k rest = (e, rest k)
 
-not_true : (a : Bool) → not a ≡ true → a ≡ false
-not_true true h = absurd (cc)
-not_true false h = refl
-
 some_none : {A : Type 0} (test : A → Bool) (xs : List A) → some_of test xs ≡ false → AllByRecursion (λ x. test x ≡ false) xs
 some_none test [] h = tt
 some_none test (x ∷ xs) h = let k = neither (test x) (some_of test xs) h in (k.0, some_none test xs k.1)

@@ -1,5 +1,5 @@
 -- What the answers that a task counted say when there are enough of them.
-use Rattle.std.proofs.Common.{◌≡◌, ◌⊎◌, ℕ, ◌+◌, ◌-◌, ◌<◌, ◌≤◌, Bool, true, false, cond, not, ◌||◌, List, [], ◌∷◌, length, map, Option, refl, sym, ◌∙◌, ap, inl, inr, arith, leb, ltb}
+use Rattle.std.proofs.Common.{◌≡◌, ◌⊎◌, ℕ, ◌+◌, ◌-◌, ◌<◌, ◌≤◌, Bool, true, false, cond, ◌||◌, List, [], ◌∷◌, length, map, Option, refl, sym, ◌∙◌, ap, inl, inr, arith, leb, ltb}
 use Rattle.std.specs.declared.option.Option.TheVariants.{None, Some}
 use Rattle.std.specs.List.{Contains}
 use Rattle.std.specs.Ordering.{nat_cmp, is_eq}
@@ -14,7 +14,7 @@ use Rattle.stamp_order.specs.Stamps.{has, up_to, same_stamp, ◌≼◌}
 use Rattle.protocol.specs.Messages.{flat, IsFormed, Version, Reply}
 use Rattle.wire_forms.specs.declared.Reply.TheVariants.{TimeIs, Found, Nothing, Ack, Refused}
 use Rattle.wire_forms.specs.declared.Body.TheVariants.{Answer as Answers}
-use Rattle.protocol.proofs.Tests.{is_eqb}
+use Rattle.protocol.proofs.Tests.{not_true, is_eqb}
 use Rattle.protocol.proofs.Forming.{sum_formed, flat_inj}
 use Rattle.protocol.proofs.Tied.{exact_lists, lists_total}
 use Rattle.protocol.specs.Setting.{Setting, IsValid, IsBlock, IsFragment, same_digests, IsAscending, honest, first_stamp, digest_at, same, Sound}
@@ -122,11 +122,7 @@ pub honest_many : (s : Setting) → IsValid s → s.n ≤ count s.n (honest s) +
 honest_many s valid = omega (arith, count_not s.n s.lying_node, valid.liars)
 
 pub is_honest : (s : Setting) (i : ℕ) → honest s i ≡ true → s.lying_node i ≡ false
-is_honest s i h = at (s.lying_node i) h
-  where
-    at : (b : Bool) → not b ≡ true → b ≡ false
-    at true h = absurd (cc)
-    at false h = refl
+is_honest s i h = not_true (s.lying_node i) h
 
 fresh_as : (s : Setting) (w : World) (block start : ℕ) (stamp : Stamp) (reply : Reply) (p q : Stage) → p ≡ q → IsFresh s w block start stamp p reply → IsFresh s w block start stamp q reply
 fresh_as s w block start stamp reply p q e h = rw e at h

@@ -8,6 +8,9 @@ is_eqb a b h = grind (arith, nat_tests)
 pub eqb_is : (a b : ℕ) → a ≡ b → eqb a b ≡ true
 eqb_is a b e = grind (arith, nat_tests)
 
+pub eqb_self : (a : ℕ) → eqb a a ≡ true
+eqb_self a = eqb_is a a refl
+
 pub is_ltb : (a b : ℕ) → ltb a b ≡ true → a < b
 is_ltb a b h = grind (arith, nat_tests)
 
@@ -17,6 +20,10 @@ not_leb a b h = grind (arith, nat_tests)
 pub not_false : (a : Bool) → not a ≡ false → a ≡ true
 not_false true h = refl
 not_false false h = absurd (cc)
+
+pub not_true : (a : Bool) → not a ≡ true → a ≡ false
+not_true true h = absurd (cc)
+not_true false h = refl
 
 -- neither of an `or` that fails passes, and the other way round
 pub neither : (a c : Bool) → a || c ≡ false → (a ≡ false) × (c ≡ false)
