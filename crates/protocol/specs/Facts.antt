@@ -1,21 +1,20 @@
 -- What holds in every world of a run, fact by fact.
-use Rattle.std.specs.Prelude.{Option, ◌≡◌, ◌⊎◌, ◌↔◌, ℕ, ◌<◌, ◌≤◌, true, false, Bool, slice_get}
+use Rattle.std.specs.Prelude.{Option, List, ◌++◌, ◌≡◌, ◌⊎◌, ◌↔◌, ℕ, ◌<◌, ◌≤◌, true, false, Bool, slice_get}
 use Rattle.std.specs.declared.option.Option.TheVariants.{None, Some}
 use Rattle.std.specs.List.{Contains}
 use Rattle.stamp_order.specs.declared.Stamp.{Stamp}
 use Rattle.stamp_order.specs.declared.Bound.{Bound}
 use Rattle.stamp_order.specs.Stamps.{has, ◌≼◌}
 use Rattle.protocol.specs.Messages.{Version, Ask, Reply, Message}
-use Rattle.wire_forms.specs.declared.Request.TheVariants.{Write}
-use Rattle.wire_forms.specs.declared.Reply.TheVariants.{TimeIs, Found, Ack}
+use Rattle.wire_forms.specs.declared.Request.TheVariants.{Time, Read, Write}
+use Rattle.wire_forms.specs.declared.Reply.TheVariants.{TimeIs, Found, Nothing, Ack, Refused}
 use Rattle.wire_forms.specs.declared.Body.TheVariants.{Ask as Asks}
 use Rattle.protocol.specs.Count.{count}
 use Rattle.protocol.specs.Setting.{Setting, first_stamp}
-use Rattle.protocol.specs.Operations.{Task, Work, Stage, Outcome}
+use Rattle.protocol.specs.Operations.{Task, Work, Outcome, outstanding}
 use Rattle.protocol.specs.Operations.Work.{Reads, Writes}
 use Rattle.run_words.specs.declared.outcome.Outcome.TheVariants.{Wrote, Spent, Gave}
-use Rattle.protocol.specs.Operations.Stage.{Times, Versions}
-use Rattle.protocol.specs.World.{Record, World, under_way}
+use Rattle.protocol.specs.World.{Record, World, open_record, IsClient, given_of}
 use Rattle.protocol.specs.History.{HasWrite, HasLie}
 
 module _ (s : Setting) where
@@ -27,12 +26,13 @@ module _ (s : Setting) where
   abbrev pub HasAccepted : World → ℕ → ℕ → Stamp → Type 0
   HasAccepted w i block stamp = (stamp ≡ first_stamp s) ⊎ Contains w.accepted (record { node = i; block = block; stamp = stamp })
 
-  -- the time that node i told, the version that it found, or the write that it acknowledged goes back to a stamp that it accepted
+  -- node i's reply is of the kind that was asked, and the time that it told, the version that it found or the write that it acknowledged goes back to a stamp that it accepted
   abbrev pub IsGrounded : World → ℕ → Ask → Reply → Type 0
-  IsGrounded w i ask (TimeIs time) = (stamp : Stamp) × HasAccepted w i ask.block stamp × (time ≡ stamp.time)
-  IsGrounded w i ask (Found v) = HasAccepted w i ask.block v.stamp
+  IsGrounded w i ask (TimeIs time) = (ask.request ≡ Time) × (stamp : Stamp) × HasAccepted w i ask.block stamp × (time ≡ stamp.time)
+  IsGrounded w i ask (Found v) = (bound : Bound) × (ask.request ≡ Read bound) × (has bound v.stamp ≡ true) × HasAccepted w i ask.block v.stamp
+  IsGrounded w i ask Nothing = (bound : Bound) × (ask.request ≡ Read bound)
   IsGrounded w i ask Ack = (v : Version) × (ask.request ≡ Write v) × HasAccepted w i ask.block v.stamp
-  IsGrounded w i ask _ = Unit {0}
+  IsGrounded w i ask (Refused reason) = Unit {0}
 
   -- message k of the pool, a node's answer, was made from an ask that was sent before it, with its client, node and tag
   pub record IsHosted (w : World) (k : ℕ) (m : Message) (reply : Reply) : Type 0 where
@@ -58,21 +58,44 @@ module _ (s : Setting) where
     pub honest : (i : ℕ) → nodes i ≡ true → s.lying_node i ≡ false
     pub accepted : (i : ℕ) → i < s.n → nodes i ≡ true → Contains w.accepted (record { node = i; block = block; stamp = stamp })
 
-  -- the message is of the phase that its client's operation is in now
-  pub record AtWork (w : World) (m : Message) (task : Task) : Type 0 where
-    pub client : under_way w m.client ≡ Some task
-    pub op : m.tag.op ≡ task.op
-    pub phase : m.tag.phase ≡ task.phase
+  -- the client is correct, what its present phase asks was sent, and the one record of its operation is open
+  pub record IsWorking (w : World) (client : ℕ) (task : Task) : Type 0 where
+    pub correct : s.lying_client client ≡ false
+    pub numbered : IsClient s client
+    pub block : task.block < s.blocks
+    pub asked : (i : ℕ) → i < s.n → Contains w.pool (outstanding s client task i)
+    pub recorded : Contains w.records (open_record client task)
+    pub only : (x : Record) → Contains w.records x → x.client ≡ client → x.start ≡ task.start → x ≡ open_record client task
 
-  -- the bound has the stamp of each operation on the block that ended before this place
-  abbrev pub IsOpen : World → ℕ → ℕ → Bound → Type 0
-  IsOpen w block start bound = (x : Record) (end : ℕ) (stamp : Stamp) → Contains w.records x → x.block ≡ block → x.end ≡ Some end → x.stamp ≡ Some stamp → end < start → has bound stamp ≡ true
+-- an operation on the block ended with this stamp before the place start
+pub record HasEnded (w : World) (block : ℕ) (stamp : Stamp) (start : ℕ) : Type 0 where
+  pub past : Record
+  pub there : Contains w.records past
+  pub of_block : past.block ≡ block
+  pub stamped : past.stamp ≡ Some stamp
+  pub end : ℕ
+  pub ended : past.end ≡ Some end
+  pub earlier : end < start
 
-  -- an answer to what a task asks tells a time of at least the stamp's, or finds a stamp of at least this one where the bound has it and all that was completed before the task began
-  abbrev pub IsNotBehind : World → Task → Stamp → Stage → Reply → Type 0
-  IsNotBehind w task stamp Times (TimeIs time) = stamp.time ≤ time
-  IsNotBehind w task stamp (Versions bound) reply = has bound stamp ≡ true → IsOpen w task.block task.start bound → (v : Version) × (reply ≡ Found v) × (stamp ≼ v.stamp)
-  IsNotBehind w task stamp _ _ = Unit {0}
+-- the first list, and then more
+abbrev pub Extends : {A : Type 0} → List A → List A → Type 0
+Extends {A} xs longer = (more : List A) × (longer ≡ xs ++ more)
+
+-- two records of one operation: one client's, begun at one place
+abbrev pub IsSameOperation : Record → Record → Type 0
+IsSameOperation x r = (x.client ≡ r.client) × (x.start ≡ r.start)
+
+-- one of the records is of r's operation
+abbrev pub HasOperation : List Record → Record → Type 0
+HasOperation records r = (old : Record) × Contains records old × IsSameOperation old r
+
+-- a read of the block among these records gave the stamp
+abbrev pub HasGave : List Record → ℕ → Stamp → Type 0
+HasGave records block stamp = (r : Record) × Contains records r × (given_of block r ≡ Some stamp)
+
+-- it did, and none of them gave a greater one
+abbrev pub IsGreatestGiven : List Record → ℕ → Stamp → Type 0
+IsGreatestGiven records block stamp = HasGave records block stamp × ((other : Stamp) → HasGave records block other → other ≼ stamp)
 
 -- how an operation can have ended so far, and which stamp its record has then: a read as given, a write as written or spent
 abbrev pub IsOutcomeOf : Work → Option Stamp → Option Outcome → Type 0

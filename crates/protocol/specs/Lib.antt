@@ -11,4 +11,7 @@ pub mod Lines
 pub mod Bounds
 pub mod Report
 pub mod Seen
+pub mod Views
+pub mod Freshness
 pub mod Instance
+pub mod Laws
