@@ -4,7 +4,7 @@ use Rattle.event_lines.specs.Lines.{IsLine, IsEventLine}
 use Rattle.event_lines.specs.declared.line.ReplayLine.{ReplayLine}
 use Rattle.world_steps.specs.Worlds.{WorldView}
 use Rattle.script_run.proofs.Fitting.{fits_line}
-use Rattle.check_rows.proofs.played.Played.play.Goals as goal
+use Rattle.generated_runs.proofs.played.Played.play.Goals as goal
 
 pub play-requires-clause-fits : goal.play-requires-clause-fits
 play-requires-clause-fits c =

@@ -1,30 +1,33 @@
 //! Small runs in which no two different strings that were seen have one digest.
 
 use crate::played::Played;
+use crate::unmade::Unmade;
 use cross_sum::{Bytes, CrossSum, sha};
 use ida_lanes::Code;
 use lists::{Copied, ItemList};
 use std::alloc::Global;
-use std::test::Fail;
 use wire_forms::{Body, Op, Reply, Request, Version};
 use world_steps::Outcome;
 
 const CLUSTER: &str = "pasis 1\ncluster 5 1 1 3 2 2 2\n";
 
-// A run, and how many different strings are seen in it. In a line, a range of nodes at its end stands for one line for each of
-// the nodes.
-struct Row {
+/// A run, and how many different strings are seen in it. In a line, a range of nodes at its end stands for one line for each of
+/// the nodes.
+pub struct Row {
+    pub name: &'static str,
     liars: &'static str,
     lines: &'static str,
-    strings: usize,
+    pub strings: usize,
 }
 
 // The values 0000, 0100 and 0200 have the fragments 0 0 0 0 0, 1 0 3 2 5 and 2 0 6 4 10, the values 0a0a and 0b0b only the
 // fragments 10 and 11. Beside the different fragments of a run, there is a cross checksum for each of its values, and one of the
 // mixed fragments.
-const ROWS: [Row; 3] = [
+/// The runs.
+pub const ROWS: [Row; 3] = [
     // Two reads repair what a write left: 0 1 2 3 5, and those of two values.
     Row {
+        name: "strings of repair",
         liars: "",
         lines: "write 1 0 x0100
 call 1 0..3
@@ -41,6 +44,7 @@ call 3 1..4
     },
     // A read steps back over one write and repairs another: 0 1 2 3 4 5 6 10, and those of three values.
     Row {
+        name: "strings of mixed answers",
         liars: "",
         lines: "write 1 0 x0100
 call 1 0..3
@@ -60,6 +64,7 @@ call 3 0..3
     },
     // A read finds fragments of two values: 0 1 2 3 5 10 11, those of two values, and that of the mixed fragments.
     Row {
+        name: "strings of poison",
         liars: "liar client 9\n",
         lines: "write 1 0 x0100
 call 1 0..3
@@ -85,7 +90,7 @@ fn range_of(line: &str) -> Option<(&str, u8, u8)> {
 }
 
 // The run of a row. Each of its lines takes place.
-fn played(alloc: Global, row: &Row) -> Result<Played, Fail> {
+fn played(alloc: Global, row: &Row) -> Result<Played, Unmade> {
     let head = format!(in alloc; "{CLUSTER}{}", row.liars)?;
     let mut run = Played::new(alloc, head.as_bytes())?;
     for line in row.lines.lines() {
@@ -103,7 +108,7 @@ fn add_calls(
     front: &str,
     first: u8,
     last: u8,
-) -> Result<(), Fail> {
+) -> Result<(), Unmade> {
     for node in first..=last {
         let line = format!(in alloc; "{front} {node}")?;
         add_line(run, line.as_str())?;
@@ -111,11 +116,11 @@ fn add_calls(
     Ok(())
 }
 
-fn add_line(run: &mut Played, line: &str) -> Result<(), Fail> {
+fn add_line(run: &mut Played, line: &str) -> Result<(), Unmade> {
     if run.add(line.as_bytes())? {
         Ok(())
     } else {
-        Err(Fail::from("the line takes place"))
+        Err(Unmade)
     }
 }
 
@@ -127,7 +132,7 @@ struct Strings {
 }
 
 impl Strings {
-    fn add(&mut self, string: &Bytes) -> Result<(), Fail> {
+    fn add(&mut self, string: &Bytes) -> Result<(), Unmade> {
         if !self.list.as_slice().iter().any(|other| other.same(string)) {
             self.list.push(string.copy()?)?;
         }
@@ -135,7 +140,7 @@ impl Strings {
     }
 
     // The digests one after another.
-    fn add_sum(&mut self, sum: &CrossSum) -> Result<(), Fail> {
+    fn add_sum(&mut self, sum: &CrossSum) -> Result<(), Unmade> {
         let mut bytes = Vec::new(self.alloc);
         for hash in sum.hashes() {
             for byte in hash {
@@ -145,12 +150,12 @@ impl Strings {
         self.add(&Bytes::from_vec(bytes))
     }
 
-    fn add_version(&mut self, version: &Version) -> Result<(), Fail> {
+    fn add_version(&mut self, version: &Version) -> Result<(), Unmade> {
         self.add(&version.fragment)?;
         self.add_sum(&version.sum)
     }
 
-    fn add_body(&mut self, body: &Body) -> Result<(), Fail> {
+    fn add_body(&mut self, body: &Body) -> Result<(), Unmade> {
         match body {
             Body::Ask(ask) => match &ask.request {
                 Request::Write(version) => self.add_version(version),
@@ -162,7 +167,7 @@ impl Strings {
     }
 
     // A value's fragments and cross checksum.
-    fn add_value(&mut self, code: &Code, value: &Bytes) -> Result<(), Fail> {
+    fn add_value(&mut self, code: &Code, value: &Bytes) -> Result<(), Unmade> {
         let fragments = code.encode(self.alloc, value)?;
         for fragment in fragments.as_slice() {
             self.add(fragment)?;
@@ -172,9 +177,9 @@ impl Strings {
 }
 
 // What was seen in a run: the strings of its messages, and those of zeros and of each value that was written or given.
-fn strings_of(alloc: Global, run: &Played) -> Result<ItemList<Bytes>, Fail> {
+fn strings_of(alloc: Global, run: &Played) -> Result<ItemList<Bytes>, Unmade> {
     let Some(code) = Code::new(5, 2) else {
-        return Err(Fail::from("there is such a code"));
+        return Err(Unmade);
     };
     let mut strings = Strings {
         alloc,
@@ -209,13 +214,9 @@ fn clashes(strings: &[Bytes]) -> usize {
     count
 }
 
-#[test]
-fn no_two_strings_have_one_digest(rt: HostRuntime) -> Result<(), Fail> {
-    for row in &ROWS {
-        let run = played(rt.alloc(), row)?;
-        let strings = strings_of(rt.alloc(), &run)?;
-        assert_eq!(rt; strings.len(), row.strings, "{}", row.lines);
-        assert_eq!(rt; clashes(strings.as_slice()), 0, "{}", row.lines);
-    }
-    Ok(())
+/// Whether as many different strings are seen in a run as the row says, and no two of them share a digest.
+pub fn are_apart(alloc: Global, row: &Row) -> Result<bool, Unmade> {
+    let run = played(alloc, row)?;
+    let strings = strings_of(alloc, &run)?;
+    Ok(strings.len() == row.strings && clashes(strings.as_slice()) == 0)
 }

@@ -1,4 +1,4 @@
-//! The program as the tests call it.
+//! The program as the runs call it.
 
 use cross_sum::Bytes;
 use lists::NoMemory;

@@ -6,16 +6,15 @@ ghost use Rattle.wire_forms.specs.Texts.{HasLimits, HasShort};
 
 use crate::played::Played;
 use crate::program::answered;
+use crate::unmade::Unmade;
 use lists::{Copied, NoMemory};
-use outside_io::MemorySink;
 use pasis_shell::Status;
 use std::alloc::Global;
-use std::process::Abort;
-use std::test::Fail;
 use wire_forms::{Body, Message, Reply, Request, Version, print};
 
-// A cluster in which the last nodes and the clients 8 and 9 lie, and runs in it.
-struct Cluster {
+/// A cluster in which the last nodes and the clients 8 and 9 lie, and runs in it.
+pub struct Cluster {
+    pub name: &'static str,
     head: &'static str,
     nodes: u64,
     liars: u64,
@@ -32,6 +31,7 @@ struct Cluster {
 }
 
 const FIVE_NODES: Cluster = Cluster {
+    name: "five nodes with lies",
     head: "pasis 1
 cluster 5 1 1 3 2 2 2
 liar node 4
@@ -49,6 +49,7 @@ liar client 9
 };
 
 const NINE_NODES: Cluster = Cluster {
+    name: "nine nodes with lies",
     head: "pasis 1
 cluster 9 2 1 5 3 4 3
 liar node 8
@@ -66,6 +67,7 @@ liar client 9
 };
 
 const SIXTEEN_NODES: Cluster = Cluster {
+    name: "sixteen nodes with lies",
     head: "pasis 1
 cluster 16 3 3 7 4 5 2
 liar node 13
@@ -136,7 +138,7 @@ struct Drawn {
 }
 
 impl Drawn {
-    fn new(alloc: Global, cluster: &Cluster, seed: u64) -> Result<Drawn, Fail> {
+    fn new(alloc: Global, cluster: &Cluster, seed: u64) -> Result<Drawn, Unmade> {
         Ok(Drawn {
             alloc,
             run: Played::new(alloc, cluster.head.as_bytes())?,
@@ -156,7 +158,7 @@ impl Drawn {
     }
 
     // Lines at random, until the run has so many.
-    fn go_on(&mut self, cluster: &Cluster, lines: u64) -> Result<(), Fail> {
+    fn go_on(&mut self, cluster: &Cluster, lines: u64) -> Result<(), Unmade> {
         for _ in 0..10_000u64 {
             if lines <= self.run.place() {
                 break;
@@ -168,12 +170,12 @@ impl Drawn {
     }
 
     // A line that can't take place is left out.
-    fn add(&mut self, line: &str) -> Result<(), Fail> {
+    fn add(&mut self, line: &str) -> Result<(), Unmade> {
         let _takes_place = self.run.add(line.as_bytes())?;
         Ok(())
     }
 
-    fn line(&mut self, cluster: &Cluster) -> Result<String, Fail> {
+    fn line(&mut self, cluster: &Cluster) -> Result<String, Unmade> {
         match self.draws.below(40) {
             0..=27 => Ok(self.turn(cluster)?),
             28 => Ok(self.resend()?),
@@ -306,7 +308,7 @@ impl Drawn {
     }
 
     // A liar says what another one has said.
-    fn forged(&mut self, cluster: &Cluster) -> Result<String, Fail> {
+    fn forged(&mut self, cluster: &Cluster) -> Result<String, Unmade> {
         let number = self.drawn_message();
         let node = self.draws.below(cluster.liars).wrapping_add(1);
         let node = u8::try_from(cluster.nodes.wrapping_sub(node))?;
@@ -331,9 +333,9 @@ impl Drawn {
 }
 
 // A line with a message.
-fn line_of(alloc: Global, word: &str, message: &Message) -> Result<String, Fail> {
+fn line_of(alloc: Global, word: &str, message: &Message) -> Result<String, Unmade> {
     if !is_short(&message.body) {
-        return Err(Fail::from("the message has a text"));
+        return Err(Unmade);
     }
     let text = print(alloc, message)?;
     let text = str::from_utf8(text.as_slice())?;
@@ -361,7 +363,7 @@ fn is_short_version(version: &Version) -> bool
 }
 
 // A run of lines at random. After a third of it nodes crash, after two thirds a client.
-fn run_of(alloc: Global, cluster: &Cluster, seed: u64) -> Result<Played, Fail> {
+fn run_of(alloc: Global, cluster: &Cluster, seed: u64) -> Result<Played, Unmade> {
     let mut drawn = Drawn::new(alloc, cluster, seed)?;
     drawn.go_on(cluster, cluster.lines / 3)?;
     for node in 0..cluster.crashes {
@@ -381,62 +383,38 @@ fn count_of(report: &str, name: &str) -> Option<u64> {
     number.parse().ok()
 }
 
-// How the script of a run is replayed and its report checked.
-#[derive(Drop)]
-struct RunOutcome {
-    lines: u64,
-    replay: Status,
-    check: Status,
-    verdict: MemorySink,
-    done: u64,
-    repaired: u64,
-    foreign: usize,
+/// The clusters of the runs.
+pub const CLUSTERS: [Cluster; 3] = [FIVE_NODES, NINE_NODES, SIXTEEN_NODES];
+
+// Whether a report has as many operations that ended as it must, and a repair.
+fn is_full(cluster: &Cluster, report: &str) -> bool {
+    let done = count_of(report, "done=").unwrap_or(0);
+    let repaired = count_of(report, "repaired=").unwrap_or(0);
+    cluster.done <= done && 1 <= repaired
 }
 
-fn outcome_of(alloc: Global, cluster: &Cluster, seed: u64) -> Result<RunOutcome, Fail> {
+// How many foreign writes there are in the report of a run, which is found legal. The run has all its lines, and a repair.
+fn foreign_writes(alloc: Global, cluster: &Cluster, seed: u64) -> Result<Option<usize>, Unmade> {
     let run = run_of(alloc, cluster, seed)?;
+    let is_whole = run.place() == cluster.lines;
     let (replay, report) = answered(alloc, "replay", run.script())?;
     let (check, verdict) = answered(alloc, "check", report.taken())?;
     let report = str::from_utf8(report.taken())?;
-    Ok(RunOutcome {
-        lines: run.place(),
-        replay,
-        check,
-        verdict,
-        done: count_of(report, "done=").unwrap_or(0),
-        repaired: count_of(report, "repaired=").unwrap_or(0),
-        foreign: report.split(" foreign ").count().wrapping_sub(1),
-    })
+    let is_legal = check == Status::Done && verdict.taken() == b"legal\n".as_slice();
+    if !is_whole || replay != Status::Done || !is_full(cluster, report) || !is_legal {
+        return Ok(None);
+    }
+    Ok(Some(report.split(" foreign ").count().saturating_sub(1)))
 }
 
-// The reports of runs in a cluster are legal, and one of them has a foreign write.
-fn are_legal(rt: &impl Abort, alloc: Global, cluster: &Cluster) -> Result<(), Fail> {
+/// Whether the report of each run in a cluster is legal, and one of them has a foreign write.
+pub fn are_legal(alloc: Global, cluster: &Cluster) -> Result<bool, Unmade> {
     let mut foreign = 0usize;
     for seed in cluster.seeds {
-        let run = outcome_of(alloc, cluster, seed)?;
-        assert_eq!(rt; run.lines, cluster.lines, "seed {seed}");
-        assert_eq!(rt; run.replay, Status::Done, "seed {seed}");
-        assert!(rt; cluster.done <= run.done, "done={}, seed {seed}", run.done);
-        assert!(rt; 1 <= run.repaired, "seed {seed}");
-        assert_eq!(rt; run.check, Status::Done, "seed {seed}");
-        assert_eq!(rt; run.verdict.taken(), b"legal\n".as_slice(), "seed {seed}");
-        foreign = foreign.wrapping_add(run.foreign);
+        let Some(writes) = foreign_writes(alloc, cluster, seed)? else {
+            return Ok(false);
+        };
+        foreign = foreign.saturating_add(writes);
     }
-    assert!(rt; 1 <= foreign);
-    Ok(())
-}
-
-#[test]
-fn runs_of_five_nodes_with_lies_are_legal(rt: HostRuntime) -> Result<(), Fail> {
-    are_legal(&rt, rt.alloc(), &FIVE_NODES)
-}
-
-#[test]
-fn runs_of_nine_nodes_with_lies_are_legal(rt: HostRuntime) -> Result<(), Fail> {
-    are_legal(&rt, rt.alloc(), &NINE_NODES)
-}
-
-#[test]
-fn runs_of_sixteen_nodes_with_lies_are_legal(rt: HostRuntime) -> Result<(), Fail> {
-    are_legal(&rt, rt.alloc(), &SIXTEEN_NODES)
+    Ok(1 <= foreign)
 }

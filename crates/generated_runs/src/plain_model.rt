@@ -1,10 +1,11 @@
-//! Long scripts of four clients whose calls interleave, beside a plain model of nodes and clients without faults.
+//! Long scripts of four clients whose calls interleave, and the reports that a plain model of nodes and clients without faults
+//! gives.
 
-use crate::program::replayed;
+use crate::program::answered;
+use crate::unmade::Unmade;
 use lists::NoMemory;
 use pasis_shell::Status;
 use std::alloc::Global;
-use std::test::Fail;
 
 // A version: its time, its writer and its value. In these scripts a time and a writer have one value.
 type Version = (u64, u64, u64);
@@ -323,17 +324,36 @@ fn end_operation(run: &mut Run, desk: &mut Desk) -> Result<(), NoMemory> {
     Ok(())
 }
 
-#[test]
-fn long_scripts_are_replayed(rt: HostRuntime) -> Result<(), Fail> {
-    for (cluster, seed, lines) in [(FIVE_NODES, 59, 300), (SIXTEEN_NODES, 34, 600)] {
-        let mut run = run_of(rt.alloc(), cluster, seed, lines)?;
-        // Some reads repair, and some ask for a second round.
-        let reads = run.entries.iter().filter(|entry| entry.reads).count();
-        assert!(rt; 0 < run.repaired && (reads as u64) < run.rounds);
-        let report = run.report(rt.alloc())?;
-        let (status, sink) = replayed(rt.alloc(), run.script.as_str())?;
-        assert_eq!(rt; status, Status::Done);
-        assert_eq!(rt; sink.taken(), report.as_bytes());
-    }
-    Ok(())
+/// A run of so many lines in a cluster, and those that end its operations.
+pub struct Drawing {
+    pub name: &'static str,
+    cluster: Cluster,
+    seed: u64,
+    lines: u64,
+}
+
+/// The runs.
+pub const RUNS: [Drawing; 2] = [
+    Drawing {
+        name: "five nodes without faults",
+        cluster: FIVE_NODES,
+        seed: 59,
+        lines: 300,
+    },
+    Drawing {
+        name: "sixteen nodes without faults",
+        cluster: SIXTEEN_NODES,
+        seed: 34,
+        lines: 600,
+    },
+];
+
+/// Whether a run's script has the report that the model gives. Some reads of the run repair, and some ask for a second round.
+pub fn is_as_reported(alloc: Global, drawing: &Drawing) -> Result<bool, Unmade> {
+    let mut run = run_of(alloc, drawing.cluster, drawing.seed, drawing.lines)?;
+    let reads = run.entries.iter().filter(|entry| entry.reads).count();
+    let is_varied = 0 < run.repaired && (reads as u64) < run.rounds;
+    let report = run.report(alloc)?;
+    let (status, sink) = answered(alloc, "replay", run.script.as_bytes())?;
+    Ok(is_varied && status == Status::Done && sink.taken() == report.as_bytes())
 }
