@@ -4,6 +4,7 @@ ghost use Rattle.std.specs.Prelude.{◌≡◌, ◌<◌, IfOk, length};
 use candidate_class::{Class, class_of, pivot_of, support_of};
 use cross_sum::Bytes;
 use liar_rules::{mix_ask, sound_ask};
+use lists::Copied;
 use quorum_rules::Config;
 use read_core::{How, Reader, Reading};
 use stamp_order::{Bound, Stamp};
@@ -150,14 +151,15 @@ fn block_of(alloc: Global, config: &Config, byte: u8) -> Result<Bytes, Fail>
     Ok(Bytes::from_vec(vec![in alloc; byte; config.size() as usize]?))
 }
 
-fn asked_version(message: Message) -> Result<Version, Fail> {
-    match message.body {
+// The version that a node is asked to keep.
+fn asked_version(message: &Message) -> Result<Version, Fail> {
+    match &message.body {
         Body::Ask(
             Ask {
                 request: Request::Write(version),
                 ..
             },
-        ) => Ok(version),
+        ) => Ok(version.copy()?),
         _ => Err(Fail::from("the message is a write")),
     }
 }
@@ -180,7 +182,7 @@ fn written(alloc: Global, config: &Config, node: u8, time: u64, byte: u8) -> Res
     requires { node < config.now.n }
 {
     let value = block_of(alloc, config, byte)?;
-    asked_version(sound_ask(alloc, config, 9, node, 0, time, &value)?)
+    asked_version(&sound_ask(alloc, config, 9, node, 0, time, &value)?)
 }
 
 fn mixed(alloc: Global, config: &Config, node: u8) -> Result<Version, Fail>
@@ -188,7 +190,7 @@ fn mixed(alloc: Global, config: &Config, node: u8) -> Result<Version, Fail>
 {
     let ten = block_of(alloc, config, 10)?;
     let eleven = block_of(alloc, config, 11)?;
-    asked_version(mix_ask(alloc, config, 9, node, 0, 3, &ten, &eleven)?)
+    asked_version(&mix_ask(alloc, config, 9, node, 0, 3, &ten, &eleven)?)
 }
 
 fn damaged(alloc: Global, config: &Config, node: u8) -> Result<Version, Fail>

@@ -1,7 +1,5 @@
-//! Reads and writes of clients among nodes: tests of whole operations, and of rounds against a plain count.
+//! Rounds of reads against a plain count of the answers.
 #![tactic(auto)]
 
 #[cfg(test)]
 mod counted;
-#[cfg(test)]
-mod rows;

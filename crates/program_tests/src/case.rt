@@ -10,7 +10,7 @@
 //! | `reads MOST [K]` | the source gives at most so many bytes at once, and its call K fails, counted from 0 |
 //! | `> TEXT`, `>\| TEXT` | what is written, as of the input |
 //! | `writes MOST [K]` | the sink takes at most so many bytes at once, and its call K fails |
-//! | `! TEXT` | the line on standard error; none where the status is 0 |
+//! | `! TEXT` | a line on standard error |
 //! | `status N` | the exit status, if it isn't 0 |
 
 use std::alloc::Global;
@@ -33,7 +33,7 @@ pub struct Case {
     pub reads: Pace,
     pub output: Vec<u8>,
     pub writes: Pace,
-    pub error_line: String,
+    pub told: Vec<u8>,
     pub status: u8,
     /// Each line is one of those that cases have.
     pub is_readable: bool,
@@ -53,7 +53,7 @@ impl Case {
             reads: WIDE,
             output: Vec::new(alloc),
             writes: WIDE,
-            error_line: String::new(alloc),
+            told: Vec::new(alloc),
             status: 0,
             is_readable: true,
         })
@@ -72,7 +72,7 @@ impl Case {
             Some(("reads", pace)) => self.reads = pace_of(pace),
             Some(("writes", pace)) => self.writes = pace_of(pace),
             Some(("status", number)) => self.status = number.parse().unwrap_or(u8::MAX),
-            Some(("!", text)) => self.error_line.push_str(text)?,
+            Some(("!", text)) => add_line(&mut self.told, text)?,
             Some((mark, text)) => self.add_text(mark, text)?,
             None => self.add_bare(line)?,
         }

@@ -9,12 +9,12 @@ use std::alloc::Global;
 use std::io;
 use std::io::ErrorKind;
 
-/// How a case ended, what was written, and the line on standard error.
+/// How a case ended, what was written, and what stands on standard error.
 #[derive(Drop)]
 pub struct Outcome {
     status: Status,
     sink: MemorySink,
-    error_line: String,
+    told: Vec<u8>,
 }
 
 fn calls_of(alloc: Global, pace: Pace) -> io::Result<Calls> {
@@ -38,18 +38,9 @@ pub fn outcome_of(alloc: Global, case: &Case) -> io::Result<Outcome> {
     let mut sink = MemorySink::new(alloc, most, calls_of(alloc, case.writes)?);
     let words = case.words.as_slice();
     let status = pasis(alloc, words, &mut source, &mut sink, &OpenGate);
-    Ok(Outcome {
-        status,
-        sink,
-        error_line: error_line_of(alloc, status)?,
-    })
-}
-
-fn error_line_of(alloc: Global, status: Status) -> io::Result<String> {
-    if status == Status::Done {
-        return Ok(String::new(alloc));
-    }
-    Ok(format!(in alloc; "{status}")?)
+    let mut told = Vec::new(alloc);
+    status.tell(&mut told)?;
+    Ok(Outcome { status, sink, told })
 }
 
 impl Outcome {
@@ -59,7 +50,7 @@ impl Outcome {
             Some("a line of the case")
         } else if self.status.number() != case.status {
             Some("the status")
-        } else if self.error_line.as_str() != case.error_line.as_str() {
+        } else if self.told.as_slice() != case.told.as_slice() {
             Some("the line on standard error")
         } else if self.sink.taken() != case.output.as_slice() {
             Some("the output")
