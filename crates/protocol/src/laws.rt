@@ -20,14 +20,15 @@ ghost use Rattle.protocol.specs.Instance.{setting_of, IsCluster, InEachRun};
 ghost use Rattle.protocol.specs.Operations.{Task, Work, begun};
 ghost use Rattle.protocol.specs.Operations.Work.{Reads, Writes};
 ghost use Rattle.protocol.specs.Operations.Stage.{Versions};
-ghost use Rattle.protocol.specs.World.{World, Record, under_way, heard_by, greatest_given, with_record};
-ghost use Rattle.protocol.specs.Lines.{Line, Run, FitsLine, plays, fault, IsPlayable};
+ghost use Rattle.protocol.specs.World.{World, Record, start_world, under_way, heard_by, greatest_given, with_record};
+ghost use Rattle.protocol.specs.Lines.{Line, Run, IsRun, FitsLine, plays, fault, IsPlayable};
 ghost use Rattle.protocol.specs.History.{Entry, IsHistory, IsEntry, Legal, InTime, NoClash, HasRead, HasLie, entry_cmp};
 ghost use Rattle.protocol.specs.History.Kind.{Read, Foreign};
 ghost use Rattle.protocol.specs.Bounds.{IsBounded, IsLow};
 ghost use Rattle.protocol.specs.Report.{Ascend, AreRivals, SpentWrite, IsSpentWrite, spent_writes, mark, line_cmp, counts_of, is_ended};
-ghost use Rattle.protocol.specs.Facts.{IsTold, IsHonest, HasAccepted, IsHosted, IsKnown, IsComplete, AtWork, IsNotBehind, IsWorking, Extends, HasGave, IsGreatestGiven, IsSameOperation, HasOperation};
+ghost use Rattle.protocol.specs.Facts.{IsTold, IsHonest, HasAccepted, IsHosted, IsKnown, IsComplete, IsWorking, Extends, HasGave, IsGreatestGiven, IsSameOperation, HasOperation};
 ghost use Rattle.protocol.specs.Seen.{SeenTask, task_at, seen_begun, hearing};
+ghost use Rattle.protocol.specs.Freshness.{IsNotBehind, HasPruned, IsSentDuring, prunings};
 ghost use Rattle.protocol.specs.Views.{IsFull, task_after, after_hearing};
 
 /// The code and the digest of a cluster keep what the proofs ask of them: lengths, bytes, digests, and that any `m` fragments
@@ -108,8 +109,8 @@ pub fn replacements()
     ensures { (records : List Record) (r x : Record) → Contains (with_record records r) x ↔ ((x ≡ r × HasOperation records r) ⊎ (Contains records x × (IsSameOperation x r → ⊥))) }
 {}
 
-/// An honest node's answer was made from an ask that was sent before it, with its client and tag, and tells only of stamps
-/// that the node accepted. What the node keeps of a block it accepted, and it keeps a version of at least each stamp that it
+/// An honest node's answer was made from an ask that was sent before it, with its client and tag. It is of the kind that was
+/// asked, finds what the ask's bound has, and tells only of stamps that the node accepted. What the node keeps of a block it accepted, and it keeps a version of at least each stamp that it
 /// accepted.
 pub fn hosts()
     ensures hosted { InEachRun (λ s w. (k : ℕ) (m : Message) (reply : Reply) → slice_get w.pool k ≡ Some m → m.body ≡ Answers reply → IsHonest s m.node → IsHosted s w k m reply) }
@@ -129,18 +130,21 @@ pub fn completion()
     ensures { InEachRun (λ s w. (x : Record) (end : ℕ) (stamp : Stamp) → Contains w.records x → x.end ≡ Some end → x.stamp ≡ Some stamp → (stamp ≡ first_stamp s) ⊎ IsComplete s w x.block stamp) }
 {}
 
-/// What an honest node has accepted in one world of a run, it doesn't fall behind in its answers to the operations that begin
-/// later.
+/// While an operation is under way, an honest node's answer to it, in whichever of its phases, was made from an ask on its
+/// block, and doesn't fall behind any stamp that the node had accepted there before: it tells a time of at least the stamp's,
+/// or it finds a stamp of at least this one where the ask's bound has it and each stamp by which the node pruned the block
+/// before the operation began.
 pub fn freshness()
-    ensures { InEachRun (λ s w. (i block : ℕ) (stamp : Stamp) (more : List (ℕ × Line)) (last : World) → IsHonest s i → HasAccepted s w i block stamp → Run s w more last
-        → (m : Message) (reply : Reply) (task : Task) → Contains last.pool m → m.body ≡ Answers reply → m.node ≡ i → s.lying_client m.client ≡ false → AtWork s last m task → task.block ≡ block → w.place < task.start → IsNotBehind s last task stamp task.stage reply) }
+    ensures { InEachRun (λ s w. (lines more : List (ℕ × Line)) (last : World) → IsRun s lines w → Run s w more last
+        → (k : ℕ) (m : Message) (reply : Reply) (task : Task) (stamp : Stamp) → slice_get last.pool k ≡ Some m → m.body ≡ Answers reply → IsHonest s m.node → IsSentDuring s w more k m task → HasAccepted s w m.node task.block stamp
+        → (h : IsHosted s last k m reply) × (h.ask.block ≡ task.block) × IsNotBehind (HasPruned (prunings s (start_world s) (lines ++ more)) m.node task.block task.start) stamp h.ask.request reply) }
 {}
 
-/// Where no two strings that were seen clash: an operation that began after another on its block had ended never asks below
-/// that one's stamp, a write chooses a time above the stamp's, and a read gives no lower stamp.
+/// Of an operation that began after another on its block had ended: a write chooses a time above that one's stamp; and where no
+/// two strings that were seen clash, a read never asks below the stamp and gives no lower one.
 pub fn order()
     ensures aim { InEachRun (λ s w. NoClash s w → (x : Record) (end : ℕ) (stamp : Stamp) (client : ℕ) (task : Task) (bound : Bound) → Contains w.records x → x.end ≡ Some end → x.stamp ≡ Some stamp → under_way w client ≡ Some task → task.block ≡ x.block → end < task.start → task.stage ≡ Versions bound → has bound stamp ≡ true) }
-    ensures writes_above { InEachRun (λ s w. NoClash s w → (x y : Record) (end : ℕ) (stamp later : Stamp) (value : List ℕ) → Contains w.records x → Contains w.records y → x.end ≡ Some end → x.stamp ≡ Some stamp → y.work ≡ Writes value → y.stamp ≡ Some later → y.block ≡ x.block → end < y.start → stamp.time < later.time) }
+    ensures writes_above { InEachRun (λ s w. (x y : Record) (end : ℕ) (stamp later : Stamp) (value : List ℕ) → Contains w.records x → Contains w.records y → x.end ≡ Some end → x.stamp ≡ Some stamp → y.work ≡ Writes value → y.stamp ≡ Some later → y.block ≡ x.block → end < y.start → stamp.time < later.time) }
     ensures reads_up { InEachRun (λ s w. NoClash s w → (x y : Record) (end : ℕ) (stamp later : Stamp) → Contains w.records x → Contains w.records y → x.end ≡ Some end → x.stamp ≡ Some stamp → y.work ≡ Reads → y.stamp ≡ Some later → y.block ≡ x.block → end < y.start → stamp ≼ later) }
 {}
 
