@@ -19,7 +19,7 @@ use Rattle.protocol.specs.World.Event.{Start, Resend as Resends, Give as Gives, 
 use Rattle.protocol.specs.Lines.{Line, Rule, Run, FitsLine, fault, events, plays, called, told, falsely_told, false_answer, given_at, heard_at}
 use Rattle.run_words.specs.declared.line.Line.TheVariants.{Write as WriteLine, Read as ReadLine, Resend, Call, Give, Hear, Lost, CrashNode, CrashClient, Lie, Tell, Poke, False, Sound, Mix, Prune, Back, Restart}
 use Rattle.protocol.specs.Facts.{IsHonest, IsHosted}
-use Rattle.protocol.specs.Freshness.{Pruning, pruning_by, pruning_of, prunings, HasPruned, IsNotBehind, IsSentDuring}
+use Rattle.protocol.specs.Freshness.{Pruning, pruning_by, pruning_of, prunings, HasPruned, IsNotBehind, IsSentAt, IsSentDuring}
 use Rattle.protocol.proofs.Counting.{update-cases}
 use Rattle.protocol.proofs.Lists.{Contains-slice_get, Contains-none, Contains-head, Contains-rest, Contains-cons_cases}
 use Rattle.protocol.proofs.Order.{≼-trans, ≼-time}
@@ -31,13 +31,12 @@ use Rattle.protocol.proofs.Starting as starting
 use Rattle.protocol.proofs.Giving as giving
 use Rattle.protocol.proofs.Heard.{filled, heard_case}
 use Rattle.protocol.proofs.Runs.{happens_safe, start_safe}
-use Rattle.protocol.proofs.Places.{all_place}
 use Rattle.protocol.proofs.Kept.{run_parts}
 use Rattle.protocol.proofs.Playing.{no_fault, allowed}
 use Rattle.protocol.proofs.Plays.{IsRight, start_right, plays_right, run_right}
 use Rattle.protocol.proofs.Inductions.{run_keeps}
-use Rattle.protocol.proofs.Growing.{Grows, grows_itself, grows_both, happens_more, plays_more, run_more, still_accepts}
-use Rattle.protocol.proofs.Hosts.{IsMade, AreHosted, still_made, happens_hosted, unsaid, get_cases}
+use Rattle.protocol.proofs.Growing.{Grows, all_place, grows_itself, grows_both, happens_more, plays_more, run_more, still_accepts}
+use Rattle.protocol.proofs.Hosts.{IsMade, AreHosted, still_made, happens_hosted, unsaid}
 use Rattle.protocol.proofs.OneBlock.{HasBlocks, happens_blocks, start_blocks}
 
 -- an event that is no prune
@@ -193,7 +192,7 @@ module _ (s : Setting) (L : Pruning → Type 0) where
     one_within u h e none may = record {
       safe = happens_safe s good u h.safe place e may;
       logged = happens_logged good u h.safe place h.logged e none may;
-      grows = grows_both v u (happens s u place e) h.grows (happens_more s u place e);
+      grows = grows_both v u (happens s u place e) h.grows (happens_more s u place e).0;
       made = happens_hosted s (length v.pool) (IsFresh v) good u h.safe h.made
           (λ i l upright ask below stamp a. fresh_now u h.logged i l upright ask below stamp (still_accepts s v u h.grows i ask.block stamp a)) place e may;
     }
@@ -400,22 +399,39 @@ module _ (s : Setting) (good : IsValid s) where
   run_blocks : (lines : List (ℕ × Line)) (w : World) → Run s (start_world s) lines w → HasBlocks s w.pool
   run_blocks lines w run = run_keeps s good (λ v. HasBlocks s v.pool) (λ v safe h place e a. happens_blocks s good v safe h place e a) (λ v place h. h) lines (start_world s) w (start_right s good) run (start_blocks s)
 
-  module _ (lines : List (ℕ × Line)) (w : World) (run : Run s (start_world s) lines w) (more : List (ℕ × Line)) (last : World) (on : Run s w more last)
-      (k : ℕ) (m : Message) (told : Reply) (task : Task) (there : slice_get last.pool k ≡ Some m) (body : m.body ≡ Answers told) (honest : IsHonest s m.node) (d : IsSentDuring s w more k m task) where
-    v : World
-    v = d.world
+  module _ (lines : List (ℕ × Line)) (w : World) (run : Run s (start_world s) lines w) where
+    right_at : IsRight s good w
+    right_at = run_right s good lines (start_world s) w (start_right s good) run
 
+    abbrev Before : Pruning → Type 0
+    Before p = ⊥ ⊎ Contains (prunings s (start_world s) lines) p
+
+    logged_at : IsLogged s Before w
+    logged_at = run_logged lines (λ p. ⊥) (start_world s) w (start_right s good) start_logged run
+
+    -- an answer that is sent at a line
+    module _ (place : ℕ) (line : Line) (later : w.place < place) (fits : FitsLine s line) (fine : fault s w line ≡ None)
+        (k : ℕ) (m : Message) (told : Reply) (sent : IsSentAt s w place line k m) (body : m.body ≡ Answers told) (honest : IsHonest s m.node) where
+      made_at : IsMade s (length w.pool) (IsFresh s Before w) (plays s w place line) k m told
+      made_at = (line_taken Before w right_at.safe logged_at place later line fits fine).made k m told sent.new sent.sent body honest.1
+
+      pub run_always : (h : IsHosted s (plays s w place line) k m told)
+          × (h.ask.block < s.blocks → (stamp : Stamp) → Accepts s w m.node h.ask.block stamp → IsNotBehind (HasPruned s lines m.node h.ask.block place) stamp h.ask.request told)
+      run_always = (
+        made_at.0,
+        λ below stamp a.
+            behind_as (IsWide s Before m.node made_at.0.ask.block) (HasPruned s lines m.node made_at.0.ask.block place)
+            (λ bound wide p k node block. elim k [ inl q ↦ absurd q | inr q ↦ wide p q node block (let l = logged_at.past p (inr q) in omega (arith, l, later)) ])
+            stamp made_at.0.ask.request told (made_at.1 below stamp a),
+      )
+
+  module _ (lines : List (ℕ × Line)) (w : World) (run : Run s (start_world s) lines w) (more : List (ℕ × Line)) (last : World) (on : Run s w more last)
+      (k : ℕ) (m : Message) (told : Reply) (task : Task) (d : IsSentDuring s w more k m task) (body : m.body ≡ Answers told) (honest : IsHonest s m.node) where
     to_v : Run s (start_world s) (lines ++ d.before) d.world
     to_v = (run_parts s d.world d.before lines (start_world s)).1 (w, run, d.run)
 
     right_v : IsRight s good d.world
-    right_v = run_right s good (lines ++ d.before) (start_world s) d.world (start_right s good) to_v
-
-    abbrev Before : Pruning → Type 0
-    Before p = ⊥ ⊎ Contains (prunings s (start_world s) (lines ++ d.before)) p
-
-    logged_v : IsLogged s Before d.world
-    logged_v = run_logged (lines ++ d.before) (λ p. ⊥) (start_world s) d.world (start_right s good) start_logged to_v
+    right_v = right_at (lines ++ d.before) d.world to_v
 
     rest : Run s d.world ((d.place, d.line) ∷ d.after) last
     rest =
@@ -425,19 +441,16 @@ module _ (s : Setting) (good : IsValid s) where
     abbrev next : World
     next = plays s d.world d.place d.line
 
-    there_next : slice_get next.pool k ≡ Some m
-    there_next =
-        let e = (run_more s d.after next last rest.3).0 in
-        elim (get_cases next.pool e.0 k m (rw e.1 at there)) [ inl h ↦ h | inr h ↦ absurd (let l = d.sent in omega (arith, l, h.0)) ]
+    after_it : Grows next last
+    after_it = run_more s d.after next last rest.3
 
-    made_last : IsMade s 0 (IsFresh s Before d.world) last k m told
+    made_last : IsMade s (length d.world.pool) (IsFresh s (Before (lines ++ d.before) d.world to_v) d.world) last k m told
     made_last =
-        let g = run_more s d.after next last rest.3 in
-        still_made s 0 (IsFresh s Before d.world) next last g.0.0 g.0.1 (still_accepts s next last g) k m told
-        ((line_taken Before d.world right_v.safe logged_v d.place rest.0 d.line rest.1 rest.2).made k m told d.unsent there_next body honest.1)
+        still_made s (length d.world.pool) (IsFresh s (Before (lines ++ d.before) d.world to_v) d.world) next last after_it.0.0 after_it.0.1 (still_accepts s next last after_it) k m told
+        (made_at (lines ++ d.before) d.world to_v d.place d.line rest.0 rest.1 rest.2 k m told d.at body honest)
 
     grown_v : Grows d.world last
-    grown_v = grows_both d.world next last (plays_more s d.world d.place d.line) (run_more s d.after next last rest.3)
+    grown_v = grows_both d.world next last (plays_more s d.world d.place d.line) after_it
 
     at_work : IsTask s d.world m.client task
     at_work = right_v.safe.tasks m.client task d.busy
@@ -453,7 +466,7 @@ module _ (s : Setting) (good : IsValid s) where
         one ∙ ap (λ (c : ℕ). b.0 c h.message.tag.op) h.client ∙ ap (λ (g : Tag). b.0 m.client g.op) h.tag ∙ ap (b.0 m.client) d.op ∙ sym two
 
     pub run_fresh : (stamp : Stamp) → Accepts s w m.node task.block stamp
-        → (h : IsHosted s last k m told) × (h.ask.block ≡ task.block) × IsNotBehind (HasPruned (prunings s (start_world s) (lines ++ more)) m.node task.block task.start) stamp h.ask.request told
+        → (h : IsHosted s last k m told) × (h.ask.block ≡ task.block) × IsNotBehind (HasPruned s (lines ++ more) m.node task.block task.start) stamp h.ask.request told
     run_fresh stamp a =
         let h = made_last.0 in
         let e = of_block h in
@@ -461,10 +474,10 @@ module _ (s : Setting) (good : IsValid s) where
         let lines_are : lines ++ more ≡ (lines ++ d.before) ++ (d.place, d.line) ∷ d.after = ap (λ (ls : List (ℕ × Line)). lines ++ ls) d.split ∙ sym (append_assoc lines d.before ((d.place, d.line) ∷ d.after)) in (
           h,
           e,
-          behind_as (IsWide s Before m.node h.ask.block) (HasPruned (prunings s (start_world s) (lines ++ more)) m.node task.block task.start)
+          behind_as (IsWide s (Before (lines ++ d.before) d.world to_v) m.node h.ask.block) (HasPruned s (lines ++ more) m.node task.block task.start)
               (λ bound wide p k node block. elim k [
                 | inl q ↦ absurd q
-                | inr q ↦ wide p (rw lines_are (more_prunings s (lines ++ d.before) ((d.place, d.line) ∷ d.after) (start_world s) p q)) node (block ∙ e) (logged_v.early m.client task d.busy p (inr q) (block ∙ e))
+                | inr q ↦ wide p (rw lines_are (more_prunings s (lines ++ d.before) ((d.place, d.line) ∷ d.after) (start_world s) p q)) node (block ∙ e) ((logged_at (lines ++ d.before) d.world to_v).early m.client task d.busy p (inr q) (block ∙ e))
               ])
               stamp h.ask.request told
               (made_last.1 (omega (arith, e, at_work.block)) stamp (rw e then)),

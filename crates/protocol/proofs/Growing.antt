@@ -1,5 +1,5 @@
 -- What takes place adds its messages at the end of the pool, and what it accepts at the end of what was accepted.
-use Rattle.std.proofs.Common.{◌≡◌, ℕ, ◌-◌, Bool, true, false, cond, List, [], ◌∷◌, ◌++◌, Option, refl, ◌∙◌, ap, inl, inr, ltb, append_assoc}
+use Rattle.std.proofs.Common.{◌≡◌, ℕ, ◌-◌, ◌≤◌, arith, Bool, true, false, cond, List, [], ◌∷◌, ◌++◌, Option, refl, ◌∙◌, ap, inl, inr, ltb, append_assoc}
 use Rattle.std.specs.declared.option.Option.TheVariants.{None, Some}
 use Rattle.std.proofs.lemmas.List.Elements.{Contains-append_left}
 use Rattle.stamp_order.specs.declared.Stamp.{Stamp}
@@ -14,10 +14,7 @@ use Rattle.protocol.specs.World.{World, Event, happens, all_happen, moved, decid
 use Rattle.protocol.specs.World.Event.{Start, Resend, Give, Hear, CrashNode, CrashClient, Lie, Prune, Back}
 use Rattle.protocol.specs.Lines.{Line, Run, events, plays}
 use Rattle.protocol.specs.Facts.{Extends, HasAccepted}
-
-append_nil : {A : Type 0} (xs : List A) → xs ≡ xs ++ []
-append_nil [] = refl
-append_nil {A} (x ∷ xs) = ap (λ (l : List A). x ∷ l) (append_nil xs)
+use Rattle.protocol.proofs.Lists.{append_nil}
 
 extends_itself : {A : Type 0} (xs : List A) → Extends xs xs
 extends_itself xs = ([], append_nil xs)
@@ -43,60 +40,82 @@ pub still_accepts : (s : Setting) (w v : World) → Grows w v → (i block : ℕ
 still_accepts s w v h i block stamp (inl e) = inl e
 still_accepts s w v h i block stamp (inr k) = inr (rw h.1.1 (Contains-append_left w.accepted h.1.0 _ k))
 
+-- and the other is at this place
+abbrev Adds : World → ℕ → World → Type 0
+Adds w place v = Grows w v × (v.place ≡ place)
+
 module _ (s : Setting) (w : World) (place : ℕ) where
-  same : Grows w w
-  same = grows_itself w
+  same : Adds w place (only_place s w place)
+  same = (grows_itself w, refl)
 
-  decided_more : (c : ℕ) (z : Task) (d : Decision) → Grows w (decided s w place c z d)
-  decided_more c z (GoesOn stage) = ((_, refl), extends_itself w.accepted)
-  decided_more c z (Ends outcome) = ((_, refl), extends_itself w.accepted)
+  decided_more : (c : ℕ) (z : Task) (d : Decision) → Adds w place (decided s w place c z d)
+  decided_more c z (GoesOn stage) = (((_, refl), extends_itself w.accepted), refl)
+  decided_more c z (Ends outcome) = (((_, refl), extends_itself w.accepted), refl)
 
-  advanced_more : (c : ℕ) (z : Task) → Grows w (advanced s w place c z)
+  advanced_more : (c : ℕ) (z : Task) → Adds w place (advanced s w place c z)
   advanced_more c z = at (ltb (answered s z.answers) (s.n - s.t))
     where
-      at : (b : Bool) → Grows w (cond b (moved s w place c (Some z) [] (open_record c z)) (decided s w place c z (decide s c z z.stage)))
-      at true = (([], refl), extends_itself w.accepted)
+      at : (b : Bool) → Adds w place (cond b (moved s w place c (Some z) [] (open_record c z)) (decided s w place c z (decide s c z z.stage)))
+      at true = ((([], refl), extends_itself w.accepted), refl)
       at false = decided_more c z (decide s c z z.stage)
 
-  counted_more : (c : ℕ) (task : Task) (m : Message) (reply : Reply) (b : Bool) → Grows w (cond b (advanced s w place c (counted task m.node reply)) (only_place s w place))
+  counted_more : (c : ℕ) (task : Task) (m : Message) (reply : Reply) (b : Bool) → Adds w place (cond b (advanced s w place c (counted task m.node reply)) (only_place s w place))
   counted_more c task m reply true = advanced_more c (counted task m.node reply)
   counted_more c task m reply false = same
 
-  heard_by_more : (c : ℕ) (o : Option Task) (m : Message) (reply : Reply) → Grows w (heard_by s w place c o m reply)
+  heard_by_more : (c : ℕ) (o : Option Task) (m : Message) (reply : Reply) → Adds w place (heard_by s w place c o m reply)
   heard_by_more c None m reply = same
   heard_by_more c (Some task) m reply = counted_more c task m reply (counts s w place task m reply)
 
-  heard_more : (c : ℕ) (m : Message) (body : Body) → Grows w (heard s w place c m body)
+  heard_more : (c : ℕ) (m : Message) (body : Body) → Adds w place (heard s w place c m body)
   heard_more c m (Asks ask) = same
   heard_more c m (Answers reply) = heard_by_more c (w.task c) m reply
 
-  given_more : (i : ℕ) (m : Message) (body : Body) → Grows w (given s w place i m body)
-  given_more i m (Asks ask) = ((_, refl), extends_one_more w.accepted (accepted_at s i ask.block (accepts s i (w.versions i ask.block) ask)))
+  given_more : (i : ℕ) (m : Message) (body : Body) → Adds w place (given s w place i m body)
+  given_more i m (Asks ask) = (((_, refl), extends_one_more w.accepted (accepted_at s i ask.block (accepts s i (w.versions i ask.block) ask))), refl)
   given_more i m (Answers reply) = same
 
-  resent_more : (c : ℕ) (o : Option Task) → Grows w (resent_by s w place c o)
+  resent_more : (c : ℕ) (o : Option Task) → Adds w place (resent_by s w place c o)
   resent_more c None = same
-  resent_more c (Some task) = ((_, refl), extends_itself w.accepted)
+  resent_more c (Some task) = (((_, refl), extends_itself w.accepted), refl)
 
-  pruned_more : (i block : ℕ) (o : Option Stamp) → Grows w (pruned_at s w place i block o)
+  pruned_more : (i block : ℕ) (o : Option Stamp) → Adds w place (pruned_at s w place i block o)
   pruned_more i block None = same
   pruned_more i block (Some stamp) = same
 
-  pub happens_more : (e : Event) → Grows w (happens s w place e)
-  happens_more (Start c block work) = ((_, refl), extends_itself w.accepted)
+  pub happens_more : (e : Event) → Adds w place (happens s w place e)
+  happens_more (Start c block work) = (((_, refl), extends_itself w.accepted), refl)
   happens_more (Resend c) = resent_more c (w.task c)
   happens_more (Give i m) = given_more i m m.body
   happens_more (Hear c m) = heard_more c m m.body
   happens_more (CrashNode i) = same
   happens_more (CrashClient c) = same
-  happens_more (Lie m) = ((_, refl), extends_itself w.accepted)
+  happens_more (Lie m) = (((_, refl), extends_itself w.accepted), refl)
   happens_more (Prune i block) = pruned_more i block (greatest_given block w.records)
   happens_more (Back c) = same
+
+  -- what leaves the records
+  pub given_records : (i : ℕ) (m : Message) (body : Body) → (given s w place i m body).records ≡ w.records
+  given_records i m (Asks ask) = refl
+  given_records i m (Answers reply) = refl
+
+  pub resent_records : (c : ℕ) (o : Option Task) → (resent_by s w place c o).records ≡ w.records
+  resent_records c None = refl
+  resent_records c (Some task) = refl
+
+  pub pruned_records : (i block : ℕ) (o : Option Stamp) → (pruned_at s w place i block o).records ≡ w.records
+  pruned_records i block None = refl
+  pruned_records i block (Some stamp) = refl
 
 module _ (s : Setting) where
   all_more : (es : List Event) (w : World) (place : ℕ) → Grows w (all_happen s w place es)
   all_more [] w place = grows_itself w
-  all_more (e ∷ es) w place = grows_both w (happens s w place e) (all_happen s (happens s w place e) place es) (happens_more s w place e) (all_more es (happens s w place e) place)
+  all_more (e ∷ es) w place = grows_both w (happens s w place e) (all_happen s (happens s w place e) place es) (happens_more s w place e).0 (all_more es (happens s w place e) place)
+
+  -- events take place at their place
+  pub all_place : (es : List Event) (w : World) (place : ℕ) → w.place ≤ place → (all_happen s w place es).place ≤ place
+  all_place [] w place l = l
+  all_place (e ∷ es) w place l = all_place es (happens s w place e) place (let q = (happens_more s w place e).1 in omega (arith, q))
 
   pub plays_more : (w : World) (place : ℕ) (line : Line) → Grows w (plays s w place line)
   plays_more w place line = all_more (events s w line) w place

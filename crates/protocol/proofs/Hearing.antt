@@ -25,10 +25,10 @@ use Rattle.protocol.specs.History.{IsValue}
 use Rattle.protocol.specs.History.IsValue.{zeros_value, written, given}
 use Rattle.protocol.proofs.Counting.{both_true, shared}
 use Rattle.protocol.proofs.Mails.{in_mail}
-use Rattle.protocol.proofs.Seen.{NoClashFor-any}
+use Rattle.protocol.proofs.Strings.{NoClashFor-any}
 use Rattle.protocol.proofs.Invariant.{Quorum, IsGood, IsGiven, IsStage, IsTask, IsOutcome, IsAimed, IsAfter, NoClashFor, IsSafe, Fits, Accepts}
 use Rattle.protocol.proofs.Moving.{IsHeld, IsNext, IsMove, moved_safe}
-use Rattle.protocol.proofs.Rounds.{valid_was, honest_many, is_honest, drawn_above, some_pivot, pivot_above, pivot_time, candidate_size, candidate_good, not_poisonous, honest_valid, fits_at}
+use Rattle.protocol.proofs.Rounds.{answered_is, valid_was, honest_many, is_honest, drawn_above, some_pivot, pivot_above, pivot_time, candidate_size, candidate_good, not_poisonous, honest_valid, fits_at}
 use Rattle.protocol.proofs.Order.{same_stamp-≡, same_stamp-refl, ≼-cases}
 use Rattle.protocol.proofs.Parts.{length_chosen, ascending_chosen}
 
@@ -263,10 +263,6 @@ module _ (s : Setting) (good : IsValid s) (w : World) (safe : IsSafe s w) (place
         kind (Found v) k f = absurd (cc)
         kind Nothing k f = absurd (cc)
         kind (Refused reason) k f = absurd (cc)
-
-    answered_is : (o : Option Reply) → is_answered o ≡ true → (reply : Reply) × (o ≡ Some reply)
-    answered_is None h = absurd (cc)
-    answered_is (Some reply) h = (reply, refl)
 
     held_stored : (p : Stamp) (value : List ℕ) → task.stage ≡ Storing p value → IsHeld s w task.block p
     held_stored p value stage = record {

@@ -21,7 +21,7 @@ use Rattle.protocol.specs.History.IsValue.{written, given}
 use Rattle.protocol.specs.History.IsSeen.{sum_seen, fragment_seen}
 use Rattle.protocol.proofs.Order.{≼-refl, ≼-cases, before-≼, lower_time}
 use Rattle.protocol.proofs.Invariant.{IsSafe, IsGood, IsGiven, IsOutcome, IsAfter}
-use Rattle.protocol.proofs.Seen.{NoClashFor-any}
+use Rattle.protocol.proofs.Strings.{NoClashFor-any}
 use Rattle.protocol.proofs.Entries.{less_by_stamp, less_by_kind, less_by_end, not_back, not_self, sorted_before}
 use Rattle.protocol.proofs.Parts.{ascending_collect, length_collect}
 use Rattle.protocol.proofs.Lists.{Contains-collect}
@@ -30,8 +30,13 @@ gave_as : (s : Setting) (work : Work) (stamp : Option Stamp) (given : Stamp) (va
 gave_as s Reads stamp t value how rounds h = (refl, h.0, h.1)
 gave_as s (Writes v) stamp t value how rounds h = absurd h
 
-outcome_at : (s : Setting) (r : Record) (o : Option Outcome) → r.outcome ≡ o → IsOutcome s r.work r.stamp r.outcome → IsOutcome s r.work r.stamp o
+pub outcome_at : (s : Setting) (r : Record) (o : Option Outcome) → r.outcome ≡ o → IsOutcome s r.work r.stamp r.outcome → IsOutcome s r.work r.stamp o
 outcome_at s r o e h = rw e at h
+
+-- no outcome is outvoted
+pub not_outvoted : (s : Setting) (work : Work) (stamp : Option Stamp) (nodes : List ℕ) → IsOutcome s work stamp (Some (Outvoted nodes)) → ⊥
+not_outvoted s Reads stamp nodes h = h
+not_outvoted s (Writes v) stamp nodes h = h
 
 -- a write's stamp is for its value
 wrote_as : (s : Setting) (work : Work) (stamp : Option Stamp) (o : Option Outcome) (value : List ℕ) (t : Stamp) → work ≡ Writes value → stamp ≡ Some t → IsOutcome s work stamp o → IsGood s t value

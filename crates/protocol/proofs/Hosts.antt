@@ -17,16 +17,13 @@ use Rattle.protocol.specs.Operations.Decision.{GoesOn, Ends}
 use Rattle.protocol.specs.World.{World, Event, happens, Allowed, IsAskTo, IsAnswerTo, given, handled, heard, moved, pruned_at, open_record, closed_record, greatest_given, under_way, IsOfLiar, only_place, start_world}
 use Rattle.protocol.specs.World.Event.{Start, Resend, Give, Hear, CrashNode, CrashClient, Lie, Prune, Back}
 use Rattle.protocol.specs.Facts.{HasAccepted, IsGrounded, IsHosted}
-use Rattle.protocol.proofs.Lists.{Contains-slice_get, Contains-one, Contains-none}
+use Rattle.protocol.proofs.Lists.{append_nil, Contains-slice_get, Contains-one, Contains-none}
+use Rattle.protocol.proofs.Tests.{is_ltb}
 use Rattle.protocol.proofs.Keeping.{time_of_one, greatest_in_is}
 use Rattle.protocol.proofs.Mails.{in_mail, mail_answers}
 use Rattle.protocol.proofs.Invariant.{IsSafe, IsStored}
 use Rattle.protocol.proofs.Giving.{accepted_more, wrote_there}
 use Rattle.protocol.proofs.Heard.{filled, heard_case}
-
-append_nil : {X : Type 0} (xs : List X) → xs ≡ xs ++ []
-append_nil [] = refl
-append_nil {X} (x ∷ xs) = ap (λ (l : List X). x ∷ l) (append_nil xs)
 
 -- an element of a list and of one that begins with it
 pub get_left : {X : Type 0} (xs ys : List X) (k : ℕ) (x : X) → slice_get xs k ≡ Some x → slice_get (xs ++ ys) k ≡ Some x
@@ -133,11 +130,8 @@ module _ (s : Setting) (from : ℕ) (P : ℕ → Ask → Reply → Type 0) where
         reply_grounded : IsGrounded s after i ask (reply s i (w.versions i ask.block) ask)
         reply_grounded = at (ltb ask.block s.blocks) refl
           where
-            below : (a b : ℕ) → ltb a b ≡ true → a < b
-            below a b h = grind (arith, Rattle.std.proofs.lemmas.Bool.Decides.nat_tests)
-
             at : (b : Bool) → ltb ask.block s.blocks ≡ b → IsGrounded s after i ask (cond b (reply_in s i (w.versions i ask.block) ask.request) (Refused BadBlock))
-            at true e = in_range ask.request refl (below ask.block s.blocks e)
+            at true e = in_range ask.request refl (is_ltb ask.block s.blocks e)
             at false e = tt
 
         own : (k : ℕ) → length w.pool ≤ k → (x : Message) (told : Reply) → x ≡ Rattle.protocol.specs.World.answer_of s w i m ask → x.body ≡ Answers told → IsMade after k x told

@@ -15,12 +15,12 @@ use Rattle.protocol.specs.Operations.Work.{Reads, Writes}
 use Rattle.protocol.specs.Operations.Stage.{Versions}
 use Rattle.protocol.specs.World.{World, Record, start_world, only_place, under_way}
 use Rattle.protocol.specs.Lines.{Line, Run, plays}
-use Rattle.protocol.specs.History.{NoClash}
 use Rattle.protocol.specs.Facts.{IsTold, IsOutcomeOf, IsHonest, HasAccepted, IsHosted, IsKnown, IsComplete, IsWorking}
+use Rattle.protocol.specs.Laws.{ReadsAskUp, WritesDrawAbove, ReadsGiveUp}
 use Rattle.protocol.proofs.Counting.{cases_bool}
 use Rattle.protocol.proofs.Order.{same_stamp-≡, same_stamp-refl}
 use Rattle.protocol.proofs.Invariant.{IsRecord, IsOutcome, Quorum, IsAimed, IsAfter, NoClashFor}
-use Rattle.protocol.proofs.Seen.{NoClashFor-any}
+use Rattle.protocol.proofs.Strings.{NoClashFor-any}
 use Rattle.protocol.proofs.Origins.{IsKnownRequest}
 use Rattle.protocol.proofs.Plays.{IsRight, start_right, run_right}
 use Rattle.protocol.proofs.Choices.{only_open}
@@ -109,17 +109,17 @@ module _ (s : Setting) (lines : List (ℕ × Line)) (w : World) (good : IsValid 
   pub run_complete : (x : Record) (end : ℕ) (stamp : Stamp) → Contains w.records x → x.end ≡ Some end → x.stamp ≡ Some stamp → (stamp ≡ first_stamp s) ⊎ IsComplete s w x.block stamp
   run_complete x end stamp h e f = complete_of s w x.block end stamp ((right.safe.records x h).completed end stamp e f)
 
-  pub run_aim : NoClash s w → (x : Record) (end : ℕ) (stamp : Stamp) (c : ℕ) (task : Task) (bound : Bound) → Contains w.records x → x.end ≡ Some end → x.stamp ≡ Some stamp → under_way w c ≡ Some task → task.block ≡ x.block
-      → end < task.start → task.stage ≡ Versions bound → has bound stamp ≡ true
-  run_aim apart x end stamp c task bound h e f busy b l stage = aimed_at s w stamp task.work task.stage bound stage (right.safe.aimed c task (NoClashFor-any s w task.work apart) x end stamp h e f busy b l)
+  pub run_aim : ReadsAskUp s w
+  run_aim c task bound stamp apart x busy stage =
+      aimed_at s w stamp task.work task.stage bound stage (right.safe.aimed c task (NoClashFor-any s w task.work apart) x.past x.end stamp x.there x.ended x.stamped busy (sym x.of_block) x.earlier)
 
-  pub run_above : (x y : Record) (end : ℕ) (stamp later : Stamp) (value : List ℕ) → Contains w.records x → Contains w.records y → x.end ≡ Some end → x.stamp ≡ Some stamp → y.work ≡ Writes value → y.stamp ≡ Some later
-      → y.block ≡ x.block → end < y.start → stamp.time < later.time
-  run_above x y end stamp later value h k e f work g b l = write_after s w stamp later y.work value work (right.safe.ordered x y (subst (NoClashFor s w) (sym work) tt) end stamp later h k e f g b l)
+  pub run_above : WritesDrawAbove s w
+  run_above y value stamp chosen x there work chose =
+      write_after s w stamp chosen y.work value work (right.safe.ordered x.past y (subst (NoClashFor s w) (sym work) tt) x.end stamp chosen x.there there x.ended x.stamped chose (sym x.of_block) x.earlier)
 
-  pub run_up : NoClash s w → (x y : Record) (end : ℕ) (stamp later : Stamp) → Contains w.records x → Contains w.records y → x.end ≡ Some end → x.stamp ≡ Some stamp → y.work ≡ Reads → y.stamp ≡ Some later → y.block ≡ x.block
-      → end < y.start → stamp ≼ later
-  run_up apart x y end stamp later h k e f work g b l = read_after s w stamp later y.work work (right.safe.ordered x y (NoClashFor-any s w y.work apart) end stamp later h k e f g b l)
+  pub run_up : ReadsGiveUp s w
+  run_up y stamp given apart x there work gave =
+      read_after s w stamp given y.work work (right.safe.ordered x.past y (NoClashFor-any s w y.work apart) x.end stamp given x.there there x.ended x.stamped gave (sym x.of_block) x.earlier)
 
 module _ (s : Setting) (lines : List (ℕ × Line)) (w : World) (good : IsValid s) (run : Run s (start_world s) lines w) where
   pub run_in_order : Ascend (starts w.records)

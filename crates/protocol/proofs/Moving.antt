@@ -2,7 +2,6 @@
 use Rattle.std.proofs.Common.{◌≡◌, ◌⊎◌, ℕ, ◌+◌, ◌<◌, ◌≤◌, Bool, true, false, cond, ◌&&◌, List, Option, refl, sym, ◌∙◌, ap, subst, inl, inr, arith, eqb}
 use Rattle.std.specs.declared.option.Option.TheVariants.{None, Some}
 use Rattle.std.specs.List.{Contains}
-use Rattle.std.proofs.lemmas.Bool.Decides.{nat_tests}
 use Rattle.std.proofs.lemmas.List.Elements.{Contains-append_cases, Contains-append_left}
 use Rattle.protocol.specs.Count.{count}
 use Rattle.stamp_order.specs.declared.Stamp.{Stamp}
@@ -16,9 +15,11 @@ use Rattle.protocol.specs.World.{Record, World, chosen_stamp, moved, replaced_by
 use Rattle.protocol.specs.History.{NoClash, IsValue}
 use Rattle.protocol.specs.History.IsValue.{zeros_value, written, given}
 use Rattle.protocol.proofs.Counting.{update-cases}
-use Rattle.protocol.proofs.Lists.{Contains-map, Contains-map_cases}
+use Rattle.protocol.proofs.Lists.{Contains-map}
 use Rattle.protocol.proofs.Mails.{mail_asks, mail_answers}
-use Rattle.protocol.proofs.Seen.{NoClash-before, NoClashFor-before}
+use Rattle.protocol.proofs.Tests.{are_same}
+use Rattle.protocol.proofs.Replacing.{with_cases}
+use Rattle.protocol.proofs.Strings.{NoClash-before, NoClashFor-before}
 use Rattle.protocol.proofs.Invariant.{AtWork, IsOwned, IsTagged, Quorum, IsTask, IsRecord, IsOutcome, IsAimed, IsAfter, NoClashFor, IsSafe, Fits, Accepts, IsOpen, IsFresh, IsStored, IsPassed}
 use Rattle.protocol.proofs.Freshness.{IsFresh-more}
 use Rattle.protocol.proofs.Sending.{working}
@@ -174,21 +175,9 @@ module _ (s : Setting) (w : World) (safe : IsSafe s w) (place : ℕ) (later : w.
     not_ahead : (d : ℕ) (z : Task) → under_way after d ≡ Some z → place < z.start → ⊥
     not_ahead d z e h = let t = (tasks_after d z e).start in omega arith
 
-    apart_by : (a b d e : ℕ) → eqb a b && eqb d e ≡ false → a ≡ b → d ≡ e → ⊥
-    apart_by a b d e h p q = grind (arith, nat_tests)
-
-    alike_by : (a b d e : ℕ) → eqb a b && eqb d e ≡ true → (a ≡ b) × (d ≡ e)
-    alike_by a b d e h = (grind (arith, nat_tests), grind (arith, nat_tests))
-
-    replaced : (x old : Record) (b : Bool) → eqb old.client r.client && eqb old.start r.start ≡ b → Contains w.records old → x ≡ cond b r old → (x ≡ r) ⊎ (Contains w.records x × ((x.client ≡ c → x.start ≡ task.start → ⊥)))
-    replaced x old true t h e = inl e
-    replaced x old false t h e = inr (rw e h, λ p q. apart_by old.client r.client old.start r.start t (sym (ap (λ (y : Record). y.client) e) ∙ p ∙ sym move.client) (sym (ap (λ (y : Record). y.start) e) ∙ q ∙ sym move.start))
-
     -- a record is the new one, or one of before of another operation
     pub record_cases : (x : Record) → Contains after.records x → (x ≡ r) ⊎ (Contains w.records x × ((x.client ≡ c → x.start ≡ task.start → ⊥)))
-    record_cases x h =
-        let q = Contains-map_cases (replaced_by r) w.records x h in
-        replaced x q.0 (eqb q.0.client r.client && eqb q.0.start r.start) refl q.1 q.2
+    record_cases x h = elim (with_cases w.records r x h) [ inl e ↦ inl e | inr k ↦ inr (k.0, λ p q. k.1 (p ∙ sym move.client) (q ∙ sym move.start)) ]
 
     -- a record of before is there still, or it was the one of this operation
     pub record_after : (x : Record) → Contains w.records x → (Contains after.records x) ⊎ (x ≡ open_record c task × Contains after.records r)
@@ -196,7 +185,7 @@ module _ (s : Setting) (w : World) (safe : IsSafe s w) (place : ℕ) (later : w.
       where
         at : (b : Bool) → eqb x.client r.client && eqb x.start r.start ≡ b → Contains after.records (cond (eqb x.client r.client && eqb x.start r.start) r x) → (Contains after.records x) ⊎ (x ≡ open_record c task × Contains after.records r)
         at true t k =
-            let q = alike_by x.client r.client x.start r.start t in
+            let q = are_same x.client r.client x.start r.start t in
             let is_c : x.client ≡ c = q.0 ∙ move.client in
             let run = (safe.records x h).running task (ap (under_way w) is_c ∙ busy) (q.1 ∙ move.start) in
             inr (run ∙ ap (λ (d : ℕ). open_record d task) is_c, (let l : Contains after.records (cond true r x) = rw t at k in l))

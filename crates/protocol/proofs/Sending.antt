@@ -22,7 +22,7 @@ use Rattle.protocol.proofs.Lists.{Contains-one}
 use Rattle.protocol.proofs.Order.{≼-trans, before_false}
 use Rattle.protocol.proofs.Keeping.{pruned_was, pruned_first, pruned_above, pruned_greatest}
 use Rattle.protocol.proofs.Mails.{in_mail, mail_asks, mail_answers}
-use Rattle.protocol.proofs.Seen.{NoClash-before, NoClashFor-before}
+use Rattle.protocol.proofs.Strings.{NoClash-before, NoClashFor-before}
 use Rattle.protocol.proofs.Given.{IsGreatest, greatest_is}
 use Rattle.protocol.proofs.Invariant.{AtWork, IsOwned, IsTagged, Quorum, IsStored, IsCoveredBy, IsPassed, IsSafe}
 

@@ -67,6 +67,16 @@ module _ (s : Setting) where
     pub recorded : Contains w.records (open_record client task)
     pub only : (x : Record) → Contains w.records x → x.client ≡ client → x.start ≡ task.start → x ≡ open_record client task
 
+-- an operation on the block ended with this stamp before the place start
+pub record HasEnded (w : World) (block : ℕ) (stamp : Stamp) (start : ℕ) : Type 0 where
+  pub past : Record
+  pub there : Contains w.records past
+  pub of_block : past.block ≡ block
+  pub stamped : past.stamp ≡ Some stamp
+  pub end : ℕ
+  pub ended : past.end ≡ Some end
+  pub earlier : end < start
+
 -- the first list, and then more
 abbrev pub Extends : {A : Type 0} → List A → List A → Type 0
 Extends {A} xs longer = (more : List A) × (longer ≡ xs ++ more)

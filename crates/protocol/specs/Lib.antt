@@ -14,3 +14,4 @@ pub mod Seen
 pub mod Views
 pub mod Freshness
 pub mod Instance
+pub mod Laws
