@@ -10,6 +10,7 @@
 //! | `reads MOST [K]` | the source gives at most so many bytes at once, and its call K fails, counted from 0 |
 //! | `> TEXT`, `>\| TEXT` | what is written, as of the input |
 //! | `writes MOST [K]` | the sink takes at most so many bytes at once, and its call K fails |
+//! | `each call fails` | the case is also run with each call of the source failing in turn, and with each of the sink |
 //! | `! TEXT` | a line on standard error |
 //! | `status N` | the exit status, if it isn't 0 |
 
@@ -35,6 +36,8 @@ pub struct Case {
     pub writes: Pace,
     pub told: Vec<u8>,
     pub status: u8,
+    /// The calls fail in turn.
+    pub fails_in_turn: bool,
     /// Each line is one of those that cases have.
     pub is_readable: bool,
 }
@@ -55,6 +58,7 @@ impl Case {
             writes: WIDE,
             told: Vec::new(alloc),
             status: 0,
+            fails_in_turn: false,
             is_readable: true,
         })
     }
@@ -72,6 +76,7 @@ impl Case {
             Some(("reads", pace)) => self.reads = pace_of(pace),
             Some(("writes", pace)) => self.writes = pace_of(pace),
             Some(("status", number)) => self.status = number.parse().unwrap_or(u8::MAX),
+            Some(("each", "call fails")) => self.fails_in_turn = true,
             Some(("!", text)) => add_line(&mut self.told, text)?,
             Some((mark, text)) => self.add_text(mark, text)?,
             None => self.add_bare(line)?,

@@ -7,13 +7,16 @@ mod case;
 mod outcome;
 
 use case::{Case, cases_of};
-use outcome::outcome_of;
+use outcome::{outcome_of, tells_faults};
 use std::{fs, io};
 
 fn run(rt: &HostRuntime, file: &str, case: &Case) -> io::Result<()> {
     let outcome = outcome_of(rt.alloc(), case)?;
     if let Some(difference) = outcome.difference(case) {
         println!(rt; "{file}: {}: {difference} differs", case.name)?;
+    }
+    if !tells_faults(rt.alloc(), case)? {
+        println!(rt; "{file}: {}: a fault isn't told", case.name)?;
     }
     Ok(())
 }

@@ -31,16 +31,69 @@ fn error_of(_: NoMemory) -> io::Error {
 
 /// Runs a case.
 pub fn outcome_of(alloc: Global, case: &Case) -> io::Result<Outcome> {
+    paced(alloc, case, case.reads, case.writes)
+}
+
+// Runs a case with other calls that fail.
+fn paced(alloc: Global, case: &Case, reads: Pace, writes: Pace) -> io::Result<Outcome> {
     let input = Bytes::of(alloc, case.input.as_slice()).map_err(error_of)?;
-    let most = case.reads.most.max(1);
-    let mut source = MemorySource::new(input, most, calls_of(alloc, case.reads)?);
-    let most = case.writes.most.max(1);
-    let mut sink = MemorySink::new(alloc, most, calls_of(alloc, case.writes)?);
+    let mut source = MemorySource::new(input, reads.most.max(1), calls_of(alloc, reads)?);
+    let mut sink = MemorySink::new(alloc, writes.most.max(1), calls_of(alloc, writes)?);
     let words = case.words.as_slice();
     let status = pasis(alloc, words, &mut source, &mut sink, &OpenGate);
     let mut told = Vec::new(alloc);
     status.tell(&mut told)?;
     Ok(Outcome { status, sink, told })
+}
+
+// No case has so many calls.
+const CALLS: u64 = 10_000;
+
+// Whether each call of the source that fails is a read fault, at which nothing is written.
+fn tells_read_faults(alloc: Global, case: &Case) -> io::Result<bool> {
+    for call in 0..CALLS {
+        let failing = Some(call);
+        let outcome = paced(
+            alloc,
+            case,
+            Pace {
+                failing,
+                ..case.reads
+            },
+            case.writes,
+        )?;
+        match outcome.status {
+            Status::ReadFault if outcome.sink.taken().is_empty() => {}
+            status => return Ok(status == Status::Done && 0 < call),
+        }
+    }
+    Ok(false)
+}
+
+// Whether each call of the sink that fails is a write fault, at which a beginning of the output is written.
+fn tells_write_faults(alloc: Global, case: &Case) -> io::Result<bool> {
+    for call in 0..CALLS {
+        let failing = Some(call);
+        let outcome = paced(
+            alloc,
+            case,
+            case.reads,
+            Pace {
+                failing,
+                ..case.writes
+            },
+        )?;
+        match outcome.status {
+            Status::WriteFault if case.output.starts_with(outcome.sink.taken()) => {}
+            status => return Ok(status == Status::Done && 0 < call),
+        }
+    }
+    Ok(false)
+}
+
+/// Whether each fault of a case whose calls fail in turn is told. After the last call none fails.
+pub fn tells_faults(alloc: Global, case: &Case) -> io::Result<bool> {
+    Ok(!case.fails_in_turn || tells_read_faults(alloc, case)? && tells_write_faults(alloc, case)?)
 }
 
 impl Outcome {
