@@ -19,14 +19,14 @@ use Rattle.protocol.specs.World.{accepted_at}
 use Rattle.protocol.specs.Seen.{world_of, accepted_of}
 use Rattle.protocol.specs.Instance.{setting}
 use Rattle.protocol.proofs.Seeing.{versions-set, node_crashed-set}
-use Rattle.node_core.specs.Seen.{SeenNode, versions_in, with_versions, reply_of, after_of}
+use Rattle.node_core.specs.Seen.{SeenNode, versions_in, with_versions, reply_of, accepts_of, after_of}
 use Rattle.world_steps.specs.declared.node_slot.NodeSlot.{NodeSlot}
 use Rattle.world_steps.specs.declared.client_slot.ClientSlot.{ClientSlot}
 use Rattle.world_steps.specs.declared.state.State.TheInside.{Inside}
 use Rattle.world_steps.specs.contracts.state.State.{the_view}
 use Rattle.world_steps.specs.Worlds.{WorldView, setting_in, world_in}
 use Rattle.world_steps.specs.Slots.{IsWorld, IsNodeSlot}
-use Rattle.world_steps.specs.Acceptances.{accepts_of, told_of}
+use Rattle.world_steps.specs.Acceptances.{told_of}
 use Rattle.world_steps.proofs.ListItems.{slice_get-set_cases}
 use Rattle.world_steps.proofs.ClientSlots.{update-known}
 

@@ -11,7 +11,7 @@ ghost use Rattle.protocol.specs.Instance.{setting};
 ghost use Rattle.world_steps.specs.Worlds.{setting_in, world_in};
 ghost use Rattle.run_words.specs.declared.record.Record.{Record as Told};
 ghost use Rattle.client_core.specs.Clients.{hears};
-ghost use Rattle.world_steps.specs.Steps.{handles, client_in, IsAnswer};
+ghost use Rattle.world_steps.specs.Steps.{accepts_in, handles, client_in, IsAnswer};
 ghost use Rattle.world_steps.specs.AnswerEffects.{IsEffect, next_mail, IsSame, Becomes, MayApply, settled, applied};
 
 use crate::answer_effect::AnswerEffect;
@@ -19,13 +19,13 @@ use crate::block_use::{greater, leave, stamp_given};
 use crate::nodes::block_of;
 use crate::state::State;
 use client_core::{Client, Heard};
-use lists::{Copied, ItemList, NoMemory};
+use lists::{Copied, ItemList, NoMemory, Shared};
 use quorum_rules::Config;
 use run_words::{Outcome, Record};
 use stamp_order::Stamp;
 use std::alloc::Global;
 use std::mem::replace;
-use wire_forms::{Ask, Mail, Message, Op};
+use wire_forms::{Ask, Mail, Message, Op, Version};
 
 impl State {
     /// A client that does nothing starts an operation.
@@ -205,18 +205,20 @@ impl State {
         Ok(())
     }
 
-    /// A node handles an ask, a message is sent, and a client hears it.
+    /// A node adds what it prepared for an ask, a message is sent, and a client hears it.
     pub(crate) fn hear_given(
         &mut self,
         place: u64,
         client: u32,
         node: u8,
         ask: &Ask,
+        added: Option<Shared<Version>>,
         message: Message,
     ) -> Result<(), NoMemory>
         requires later { self.now.seen.place < place }
         requires client { client ≤ 1000 }
         requires node { node < self.now.config.n }
+        requires added { added ≡ accepts_in (setting_in self.now) (world_in self.now) node ask.now }
         requires awake { (world_in self.now).client_crashed client ≡ false }
         requires answer { IsAnswer client message }
         ensures ok { OnOk result (world_in self.new ≡ heard (setting_in self.old) (handles (setting_in self.old) (world_in self.old) place node ask.now (message ∷ [])) place client message message.body) }
@@ -227,7 +229,7 @@ impl State {
     {
         let (effect, next) = self.heard(client, &message)?;
         let mail = ahead(self.alloc, message, next)?;
-        self.give(place, node, ask, mail)?;
+        self.give(place, node, ask, added, mail)?;
         self.apply(client, effect);
         Ok(())
     }

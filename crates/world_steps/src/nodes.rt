@@ -7,18 +7,16 @@ ghost use Rattle.protocol.specs.Seen.{block_of};
 ghost use Rattle.protocol.specs.World.Event.{CrashNode as NodeCrashes, Prune as Prunes};
 ghost use Rattle.world_steps.specs.Worlds.{setting_in, world_in, with_seen};
 ghost use Rattle.protocol.specs.Count.{one_more};
-ghost use Rattle.node_core.specs.Seen.{with_versions, after_of};
-ghost use Rattle.world_steps.specs.Steps.{handles};
-ghost use Rattle.world_steps.specs.Acceptances.{accepts_of, told_of, new_stamp};
+ghost use Rattle.node_core.specs.Seen.{with_versions, after_of, accepts_of};
+ghost use Rattle.world_steps.specs.Steps.{accepts_in, handles};
+ghost use Rattle.world_steps.specs.Acceptances.{told_of};
 
 use crate::block_use::{BlockUse, UNUSED};
 use crate::state::State;
-use lists::{ItemList, NoMemory};
-use node_core::Node;
-use quorum_rules::Config;
+use lists::{ItemList, NoMemory, Shared};
+use node_core::{Node, Prepared};
 use run_words::Accepted;
-use stamp_order::Stamp;
-use wire_forms::{Ask, Body, Mail, Message, Op, Reply, Request};
+use wire_forms::{Ask, Body, Mail, Message, Op, Version};
 
 impl State {
     /// Sends messages.
@@ -35,31 +33,40 @@ impl State {
         Ok(())
     }
 
-    /// The node's answer to a message with this ask.
-    pub(crate) fn answer(&self, node: u8, message: &Message, ask: &Ask) -> Result<Message, NoMemory>
+    /// The node's answer to a message with this ask, and the version that the node adds by it, if any.
+    pub(crate) fn answer(
+        &self,
+        node: u8,
+        message: &Message,
+        ask: &Ask,
+    ) -> Result<(Message, Option<Shared<Version>>), NoMemory>
         requires { node < self.now.config.n }
-        ensures { IfOk result (λ m. m ≡ answer_of (setting_in self.now) (world_in self.now) node message.now ask.now) }
+        ensures answer { IfOk result (λ r. r.0 ≡ answer_of (setting_in self.now) (world_in self.now) node message.now ask.now) }
+        ensures added { IfOk result (λ r. r.1 ≡ accepts_in (setting_in self.now) (world_in self.now) node ask.now) }
     {
         let slot = &self.node_slots[usize::from(node)];
-        let reply = slot.node.reply_to(ask)?;
-        Ok(Message {
+        let Prepared { reply, added } = slot.node.prepare(ask)?;
+        let answer = Message {
             client: message.client,
             node,
             tag: message.tag,
             body: Body::Answer(reply),
-        })
+        };
+        Ok((answer, added))
     }
 
-    /// Lets the node handle the ask, and sends messages.
+    /// Lets the node add what it prepared for the ask, and sends messages.
     pub(crate) fn give(
         &mut self,
         place: u64,
         node: u8,
         ask: &Ask,
+        added: Option<Shared<Version>>,
         mut mail: Mail,
     ) -> Result<(), NoMemory>
         requires later { self.now.seen.place < place }
         requires node { node < self.now.config.n }
+        requires added { added ≡ accepts_in (setting_in self.now) (world_in self.now) node ask.now }
         ensures ok { OnOk result (world_in self.new ≡ handles (setting_in self.old) (world_in self.old) place node ask.now mail) }
         ensures cluster { OnOk result (self.new.config ≡ self.old.config) }
         ensures lying_nodes { OnOk result (self.new.lying_nodes ≡ self.old.lying_nodes) }
@@ -69,7 +76,7 @@ impl State {
         let sent = self.pool.len();
         self.pool.append(&mut mail)?;
         let slot = &mut self.node_slots[usize::from(node)];
-        match handle(&mut slot.node, node, &self.config, ask, &mut self.accepted) {
+        match keep(&mut slot.node, node, ask, added, &mut self.accepted) {
             Ok(()) => {
                 self.place = place;
                 Ok(())
@@ -134,50 +141,33 @@ impl State {
     }
 }
 
-/// Lets the node of this number handle the ask, and tells the version that it accepts, if any.
-fn handle(
+/// Lets the node of this number add what it prepared for the ask, and tells the version, if any.
+fn keep(
     node: &mut Node,
     number: u8,
-    config: &Config,
     ask: &Ask,
+    added: Option<Shared<Version>>,
     accepted: &mut ItemList<Accepted>,
 ) -> Result<(), NoMemory>
-    requires cluster { node.old.config ≡ config.now }
+    requires { added ≡ accepts_of node.old ask.now }
     ensures node { OnOk result (node.new ≡ with_versions node.old ask.now.block (after_of node.old ask.now)) }
     ensures told { OnOk result (accepted.new ≡ one_more accepted.old (told_of number ask.now.block (accepts_of node.old ask.now))) }
     ensures node_kept { OnErr result (node.new ≡ node.old) }
     ensures told_kept { OnErr result (accepted.new ≡ accepted.old) }
 {
-    let Some(stamp) = new_stamp(node, config, ask) else {
-        node.handle(ask)?;
-        return Ok(());
+    let Some(version) = &added else {
+        return node.commit(ask, added);
     };
     accepted.push(Accepted {
         node: number,
         block: ask.block,
-        stamp,
+        stamp: version.stamp,
     })?;
-    let handled = node.handle(ask);
-    if let Ok(Reply::Ack) = &handled {
-        return Ok(());
+    let kept = node.commit(ask, added);
+    if kept.is_err() {
+        let _ = accepted.pop();
     }
-    let _ = accepted.pop();
-    handled?;
-    Ok(())
-}
-
-/// The stamp of the version that the ask writes, if there is such a block and the node keeps no version of this stamp.
-fn new_stamp(node: &Node, config: &Config, ask: &Ask) -> Option<Stamp>
-    requires { node.now.config ≡ config.now }
-    ensures { result ≡ new_stamp node.now ask.now }
-{
-    match &ask.request {
-        Request::Write(version)
-            if ask.block < config.blocks() && !node.keeps(ask.block, &version.stamp) => {
-            Some(version.stamp)
-        }
-        _ => None,
-    }
+    kept
 }
 
 /// The block that the operation is on.

@@ -124,8 +124,8 @@ impl State {
         let Body::Ask(ask) = &message.body else {
             return Ok(());
         };
-        let answer = self.answer(node, &message, ask)?;
-        self.hear_given(place, client, node, ask, answer)
+        let (answer, added) = self.answer(node, &message, ask)?;
+        self.hear_given(place, client, node, ask, added, answer)
     }
 
     /// The node is given an ask of the pool.
@@ -143,10 +143,10 @@ impl State {
             return Ok(());
         };
         let ask = ask.copy()?;
-        let answer = self.answer(node, message, &ask)?;
+        let (answer, added) = self.answer(node, message, &ask)?;
         let mut mail = Mail::new(self.alloc);
         mail.push(answer)?;
-        self.give(place, node, &ask, mail)
+        self.give(place, node, &ask, added, mail)
     }
 
     /// A message is sent.
@@ -173,11 +173,11 @@ impl State {
         };
         let ask = ask.copy()?;
         let node = message.node;
-        let answer = self.answer(node, &message, &ask)?;
+        let (answer, added) = self.answer(node, &message, &ask)?;
         let mut mail = Mail::new(self.alloc);
         mail.push(message)?;
         mail.push(answer)?;
-        self.give(place, node, &ask, mail)
+        self.give(place, node, &ask, added, mail)
     }
 
     /// A lying node answers what the client asks by a rule, and the client hears it.

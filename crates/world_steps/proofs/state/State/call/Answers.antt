@@ -9,7 +9,7 @@ pub returns-clause-ok : goal.returns-clause-ok
 returns-clause-ok c =
     on_ok_weaker c.hear_given.result
     (λ e. record {
-      world = e ∙ called_plays (setting_in c.args.self.now) c.args.place (world_in c.args.self.now) c.args.client c.args.node c.in-Some.message c.in-Ask.ask c.in_ok-answer.answer c.requires.working (sym c.in-Some.is ∙ c.in_ok-message.ensures) c.in-Ask.is c.in_ok-answer.ensures;
+      world = e ∙ called_plays (setting_in c.args.self.now) c.args.place (world_in c.args.self.now) c.args.client c.args.node c.in-Some.message c.in-Ask.ask c.in_ok-answer.answer c.requires.working (sym c.in-Some.is ∙ c.in_ok-message.ensures) c.in-Ask.is c.in_ok-answer.ensures.answer;
       config = search rules;
       lying_nodes = search rules;
       lying_clients = search rules;

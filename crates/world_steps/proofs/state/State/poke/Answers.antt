@@ -10,7 +10,7 @@ pub returns-clause-ok : goal.returns-clause-ok
 returns-clause-ok c =
     on_ok_weaker c.give.result
     (λ e. record {
-      world = e ∙ poked_plays (setting_in c.args.self.now) c.args.place (world_in c.args.self.now) c.args.message c.in_ok-ask.ask c.in_ok-answer.answer (c.in-Ask.is ∙ ap Asks (sym c.in_ok-ask.ensures)) c.in_ok-answer.ensures _ (search rules);
+      world = e ∙ poked_plays (setting_in c.args.self.now) c.args.place (world_in c.args.self.now) c.args.message c.in_ok-ask.ask c.in_ok-answer.answer (c.in-Ask.is ∙ ap Asks (sym c.in_ok-ask.ensures)) c.in_ok-answer.ensures.answer _ (search rules);
       config = search rules;
       lying_nodes = search rules;
       lying_clients = search rules;
