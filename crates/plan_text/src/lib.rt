@@ -1,0 +1,8 @@
+//! Plans as texts.
+//!
+//! A plan is the two head lines of a script, and then rules and work in any order, a line each.
+#![tactic(auto)]
+
+pub mod line;
+pub mod marks;
+pub mod word;
