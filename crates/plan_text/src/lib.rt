@@ -3,6 +3,8 @@
 //! A plan is the two head lines of a script, and then rules and work in any order, a line each.
 #![tactic(auto)]
 
+mod forms;
 pub mod line;
 pub mod marks;
+mod numbers;
 pub mod word;
