@@ -4,6 +4,7 @@
 #![tactic(auto)]
 
 mod forms;
+mod liars;
 pub mod line;
 pub mod marks;
 mod numbers;

@@ -2,11 +2,12 @@
 //! out of its range.
 #![tactic(auto, using(text_lines::proofs::Spelled::spelled, std::proofs::lemmas::Grind::common_steps))]
 
-ghost use Rattle.std.specs.Prelude.{◌≡◌, ◌↔◌, ◌∷◌, ◌^◌, ◌<◌, ◌≤◌, [], false, decimal, IsTrue};
+ghost use Rattle.std.specs.Prelude.{◌≡◌, ◌↔◌, ◌∷◌, ◌^◌, ◌<◌, ◌≤◌, [], false, decimal, min, IsTrue};
 ghost use Rattle.line_forms.specs.Kinds as kinds;
 ghost use Rattle.line_forms.specs.Kinds.{form_cause, has_empty_field};
 ghost use Rattle.line_forms.specs.Tables.{Gives};
 ghost use Rattle.event_lines.specs.Lines.{IsClient, IsNode, IsBlock};
+ghost use Rattle.plan_text.specs.Forms.{number_at};
 
 use line_forms::{Cause, LineRefusal};
 use quorum_rules::Config;
@@ -14,6 +15,9 @@ use text_lines::{number, number_u8, number_u32};
 
 /// The greatest count of asks in a rule.
 const MOST_ASKS: u64 = 1000;
+
+/// The greatest count of writes in a flood.
+const MOST_WRITES: u64 = 250;
 
 /// Whether a client may have this number.
 pub fn is_client(client: u32) -> bool
@@ -169,4 +173,25 @@ pub fn read_forged(
         time,
         count,
     })
+}
+
+/// What four fields spell of a flood: a client, a block, a time, and a count of no more writes than there are times from
+/// this one down to 1.
+pub fn read_flood(
+    config: &Config,
+    client: &[u8],
+    block: &[u8],
+    time: &[u8],
+    count: &[u8],
+) -> Result<Forged, LineRefusal>
+    requires { has_empty_field (client.now ∷ block.now ∷ time.now ∷ count.now ∷ []) ≡ false }
+    ensures { Gives (λ read. IsClient read.client × IsBlock config.now read.block × (read.time < 2 ^ 64) × (read.count ≤ 250) × (read.count ≤ read.time)
+        × (client.now ≡ decimal read.client) × (block.now ≡ decimal read.block) × (time.now ≡ decimal read.time) × (count.now ≡ decimal read.count))
+        (form_cause (kinds.client ∷ kinds.block config.now.blocks ∷ kinds.any_u64 ∷ kinds.count_to (min 250 (number_at 0 (time.now ∷ []))) ∷ []) (client.now ∷ block.now ∷ time.now ∷ count.now ∷ [])) result }
+{
+    let forged = read_forged(config, MOST_WRITES, client, block, time, count)?;
+    if forged.count > forged.time {
+        return Err(LineRefusal::Cause(Cause::OutOfRange));
+    }
+    Ok(forged)
 }
