@@ -61,13 +61,20 @@ mix_form c = only (codes "client") ∷ client ∷ only (codes "mix") ∷ block c
 abbrev pub flood_form : Numbers → ℕ → List Kind
 flood_form c time = only (codes "client") ∷ client ∷ only (codes "flood") ∷ block c.blocks ∷ any_u64 ∷ value c.size ∷ value c.size ∷ count_to (min 250 time) ∷ []
 
+abbrev pub crash_node_form : Numbers → List Kind
+crash_node_form c = only (codes "node") ∷ node c.n ∷ count_to 1000 ∷ []
+
+abbrev pub crash_client_form : List Kind
+crash_client_form = only (codes "client") ∷ client ∷ count_to 1000 ∷ []
+
+-- asks between a client and a node
 abbrev pub between : Numbers → List Kind
 between c = client ∷ node c.n ∷ count_to 1000 ∷ []
 
 -- the fields after a word: those of one of these forms, which their fixed words tell apart
 abbrev pub forms_of : Numbers → List (List ℕ) → Word → List (List Kind)
 forms_of c fields Liar = node_form c ∷ sound_form c ∷ mix_form c ∷ flood_form c (number_at 4 fields) ∷ []
-forms_of c fields Crash = (only (codes "node") ∷ node c.n ∷ count_to 1000 ∷ []) ∷ (only (codes "client") ∷ client ∷ count_to 1000 ∷ []) ∷ []
+forms_of c fields Crash = crash_node_form c ∷ crash_client_form ∷ []
 forms_of c fields Drop = between c ∷ []
 forms_of c fields Hold = between c ∷ []
 forms_of c fields Write = (client ∷ block c.blocks ∷ value c.size ∷ []) ∷ []

@@ -2,3 +2,5 @@ pub mod Lines
 pub mod Forms
 pub mod Marks
 pub mod Plans
+pub mod Sets
+pub mod Reading

@@ -1,14 +1,15 @@
-//! The lines of a plan but for those of liars, each with its fields one by one, none of them empty.
+//! The lines of a plan but for those of liars.
 #![tactic(auto, using(text_lines::proofs::Spelled::spelled, std::proofs::lemmas::Grind::common_steps))]
 
 ghost use Rattle.std.specs.Prelude.{◌≡◌, ◌∷◌, [], codes, false};
 ghost use Rattle.quorum_rules.specs.Limits.{Numbers};
 ghost use Rattle.text_lines.specs.Fields.{value_text, IsBytes};
+ghost use Rattle.text_lines.specs.Lines.{texts};
 ghost use Rattle.line_forms.specs.Kinds.Kind.{bytes as any_bytes};
 ghost use Rattle.line_forms.specs.Kinds.{form_cause, has_empty_field};
 ghost use Rattle.line_forms.specs.Tables.{Gives};
 ghost use Rattle.event_lines.specs.Forms.{fields_cause};
-ghost use Rattle.plan_text.specs.Forms.{forms_of};
+ghost use Rattle.plan_text.specs.Forms.{crash_client_form, crash_node_form, forms_of};
 ghost use Rattle.plan_text.specs.Lines.{IsSpelled};
 
 use crate::line::PlanLine;
@@ -17,32 +18,50 @@ use crate::numbers::{
 };
 use crate::word::Word;
 use cross_sum::Bytes;
-use line_forms::{Cause, LineRefusal, value_of_len};
+use line_forms::{Cause, LineRefusal, has_empty, value_of_len};
 use plan_words::{Fault, Job};
 use quorum_rules::Config;
 use std::alloc::Global;
 use text_lines::{number, number_u32, value};
 use wire_forms::{DeviceOp, Op};
 
-pub fn crash(
-    config: &Config,
-    what: &[u8],
-    number: &[u8],
-    count: &[u8],
-) -> Result<PlanLine, LineRefusal>
-    requires { has_empty_field (what.now ∷ number.now ∷ count.now ∷ []) ≡ false }
-    ensures { Gives (IsSpelled config.now (codes "crash" ∷ what.now ∷ number.now ∷ count.now ∷ []))
-        (fields_cause (forms_of config.now (what.now ∷ number.now ∷ count.now ∷ []) Word.Crash) (what.now ∷ number.now ∷ count.now ∷ [])) result }
+/// The line of a crash, from the fields behind its word.
+pub fn crash(config: &Config, fields: &[&[u8]]) -> Result<PlanLine, LineRefusal>
+    ensures { Gives (IsSpelled config.now (codes "crash" ∷ texts fields.now))
+        (fields_cause (forms_of config.now (texts fields.now) Word.Crash) (texts fields.now)) result }
 {
-    if what == b"node".as_slice() {
-        let (node, count) = node_and_count(config, number, count)?;
-        return Ok(PlanLine::Rule(Fault::CrashNode { node, count }));
+    let Some((what, rest)) = fields.split_first() else {
+        return Err(LineRefusal::Cause(Cause::WrongCount));
+    };
+    if *what == b"node".as_slice() {
+        return crash_node(config, rest);
     }
-    if what == b"client".as_slice() {
-        let (client, count) = client_and_count(number, count)?;
-        return Ok(PlanLine::Rule(Fault::CrashClient { client, count }));
+    if *what == b"client".as_slice() {
+        return crash_client(rest);
     }
     Err(LineRefusal::Cause(Cause::UnknownWord))
+}
+
+fn crash_node(config: &Config, fields: &[&[u8]]) -> Result<PlanLine, LineRefusal>
+    ensures { Gives (IsSpelled config.now (codes "crash" ∷ codes "node" ∷ texts fields.now))
+        (form_cause (crash_node_form config.now) (codes "node" ∷ texts fields.now)) result }
+{
+    if fields.len() != 2 || has_empty(fields) {
+        return Err(LineRefusal::Cause(Cause::WrongCount));
+    }
+    let (node, count) = node_and_count(config, fields[0], fields[1])?;
+    Ok(PlanLine::Rule(Fault::CrashNode { node, count }))
+}
+
+fn crash_client(fields: &[&[u8]]) -> Result<PlanLine, LineRefusal>
+    ensures { (c : Numbers) → Gives (IsSpelled c (codes "crash" ∷ codes "client" ∷ texts fields.now))
+        (form_cause crash_client_form (codes "client" ∷ texts fields.now)) result }
+{
+    if fields.len() != 2 || has_empty(fields) {
+        return Err(LineRefusal::Cause(Cause::WrongCount));
+    }
+    let (client, count) = client_and_count(fields[0], fields[1])?;
+    Ok(PlanLine::Rule(Fault::CrashClient { client, count }))
 }
 
 pub fn dropping(

@@ -90,27 +90,34 @@ fn node_by_rule(config: &Config, node: &[u8], rule: &[u8]) -> Result<PlanLine, L
     Ok(PlanLine::Rule(Fault::LiarNode { node, rule }))
 }
 
-fn liar_client(
-    alloc: Global,
-    config: &Config,
-    fields: &[&[u8]],
-) -> Result<PlanLine, LineRefusal>
+fn liar_client(alloc: Global, config: &Config, fields: &[&[u8]]) -> Result<PlanLine, LineRefusal>
     ensures { Gives (IsSpelled config.now (codes "liar" ∷ codes "client" ∷ texts fields.now))
         (fields_cause (forms_of config.now (codes "client" ∷ texts fields.now) Word.Liar) (codes "client" ∷ texts fields.now)) result }
 {
-    let Some(kind) = fields.get(1) else {
+    if fields.len() < 2 {
         return Err(LineRefusal::Cause(Cause::WrongCount));
-    };
-    if *kind == b"sound".as_slice() {
+    }
+    let kind = second(fields);
+    if kind == b"sound".as_slice() {
         return sound_in(alloc, config, fields);
     }
-    if *kind == b"mix".as_slice() {
+    if kind == b"mix".as_slice() {
         return mix_in(alloc, config, fields);
     }
-    if *kind == b"flood".as_slice() {
+    if kind == b"flood".as_slice() {
         return flood_in(alloc, config, fields);
     }
     Err(LineRefusal::Cause(Cause::UnknownWord))
+}
+
+/// The second field, or nothing where there is none.
+fn second<'a>(fields: &[&'a [u8]]) -> &'a [u8]
+    ensures { result.now ≡ field_at 1 (texts fields.now) }
+{
+    match fields.get(1) {
+        Some(field) => field,
+        None => &[],
+    }
 }
 
 fn sound_in(alloc: Global, config: &Config, fields: &[&[u8]]) -> Result<PlanLine, LineRefusal>

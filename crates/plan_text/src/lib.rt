@@ -8,4 +8,10 @@ mod liars;
 pub mod line;
 pub mod marks;
 mod numbers;
+mod plan;
+mod reading;
+pub mod seen;
 pub mod word;
+
+pub use line_forms::{Cause, DeviceFault, ScriptFault, ScriptRefusal};
+pub use plan::read_plan;

@@ -73,11 +73,7 @@ pub fn client_and_place(client: &[u8], place: &[u8]) -> Result<(u32, u64), LineR
 }
 
 /// The node and the count of asks that two fields spell.
-pub fn node_and_count(
-    config: &Config,
-    node: &[u8],
-    count: &[u8],
-) -> Result<(u8, u64), LineRefusal>
+pub fn node_and_count(config: &Config, node: &[u8], count: &[u8]) -> Result<(u8, u64), LineRefusal>
     requires { has_empty_field (node.now ∷ count.now ∷ []) ≡ false }
     ensures { Gives (λ read. IsNode config.now read.0 × (read.1 ≤ 1000) × (node.now ≡ decimal read.0) × (count.now ≡ decimal read.1))
         (form_cause (kinds.node config.now.n ∷ kinds.count_to 1000 ∷ []) (node.now ∷ count.now ∷ [])) result }
