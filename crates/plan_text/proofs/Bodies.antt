@@ -1,6 +1,5 @@
 -- The lines of a plan, read one after the other.
 use Rattle.std.proofs.Common.{◌≡◌, ◌≢◌, ℕ, ◌+◌, ◌-◌, ◌^◌, ◌≤◌, ◌<◌, List, [], ◌∷◌, ◌++◌, length, map, drop, take, Option, Some, None, refl, sym, ap, subst, ◌∙◌, arith, append_assoc, length-append}
-use Rattle.std.specs.Prelude.{nat_eq, fold, count_by, sum_by}
 use Rattle.std.specs.List.{AllByRecursion, IsDistinct, filter_map, cons_option}
 use Rattle.std.specs.Ordering.{nat_cmp}
 use Rattle.std.specs.BTreeSet.{insert_key}
@@ -17,7 +16,7 @@ use Rattle.line_forms.specs.Texts.{IsFault, IsFaultless, ReadsTo, end_causes}
 use Rattle.line_forms.specs.declared.cause.Cause.{Cause}
 use Rattle.line_forms.specs.declared.cause.Cause.TheVariants.{Cut}
 use Rattle.line_forms.proofs.Accepted.{numbers_back}
-use Rattle.line_forms.proofs.Texts.{reads_on, line_fault, end_fault, read_all, text_read, cut_short}
+use Rattle.line_forms.proofs.Texts.{reads_on, line_fault, end_fault, read_all, text_read}
 use Rattle.plan_words.specs.declared.fault.Fault.{Fault}
 use Rattle.plan_words.specs.declared.job.Job.{Job}
 use Rattle.plan_words.specs.declared.plan.Plan.{Plan}
@@ -165,4 +164,4 @@ body_spelled text plan seen rest number h none = record {
 }
 
 pub body_faultless : (text : List ℕ) (plan : Plan) (seen : Seen) (rest : List ℕ) (number : ℕ) → BodyRead text plan seen rest number → rest ≡ [] → IsFaultless plan_script text
-body_faultless text plan seen rest number h none = read_all plan_script text _ (line_of_fields (cluster_fields plan.config) ∷ map line_text h.lines) rest h.reads none refl
+body_faultless text plan seen rest number h none = read_all plan_script text (header plan.config.edition) (line_of_fields (cluster_fields plan.config) ∷ map line_text h.lines) rest h.reads none refl

@@ -1,16 +1,10 @@
 -- What stands against a line, by what was seen of the lines before it, and what is seen after it.
-use Rattle.std.proofs.Common.{◌≡◌, ℕ, ◌+◌, ◌<◌, ◌≤◌, Bool, true, false, ◌||◌, ◌&&◌, not, cond, ltb, leb, List, [], ◌∷◌, ◌++◌, length, Option, Some, None, refl, sym, ap, subst, ◌∙◌, ◌⊎◌, inl, inr, arith}
-use Rattle.std.specs.Prelude.{nat_eq, is_some, option_map, count_by, sum_by}
-use Rattle.std.specs.List.{AllByRecursion, IsDistinct, filter_map, cons_option, list_any}
+use Rattle.std.proofs.Common.{◌≡◌, ℕ, ◌+◌, Bool, true, false, ◌||◌, ◌&&◌, not, ltb, leb, List, [], ◌∷◌, Option, Some, None, refl, ap, ◌∙◌}
+use Rattle.std.specs.Prelude.{nat_eq, is_some, option_map}
+use Rattle.std.specs.List.{filter_map}
 use Rattle.std.specs.Ordering.{nat_cmp}
-use Rattle.std.specs.BTreeSet.{BTreeSet, contains, btree_set_len, IsOrdered}
-use Rattle.std.specs.Set.{is_member, distinct_count}
-use Rattle.std.proofs.lemmas.Bool.{cases_Bool, ltb-false}
-use Rattle.std.proofs.lemmas.Bool.Decides.{nat_tests}
-use Rattle.std.proofs.lemmas.Cmp.{nat_eq_equiv}
-use Rattle.std.proofs.lemmas.List.{append-nil}
-use Rattle.std.proofs.lemmas.List.Folds.{list_any-append}
-use Rattle.std.proofs.lemmas.List.Sums.{sum_by_push}
+use Rattle.std.specs.BTreeSet.{BTreeSet, btree_set_len}
+use Rattle.std.specs.Set.{distinct_count}
 use Rattle.quorum_rules.specs.Limits.{Numbers}
 use Rattle.line_forms.specs.Tables.{first_of, or_then}
 use Rattle.line_forms.specs.declared.cause.Cause.{Cause}
@@ -20,15 +14,15 @@ use Rattle.plan_words.specs.Named.{pair_eq}
 use Rattle.plan_words.specs.Plans.{step_limit}
 use Rattle.plan_text.specs.declared.seen.Seen.{Seen}
 use Rattle.plan_text.specs.Marks.{Marks}
-use Rattle.plan_text.specs.Plans.{is_among, is_new, client_of, names_again, is_of_liar, is_liar_too_many, is_faulty_too_many, is_client_too_many, is_line_too_many, mark_causes, later_cause}
-use Rattle.plan_text.specs.Reading.{HasAll, IsSeen, AreFine, pair_cmp, seen_again, seen_of_liar, seen_client_too_many, seen_too_many, seen_cause}
-use Rattle.plan_text.specs.Sets.{has, IsAdded}
-use Rattle.plan_text.proofs.Sets.{has_is, has_more, nat_tie, pair_tie, pair_laws, more_named, more_length, distinct_more, len_is}
+use Rattle.plan_text.specs.Plans.{is_new, client_of, names_again, is_of_liar, is_liar_too_many, is_faulty_too_many, is_client_too_many, is_line_too_many, later_cause}
+use Rattle.plan_text.specs.Reading.{HasAll, IsSeen, pair_cmp, seen_again, seen_of_liar, seen_client_too_many, seen_too_many, seen_cause}
+use Rattle.plan_text.specs.Sets.{has}
+use Rattle.plan_text.proofs.Sets.{has_is, len_is}
 
 -- ---- the same cause by what was seen
 
 -- the table of causes over its tests
-abbrev table : Bool → Bool → Bool → Bool → Bool → Option DeviceFault → Option Cause
+abbrev pub table : Bool → Bool → Bool → Bool → Bool → Option DeviceFault → Option Cause
 table a b d e f o = or_then (first_of ((a, Twice) ∷ (b, TooManyLiars) ∷ (d, TooManyFaulty) ∷ (e, LyingClient) ∷ (f, TooManyLines) ∷ [])) (option_map DeviceCause o)
 
 same_or : (a b c d : Bool) → a ≡ b → c ≡ d → (a || c) ≡ (b || d)
@@ -83,7 +77,7 @@ pub record IsFree (c : Numbers) (ms : List Marks) (m : Marks) : Type 0 where
   pub line : is_line_too_many c ms m ≡ false
   pub fault : m.fault ≡ None
 
-no_cause : (a b d e f : Bool) (o : Option DeviceFault) → table a b d e f o ≡ None → (a ≡ false) × (b ≡ false) × (d ≡ false) × (e ≡ false) × (f ≡ false) × (o ≡ None)
+pub no_cause : (a b d e f : Bool) (o : Option DeviceFault) → table a b d e f o ≡ None → (a ≡ false) × (b ≡ false) × (d ≡ false) × (e ≡ false) × (f ≡ false) × (o ≡ None)
 no_cause true b d e f o h = absurd cc
 no_cause false true d e f o h = absurd cc
 no_cause false false true e f o h = absurd cc

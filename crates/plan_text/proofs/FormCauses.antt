@@ -1,5 +1,5 @@
 -- What is wrong with the fields of a line that has several forms.
-use Rattle.std.proofs.Common.{◌≡◌, ℕ, ◌+◌, ◌^◌, ◌<◌, ◌≤◌, Bool, true, false, not, ◌&&◌, ◌||◌, eqb, ltb, leb, List, [], ◌∷◌, length, get_or, Some, None, refl, sym, ap, arith, lit≤, inl, inr}
+use Rattle.std.proofs.Common.{◌≡◌, ℕ, ◌+◌, ◌^◌, ◌<◌, ◌≤◌, Bool, true, false, not, ◌&&◌, ◌||◌, ltb, leb, List, [], ◌∷◌, length, get_or, Some, None, refl, arith, lit≤, inl, inr}
 use Rattle.std.specs.Prelude.{codes, decimal, min}
 use Rattle.std.specs.Borrow.{Bor}
 use Rattle.std.specs.Str.{bytes_eq}
@@ -13,7 +13,6 @@ use Rattle.line_forms.specs.Kinds as kinds
 use Rattle.line_forms.specs.Kinds.{Kind, some_field, is_other_word, is_bad_number, is_outside, is_bad_value, has_wrong_count, form_cause, block, any_u64, count_to}
 use Rattle.line_forms.specs.Kinds.Kind.{value}
 use Rattle.line_forms.specs.Tables.{first_of}
-use Rattle.line_forms.specs.declared.cause.Cause.{Cause}
 use Rattle.line_forms.specs.declared.cause.Cause.TheVariants.{UnknownWord, WrongCount, BadNumber, OutOfRange, BadValue}
 use Rattle.line_forms.proofs.Clusters.{some_field-never}
 use Rattle.event_lines.specs.Forms.{fields_cause}

@@ -6,3 +6,4 @@ pub mod Marked
 pub mod Causes
 pub mod Steps
 pub mod Bodies
+pub mod Fitting

@@ -1,12 +1,11 @@
 -- The marks of lines: those of a line's text, and what rules and work have of the marks of all lines.
-use Rattle.std.proofs.Common.{◌≡◌, ℕ, ◌+◌, ◌^◌, ◌<◌, ◌≤◌, Bool, true, false, ◌||◌, cond, List, [], ◌∷◌, ◌++◌, length, map, Option, Some, None, unwrap_or, refl, sym, ap, ◌∙◌, ◌⊎◌, inl, inr, arith, lit≤}
-use Rattle.std.specs.Prelude.{decimal, nat_eq, count_by, sum_by}
-use Rattle.std.specs.List.{AllByRecursion, filter_map, cons_option, list_any}
+use Rattle.std.proofs.Common.{◌≡◌, ℕ, ◌^◌, ◌<◌, Bool, true, false, ◌||◌, List, [], ◌∷◌, ◌++◌, map, Option, Some, None, unwrap_or, refl, sym, ap, ◌∙◌, ◌⊎◌, inl, inr, arith, lit≤}
+use Rattle.std.specs.Prelude.{decimal, nat_eq, sum_by}
+use Rattle.std.specs.List.{AllByRecursion, filter_map, cons_option}
 use Rattle.std.specs.Set.{is_member}
 use Rattle.std.proofs.lemmas.List.Sums.{sum_by-cons}
 use Rattle.std.proofs.lemmas.List.Folds.{list_any-append}
 use Rattle.quorum_rules.specs.Limits.{Numbers}
-use Rattle.text_lines.specs.Lines.{fields_of}
 use Rattle.text_lines.specs.Fields.{number_of, value_of, value_text, IsBytes}
 use Rattle.text_lines.proofs.Numbers.{number_of-decimal}
 use Rattle.text_lines.proofs.Values.{value_of-text}
@@ -17,7 +16,7 @@ use Rattle.plan_words.specs.declared.fault.Fault.{Fault}
 use Rattle.plan_words.specs.declared.fault.Fault.TheVariants.{LiarNode, LiarSound, LiarMix, LiarFlood, CrashNode, CrashClient, Drop, Hold}
 use Rattle.plan_words.specs.declared.job.Job.{Job}
 use Rattle.plan_words.specs.declared.job.Job.TheVariants.{Block, Device, Phase}
-use Rattle.plan_words.specs.Plans.{IsFault, IsJob, device_fault}
+use Rattle.plan_words.specs.Plans.{IsFault, IsJob}
 use Rattle.plan_text.specs.declared.line.PlanLine.{PlanLine}
 use Rattle.plan_text.specs.declared.line.PlanLine.TheVariants.{Rule, Work}
 use Rattle.plan_text.specs.Lines.{IsPlanLine, line_fields, line_text}

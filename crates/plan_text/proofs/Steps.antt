@@ -1,11 +1,10 @@
 -- One more line of a plan: what is known of all lines after it.
-use Rattle.std.proofs.Common.{◌≡◌, ◌≢◌, ℕ, ◌+◌, ◌<◌, ◌≤◌, Bool, true, false, ◌||◌, ◌&&◌, not, cond, eqb, ltb, leb, List, [], ◌∷◌, ◌++◌, length, Option, Some, None, refl, sym, ap, subst, ◌∙◌, ◌⊎◌, inl, inr, arith}
+use Rattle.std.proofs.Common.{◌≡◌, ℕ, ◌+◌, ◌*◌, ◌/◌, ◌^◌, ◌<◌, ◌≤◌, min, Bool, true, false, ◌||◌, ◌&&◌, cond, ltb, leb, List, [], ◌∷◌, ◌++◌, length, Option, Some, None, refl, sym, ap, subst, ◌∙◌, ◌⊎◌, inl, inr, arith}
 use Rattle.std.specs.declared.cmp.Ordering.{Ordering}
 use Rattle.std.specs.Prelude.{nat_eq, is_some, count_by, sum_by}
-use Rattle.std.specs.List.{AllByRecursion, IsDistinct, filter_map, cons_option, list_any}
-use Rattle.std.specs.List.Sorted.{IsStrictlySortedBy}
+use Rattle.std.specs.List.{AllByRecursion, IsDistinct, filter_map, cons_option}
 use Rattle.std.specs.Ordering.{nat_cmp, is_eq}
-use Rattle.std.specs.BTreeSet.{BTreeSet, contains, btree_set_len, IsOrdered}
+use Rattle.std.specs.BTreeSet.{BTreeSet, btree_set_len, IsOrdered}
 use Rattle.std.specs.Set.{is_member, distinct_count}
 use Rattle.std.proofs.lemmas.Bool.{cases_Bool, ltb-false, eqb-true}
 use Rattle.std.proofs.lemmas.Bool.Decides.{nat_tests}
@@ -19,10 +18,10 @@ use Rattle.plan_words.specs.Plans.{step_limit}
 use Rattle.plan_text.specs.declared.seen.Seen.{Seen}
 use Rattle.plan_text.specs.Marks.{Marks}
 use Rattle.plan_text.specs.Plans.{is_among, is_new, client_of}
-use Rattle.plan_text.specs.Reading.{HasAll, IsSeen, AreFine, pair_cmp}
+use Rattle.plan_text.specs.Reading.{HasAll, IsSeen, AreFine, pair_cmp, seen_again, seen_of_liar, seen_client_too_many, seen_too_many, seen_cause}
 use Rattle.plan_text.specs.Sets.{IsAdded}
 use Rattle.plan_text.proofs.Sets.{has_more, nat_tie, pair_tie, pair_laws, more_named, more_length, distinct_more, len_is}
-use Rattle.plan_text.proofs.Causes.{IsFree}
+use Rattle.plan_text.proofs.Causes.{IsFree, no_cause}
 
 pub push_each : {A : Type 0} (P : A → Type 0) (xs : List A) (x : A) → AllByRecursion P xs → P x → AllByRecursion P (xs ++ x ∷ [])
 push_each P [] x h p = (p, tt)
@@ -160,3 +159,18 @@ fine_more c ms m old new fine free one seen added =
       steps = subst (λ n. n ≤ step_limit c) (sym (sum_by_push (λ (e : Marks). e.steps) ms m)) (ltb-false (step_limit c) (sum_by (λ e. e.steps) ms + m.steps) line.3);
       in_device = push_each (λ (e : Marks). e.fault ≡ None) ms m fine.in_device free.fault;
     }
+
+limited : (n : ℕ) → min 4000 n ≤ 4000
+limited n = omega arith
+
+-- the block operations of a line that has nothing against it can be counted
+pub steps_fit : (c : Numbers) (seen : Seen) (m : Marks) → seen_cause c seen m ≡ None → seen.steps + m.steps < 2 ^ 64
+steps_fit c seen m h =
+    let p = no_cause (seen_again seen m) (is_some m.lying_node && leb c.b seen.lying_nodes) (is_some m.faulty_node && leb c.t seen.faulty_nodes) (seen_of_liar seen m) (seen_too_many c seen m) m.fault h in
+    let q = none_of_four (seen_client_too_many seen m) (m.is_flood && leb 8 seen.floods) (m.is_phase && leb 64 seen.phases) (ltb (step_limit c) (seen.steps + m.steps)) p.4 in
+    let le : seen.steps + m.steps ≤ step_limit c = ltb-false (step_limit c) (seen.steps + m.steps) q.3 in
+    let few : step_limit c ≤ 4000 = limited (500000000 / (c.n * (c.size + 32 * c.n + 128))) in
+    below (seen.steps + m.steps) (step_limit c) le few
+  where
+    below : (n most : ℕ) → n ≤ most → most ≤ 4000 → n < 2 ^ 64
+    below n most a b = omega arith

@@ -7,7 +7,6 @@ use Rattle.quorum_rules.specs.Limits.{Numbers}
 use Rattle.text_lines.specs.Fields.{value_of}
 use Rattle.wire_forms.specs.declared.device.DeviceOp.{DeviceOp}
 use Rattle.wire_forms.specs.declared.device.DeviceOp.TheVariants.{Get, Put}
-use Rattle.line_forms.specs.declared.cause.DeviceFault.{DeviceFault}
 use Rattle.block_device.specs.Ranges.{fault_of}
 use Rattle.plan_words.specs.declared.fault.Fault.{Fault}
 use Rattle.plan_words.specs.declared.job.Job.{Job}

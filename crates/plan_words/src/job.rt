@@ -14,3 +14,25 @@ pub enum Job {
 
 /// The work of a plan, in the order of its lines.
 pub type Work = ItemList<Job>;
+
+impl Job {
+    ghost use Rattle.std.specs.Prelude.{◌≡◌};
+    ghost use Rattle.plan_words.specs.Named.{is_phase, job_client};
+
+    /// The client that is to do the job. None for the end of a phase.
+    pub fn client(&self) -> Option<u32>
+        ensures { result ≡ job_client self.now }
+    {
+        match self {
+            Job::Block { client, .. } | Job::Device { client, .. } => Some(*client),
+            Job::Phase => None,
+        }
+    }
+
+    /// Whether this is the end of a phase.
+    pub fn is_phase(&self) -> bool
+        ensures { result ≡ is_phase self.now }
+    {
+        matches!(self, Job::Phase)
+    }
+}

@@ -1,12 +1,9 @@
-use Rattle.std.proofs.Common.{◌≡◌, ◌≤◌, ◌∷◌, length, sym, ◌∙◌, arith}
+use Rattle.std.proofs.Common.{◌≡◌, ◌∷◌, sym, ◌∙◌}
 use Rattle.std.specs.Prelude.{codes}
-use Rattle.std.specs.Borrow.{Bor}
-use Rattle.std.specs.Str.{bytes_eq}
-use Rattle.std.proofs.lemmas.List.{length-map}
 use Rattle.std.proofs.lemmas.Slice.Eq.{bytes_eq-Decides}
 use Rattle.text_lines.specs.Lines.{texts}
 use Rattle.plan_text.specs.Forms.{field_at, number_at}
-use Rattle.plan_text.proofs.FormCauses.{sound_cause, mix_cause, flood_cause, other_cause}
+use Rattle.plan_text.proofs.FormCauses.{sound_cause, mix_cause, flood_cause}
 use Rattle.plan_text.proofs.liars.liar_client.Goals as goal
 
 pub sound_in-requires : goal.sound_in-requires

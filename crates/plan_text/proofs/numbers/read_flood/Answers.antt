@@ -1,4 +1,4 @@
-use Rattle.std.proofs.Common.{◌≡◌, ◌≤◌, arith}
+use Rattle.std.proofs.Common.{◌≤◌, arith}
 use Rattle.plan_text.proofs.FormCauses.{flood_above, flood_within}
 use Rattle.plan_text.proofs.numbers.read_flood.Goals as goal
 

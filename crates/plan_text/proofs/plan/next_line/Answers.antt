@@ -1,4 +1,4 @@
-use Rattle.std.proofs.Common.{◌≡◌, ap, sym, ◌∙◌}
+use Rattle.std.proofs.Common.{ap, sym, ◌∙◌}
 use Rattle.line_forms.proofs.Tables.{gives_cause}
 use Rattle.plan_text.specs.Reading.{seen_cause}
 use Rattle.plan_text.proofs.Bodies.{next_is}

@@ -1,4 +1,3 @@
-use Rattle.std.proofs.Common.{◌≡◌}
 use Rattle.plan_text.proofs.FormCauses.{one_form}
 use Rattle.plan_text.proofs.reading.read_rest.Goals as goal
 
