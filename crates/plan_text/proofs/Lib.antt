@@ -7,3 +7,4 @@ pub mod Causes
 pub mod Steps
 pub mod Bodies
 pub mod Fitting
+pub mod Accepted

@@ -5,13 +5,13 @@
 
 mod forms;
 mod liars;
-pub mod line;
-pub mod marks;
+mod line;
+mod marks;
 mod numbers;
 mod plan;
 mod reading;
-pub mod seen;
-pub mod word;
+mod seen;
+mod word;
 
 pub use line_forms::{Cause, DeviceFault, ScriptFault, ScriptRefusal};
 pub use plan::read_plan;

@@ -25,7 +25,7 @@ impl Job {
     {
         match self {
             Job::Block { client, .. } | Job::Device { client, .. } => Some(*client),
-            Job::Phase => None,
+            _ => None,
         }
     }
 
