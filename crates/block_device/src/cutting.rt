@@ -60,6 +60,49 @@ fn steps_of(alloc: Global, config: &Config, op: &DeviceOp) -> Result<BlockSteps,
     Ok(steps)
 }
 
+/// How many steps a command has that isn't refused, without making them.
+pub fn step_count(config: &Config, op: &DeviceOp) -> u64
+    requires { fault_of config.now op.now ≡ None }
+    ensures { result ≡ length (steps_of config.now op.now) }
+{
+    let size = u64::from(config.size());
+    let start = start_of(op);
+    let last = start + len_of(op) - 1;
+    let mut count = 0;
+    for touched in start / size..last / size + 1 {
+        count += step_count_in(config, op, touched as u32);
+    }
+    count
+}
+
+/// How many steps a command has in one block.
+fn step_count_in(config: &Config, op: &DeviceOp, block: u32) -> u64
+    requires { fault_of config.now op.now ≡ None }
+    ensures count { result ≡ length (steps_in config.now.size op.now block) }
+    ensures few { result ≤ 2 }
+{
+    match op {
+        DeviceOp::Get { .. } => 1,
+        DeviceOp::Put { offset, bytes } => put_step_count(config, *offset, bytes, block),
+    }
+}
+
+/// How many steps a put has in one block.
+fn put_step_count(config: &Config, start: u64, bytes: &Bytes, block: u32) -> u64
+    requires { start + length bytes.now ≤ config.now.size * config.now.blocks }
+    ensures count { result ≡ length (put_steps config.now.size start bytes.now block) }
+    ensures few { result ≤ 2 }
+{
+    let size = u64::from(config.size());
+    let first = u64::from(block) * size;
+    let after = first + size;
+    let end = start + bytes.len() as u64;
+    if start <= first && after <= end {
+        return 1;
+    }
+    2
+}
+
 /// Adds the steps of a command in one block.
 fn add_steps(
     steps: &mut BlockSteps,

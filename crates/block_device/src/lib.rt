@@ -13,7 +13,7 @@ mod steps;
 #[cfg(test)]
 mod tests;
 
-pub use cutting::{commands, range_fault};
+pub use cutting::{commands, range_fault, step_count};
 pub use line_forms::DeviceFault;
 pub use merging::merge;
 pub use queue::Command;

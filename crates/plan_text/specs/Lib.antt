@@ -1,0 +1,6 @@
+pub mod Lines
+pub mod Forms
+pub mod Marks
+pub mod Plans
+pub mod Sets
+pub mod Reading
