@@ -24,7 +24,7 @@ fn padded(alloc: Global, string: &[u8], len: usize) -> Result<Bytes, NoMemory>
     let mut bytes = Vec::with_capacity(alloc, len)?;
     bytes.extend_from_slice(string)?;
     push_zeros(&mut bytes, len - string.len())?;
-    Ok(Bytes::from_vec(bytes))
+    Bytes::shared(bytes)
 }
 
 /// The `m` rows of a block, each of `len` bytes, the last ones padded with zeros.

@@ -54,7 +54,7 @@ impl CodeShape {
             let mut share = Vec::with_capacity(alloc, len)?;
             let rows = &shares.as_slice()[..m];
             push_string_at::<P, Bytes>(&mut share, &points, rows, len, i)?;
-            shares.push(Bytes::from_vec(share))?;
+            shares.push(Bytes::shared(share)?)?;
         }
         Ok(shares)
     }

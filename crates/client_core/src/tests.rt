@@ -1,5 +1,6 @@
 ghost use Rattle.std.specs.Prelude.{◌≡◌};
 ghost use Rattle.quorum_rules.specs.Faults.{numbers};
+ghost use Rattle.quorum_rules.specs.declared.Edition.TheVariants.{One};
 
 use super::*;
 use cross_sum::Bytes;
@@ -12,7 +13,7 @@ use wire_forms::{Body, Mail, Message, Op, Reply, Request, Tag};
 
 // Three nodes, none of which is faulty; one block of two bytes, whole at each node.
 fn cluster(rt: &impl Abort) -> Config
-    ensures { result ≡ numbers 3 0 0 2 1 2 1 }
+    ensures { result ≡ numbers One 3 0 0 2 1 2 1 }
 {
     Config::new(3, 0, 0, 2, 1, 2, 1).expect(rt, "valid")
 }

@@ -1,6 +1,7 @@
 //! Whole operations of clients among five nodes.
 ghost use Rattle.std.specs.Prelude.{◌≡◌, ◌<◌, IfOk, length};
 ghost use Rattle.quorum_rules.specs.Faults.{numbers};
+ghost use Rattle.quorum_rules.specs.declared.Edition.TheVariants.{One};
 ghost use Rattle.protocol.specs.Instance.{setting};
 ghost use Rattle.protocol.specs.Seen.{block_of, work_of};
 ghost use Rattle.protocol.specs.World.{Fits};
@@ -18,7 +19,7 @@ use wire_forms::{Ask, Body, First, Message, Op, Request, Rule, Tag};
 
 // Five nodes, one of which may lie; two blocks of two bytes in fragments of one.
 fn cluster() -> Result<Config, Fail>
-    ensures { IfOk result (λ c. c ≡ numbers 5 1 1 3 2 2 2) }
+    ensures { IfOk result (λ c. c ≡ numbers One 5 1 1 3 2 2 2) }
 {
     match Config::new(5, 1, 1, 3, 2, 2, 2) {
         Ok(config) => Ok(config),
@@ -37,7 +38,7 @@ fn nodes_of(alloc: Global, config: &Config) -> Result<Vec<Node>, Fail> {
 // A client that has begun its first operation.
 fn begun(alloc: Global, id: u32, op: &Op) -> Result<Client, Fail>
     requires block { block_of op.now < 2 }
-    requires fits { Fits (setting (numbers 5 1 1 3 2 2 2)) (work_of op.now) }
+    requires fits { Fits (setting (numbers One 5 1 1 3 2 2 2)) (work_of op.now) }
 {
     let mut client = Client::new(alloc, &cluster()?, id)?;
     let _asks = client.start(op)?;

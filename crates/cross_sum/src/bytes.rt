@@ -4,19 +4,46 @@ ghost use Rattle.std.specs.List.{AllByRecursion};
 use lists::{Copied, NoMemory};
 use std::alloc::Global;
 use std::marker::Model;
+use std::sync::Arc;
 
 /// A string of bytes. Contracts see the list of them.
-#[derive(Drop)]
+///
+/// A string of at most 23 bytes takes no memory beside itself. The copies of a longer one share its bytes.
 pub struct Bytes {
-    bytes: Vec<u8>,
+    held: Held,
 }
+
+/// Where the bytes are.
+#[derive(Drop)]
+enum Held {
+    /// The first `len` of these.
+    Few { len: u8, bytes: [u8; 23] },
+    /// In a vector that nobody shares.
+    Own(Vec<u8>),
+    /// In a vector that copies share.
+    Shared(Arc<Vec<u8>, Global>),
+}
+
+/// The longest string that is held without memory of its own.
+const FEW: usize = 23;
 
 impl Model for Bytes {
     ghost use Rattle.std.specs.Prelude.{List, ℕ};
 
     ghost Value = { List ℕ };
 
-    ghost view = { λ b. b.bytes.items };
+    ghost use Rattle.cross_sum.specs.HowHeld.{bytes_of, IsHeld};
+
+    ghost view = { λ b. bytes_of b.held };
+
+    ghost invariant = { λ b. IsHeld b.held };
+}
+
+// By hand, since a derived drop is proved anew wherever a string is let go.
+impl Drop for Bytes {
+    fn drop(self) {
+        let Bytes { held: _held } = self;
+    }
 }
 
 impl Bytes {
@@ -24,25 +51,42 @@ impl Bytes {
     pub fn of(alloc: Global, bytes: &[u8]) -> Result<Bytes, NoMemory>
         ensures { IfOk result (λ b. b ≡ bytes.now) }
     {
-        Ok(Bytes {
-            bytes: Vec::from_slice(alloc, bytes)?,
-        })
+        if bytes.len() <= FEW {
+            return Ok(few(bytes));
+        }
+        Bytes::shared(Vec::from_slice(alloc, bytes)?)
     }
 
     /// A string of `len` bytes that are 0.
     pub fn zeros(alloc: Global, len: usize) -> Result<Bytes, NoMemory>
         ensures { IfOk result (λ b. b ≡ replicate len 0) }
     {
-        Ok(Bytes {
-            bytes: vec![in alloc; 0; len]?,
-        })
+        Bytes::shared(vec![in alloc; 0; len]?)
     }
 
-    /// The string of a vector's bytes.
+    /// The string of a vector's bytes. Its copies share bytes of their own.
     pub fn from_vec(bytes: Vec<u8>) -> Bytes
         ensures { result ≡ bytes.items }
     {
-        Bytes { bytes }
+        if bytes.len() <= FEW {
+            return few(bytes.as_slice());
+        }
+        Bytes {
+            held: Held::Own(bytes),
+        }
+    }
+
+    /// The string of a vector's bytes, which copies share.
+    pub fn shared(bytes: Vec<u8>) -> Result<Bytes, NoMemory>
+        ensures { IfOk result (λ b. b ≡ bytes.items) }
+    {
+        if bytes.len() <= FEW {
+            return Ok(few(bytes.as_slice()));
+        }
+        let alloc = *bytes.allocator();
+        Ok(Bytes {
+            held: Held::Shared(Arc::new(alloc, bytes)?),
+        })
     }
 
     /// All bytes, lent.
@@ -51,7 +95,11 @@ impl Bytes {
         ensures bytes { All (λ b. b < 256) self.now }
         ensures each { AllByRecursion (λ b. b < 256) self.now }
     {
-        in_range(self.bytes.as_slice())
+        match &self.held {
+            Held::Few { len, bytes } => in_range(&bytes[..*len as usize]),
+            Held::Own(bytes) => in_range(bytes.as_slice()),
+            Held::Shared(bytes) => in_range(bytes.as_slice()),
+        }
     }
 
     /// The bytes from a place on.
@@ -60,28 +108,43 @@ impl Bytes {
         ensures value { result.now ≡ drop at self.now }
         ensures small { length self.now < 2 ^ 63 }
     {
-        &self.bytes[at..]
+        &self.as_slice()[at..]
     }
 
     /// How many bytes there are.
     pub fn len(&self) -> usize
         ensures { result ≡ length self.now }
     {
-        self.bytes.len()
+        self.as_slice().len()
     }
 
     /// Whether there is no byte.
     pub fn is_empty(&self) -> bool
         ensures { IsTrue result ↔ (self.now ≡ []) }
     {
-        self.bytes.is_empty()
+        self.as_slice().is_empty()
     }
 
     /// Whether both have the same bytes.
     pub fn same(&self, other: &Bytes) -> bool
         ensures { IsTrue result ↔ (self.now ≡ other.now) }
     {
-        self.bytes == other.bytes
+        self.as_slice() == other.as_slice()
+    }
+}
+
+/// A string of at most 23 bytes.
+fn few(bytes: &[u8]) -> Bytes
+    requires { length bytes.now ≤ 23 }
+    ensures { result ≡ bytes.now }
+{
+    let mut held = [0; 23];
+    held[..bytes.len()].copy_from_slice(bytes);
+    Bytes {
+        held: Held::Few {
+            len: bytes.len() as u8,
+            bytes: held,
+        },
     }
 }
 
@@ -96,6 +159,17 @@ fn in_range(bytes: &[u8]) -> &[u8]
 
 impl Copied for Bytes {
     fn copy(&self) -> Result<Bytes, NoMemory> {
-        Bytes::of(*self.bytes.allocator(), self.as_slice())
+        match &self.held {
+            Held::Few { len, bytes } => Ok(Bytes {
+                held: Held::Few {
+                    len: *len,
+                    bytes: *bytes,
+                },
+            }),
+            Held::Own(bytes) => Bytes::of(*bytes.allocator(), bytes.as_slice()),
+            Held::Shared(bytes) => Ok(Bytes {
+                held: Held::Shared(Arc::try_clone(bytes)?),
+            }),
+        }
     }
 }

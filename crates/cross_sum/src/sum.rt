@@ -7,6 +7,7 @@ use lists::{Copied, NoMemory};
 use sha2::{Digest, Sha256};
 use std::alloc::Global;
 use std::marker::Model;
+use std::sync::Arc;
 
 /// A SHA-256 digest, of 32 bytes.
 pub type Hash = [u8; 32];
@@ -20,22 +21,35 @@ pub fn sha(bytes: &[u8]) -> Hash
 
 /// A cross checksum: the digests of fragments, one each. Contracts see the list of them.
 ///
-/// It keeps its verifier, the SHA-256 of all digests in one string, so that it's computed once.
-#[derive(Drop)]
+/// It keeps its verifier, the SHA-256 of all digests in one string, so that it's computed once. Copies share all of it.
 pub struct CrossSum {
+    shared: Arc<Digests, Global>,
+}
+
+/// What the copies of a cross checksum share.
+#[derive(Drop)]
+struct Digests {
     digests: Vec<Hash>,
     verifier: Hash,
 }
 
 impl Model for CrossSum {
     ghost use Rattle.std.specs.Prelude.{◌≡◌, List, ℕ};
+    ghost use Rattle.std.specs.Arc.{arc_value};
     ghost use Rattle.cross_sum.specs.Digest.{verifier as verifier_word};
 
     ghost Value = { List (List ℕ) };
 
-    ghost view = { λ s. s.digests.items };
+    ghost view = { λ s. (arc_value s.shared).digests.items };
 
-    ghost invariant = { λ s. s.verifier ≡ verifier_word s.digests.items };
+    ghost invariant = { λ s. (arc_value s.shared).verifier ≡ verifier_word (arc_value s.shared).digests.items };
+}
+
+// By hand, since a derived drop is proved anew wherever a cross checksum is let go.
+impl Drop for CrossSum {
+    fn drop(self) {
+        let CrossSum { shared: _shared } = self;
+    }
 }
 
 impl CrossSum {
@@ -47,18 +61,24 @@ impl CrossSum {
         for part in parts {
             digests.push(sha(part.as_slice()))?;
         }
-        let verifier = verifier_of(digests.as_slice());
-        Ok(CrossSum { digests, verifier })
+        CrossSum::of_vec(digests)
     }
 
     /// The cross checksum that has these digests.
     pub fn of_hashes(alloc: Global, list: &[Hash]) -> Result<CrossSum, NoMemory>
         ensures { IfOk result (λ s. s ≡ list.now) }
     {
-        let digests = Vec::from_slice(alloc, list)?;
+        CrossSum::of_vec(Vec::from_slice(alloc, list)?)
+    }
+
+    /// The cross checksum of a vector's digests.
+    fn of_vec(digests: Vec<Hash>) -> Result<CrossSum, NoMemory>
+        ensures { IfOk result (λ s. s ≡ digests.items) }
+    {
+        let alloc = *digests.allocator();
+        let verifier = verifier_of(digests.as_slice());
         Ok(CrossSum {
-            digests,
-            verifier: verifier_of(list),
+            shared: Arc::new(alloc, Digests { digests, verifier })?,
         })
     }
 
@@ -66,14 +86,14 @@ impl CrossSum {
     pub fn len(&self) -> usize
         ensures { result ≡ length self.now }
     {
-        self.digests.len()
+        self.hashes().len()
     }
 
     /// Whether there is no digest.
     pub fn is_empty(&self) -> bool
         ensures { IsTrue result ↔ (self.now ≡ []) }
     {
-        self.digests.is_empty()
+        self.hashes().is_empty()
     }
 
     /// Digest `i`.
@@ -82,7 +102,7 @@ impl CrossSum {
         ensures value { slice_get self.now i ≡ Some result }
         ensures bytes { length result ≡ 32 }
     {
-        hash_at(self.digests.as_slice(), i)
+        hash_at(self.hashes(), i)
     }
 
     /// All digests, lent.
@@ -90,14 +110,14 @@ impl CrossSum {
         ensures value { result.now ≡ self.now }
         ensures bytes { AllByRecursion (λ d. length d ≡ 32) self.now }
     {
-        of_32_bytes(self.digests.as_slice())
+        of_32_bytes(self.shared.digests.as_slice())
     }
 
     /// The SHA-256 of all digests in one string. It was computed when the cross checksum was made.
     pub fn verifier(&self) -> Hash
         ensures { result ≡ verifier self.now }
     {
-        self.verifier
+        self.shared.verifier
     }
 
     /// Whether digest `i` is the fragment's.
@@ -112,7 +132,7 @@ impl CrossSum {
     pub fn same(&self, other: &CrossSum) -> bool
         ensures { IsTrue result ↔ (self.now ≡ other.now) }
     {
-        self.digests == other.digests
+        self.hashes() == other.hashes()
     }
 }
 
@@ -145,10 +165,8 @@ fn of_32_bytes(digests: &[Hash]) -> &[Hash]
 
 impl Copied for CrossSum {
     fn copy(&self) -> Result<CrossSum, NoMemory> {
-        let digests = Vec::from_slice(*self.digests.allocator(), self.digests.as_slice())?;
         Ok(CrossSum {
-            digests,
-            verifier: self.verifier,
+            shared: Arc::try_clone(&self.shared)?,
         })
     }
 }

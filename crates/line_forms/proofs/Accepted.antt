@@ -1,19 +1,20 @@
 -- The head lines of a valid configuration have no cause.
-use Rattle.std.proofs.Common.{◌≡◌, ℕ, ◌^◌, ◌<◌, false, eqb, List, [], ◌∷◌, ◌++◌, length, map, None, refl, sym, ap, ◌∙◌, arith, append_assoc, lit≤}
+use Rattle.std.proofs.Common.{◌≡◌, ℕ, ◌^◌, ◌<◌, false, eqb, List, [], ◌∷◌, ◌++◌, length, map, Option, unwrap_or, None, refl, sym, ap, ◌∙◌, arith, append_assoc, lit≤}
 use Rattle.std.specs.Prelude.{codes, decimal}
 use Rattle.std.specs.List.{list_any, AllByRecursion}
 use Rattle.std.proofs.lemmas.Fmt.{decimal_nonempty}
-use Rattle.std.proofs.lemmas.List.{append-nil}
 use Rattle.quorum_rules.specs.Limits.{Numbers, IsValid}
-use Rattle.quorum_rules.proofs.FaultLaws.{none_of_valid}
+use Rattle.quorum_rules.specs.declared.Edition.{Edition}
+use Rattle.quorum_rules.specs.declared.Edition.TheVariants.{One, Two}
+use Rattle.quorum_rules.proofs.FaultLaws.{none_of_valid, size_at_most}
 use Rattle.text_lines.specs.Lines.{parts_of, fields_of, line_of_fields, Lacks, AllLack}
 use Rattle.text_lines.proofs.Numbers.{number_of-decimal}
 use Rattle.text_lines.proofs.Joined.{parts-joined, part_before, Lacks-append, Lacks-decimal}
 use Rattle.line_forms.specs.Kinds.{has_empty_field}
 use Rattle.line_forms.specs.Texts.{ReadsTo}
-use Rattle.line_forms.specs.Heads.{Body, script, header, head_lines, head_text, cluster_fields, cluster_cause, config_cause, numbers_at, numbers_in, u32_of, is_no_u32}
+use Rattle.line_forms.specs.Heads.{Body, script, header, edition_of, head_lines, head_text, cluster_fields, cluster_cause, config_cause, numbers_at, numbers_in, u32_of, is_no_u32}
 use Rattle.line_forms.proofs.Clusters.{spelled}
-use Rattle.line_forms.proofs.Heads.{header_read, head_read}
+use Rattle.line_forms.proofs.Heads.{edition_back, header_read, head_read, head_apart}
 
 -- numbers whose text is read back
 abbrev AreSmall : List ℕ → Type 0
@@ -45,26 +46,28 @@ abbrev in_order : Numbers → List ℕ
 in_order c = c.n ∷ c.t ∷ c.b ∷ c.qc ∷ c.m ∷ c.size ∷ c.blocks ∷ []
 
 small : (c : Numbers) → IsValid c → AreSmall (in_order c)
-small c v = (omega arith, (omega arith, (omega arith, (omega arith, (omega arith, (omega arith, (omega arith, tt)))))))
+small c v = let size = size_at_most c v in (omega arith, (omega arith, (omega arith, (omega arith, (omega arith, (omega arith, (omega arith, tt)))))))
 
 -- the fields of a cluster line are those that it was joined of
 pub cluster_apart : (c : Numbers) → IsValid c → fields_of (line_of_fields (cluster_fields c)) ≡ cluster_fields c
 cluster_apart c v = parts-joined 32 (codes "cluster") (map decimal (in_order c)) (refl, all_lack 32 (in_order c) (omega arith) (small c v))
 
 -- and they spell its numbers
-pub numbers_back : (c : Numbers) → IsValid c → numbers_in (fields_of (line_of_fields (cluster_fields c))) ≡ c
-numbers_back c v = ap numbers_in (cluster_apart c v) ∙ sym (ap numbers_at (all_read (in_order c) (small c v)))
+pub numbers_back : (c : Numbers) → IsValid c → numbers_in (edition_of (header c.edition)) (fields_of (line_of_fields (cluster_fields c))) ≡ c
+numbers_back c v =
+    ap (λ (e : Option Edition). numbers_in (unwrap_or e One) (fields_of (line_of_fields (cluster_fields c)))) (edition_back c.edition)
+    ∙ ap (numbers_in c.edition) (cluster_apart c v) ∙ sym (ap (numbers_at c.edition) (all_read (in_order c) (small c v)))
 
 no_config_cause : (c : Numbers) → IsValid c → config_cause c ≡ None
 no_config_cause c v = rw (none_of_valid c v) refl
 
 -- the cluster line of a valid configuration has no cause
-pub cluster_accepted : (c : Numbers) → IsValid c → cluster_cause (fields_of (line_of_fields (cluster_fields c))) ≡ None
+pub cluster_accepted : (c : Numbers) → IsValid c → cluster_cause c.edition (fields_of (line_of_fields (cluster_fields c))) ≡ None
 cluster_accepted c v =
     let ns = in_order c in
     let h = small c v in
-    let s = spelled (codes "cluster") (map decimal ns) ns refl refl (none_empty ns h) (none_bad ns h) (all_read ns h) in
-    ap cluster_cause (cluster_apart c v) ∙ s.cause ∙ no_config_cause c v
+    let s = spelled c.edition (codes "cluster") (map decimal ns) ns refl refl (none_empty ns h) (none_bad ns h) (all_read ns h) in
+    ap (cluster_cause c.edition) (cluster_apart c v) ∙ s.cause ∙ no_config_cause c v
 
 fields_lack : (fields : List (List ℕ)) (first : List ℕ) → AllLack 10 (first ∷ fields) → Lacks 10 (line_of_fields (first ∷ fields))
 fields_lack [] first h = h.0
@@ -74,13 +77,19 @@ fields_lack (next ∷ fields) first h = Lacks-append 10 first (32 ∷ line_of_fi
 pub line_apart : (first : List ℕ) (fields : List (List ℕ)) (rest : List ℕ) → AllLack 10 (first ∷ fields) → parts_of ((line_of_fields (first ∷ fields) ++ 10 ∷ []) ++ rest) ≡ line_of_fields (first ∷ fields) ∷ parts_of rest
 line_apart first fields rest h = ap parts_of (append_assoc (line_of_fields (first ∷ fields)) (10 ∷ []) rest) ∙ part_before 10 (line_of_fields (first ∷ fields)) rest (fields_lack fields first h)
 
+header_lacks : (edition : Edition) → Lacks 10 (header edition)
+header_lacks One = refl
+header_lacks Two = refl
+
 -- a text that begins with a valid head is read so far, whatever may follow
 pub head_accepted : (body : Body) (c : Numbers) (rest : List ℕ) → IsValid c → ReadsTo (script body) (head_text c ++ rest) (head_lines c) rest
 head_accepted body c rest v =
     let line = line_of_fields (cluster_fields c) in
     let lack : AllLack 10 (cluster_fields c) = (refl, all_lack 10 (in_order c) (omega arith) (small c v)) in
     let after = (line ++ 10 ∷ []) ++ rest in
-    let text : head_text c ++ rest ≡ header ++ 10 ∷ after = ap (λ (t : List ℕ). header ++ 10 ∷ (t ++ rest)) (append-nil (line ++ 10 ∷ [])) in
-    let first : parts_of (head_text c ++ rest) ≡ header ∷ parts_of after = ap parts_of text ∙ part_before 10 header after refl in
+    let text : head_text c ++ rest ≡ header c.edition ++ 10 ∷ after = ap (λ (t : List ℕ). t ++ rest) (head_apart c) ∙ append_assoc (header c.edition) (10 ∷ (line ++ 10 ∷ [])) rest in
+    let first : parts_of (head_text c ++ rest) ≡ header c.edition ∷ parts_of after = ap parts_of text ∙ part_before 10 (header c.edition) after (header_lacks c.edition) in
     let second : parts_of after ≡ line ∷ parts_of rest = line_apart (codes "cluster") (map decimal (in_order c)) rest lack in
-    head_read body (head_text c ++ rest) header line after rest c (header_read body (head_text c ++ rest) header after first refl) refl second (cluster_accepted c v) (sym (cluster_apart c v))
+    let named = edition_back c.edition in
+    let one = header_read body (head_text c ++ rest) (header c.edition) after c.edition first named in
+    head_read body (head_text c ++ rest) (header c.edition) line after rest c.edition c one named second (cluster_accepted c v) (refl, sym (cluster_apart c v), v)

@@ -6,6 +6,7 @@ use Rattle.std.specs.Str.{bytes_eq}
 use Rattle.std.proofs.Math.Bool.{or-true}
 use Rattle.std.proofs.lemmas.Bool.Decides.{nat_tests}
 use Rattle.quorum_rules.specs.Limits.{Numbers}
+use Rattle.quorum_rules.specs.declared.Edition.{Edition}
 use Rattle.text_lines.specs.Fields.{number_of}
 use Rattle.text_lines.proofs.Numbers.{number_of-some}
 use Rattle.line_forms.specs.Kinds.{Kind, some_field, is_other_word, is_outside, is_bad_value, is_beyond, any_u32, has_empty_field, has_wrong_count}
@@ -38,8 +39,8 @@ none_outside fields = some_field-never is_outside seven fields (u32_inside, (u32
 no_value : (fields : List (List ℕ)) → some_field is_bad_value seven fields ≡ false
 no_value fields = some_field-never is_bad_value seven fields ((λ f. refl), ((λ f. refl), ((λ f. refl), ((λ f. refl), ((λ f. refl), ((λ f. refl), ((λ f. refl), tt)))))))
 
-pub other_word : (word : List ℕ) (fields : List (List ℕ)) → bytes_eq word (codes "cluster") ≡ false → cluster_cause (word ∷ fields) ≡ Some UnknownWord
-other_word word fields e = rw e refl
+pub other_word : (edition : Edition) (word : List ℕ) (fields : List (List ℕ)) → bytes_eq word (codes "cluster") ≡ false → cluster_cause edition (word ∷ fields) ≡ Some UnknownWord
+other_word edition word fields e = rw e refl
 
 other_count : (n : ℕ) → n ≢ 7 → eqb (suc n) 8 ≡ false
 other_count n ne = grind arith
@@ -49,8 +50,8 @@ counted fields (inl ne) = rw (other_count (length fields) ne) refl
 counted fields (inr e) = rw e (or-true _)
 
 -- the fields after the word `cluster`, where they are not seven or one is empty
-pub wrong_count : (word : List ℕ) (fields : List (List ℕ)) → word ≡ codes "cluster" → (length fields ≢ 7) ⊎ (has_empty_field fields ≡ true) → cluster_cause (word ∷ fields) ≡ Some WrongCount
-wrong_count word fields is h = rw (is, no_word fields, counted fields h) refl
+pub wrong_count : (edition : Edition) (word : List ℕ) (fields : List (List ℕ)) → word ≡ codes "cluster" → (length fields ≢ 7) ⊎ (has_empty_field fields ≡ true) → cluster_cause edition (word ∷ fields) ≡ Some WrongCount
+wrong_count edition word fields is h = rw (is, no_word fields, counted fields h) refl
 
 -- a number that a field spells has it as its text
 spelled_back : (field : List ℕ) (o : Option ℕ) → number_of (2 ^ 32) field ≡ o → is_none o ≡ false → decimal (unwrap_or o 0) ≡ field
@@ -68,20 +69,20 @@ all_back (f ∷ fields) h =
     rw (spelled_back f (number_of (2 ^ 32) f) refl p.0, all_back fields p.1) refl
 
 -- seven fields without an empty one, of which one is no number
-pub bad_number : (word : List ℕ) (fields : List (List ℕ)) → word ≡ codes "cluster" → length fields ≡ 7 → has_empty_field fields ≡ false → list_any is_no_u32 fields ≡ true → cluster_cause (word ∷ fields) ≡ Some BadNumber
-bad_number word (a ∷ b ∷ c ∷ d ∷ e ∷ f ∷ g ∷ []) is len full bad = rw (is, full, bad) refl
-bad_number word _ is len full bad = absurd (omega arith)
+pub bad_number : (edition : Edition) (word : List ℕ) (fields : List (List ℕ)) → word ≡ codes "cluster" → length fields ≡ 7 → has_empty_field fields ≡ false → list_any is_no_u32 fields ≡ true → cluster_cause edition (word ∷ fields) ≡ Some BadNumber
+bad_number edition word (a ∷ b ∷ c ∷ d ∷ e ∷ f ∷ g ∷ []) is len full bad = rw (is, full, bad) refl
+bad_number edition word _ is len full bad = absurd (omega arith)
 
 -- seven numbers
-pub record Spelled (word : List ℕ) (fields : List (List ℕ)) (c : Numbers) : Type 0 where
-  pub cause : cluster_cause (word ∷ fields) ≡ config_cause c
+pub record Spelled (edition : Edition) (word : List ℕ) (fields : List (List ℕ)) (c : Numbers) : Type 0 where
+  pub cause : cluster_cause edition (word ∷ fields) ≡ config_cause c
   pub text : cluster_fields c ≡ word ∷ fields
 
-pub spelled : (word : List ℕ) (fields : List (List ℕ)) (xs : List ℕ) → word ≡ codes "cluster" → length fields ≡ 7 → has_empty_field fields ≡ false → list_any is_no_u32 fields ≡ false → xs ≡ map u32_of fields → Spelled word fields (numbers_at xs)
-spelled word (a ∷ b ∷ c ∷ d ∷ e ∷ f ∷ g ∷ []) xs is len full good read =
+pub spelled : (edition : Edition) (word : List ℕ) (fields : List (List ℕ)) (xs : List ℕ) → word ≡ codes "cluster" → length fields ≡ 7 → has_empty_field fields ≡ false → list_any is_no_u32 fields ≡ false → xs ≡ map u32_of fields → Spelled edition word fields (numbers_at edition xs)
+spelled edition word (a ∷ b ∷ c ∷ d ∷ e ∷ f ∷ g ∷ []) xs is len full good read =
     let fields = a ∷ b ∷ c ∷ d ∷ e ∷ f ∷ g ∷ [] in
     rw read (record {
       cause = rw (is, full, good, none_outside fields) refl;
       text = rw is (ap (λ (fs : List (List ℕ)). codes "cluster" ∷ fs) (all_back fields good));
     })
-spelled word _ xs is len full good read = absurd (omega arith)
+spelled edition word _ xs is len full good read = absurd (omega arith)

@@ -5,26 +5,26 @@ ghost use Rattle.std.specs.Prelude.{◌≡◌, ◌∷◌, true, false, length, m
 ghost use Rattle.std.specs.List.{list_any};
 ghost use Rattle.quorum_rules.specs.Limits.{IsValid};
 ghost use Rattle.text_lines.specs.Lines.{fields_of, texts};
-ghost use Rattle.line_forms.specs.Heads.{cluster_cause, cluster_fields, config_cause, numbers_at, u32_of, is_no_u32};
+ghost use Rattle.line_forms.specs.Heads.{IsSpelled, cluster_cause, config_cause, numbers_at, u32_of, is_no_u32};
 ghost use Rattle.line_forms.specs.Tables.{Gives};
 
 use crate::cause::Cause;
 use crate::fields::has_empty;
 use crate::refusal::LineRefusal;
-use quorum_rules::Config;
+use quorum_rules::{Config, Edition};
 use std::alloc::Global;
 use text_lines::{fields, number_u32};
 
-/// The configuration that a cluster line spells.
-pub fn read_cluster(alloc: Global, line: &[u8]) -> Result<Config, LineRefusal>
-    ensures { Gives (λ config. (cluster_fields config ≡ fields_of line.now) × IsValid config) (cluster_cause (fields_of line.now)) result }
+/// The configuration of this edition that a cluster line spells.
+pub fn read_cluster(alloc: Global, edition: Edition, line: &[u8]) -> Result<Config, LineRefusal>
+    ensures { Gives (IsSpelled edition (fields_of line.now)) (cluster_cause edition (fields_of line.now)) result }
 {
     let fields = fields(alloc, line)?;
-    config_in(fields.as_slice())
+    config_in(edition, fields.as_slice())
 }
 
-fn config_in(fields: &[&[u8]]) -> Result<Config, LineRefusal>
-    ensures { Gives (λ config. (cluster_fields config ≡ texts fields.now) × IsValid config) (cluster_cause (texts fields.now)) result }
+fn config_in(edition: Edition, fields: &[&[u8]]) -> Result<Config, LineRefusal>
+    ensures { Gives (IsSpelled edition (texts fields.now)) (cluster_cause edition (texts fields.now)) result }
 {
     let Some((word, fields)) = fields.split_first() else {
         return Err(LineRefusal::Cause(Cause::WrongCount));
@@ -37,7 +37,7 @@ fn config_in(fields: &[&[u8]]) -> Result<Config, LineRefusal>
     }
     let mut numbers = [0; 7];
     read_numbers(fields, &mut numbers)?;
-    config_of(&numbers)
+    config_of(edition, &numbers)
 }
 
 /// Puts the numbers that fields spell in their places.
@@ -53,11 +53,11 @@ fn read_numbers(fields: &[&[u8]], numbers: &mut [u32]) -> Result<(), Cause>
     Ok(())
 }
 
-fn config_of(numbers: &[u32; 7]) -> Result<Config, LineRefusal>
-    ensures { let c = numbers_at numbers.now in Gives (λ config. (config ≡ c) × IsValid config) (config_cause c) result }
+fn config_of(edition: Edition, numbers: &[u32; 7]) -> Result<Config, LineRefusal>
+    ensures { let c = numbers_at edition numbers.now in Gives (λ config. (config ≡ c) × IsValid config) (config_cause c) result }
 {
     let [n, t, b, qc, m, size, blocks] = *numbers;
-    match Config::new(n, t, b, qc, m, size, blocks) {
+    match Config::of(edition, n, t, b, qc, m, size, blocks) {
         Ok(config) => Ok(config),
         Err(fault) => Err(LineRefusal::Cause(Cause::Config(fault))),
     }

@@ -1,6 +1,6 @@
 ghost use Rattle.std.specs.Prelude.{◌≡◌, ◌∷◌, ◌++◌, ◌≤◌, decimal, drop, length, IfOk, IfErr, OnOk};
 ghost use Rattle.quorum_rules.specs.Limits.{IsValid};
-ghost use Rattle.line_forms.specs.Heads.{Body, script, head_lines, head_text};
+ghost use Rattle.line_forms.specs.Heads.{Body, script, edition_in, head_lines, head_text};
 ghost use Rattle.line_forms.specs.Texts.{IsRefusal, ReadsTo};
 
 use crate::cause::Cause;
@@ -8,7 +8,7 @@ use crate::cluster::read_cluster;
 use crate::lines::needed_line;
 use crate::refusal::{LineRefusal, ScriptRefusal, refused};
 use lists::NoMemory;
-use quorum_rules::Config;
+use quorum_rules::{Config, Edition};
 use std::alloc::Global;
 use text_lines::Text;
 
@@ -21,14 +21,27 @@ pub fn read_head(alloc: Global, text: &[u8]) -> Result<(Config, usize), ScriptRe
     // A refusal is the first line that has a cause, whatever may follow the head lines.
     ensures fault { IfErr result (λ refusal. (body : Body) → IsRefusal (script body) text.now refusal) }
 {
-    let (header, rest) = needed_line(text, 1, Cause::Empty)?;
-    if header != b"pasis 1".as_slice() {
+    let (first, rest) = needed_line(text, 1, Cause::Empty)?;
+    let Some(edition) = edition_in(first) else {
         return Err(refused(1, LineRefusal::Cause(Cause::BadHeader)));
-    }
+    };
     let (line, rest) = needed_line(rest, 2, Cause::MissingLine)?;
-    match read_cluster(alloc, line) {
+    match read_cluster(alloc, edition, line) {
         Ok(config) => Ok((config, text.len() - rest.len())),
         Err(refusal) => Err(refused(2, refusal)),
+    }
+}
+
+/// The edition that the first line of a script names.
+fn edition_in(first: &[u8]) -> Option<Edition>
+    ensures { result ≡ edition_in first.now }
+{
+    if first == b"pasis 1".as_slice() {
+        Some(Edition::One)
+    } else if first == b"pasis 2".as_slice() {
+        Some(Edition::Two)
+    } else {
+        None
     }
 }
 
@@ -38,7 +51,9 @@ pub fn read_head(alloc: Global, text: &[u8]) -> Result<(Config, usize), ScriptRe
 pub fn add_head(text: &mut Text, config: &Config) -> Result<(), NoMemory>
     ensures { OnOk result (text.new ≡ text.old ++ head_text config.now) }
 {
-    text.add(b"pasis 1\ncluster")?;
+    text.add(b"pasis ")?;
+    text.add_number(u64::from(config.edition()))?;
+    text.add(b"\ncluster")?;
     add_field(text, config.n())?;
     add_field(text, config.t())?;
     add_field(text, config.b())?;

@@ -2,7 +2,7 @@
 ghost use Rattle.std.specs.Prelude.{◌≡◌, ◌++◌, ℕ, List};
 ghost use Rattle.quorum_rules.specs.Limits.{Numbers, IsValid};
 ghost use Rattle.text_lines.specs.Lines.{fields_of, line_of_fields};
-ghost use Rattle.line_forms.specs.Heads.{Body, script, head_lines, head_text, cluster_fields, numbers_in};
+ghost use Rattle.line_forms.specs.Heads.{Body, script, head_lines, head_text, header, cluster_fields, edition_of, numbers_in};
 ghost use Rattle.line_forms.specs.Texts.{Grammar, IsFault, IsFaultless, ReadsTo};
 ghost use Rattle.line_forms.specs.declared.cause.Cause.{Cause};
 
@@ -15,5 +15,5 @@ pub fn a_text_has_one_fault()
 /// The head lines of a valid configuration have no cause, whatever may follow them, and spell its numbers.
 pub fn valid_heads_are_accepted()
     ensures read { (body : Body) (c : Numbers) (rest : List ℕ) → IsValid c → ReadsTo (script body) (head_text c ++ rest) (head_lines c) rest }
-    ensures spelled { (c : Numbers) → IsValid c → numbers_in (fields_of (line_of_fields (cluster_fields c))) ≡ c }
+    ensures spelled { (c : Numbers) → IsValid c → numbers_in (edition_of (header c.edition)) (fields_of (line_of_fields (cluster_fields c))) ≡ c }
 {}

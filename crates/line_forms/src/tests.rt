@@ -25,7 +25,7 @@ fn a_head_is_refused_with_its_first_cause(rt: HostRuntime) {
     let table = [
         ("", 1, Cause::Empty),
         ("pasis 1", 1, Cause::Cut),
-        ("pasis 2\n", 1, Cause::BadHeader),
+        ("pasis 3\n", 1, Cause::BadHeader),
         ("pasis 1 \ncluster 5", 1, Cause::BadHeader),
         ("pasis 1\n", 2, Cause::MissingLine),
         ("pasis 1\ncluster 5", 2, Cause::Cut),
@@ -50,6 +50,16 @@ fn a_head_is_refused_with_its_first_cause(rt: HostRuntime) {
             2,
             Cause::Config(ConfigFault::ShareCount),
         ),
+        (
+            "pasis 1\ncluster 3 0 0 2 1 16384 1\n",
+            2,
+            Cause::Config(ConfigFault::SizeOutOfRange),
+        ),
+        (
+            "pasis 2\ncluster 3 0 0 2 1 16385 1\n",
+            2,
+            Cause::Config(ConfigFault::SizeOutOfRange),
+        ),
     ];
     for (text, line, cause) in table {
         let refusal = read_head(rt.alloc(), text.as_bytes()).err();
@@ -59,16 +69,21 @@ fn a_head_is_refused_with_its_first_cause(rt: HostRuntime) {
 }
 
 #[test]
-fn a_head_reads_back(rt: HostRuntime) -> Result<(), Fail> {
-    let head = b"pasis 1\ncluster 5 1 1 3 2 4096 16\n";
-    let mut text = Text::new(rt.alloc());
-    text.add(head)?;
-    text.add(b"and so on")?;
-    let (config, at) = read_head(rt.alloc(), text.as_slice())?;
-    assert_eq!(rt; &text.as_slice()[at..], b"and so on".as_slice());
-    let mut again = Text::new(rt.alloc());
-    add_head(&mut again, &config)?;
-    assert_eq!(rt; again.as_slice(), head.as_slice());
+fn heads_read_back(rt: HostRuntime) -> Result<(), Fail> {
+    for (head, edition) in [
+        ("pasis 1\ncluster 5 1 1 3 2 4096 16\n", 1),
+        ("pasis 2\ncluster 3 0 0 2 1 16384 1\n", 2),
+    ] {
+        let mut text = Text::new(rt.alloc());
+        text.add(head.as_bytes())?;
+        text.add(b"and so on")?;
+        let (config, at) = read_head(rt.alloc(), text.as_slice())?;
+        assert_eq!(rt; config.edition(), edition);
+        assert_eq!(rt; &text.as_slice()[at..], b"and so on".as_slice());
+        let mut again = Text::new(rt.alloc());
+        add_head(&mut again, &config)?;
+        assert_eq!(rt; again.as_slice(), head.as_bytes());
+    }
     Ok(())
 }
 

@@ -18,12 +18,13 @@ use Rattle.protocol.specs.Operations.Stage.{Times, Versions, Storing}
 use Rattle.protocol.specs.World.{World, Record, start_world, only_place, under_way}
 use Rattle.protocol.specs.Lines.{Line, Run, plays}
 use Rattle.protocol.specs.History.{NoClash}
-use Rattle.protocol.specs.Facts.{IsTold, IsOutcomeOf, IsHonest, HasAccepted, IsHosted, IsKnown, IsComplete, AtWork, IsNotBehind}
+use Rattle.protocol.specs.Facts.{IsTold, IsOutcomeOf, IsHonest, HasAccepted, IsHosted, IsKnown, IsComplete, AtWork, IsNotBehind, IsWorking}
 use Rattle.protocol.proofs.Counting.{cases_bool}
 use Rattle.protocol.proofs.Order.{same_stamp-≡, same_stamp-refl}
 use Rattle.protocol.proofs.Invariant.{IsSafe, IsRecord, IsOutcome, Quorum, IsQuorum, Fits, IsFresh, IsAimed, IsAfter}
 use Rattle.protocol.proofs.Origins.{IsKnownRequest}
 use Rattle.protocol.proofs.Plays.{IsRight, start_right, run_right}
+use Rattle.protocol.proofs.Choices.{only_open}
 use Rattle.protocol.proofs.Ahead.{quorum_happens}
 use Rattle.protocol.proofs.Inductions.{run_keeps}
 use Rattle.protocol.specs.History.{Entry, IsHistory, IsEntry}
@@ -194,6 +195,12 @@ module _ (s : Setting) (lines : List (ℕ × Line)) (w : World) (good : IsValid 
 module _ (s : Setting) (lines : List (ℕ × Line)) (w : World) (good : IsValid s) (run : Run s (start_world s) lines w) where
   pub run_in_order : Ascend (starts w.records)
   run_in_order = run_keeps s good (λ v. Ascend (starts v.records)) (λ v safe h place x a. happens_in_order s good v safe h place x a) (λ v place h. h) lines (start_world s) w (start_right s good) run tt
+
+  pub run_working : (c : ℕ) (task : Task) → under_way w c ≡ Some task → IsWorking s w c task
+  run_working c task busy =
+      let k = right s lines w good run in
+      let t = k.safe.tasks c task busy in
+      record { correct = t.correct; numbered = t.numbered; block = t.block; asked = t.mailed; recorded = (k.origins.tasks c task busy).1; only = only_open s w k.safe c task busy }
 
   pub run_told : (r : Record) → Contains w.records r → IsTold w r
   run_told r h = told_of s w r ((right s lines w good run).safe.records r h)

@@ -6,15 +6,16 @@ use Rattle.std.proofs.lemmas.Bool.{cases_lt}
 use Rattle.std.proofs.lemmas.Bool.Decides.{nat_tests}
 use Rattle.std.proofs.lemmas.List.{get_or-set_same, get_or-set_other, get_or-replicate, get_or_past, length-replicate, length-set}
 use Rattle.protocol.specs.Count.{update}
-use Rattle.protocol.specs.Messages.{Version, Reply, Message}
+use Rattle.protocol.specs.Messages.{Version, Tag, Reply, Message}
 use Rattle.protocol.specs.Setting.{Setting}
 use Rattle.protocol.specs.Operations.{Task, Work, Stage, Decision, decide, mail, goes_on, begun, counted, answered}
 use Rattle.protocol.specs.Operations.Stage.{Times, Versions, Storing}
 use Rattle.protocol.specs.Operations.Decision.{GoesOn, Ends}
 use Rattle.protocol.specs.Nodes.{first_version}
 use Rattle.protocol.specs.World.{World, start_world, moved, only_place, decided, advanced, heard_by, open_record, closed_record}
-use Rattle.protocol.specs.Seen.{SeenClient, SeenWorld, client_at, new_client, started_task, world_of, SeenTask, Hearing, answers_of, task_at, seen_begun, seen_goes_on, seen_counted, is_counted, by_decision, after_counting, hearing}
-use Rattle.protocol.specs.Seen.Hearing.{Ignored, Counted, Begins, Ended}
+use Rattle.protocol.specs.Seen.{SeenClient, SeenWorld, client_at, new_client, started_task, world_of, SeenTask, answers_of, task_at, seen_begun, seen_goes_on, seen_counted, is_counted, by_decision, after_counting, hearing}
+use Rattle.protocol.specs.Seen.Hearing.{Ignored, Counted}
+pub use Rattle.protocol.specs.Views.{IsFull, after_hearing, task_after}
 use Rattle.protocol.proofs.Counting.{update-cases, both_true}
 
 pub funext : {A B : Type 0} (f g : A → B) → ((x : A) → f x ≡ g x) → f ≡ g
@@ -69,26 +70,19 @@ pub length-counted : (t : SeenTask) (node : ℕ) (reply : Reply) → length (see
 length-counted t node reply = length-set t.answers node (Some reply)
 
 module _ (s : Setting) (w : World) (place c start : ℕ) where
-  -- the world after what an answer does to the client's operation
-  abbrev pub after_hearing : SeenTask → Hearing → World
-  after_hearing t Ignored = only_place s w place
-  after_hearing t (Counted u) = moved s w place c (Some (task_at start u)) [] (open_record c (task_at start u))
-  after_hearing t (Begins u) = moved s w place c (Some (task_at start u)) (mail s c (task_at start u)) (open_record c (task_at start u))
-  after_hearing t (Ended outcome) = moved s w place c None [] (closed_record c (task_at start t) place outcome)
-
-  decision-seen : (t u : SeenTask) → u.block ≡ t.block → u.work ≡ t.work → (d : Decision) → decided s w place c (task_at start u) d ≡ after_hearing t (by_decision s u d)
+  decision-seen : (t u : SeenTask) → u.block ≡ t.block → u.work ≡ t.work → (d : Decision) → decided s w place c (task_at start u) d ≡ after_hearing s w place c start t (by_decision s u d)
   decision-seen t u e f (GoesOn stage) = ap (λ (z : Task). moved s w place c (Some z) (mail s c z) (open_record c z)) (sym (goes_on-seen start s u stage))
   decision-seen t u e f (Ends outcome) =
       ap (λ (k : ℕ × Work). moved s w place c None [] (record { client = c; block = k.0; work = k.1; start = start; end = Some place; stamp = Rattle.protocol.specs.World.stamp_of_outcome outcome; outcome = Some outcome }))
       (let p : (u.block, u.work) ≡ (t.block, t.work) = λ i. (e i, f i) in p)
 
-  counting-seen : (t u : SeenTask) → u.block ≡ t.block → u.work ≡ t.work → advanced s w place c (task_at start u) ≡ after_hearing t (after_counting s c u)
+  counting-seen : (t u : SeenTask) → u.block ≡ t.block → u.work ≡ t.work → advanced s w place c (task_at start u) ≡ after_hearing s w place c start t (after_counting s c u)
   counting-seen t u e f = at (ltb (answered s (λ i. answers_of u i)) (s.n - s.t))
     where
       at : (b : Bool) → cond b (moved s w place c (Some (task_at start u)) [] (open_record c (task_at start u))) (decided s w place c (task_at start u) (decide s c (task_at start u) u.stage))
-          ≡ after_hearing t (cond b (Counted u) (by_decision s u (decide s c (task_at 0 u) u.stage)))
+          ≡ after_hearing s w place c start t (cond b (Counted u) (by_decision s u (decide s c (task_at 0 u) u.stage)))
       at true = refl
-      at false = decision-seen t u e f (decide s c (task_at start u) u.stage) ∙ ap (λ (d : Decision). after_hearing t (by_decision s u d)) (sym (decide-start start s c u u.stage 0))
+      at false = decision-seen t u e f (decide s c (task_at start u) u.stage) ∙ ap (λ (d : Decision). after_hearing s w place c start t (by_decision s u d)) (sym (decide-start start s c u u.stage 0))
 
   node_below : (t : SeenTask) (m : Message) (given : Reply) → is_counted s t m.node m.tag given ≡ true → m.node < s.n
   node_below t m given h =
@@ -99,16 +93,36 @@ module _ (s : Setting) (w : World) (place c start : ℕ) where
       below i n l = grind (arith, nat_tests)
 
   -- an answer is heard: the four cases of `hearing`
-  pub heard_by-seen : (t : SeenTask) → length t.answers ≡ s.n → (m : Message) (given : Reply) → heard_by s w place c (Some (task_at start t)) m given ≡ after_hearing t (hearing s c t m.node m.tag given)
+  pub heard_by-seen : (t : SeenTask) → length t.answers ≡ s.n → (m : Message) (given : Reply) → heard_by s w place c (Some (task_at start t)) m given ≡ after_hearing s w place c start t (hearing s c t m.node m.tag given)
   heard_by-seen t full m given = at (is_counted s t m.node m.tag given) refl
     where
       at : (b : Bool) → is_counted s t m.node m.tag given ≡ b
-          → cond b (advanced s w place c (counted (task_at start t) m.node given)) (only_place s w place) ≡ after_hearing t (cond b (after_counting s c (seen_counted t m.node given)) Ignored)
+          → cond b (advanced s w place c (counted (task_at start t) m.node given)) (only_place s w place) ≡ after_hearing s w place c start t (cond b (after_counting s c (seen_counted t m.node given)) Ignored)
       at false e = refl
       at true e =
           let l = node_below t m given e in
           ap (λ (z : Task). advanced s w place c z) (sym (counted-seen start t m.node given (omega (arith, l, full))))
           ∙ counting-seen t (seen_counted t m.node given) refl refl
+
+-- an operation keeps one place for each node's answer
+module _ (s : Setting) (c : ℕ) where
+  decision_full : (t u : SeenTask) (d : Decision) → IsFull s.n (task_after t (by_decision s u d))
+  decision_full t u (GoesOn stage) = length-goes_on s u stage
+  decision_full t u (Ends outcome) = tt
+
+  counting_full : (t u : SeenTask) → length u.answers ≡ s.n → IsFull s.n (task_after t (after_counting s c u))
+  counting_full t u full = at (ltb (answered s (λ i. answers_of u i)) (s.n - s.t))
+    where
+      at : (b : Bool) → IsFull s.n (task_after t (cond b (Counted u) (by_decision s u (decide s c (task_at 0 u) u.stage))))
+      at true = full
+      at false = decision_full t u (decide s c (task_at 0 u) u.stage)
+
+  pub hearing_full : (t : SeenTask) → length t.answers ≡ s.n → (node : ℕ) (tag : Tag) (reply : Reply) → IsFull s.n (task_after t (hearing s c t node tag reply))
+  hearing_full t full node tag reply = at (is_counted s t node tag reply)
+    where
+      at : (b : Bool) → IsFull s.n (task_after t (cond b (after_counting s c (seen_counted t node reply)) Ignored))
+      at true = counting_full t (seen_counted t node reply) (length-counted t node reply ∙ full)
+      at false = full
 
 -- ---- one change of the seen world is that change of the world
 

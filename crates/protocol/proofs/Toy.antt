@@ -3,6 +3,7 @@ use Rattle.std.proofs.Common.{◌≡◌, ℕ, zero, suc, ◌<◌, List, [], ◌�
 use Rattle.std.specs.List.{Contains}
 use Rattle.protocol.specs.Setting.{IsValid, IsBlock, digest_at}
 use Rattle.quorum_rules.specs.Limits.{Numbers}
+use Rattle.quorum_rules.specs.declared.Edition.TheVariants.{One}
 use Rattle.protocol.specs.Instance.{IsCluster}
 use Rattle.protocol.proofs.Example.{toy, second_of_first}
 use Rattle.protocol.proofs.Lists.{Contains-head}
@@ -40,7 +41,7 @@ toy_valid = record {
 
 -- five nodes, of which one may fail or lie
 abbrev five_numbers : Numbers
-five_numbers = record { n = 5; t = 1; b = 1; qc = 3; m = 2; size = 2; blocks = 2 }
+five_numbers = record { edition = One; n = 5; t = 1; b = 1; qc = 3; m = 2; size = 2; blocks = 2 }
 
 pub five_cluster : IsCluster five_numbers (λ i. eqb i 4)
 five_cluster = record {

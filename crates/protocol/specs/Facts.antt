@@ -1,5 +1,5 @@
 -- What holds in every world of a run, fact by fact.
-use Rattle.std.specs.Prelude.{Option, ◌≡◌, ◌⊎◌, ◌↔◌, ℕ, ◌<◌, ◌≤◌, true, false, Bool, slice_get}
+use Rattle.std.specs.Prelude.{Option, List, ◌++◌, ◌≡◌, ◌⊎◌, ◌↔◌, ℕ, ◌<◌, ◌≤◌, true, false, Bool, slice_get}
 use Rattle.std.specs.declared.option.Option.TheVariants.{None, Some}
 use Rattle.std.specs.List.{Contains}
 use Rattle.stamp_order.specs.declared.Stamp.{Stamp}
@@ -11,11 +11,11 @@ use Rattle.wire_forms.specs.declared.Reply.TheVariants.{TimeIs, Found, Ack}
 use Rattle.wire_forms.specs.declared.Body.TheVariants.{Ask as Asks}
 use Rattle.protocol.specs.Count.{count}
 use Rattle.protocol.specs.Setting.{Setting, first_stamp}
-use Rattle.protocol.specs.Operations.{Task, Work, Stage, Outcome}
+use Rattle.protocol.specs.Operations.{Task, Work, Stage, Outcome, outstanding}
 use Rattle.protocol.specs.Operations.Work.{Reads, Writes}
 use Rattle.run_words.specs.declared.outcome.Outcome.TheVariants.{Wrote, Spent, Gave}
 use Rattle.protocol.specs.Operations.Stage.{Times, Versions}
-use Rattle.protocol.specs.World.{Record, World, under_way}
+use Rattle.protocol.specs.World.{Record, World, under_way, open_record, IsClient, given_of}
 use Rattle.protocol.specs.History.{HasWrite, HasLie}
 
 module _ (s : Setting) where
@@ -58,6 +58,15 @@ module _ (s : Setting) where
     pub honest : (i : ℕ) → nodes i ≡ true → s.lying_node i ≡ false
     pub accepted : (i : ℕ) → i < s.n → nodes i ≡ true → Contains w.accepted (record { node = i; block = block; stamp = stamp })
 
+  -- the client is correct, what its present phase asks was sent, and the one record of its operation is open
+  pub record IsWorking (w : World) (client : ℕ) (task : Task) : Type 0 where
+    pub correct : s.lying_client client ≡ false
+    pub numbered : IsClient s client
+    pub block : task.block < s.blocks
+    pub asked : (i : ℕ) → i < s.n → Contains w.pool (outstanding s client task i)
+    pub recorded : Contains w.records (open_record client task)
+    pub only : (x : Record) → Contains w.records x → x.client ≡ client → x.start ≡ task.start → x ≡ open_record client task
+
   -- the message is of the phase that its client's operation is in now
   pub record AtWork (w : World) (m : Message) (task : Task) : Type 0 where
     pub client : under_way w m.client ≡ Some task
@@ -73,6 +82,26 @@ module _ (s : Setting) where
   IsNotBehind w task stamp Times (TimeIs time) = stamp.time ≤ time
   IsNotBehind w task stamp (Versions bound) reply = has bound stamp ≡ true → IsOpen w task.block task.start bound → (v : Version) × (reply ≡ Found v) × (stamp ≼ v.stamp)
   IsNotBehind w task stamp _ _ = Unit {0}
+
+-- the first messages, and then more
+abbrev pub Extends : List Message → List Message → Type 0
+Extends pool longer = (more : List Message) × (longer ≡ pool ++ more)
+
+-- two records of one operation: one client's, begun at one place
+abbrev pub IsSameOperation : Record → Record → Type 0
+IsSameOperation x r = (x.client ≡ r.client) × (x.start ≡ r.start)
+
+-- one of the records is of r's operation
+abbrev pub HasOperation : List Record → Record → Type 0
+HasOperation records r = (old : Record) × Contains records old × IsSameOperation old r
+
+-- a read of the block among these records gave the stamp
+abbrev pub HasGave : List Record → ℕ → Stamp → Type 0
+HasGave records block stamp = (r : Record) × Contains records r × (given_of block r ≡ Some stamp)
+
+-- it did, and none of them gave a greater one
+abbrev pub IsGreatestGiven : List Record → ℕ → Stamp → Type 0
+IsGreatestGiven records block stamp = HasGave records block stamp × ((other : Stamp) → HasGave records block other → other ≼ stamp)
 
 -- how an operation can have ended so far, and which stamp its record has then: a read as given, a write as written or spent
 abbrev pub IsOutcomeOf : Work → Option Stamp → Option Outcome → Type 0

@@ -11,4 +11,5 @@ pub mod Lines
 pub mod Bounds
 pub mod Report
 pub mod Seen
+pub mod Views
 pub mod Instance

@@ -14,19 +14,21 @@ ghost use Rattle.stamp_order.specs.Stamps.{has, before, ◌≼◌};
 ghost use Rattle.run_words.specs.declared.outcome.Outcome.TheVariants.{Outvoted};
 ghost use Rattle.wire_forms.specs.declared.Request.TheVariants.{Write as WriteRequest};
 ghost use Rattle.wire_forms.specs.declared.Body.TheVariants.{Ask as Asks, Answer as Answers};
-ghost use Rattle.protocol.specs.Messages.{Message, Reply, Ask, Version};
+ghost use Rattle.protocol.specs.Messages.{Message, Reply, Ask, Tag, Version};
 ghost use Rattle.protocol.specs.Setting.{Setting, IsValid, IsBlock, Sound, first_stamp};
 ghost use Rattle.protocol.specs.Instance.{setting_of, IsCluster, InEachRun};
-ghost use Rattle.protocol.specs.Operations.{Task};
+ghost use Rattle.protocol.specs.Operations.{Task, Work, begun};
 ghost use Rattle.protocol.specs.Operations.Work.{Reads, Writes};
 ghost use Rattle.protocol.specs.Operations.Stage.{Versions};
-ghost use Rattle.protocol.specs.World.{World, Record, under_way};
-ghost use Rattle.protocol.specs.Lines.{Line, Run, FitsLine, fault, IsPlayable};
+ghost use Rattle.protocol.specs.World.{World, Record, under_way, heard_by, greatest_given, with_record};
+ghost use Rattle.protocol.specs.Lines.{Line, Run, FitsLine, plays, fault, IsPlayable};
 ghost use Rattle.protocol.specs.History.{Entry, IsHistory, IsEntry, Legal, InTime, NoClash, HasRead, HasLie, entry_cmp};
 ghost use Rattle.protocol.specs.History.Kind.{Read, Foreign};
 ghost use Rattle.protocol.specs.Bounds.{IsBounded, IsLow};
 ghost use Rattle.protocol.specs.Report.{Ascend, AreRivals, SpentWrite, IsSpentWrite, spent_writes, mark, line_cmp, counts_of, is_ended};
-ghost use Rattle.protocol.specs.Facts.{IsTold, IsHonest, HasAccepted, IsHosted, IsKnown, IsComplete, AtWork, IsNotBehind};
+ghost use Rattle.protocol.specs.Facts.{IsTold, IsHonest, HasAccepted, IsHosted, IsKnown, IsComplete, AtWork, IsNotBehind, IsWorking, Extends, HasGave, IsGreatestGiven, IsSameOperation, HasOperation};
+ghost use Rattle.protocol.specs.Seen.{SeenTask, task_at, seen_begun, hearing};
+ghost use Rattle.protocol.specs.Views.{IsFull, task_after, after_hearing};
 
 /// The code and the digest of a cluster keep what the proofs ask of them: lengths, bytes, digests, and that any `m` fragments
 /// of a block decode to it.
@@ -60,14 +62,50 @@ pub fn bounds()
     ensures foreign { InEachRun (λ s w. (more : List (ℕ × Line)) (last : World) (h : List Entry) (e : Entry) → Run s w more last → IsHistory s last h → Contains h e → e.kind ≡ Foreign → (value : List ℕ) (place : ℕ) → HasRead w.records e.block e.stamp value place → HasLie s w e.block e.stamp) }
 {}
 
-/// A line is refused exactly where its events aren't allowed one after the other.
+/// A line is refused exactly where its events aren't allowed one after the other. That it isn't refused where they are holds
+/// in any world.
 pub fn refusals()
-    ensures { InEachRun (λ s w. (place : ℕ) (line : Line) → w.place < place → FitsLine s line → (fault s w line ≡ None) ↔ IsPlayable s w place line) }
+    ensures exact { InEachRun (λ s w. (place : ℕ) (line : Line) → w.place < place → FitsLine s line → (fault s w line ≡ None) ↔ IsPlayable s w place line) }
+    ensures taken { (s : Setting) (w : World) (place : ℕ) (line : Line) → FitsLine s line → IsPlayable s w place line → fault s w line ≡ None }
 {}
 
 /// A run of lines and further lines is a run of the lines and then one of the further lines.
 pub fn runs()
     ensures { (s : Setting) (w last : World) (lines more : List (ℕ × Line)) → Run s w (lines ++ more) last ↔ ((middle : World) × Run s w lines middle × Run s middle more last) }
+{}
+
+/// Messages are added at the end of the pool alone.
+pub fn pools()
+    ensures lines { (s : Setting) (w : World) (place : ℕ) (line : Line) → Extends w.pool (plays s w place line).pool }
+    ensures runs { (s : Setting) (w last : World) (lines : List (ℕ × Line)) → Run s w lines last → Extends w.pool last.pool }
+{}
+
+/// Who has an operation under way is a correct client. What its present phase asks was sent to each node, and just one record
+/// is the operation's: it is open, and tells its block, work and start.
+pub fn tasks()
+    ensures { InEachRun (λ s w. (client : ℕ) (task : Task) → under_way w client ≡ Some task → IsWorking s w client task) }
+{}
+
+/// A client's operation as contracts see it begins, and hears an answer, as that of the definitions does; and it keeps a place
+/// for each node's answer.
+pub fn views()
+    ensures begun { (s : Setting) (op block start : ℕ) (work : Work) → task_at start (seen_begun s op block work) ≡ begun op block work start }
+    ensures heard { (s : Setting) (w : World) (place client start : ℕ) (t : SeenTask) (m : Message) (reply : Reply) → IsFull s.n (Some t) → heard_by s w place client (Some (task_at start t)) m reply ≡ after_hearing s w place client start t (hearing s client t m.node m.tag reply) }
+    ensures full_begun { (s : Setting) (op block : ℕ) (work : Work) → IsFull s.n (Some (seen_begun s op block work)) }
+    ensures full_heard { (s : Setting) (client node : ℕ) (t : SeenTask) (tag : Tag) (reply : Reply) → IsFull s.n (Some t) → IsFull s.n (task_after t (hearing s client t node tag reply)) }
+{}
+
+/// The stamp by which a block is pruned: one that a read of it gave, and no read of it gave a greater one; there is one unless
+/// no read of it gave any.
+pub fn given()
+    ensures greatest { (records : List Record) (block : ℕ) (stamp : Stamp) → (greatest_given block records ≡ Some stamp) ↔ IsGreatestGiven records block stamp }
+    ensures none { (records : List Record) (block : ℕ) → (greatest_given block records ≡ None) ↔ ((stamp : Stamp) → HasGave records block stamp → ⊥) }
+{}
+
+/// What putting a record in the place of that of its operation makes of records: it stands there where one of its operation
+/// stood, and all others stay.
+pub fn replacements()
+    ensures { (records : List Record) (r x : Record) → Contains (with_record records r) x ↔ ((x ≡ r × HasOperation records r) ⊎ (Contains records x × (IsSameOperation x r → ⊥))) }
 {}
 
 /// An honest node's answer was made from an ask that was sent before it, with its client and tag, and tells only of stamps

@@ -1,7 +1,9 @@
 -- Numbers have no fault exactly where they are valid.
-use Rattle.std.proofs.Common.{◌≡◌, ◌↔◌, ℕ, ◌≤◌, Bool, true, false, not, ◌&&◌, nat_lt, nat_le, if◌then◌else◌, Option, refl, ◌∙◌, arith}
+use Rattle.std.proofs.Common.{◌≡◌, ◌↔◌, ℕ, ◌≤◌, Bool, true, false, not, ◌&&◌, nat_lt, nat_le, if◌then◌else◌, Option, refl, ◌∙◌, arith, lit≤}
 use Rattle.std.specs.declared.option.Option.TheVariants.{None, Some}
-use Rattle.quorum_rules.specs.Limits.{Numbers, IsValid}
+use Rattle.quorum_rules.specs.Limits.{Numbers, IsValid, most_size}
+use Rattle.quorum_rules.specs.declared.Edition.{Edition}
+use Rattle.quorum_rules.specs.declared.Edition.TheVariants.{One, Two}
 use Rattle.quorum_rules.specs.Faults.{fault, is_outside}
 use Rattle.quorum_rules.specs.declared.ConfigFault.{ConfigFault}
 
@@ -64,3 +66,11 @@ none_of_valid c v =
 
 pub fault-valid : (c : Numbers) → (fault c ≡ None) ↔ IsValid c
 fault-valid c = (valid_of_none c, none_of_valid c)
+
+most_of_all : (edition : Edition) → most_size edition ≤ 16384
+most_of_all One = lit≤ tt
+most_of_all Two = lit≤ tt
+
+-- in no edition has a block more bytes
+pub size_at_most : (c : Numbers) → IsValid c → c.size ≤ 16384
+size_at_most c v = omega (arith, v.size.1, most_of_all c.edition)

@@ -1,5 +1,6 @@
 ghost use Rattle.std.specs.Prelude.{◌≡◌, ◌<◌, IfOk};
 ghost use Rattle.quorum_rules.specs.Faults.{numbers};
+ghost use Rattle.quorum_rules.specs.declared.Edition.TheVariants.{One};
 ghost use Rattle.protocol.specs.Lines.{FitsLine};
 ghost use Rattle.world_steps.specs.Worlds.{setting_in};
 ghost use Rattle.world_steps.specs.Events.{line_of};
@@ -13,7 +14,7 @@ use wire_forms::{Ask, Body, Liars, Message, Op, Request, Tag};
 
 // Three nodes, none of which is faulty; one block of two bytes, whole at each node. Client 9 lies.
 fn cluster(alloc: Global) -> Result<World, Fail>
-    ensures { IfOk result (λ w. w.config ≡ numbers 3 0 0 2 1 2 1) }
+    ensures { IfOk result (λ w. w.config ≡ numbers One 3 0 0 2 1 2 1) }
 {
     let Ok(config) = Config::new(3, 0, 0, 2, 1, 2, 1) else {
         return Err(Fail::from("the numbers are valid"));
@@ -44,7 +45,7 @@ fn start(world: &mut World, client: u32, op: Op) -> Result<(), StepRefusal>
 
 // Client 1 starts to write 1, 0.
 fn writes(alloc: Global, world: &mut World) -> Result<(), Fail>
-    requires { world.now.config ≡ numbers 3 0 0 2 1 2 1 }
+    requires { world.now.config ≡ numbers One 3 0 0 2 1 2 1 }
     ensures { world.new.config ≡ world.old.config }
 {
     let value = Bytes::of(alloc, &[1, 0])?;
@@ -145,7 +146,7 @@ fn refuses_give(world: &mut World, node: u8, message: u64, fault: StepFault) -> 
 
 // A start of a client that does something is refused, and a lie of a client that isn't declared lying.
 fn refuses_start_and_lie(world: &mut World) -> bool
-    requires { world.now.config ≡ numbers 3 0 0 2 1 2 1 }
+    requires { world.now.config ≡ numbers One 3 0 0 2 1 2 1 }
 {
     let op = Op::Read { block: 0 };
     let message = Message {

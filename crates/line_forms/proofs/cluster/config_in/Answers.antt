@@ -3,7 +3,7 @@ use Rattle.std.specs.Prelude.{codes}
 use Rattle.std.proofs.lemmas.Bool.{not-false}
 use Rattle.std.proofs.lemmas.List.{length-map}
 use Rattle.std.proofs.lemmas.Slice.Eq.{bytes_eq-Decides}
-use Rattle.quorum_rules.specs.Limits.{IsValid}
+use Rattle.quorum_rules.specs.Limits.{Numbers, IsValid}
 use Rattle.text_lines.specs.Lines.{texts}
 use Rattle.line_forms.specs.Kinds.{has_empty_field}
 use Rattle.line_forms.specs.Heads.{cluster_fields}
@@ -21,7 +21,7 @@ returns-then-fields-ne7 c =
       | then-fields-ne7-via-then-fields-ne7 w ↦ inl (λ e. w.if-fields-ne7.true (sym (length-map c.in-Some.fields.now _) ∙ e))
       | then-fields-ne7-via-else-fields-ne7+then-has_empty w ↦ inr (sym w.if-has_empty.ensures)
     ] in
-    rw split (wrong_count c.in-Some.word.now.now (texts c.in-Some.fields.now) is bad)
+    rw split (wrong_count c.args.edition c.in-Some.word.now.now (texts c.in-Some.fields.now) is bad)
 
 pub returns-in_err-read_numbers : goal.returns-in_err-read_numbers
 returns-in_err-read_numbers c =
@@ -32,7 +32,7 @@ returns-in_err-read_numbers c =
     let len : length fields ≡ 7 = length-map c.in-Some.fields.now _ ∙ c.if-fields-ne7.false in
     let err = c.in_err-read_numbers.ensures.err in
     let res = c.from_residual.ensures in
-    rw split (gives_cause _ _ BadNumber c.from_residual.result (bad_number word fields is len (sym c.if-has_empty.ensures) err.1) (rw err.0 at res.1))
+    rw split (gives_cause _ _ BadNumber c.from_residual.result (bad_number c.args.edition word fields is len (sym c.if-has_empty.ensures) err.1) (rw err.0 at res.1))
 
 pub returns : goal.returns
 returns c =
@@ -42,5 +42,5 @@ returns c =
     let is : word ≡ codes "cluster" = (bytes_eq-Decides word (codes "cluster")).0 (rw c.as_slice.ensures at (not-false _ (sym c.if-ne.ensures))) in
     let len : length fields ≡ 7 = length-map c.in-Some.fields.now _ ∙ c.if-fields-ne7.false in
     let ok = c.in_ok-read_numbers.ensures in
-    let s = spelled word fields c.read_numbers.new.numbers is len (sym c.if-has_empty.ensures) ok.ok ok.numbers in
-    rw split (gives_same (λ config. (config ≡ _) × IsValid config) _ _ _ c.config_of.result (λ config h. (ap cluster_fields h.0 ∙ s.text, h.1)) s.cause c.config_of.ensures)
+    let s = spelled c.args.edition word fields c.read_numbers.new.numbers is len (sym c.if-has_empty.ensures) ok.ok ok.numbers in
+    rw split (gives_same (λ config. (config ≡ _) × IsValid config) _ _ _ c.config_of.result (λ config h. (ap (λ (k : Numbers). k.edition) h.0, ap cluster_fields h.0 ∙ s.text, h.1)) s.cause c.config_of.ensures)

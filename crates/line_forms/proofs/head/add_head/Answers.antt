@@ -19,5 +19,9 @@ returns c =
       c.t.ensures.is,
       c.in_ok-add_field.ensures,
       c.n.ensures.is,
+      c.in_ok-add-2.ensures.ok,
+      c.in_ok-add_number.ensures.ok,
+      c.from.ensures,
+      c.edition.ensures,
       c.in_ok-add.ensures.ok,
     ) (head_written c.args.text.now c.args.config.now)

@@ -69,13 +69,13 @@ loop-i-preserved g c =
     ∙ rows_taken c.self.inside.n m c.div_ceil-len.result c.loop-i.i D c.loop-i.shares c.self.invariant c.as_slice.ensures.bytes len c.loop-i.auto.i c.loop-i.invariant in
     let strings = map-id (take m c.as_slice-in-loop-i.result.now) ∙ taken in
     let L = c.div_ceil-len.result in
-    let share : c.from_vec.result ≡ string_at L (range_with_len 0 m) (rows_of m D) c.loop-i.i =
-    c.from_vec.ensures ∙ c.in_ok-push_string_at.ensures
+    let share : c.in_ok-shared.field-0 ≡ string_at L (range_with_len 0 m) (rows_of m D) c.loop-i.i =
+    c.in_ok-shared.ensures ∙ c.in_ok-push_string_at.ensures
     ∙ ap (λ o. o ++ string_at L c.in_ok-points.points.numbers.items (map (λ b. b) (take m c.as_slice-in-loop-i.result.now)) c.loop-i.i) c.in_ok-share.ensures.items
     ∙ ap (λ xs. string_at L xs (map (λ b. b) (take m c.as_slice-in-loop-i.result.now)) c.loop-i.i) (c.in_ok-points.ensures ∙ c.in_ok-first_numbers.ensures)
     ∙ ap (λ ss. string_at L (range_with_len 0 m) ss c.loop-i.i) strings in
     c.in_ok-push.ensures.ok
-    ∙ strings-more L (range_with_len 0 m) (rows_of m D) c.loop-i.i c.from_vec.result c.loop-i.shares c.loop-i.invariant share
+    ∙ strings-more L (range_with_len 0 m) (rows_of m D) c.loop-i.i c.in_ok-shared.field-0 c.loop-i.shares c.loop-i.invariant share
 
 pub returns-clause-value : goal.returns-clause-value
 returns-clause-value g c =
