@@ -1,23 +1,18 @@
 -- When a world and the nodes and clients of journals agree.
-use Rattle.std.specs.Prelude.{◌≡◌, ℕ, ◌+◌, ◌<◌, true, false, List, length, Option}
+use Rattle.std.specs.Prelude.{◌≡◌, ℕ, ◌+◌, ◌<◌, true, false, List, Option}
 use Rattle.std.specs.declared.option.Option.TheVariants.{None, Some}
 use Rattle.std.specs.List.{Contains}
-use Rattle.quorum_rules.specs.Limits.{Numbers}
 use Rattle.protocol.specs.Messages.{Message}
 use Rattle.protocol.specs.Setting.{Setting}
 use Rattle.protocol.specs.Operations.{Outcome}
 use Rattle.protocol.specs.World.{World, Record, stamp_of_outcome}
 use Rattle.protocol.specs.Lines.{Line, Run}
-use Rattle.protocol.specs.Seen.{SeenTask, started_task}
+use Rattle.protocol.specs.Seen.{started_task}
+use Rattle.protocol.specs.Views.{IsFull}
 use Rattle.node_core.specs.Seen.{versions_in}
 use Rattle.journals.specs.Acts.{NodeState}
 use Rattle.journals.specs.Desks.{DeskState, Ended}
 use Rattle.journals.specs.Steps.{Cluster}
-
--- an operation has one answer or none for each node
-abbrev pub IsFull : ℕ → Option SeenTask → Type 0
-IsFull n None = Unit {0}
-IsFull n (Some t) = length t.answers ≡ n
 
 -- the node of the world is this one
 pub record IsNode (s : Setting) (w : World) (i : ℕ) (d : NodeState) : Type 0 where

@@ -1,3 +1,6 @@
+pub mod BorrowedSeen
+pub mod BorrowedAnswers
+pub mod BorrowedClients
 pub mod Acts
 pub mod Desks
 pub mod Steps

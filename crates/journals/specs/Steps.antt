@@ -75,9 +75,8 @@ cluster_replay g [] = g
 cluster_replay g (e ∷ es) = cluster_replay (cluster_after g e.0 e.1) es
 
 -- an operation on the block gave the stamp
-pub record Gives (x : Ended) (block : ℕ) (stamp : Stamp) : Type 0 where
-  pub block : x.block ≡ block
-  pub gave : stamp_given (Some x.outcome) ≡ Some stamp
+abbrev pub Gives : Ended → ℕ → Stamp → Type 0
+Gives x block stamp = (x.block ≡ block) × (stamp_given (Some x.outcome) ≡ Some stamp)
 
 module _ (s : Setting) where
   -- the client of a call, if there is one, may make it

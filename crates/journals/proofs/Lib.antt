@@ -1,0 +1,13 @@
+pub mod Lists
+pub mod Cited
+pub mod Forming
+pub mod Acting
+pub mod Frames
+pub mod Effects
+pub mod Taking
+pub mod Answering
+pub mod Telling
+pub mod Picks
+pub mod Ordering
+pub mod Pruning
+pub mod Induction

@@ -1,0 +1,33 @@
+-- What contracts see of a node.
+use Rattle.std.specs.Prelude.{◌≡◌, ℕ, ◌<◌, List, [], ◌∷◌, length, map, replicate, slice_index_or, slice_set}
+use Rattle.quorum_rules.specs.Limits.{Numbers, IsValid}
+use Rattle.protocol.specs.Messages.{Version, Ask, Reply}
+use Rattle.protocol.specs.Nodes.{first_version, reply, after}
+use Rattle.protocol.specs.Instance.{setting}
+
+-- a node: its configuration, its number, and for each block the versions that it keeps, in order of acceptance
+pub record SeenNode : Type 0 where
+  pub config : Numbers
+  pub number : ℕ
+  pub blocks : List (List Version)
+
+-- the versions that it keeps of a block
+abbrev pub versions_in : SeenNode → ℕ → List Version
+versions_in node block = slice_index_or node.blocks block []
+
+-- the node with these versions of a block, and all else as it was
+abbrev pub with_versions : SeenNode → ℕ → List Version → SeenNode
+with_versions node block vs = record { config = node.config; number = node.number; blocks = slice_set node.blocks block vs }
+
+-- a node that keeps the first version of each block
+abbrev pub new_node : Numbers → ℕ → SeenNode
+new_node config number = record { config = config; number = number; blocks = replicate config.blocks (first_version (setting config) number ∷ []) }
+
+-- what the node answers
+abbrev pub reply_of : SeenNode → Ask → Reply
+reply_of node ask = reply (setting node.config) node.number (versions_in node ask.block) ask
+
+-- what it keeps of the asked block when it has answered
+abbrev pub after_of : SeenNode → Ask → List Version
+after_of node ask = after (setting node.config) node.number (versions_in node ask.block) ask
+
