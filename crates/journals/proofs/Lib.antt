@@ -11,3 +11,5 @@ pub mod Picks
 pub mod Ordering
 pub mod Pruning
 pub mod Induction
+pub mod Projections
+pub mod Law

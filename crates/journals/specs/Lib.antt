@@ -1,9 +1,7 @@
-pub mod BorrowedSeen
-pub mod BorrowedAnswers
-pub mod BorrowedClients
 pub mod Acts
 pub mod Desks
 pub mod Steps
 pub mod Merging
 pub mod Agreement
 pub mod Journals
+pub mod Merged

@@ -1,1 +1,32 @@
 //! Laws of merged journals, each the contract of a function that does nothing.
+
+ghost use Rattle.journals.specs.Merged.{OfMerged, AllReach, AreRun, AreNumbered, AllRecorded, AreLegal, AreSound, AreOnce, AreOrdered};
+
+/// The lines of the journals of a run in threads are a run from the beginning: none of them is refused. After the first `n`
+/// lines each node that isn't declared lying, and each correct client, is what its journal's entries with numbers below `n` make
+/// of it. So every law of runs holds, first of all that the history is that of plain registers and in time.
+pub fn merged_runs()
+    ensures reach { OfMerged AllReach }
+    ensures run { OfMerged AreRun }
+    ensures recorded { OfMerged AllRecorded }
+    ensures legal { OfMerged AreLegal }
+    ensures sound { OfMerged AreSound }
+{
+    protocol::laws::cluster();
+    protocol::laws::refusals();
+    protocol::laws::pools();
+    protocol::laws::runs();
+    protocol::laws::tasks();
+    protocol::laws::views();
+    protocol::laws::given();
+    protocol::laws::replacements();
+    protocol::laws::safety();
+}
+
+/// Journals have at most one list of lines, and those of a run have one order of their entries. Each entry has its line, that of
+/// number `n` at the place `n + 1`: so the lines show each call of each client.
+pub fn one_merge()
+    ensures once { AreOnce }
+    ensures ordered { AreOrdered }
+    ensures numbered { OfMerged AreNumbered }
+{}
