@@ -1,13 +1,14 @@
 -- When a fault may be told.
-use Rattle.std.specs.Prelude.{◌≡◌, ◌⊎◌, ℕ, ◌+◌, ◌-◌, ◌^◌, min, ◌<◌, ◌≤◌, Option, Some, Result, OnErr}
+use Rattle.std.specs.Prelude.{◌≡◌, ◌⊎◌, ℕ, ◌+◌, ◌-◌, ◌^◌, min, ◌<◌, ◌≤◌, Option, Some, Result, OnOk, OnErr}
 
 -- the count rose, or stands at the last value that it can have
 abbrev pub Rose : Option ℕ → ℕ → ℕ → Type 0
 Rose last before now = (before < now) ⊎ (last ≡ Some now)
 
--- the count has not fallen, and an `Err` comes only where it rose
+-- the count has not fallen, stays at `Ok`, and an `Err` comes only where it rose
 pub record HasCause {T E : Type 0} (last : Option ℕ) (before now : ℕ) (result : Result T E) : Type 0 where
   pub later : before ≤ now
+  pub calm : OnOk result (now ≡ before)
   pub failed : OnErr result (Rose last before now)
 
 -- one fault more, where a word can count it

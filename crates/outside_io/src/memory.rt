@@ -69,7 +69,6 @@ impl Source for MemorySource {
         ensures count { IfOk result (λ k. k ≡ min (min (length self.old.left) (length room.new)) self.old.most) }
         ensures calls { self.new.calls ≡ one_more self.old.calls }
         ensures faults { OnErr result (self.new.faults ≡ one_more self.old.faults) }
-        ensures calm { OnOk result (self.new.faults ≡ self.old.faults) }
         ensures fails { self.new.fails ≡ self.old.fails }
         ensures same { self.new.most ≡ self.old.most }
     {
@@ -172,7 +171,6 @@ impl Sink for MemorySink {
         ensures count { IfOk result (λ k. k ≡ min (length piece.now) self.old.most) }
         ensures calls { self.new.calls ≡ one_more self.old.calls }
         ensures faults { OnErr result (self.new.faults ≡ one_more self.old.faults) }
-        ensures calm { OnOk result (self.new.faults ≡ self.old.faults) }
         ensures same { (self.new.fails ≡ self.old.fails) × (self.new.most ≡ self.old.most) }
     {
         if self.is_failing() {
@@ -193,7 +191,6 @@ impl Sink for MemorySink {
         ensures exact { IsErr result ↔ Contains self.old.fails self.old.calls }
         ensures calls { self.new.calls ≡ one_more self.old.calls }
         ensures faults { OnErr result (self.new.faults ≡ one_more self.old.faults) }
-        ensures calm { OnOk result (self.new.faults ≡ self.old.faults) }
         ensures same { (self.new.fails ≡ self.old.fails) × (self.new.most ≡ self.old.most) }
     {
         if self.is_failing() {

@@ -1,4 +1,4 @@
-ghost use Rattle.std.specs.Prelude.{◌≡◌, ◌<◌, ◌≤◌, ◌+◌, length, IfOk, OnOk, IsErrOf};
+ghost use Rattle.std.specs.Prelude.{◌≡◌, ◌≢◌, ◌<◌, ◌≤◌, ◌+◌, Err, length, IfOk, OnOk, IsErrOf};
 ghost use Rattle.std.specs.Io.KnownBytes.{Consumes, IsAtEnd};
 ghost use Rattle.outside_io.specs.Causes.{Rose};
 ghost use Rattle.outside_io.specs.Given.{GaveAtMost, GaveExactly};
@@ -54,6 +54,7 @@ pub fn read_all<S: Source>(alloc: Global, source: &mut S) -> Result<Bytes, ReadR
     ensures first { IsErrOf result ReadRefusal.ReadFault → GaveAtMost LIMIT (S.left source.old) (S.left source.new) }
     ensures long { IsErrOf result ReadRefusal.TooLong → GaveExactly (LIMIT + 1) (S.left source.old) (S.left source.new) }
     ensures most { GaveAtMost (LIMIT + 1) (S.left source.old) (S.left source.new) }
+    ensures calm { result ≢ Err ReadRefusal.ReadFault → S.faults source.new ≡ S.faults source.old }
     ensures later { S.faults source.old ≤ S.faults source.new }
 {
     let mut input = Vec::new(alloc);

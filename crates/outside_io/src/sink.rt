@@ -19,7 +19,7 @@ pub trait Sink {
     ghost last: { Option ℕ };
 
     /// Takes the first bytes of the piece, and answers how many: at least one of a piece that isn't empty. A write that
-    /// fails takes nothing, and is counted.
+    /// fails takes nothing, and is counted; one that succeeds isn't.
     fn write(&mut self, piece: &[u8]) -> Result<usize, Failed>
         ensures bound { IfOk result (λ count. count ≤ length piece.now) }
         ensures some { 0 < length piece.now → IfOk result (λ count. 0 < count) }
@@ -28,7 +28,7 @@ pub trait Sink {
         ensures unflushed { flushed self.new ≡ flushed self.old }
         ensures cause { HasCause last (faults self.old) (faults self.new) result };
 
-    /// Hands on all bytes taken so far. A flush that fails changes nothing, and is counted.
+    /// Hands on all bytes taken so far. A flush that fails changes nothing, and is counted; one that succeeds isn't.
     fn flush(&mut self) -> Result<(), Failed>
         ensures all { OnOk result (AllFlushed (taken self.new) (flushed self.new)) }
         ensures bytes { taken self.new ≡ taken self.old }

@@ -19,7 +19,7 @@ pub trait Source {
     ghost last: { Option ℕ };
 
     /// Puts the next bytes into the room, and answers how many. None for a room that isn't empty is the end of the input.
-    /// A read that fails takes nothing, and is counted.
+    /// A read that fails takes nothing, and is counted; one that succeeds isn't.
     fn read(&mut self, room: &mut [u8]) -> Result<usize, Failed>
         ensures bound { ReadsAtMost result room.new }
         ensures bytes { ReadConsumes (left self.old) (left self.new) result room.new }

@@ -12,6 +12,7 @@ pub fn write_all<K: Sink>(sink: &mut K, text: &[u8]) -> Result<(), Failed>
     ensures prefix { TakesPrefix (K.taken sink.old) (K.taken sink.new) text.now }
     ensures unflushed { OnErr result (K.flushed sink.new ≡ K.flushed sink.old) }
     ensures cause { OnErr result (Rose K.last (K.faults sink.old) (K.faults sink.new)) }
+    ensures calm { OnOk result (K.faults sink.new ≡ K.faults sink.old) }
     ensures later { K.faults sink.old ≤ K.faults sink.new }
 {
     let mut at = 0;

@@ -1,9 +1,9 @@
 -- What the counts of a run count.
-use Rattle.std.proofs.Common.{◌≡◌, ◌⊎◌, ◌↔◌, ℕ, suc, ◌+◌, ◌<◌, Bool, true, false, cond, not, ◌||◌, List, [], ◌∷◌, filter, map, length, count_by, Option, refl, sym, ◌∙◌, ap, inl, inr, arith, eqb}
+use Rattle.std.proofs.Common.{◌≡◌, ◌⊎◌, ◌↔◌, ℕ, ◌+◌, ◌<◌, Bool, true, false, cond, not, ◌||◌, List, [], ◌∷◌, filter, map, length, count_by, Option, refl, sym, ◌∙◌, ap, inl, inr, arith, eqb}
 use Rattle.std.specs.declared.option.Option.TheVariants.{None, Some}
 use Rattle.std.specs.declared.cmp.Ordering.TheVariants.{Less}
 use Rattle.std.specs.List.{Contains, AllByRecursion, IsDistinct, list_any, cons_option}
-use Rattle.std.proofs.lemmas.Bool.Decides.{nat_tests}
+use Rattle.std.proofs.lemmas.List.{length-map}
 use Rattle.std.proofs.lemmas.List.Sums.{length-filter, sum_by-cons}
 use Rattle.std.proofs.lemmas.Map.Made.{length-from_same_keys}
 use Rattle.std.proofs.lemmas.Cmp.{nat_eq_equiv}
@@ -17,8 +17,10 @@ use Rattle.protocol.specs.History.{Entry, entry_cmp, IsSorted, IsEntry, IsHistor
 use Rattle.protocol.specs.History.Kind.{Read, Write}
 use Rattle.protocol.specs.Report.{SpentWrite, IsSpentWrite, Ascend, spent_write, spent_writes, is_done, is_spent, is_pending, is_ended, counts_of}
 use Rattle.protocol.proofs.Counting.{cases_bool}
+use Rattle.protocol.proofs.Tests.{is_eqb, eqb_is}
+use Rattle.protocol.proofs.Histories.{outcome_at, not_outvoted}
 use Rattle.protocol.proofs.Keeping.{or_cases}
-use Rattle.protocol.proofs.Lists.{Contains-none, Contains-head, Contains-rest, Contains-cons_cases, Contains-map, Contains-map_cases}
+use Rattle.protocol.proofs.Lists.{filter_is, filter_has, Contains-none, Contains-head, Contains-rest, Contains-cons_cases, Contains-map, Contains-map_cases}
 use Rattle.protocol.proofs.Entries.{not_self, member_of}
 use Rattle.protocol.proofs.Invariant.{IsSafe, IsRecord, IsOutcome}
 use Rattle.protocol.proofs.Apart.{IsApart}
@@ -26,40 +28,16 @@ use Rattle.protocol.proofs.Starts.{starts}
 
 -- ---- lists
 
-filter_was : {X : Type 0} (p : X → Bool) (h : List X) (e : X) → Contains (filter p h) e → Contains h e × (p e ≡ true)
-filter_was p [] e k = absurd (Contains-none e k)
-filter_was {X} p (x ∷ xs) e k = at (p x) refl (filter_was p xs e) k
-  where
-    at : (b : Bool) → p x ≡ b → (Contains (filter p xs) e → Contains xs e × (p e ≡ true)) → Contains (cond b (x ∷ filter p xs) (filter p xs)) e → Contains (x ∷ xs) e × (p e ≡ true)
-    at true t rest k = elim (Contains-cons_cases e x (filter p xs) k) [ inl q ↦ rw q (Contains-head x xs, t) | inr l ↦ (let r = rest l in (Contains-rest e x xs r.0, r.1)) ]
-    at false t rest k = let r = rest k in (Contains-rest e x xs r.0, r.1)
-
-filter_has : {X : Type 0} (p : X → Bool) (h : List X) (e : X) → Contains h e → p e ≡ true → Contains (filter p h) e
-filter_has p [] e k t = absurd (Contains-none e k)
-filter_has {X} p (x ∷ xs) e k t = at (p x) refl (λ l. filter_has p xs e l t) (Contains-cons_cases e x xs k)
-  where
-    at : (b : Bool) → p x ≡ b → (Contains xs e → Contains (filter p xs) e) → (e ≡ x) ⊎ Contains xs e → Contains (cond b (x ∷ filter p xs) (filter p xs)) e
-    at true u rest (inl q) = rw q (Contains-head x (filter p xs))
-    at true u rest (inr l) = Contains-rest e x (filter p xs) (rest l)
-    at false u rest (inl q) = absurd (let g : p x ≡ true = rw q at t in cc)
-    at false u rest (inr l) = rest l
-
-is : (m n : ℕ) → eqb m n ≡ true → m ≡ n
-is m n h = grind (arith, nat_tests)
-
 isnt : (m n : ℕ) → (m ≡ n → ⊥) → eqb m n ≡ false
-isnt m n h = elim (cases_bool (eqb m n)) [ inl e ↦ absurd (h (is m n e)) | inr e ↦ e ]
-
-same : (n : ℕ) → eqb n n ≡ true
-same n = grind (arith, nat_tests)
+isnt m n h = elim (cases_bool (eqb m n)) [ inl e ↦ absurd (h (is_eqb m n e)) | inr e ↦ e ]
 
 any_has : (ns : List ℕ) (q : ℕ) → list_any (eqb q) ns ≡ true → Contains ns q
 any_has [] q h = absurd (cc)
-any_has (n ∷ ns) q h = let rest = any_has ns q in elim (or_cases (eqb q n) (list_any (eqb q) ns) h) [ inl e ↦ rw (is q n e) (Contains-head n ns) | inr k ↦ Contains-rest q n ns (rest k) ]
+any_has (n ∷ ns) q h = let rest = any_has ns q in elim (or_cases (eqb q n) (list_any (eqb q) ns) h) [ inl e ↦ rw (is_eqb q n e) (Contains-head n ns) | inr k ↦ Contains-rest q n ns (rest k) ]
 
 has_any : (ns : List ℕ) (q : ℕ) → Contains ns q → list_any (eqb q) ns ≡ true
 has_any [] q h = absurd (Contains-none q h)
-has_any (n ∷ ns) q h = let rest = has_any ns q in elim (Contains-cons_cases q n ns h) [ inl e ↦ rw (e, same n) refl | inr k ↦ rw (rest k) (at (eqb q n)) ]
+has_any (n ∷ ns) q h = let rest = has_any ns q in elim (Contains-cons_cases q n ns h) [ inl e ↦ rw (e, eqb_is n n refl) refl | inr k ↦ rw (rest k) (at (eqb q n)) ]
   where
     at : (b : Bool) → b || true ≡ true
     at true = refl
@@ -70,10 +48,6 @@ alike ms ns to from q = elim (cases_bool (list_any (eqb q) ms)) [
   | inl e ↦ e ∙ sym (has_any ns q (to q (any_has ms q e)))
   | inr e ↦ elim (cases_bool (list_any (eqb q) ns)) [ inl f ↦ absurd (let k = has_any ms q (from q (any_has ns q f)) in cc) | inr f ↦ e ∙ sym f ]
 ]
-
-length-map_of : {X Y : Type 0} (f : X → Y) (xs : List X) → length (map f xs) ≡ length xs
-length-map_of f [] = refl
-length-map_of f (x ∷ xs) = ap suc (length-map_of f xs)
 
 -- two lists whose members that pass have the same numbers, each once
 same_count : {X Y : Type 0} (p : X → Bool) (q : Y → Bool) (f : X → ℕ) (g : Y → ℕ) (xs : List X) (ys : List Y)
@@ -86,15 +60,15 @@ same_count p q f g xs ys a b to from =
     (alike _ _
     (λ n h.
     let m = Contains-map_cases f (filter p xs) n h in
-    let w = filter_was p xs m.0 m.1 in
+    let w = filter_is p xs m.0 m.1 in
     let t = to m.0 w.0 w.1 in
     rw (m.2 ∙ sym t.3) (Contains-map g (filter q ys) t.0 (filter_has q ys t.0 t.1 t.2)))
     (λ n h.
     let m = Contains-map_cases g (filter q ys) n h in
-    let w = filter_was q ys m.0 m.1 in
+    let w = filter_is q ys m.0 m.1 in
     let t = from m.0 w.0 w.1 in
     rw (m.2 ∙ sym t.3) (Contains-map f (filter p xs) t.0 (filter_has p xs t.0 t.1 t.2)))) in
-    sym (length-filter p xs) ∙ sym (length-map_of f (filter p xs)) ∙ k ∙ length-map_of g (filter q ys) ∙ length-filter q ys
+    sym (length-filter p xs) ∙ sym (length-map (filter p xs) f) ∙ k ∙ length-map (filter q ys) g ∙ length-filter q ys
 
 apart_map : {X : Type 0} (p : X → Bool) (f : X → ℕ) (n : ℕ) (xs : List X) → ((x : X) → Contains xs x → p x ≡ true → n ≡ f x → ⊥) → AllByRecursion (λ y. eqb n y ≡ false) (map f (filter p xs))
 apart_map p f n [] h = tt
@@ -225,12 +199,9 @@ module _ (s : Setting) (w : World) (safe : IsSafe s w) (apart : IsApart w.record
         let x : Entry = record { block = r.block; stamp = stamp; kind = Read; client = r.client; start = Some r.start; end = r.end; value = value } in
         (x, (hist.1 x).1 (inl (r, there, how, rounds, o, refl, refl, refl, refl, refl)), an_end x z.0 z.1, refl)
 
-    outcome_at : (r : Record) (o : Option Outcome) → r.outcome ≡ o → IsOutcome s r.work r.stamp r.outcome → IsOutcome s r.work r.stamp o
-    outcome_at r o e h = rw e at h
-
     done_entry : (r : Record) → Contains w.records r → (o : Option Outcome) → r.outcome ≡ o → is_done o ≡ true → Found r
     done_entry r there None e t = absurd (cc)
-    done_entry r there (Some (Wrote stamp)) e t = wrote_entry r there stamp e r.work refl (outcome_at r (Some (Wrote stamp)) e (safe.records r there).outcome)
+    done_entry r there (Some (Wrote stamp)) e t = wrote_entry r there stamp e r.work refl (outcome_at s r (Some (Wrote stamp)) e (safe.records r there).outcome)
     done_entry r there (Some Spent) e t = absurd (cc)
     done_entry r there (Some (Gave stamp value how rounds)) e t = gave_entry r there stamp value how rounds e
     done_entry r there (Some (Outvoted nodes)) e t = absurd (cc)
@@ -258,17 +229,13 @@ is_one s w r k = at r.end r.outcome refl refl
     with_outcome : (o : Option Outcome) → r.outcome ≡ o → IsOutcome s r.work r.stamp o
     with_outcome o e = let h = k.outcome in rw e at h
 
-    not_outvoted : (work : Work) (nodes : List ℕ) → IsOutcome s work r.stamp (Some (Outvoted nodes)) → ⊥
-    not_outvoted Reads nodes h = h
-    not_outvoted (Writes v) nodes h = h
-
     at : (z : Option ℕ) (o : Option Outcome) → r.end ≡ z → r.outcome ≡ o → Is r
     at None o e f = let n = k.open_end e in pending (rw n refl) (rw n refl) (rw e refl)
     at (Some end) None e f = absurd (let c = k.closed_end end e in let g = c.1 in cc)
     at (Some end) (Some (Wrote stamp)) e f = done (rw f refl) (rw f refl) (rw e refl)
     at (Some end) (Some Spent) e f = spent (rw f refl) (rw f refl) (rw e refl)
     at (Some end) (Some (Gave stamp value how rounds)) e f = done (rw f refl) (rw f refl) (rw e refl)
-    at (Some end) (Some (Outvoted nodes)) e f = absurd (not_outvoted r.work nodes (with_outcome (Some (Outvoted nodes)) f))
+    at (Some end) (Some (Outvoted nodes)) e f = absurd (not_outvoted s r.work r.stamp nodes (with_outcome (Some (Outvoted nodes)) f))
 
 bits : (r : Record) → Is r → (cond {A = ℕ} (is_done r.outcome) 1 0) + (cond {A = ℕ} (is_spent r.outcome) 1 0) + (cond {A = ℕ} (is_pending r.end) 1 0) ≡ 1
 bits r (done a b c) = rw (a, b, c) refl

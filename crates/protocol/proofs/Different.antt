@@ -7,13 +7,11 @@ use Rattle.protocol.specs.Bounds.{same_accepted, is_among, different}
 use Rattle.protocol.proofs.Counting.{both_true, cases_bool}
 use Rattle.protocol.proofs.Order.{same_stamp-≡, same_stamp-refl}
 use Rattle.protocol.proofs.Lists.{Contains-none, Contains-head, Contains-rest, Contains-cons_cases}
+use Rattle.protocol.proofs.Tests.{is_eqb}
 use Rattle.protocol.proofs.Keeping.{or_cases}
 
 fields : (a b : Accepted) → a.node ≡ b.node → a.block ≡ b.block → a.stamp ≡ b.stamp → a ≡ b
 fields a b n k t i = record { node = n i; block = k i; stamp = t i }
-
-is_eqb : (x y : ℕ) → eqb x y ≡ true → x ≡ y
-is_eqb x y h = grind (arith, nat_tests)
 
 eqb_self : (x : ℕ) → eqb x x ≡ true
 eqb_self x = grind (arith, nat_tests)

@@ -21,6 +21,7 @@ use Rattle.protocol.specs.History.IsValue.{written, given}
 use Rattle.protocol.specs.History.IsSeen.{sum_seen, fragment_seen}
 use Rattle.protocol.proofs.Order.{≼-refl, ≼-cases, before-≼, lower_time}
 use Rattle.protocol.proofs.Invariant.{IsSafe, IsGood, IsGiven, IsOutcome, IsAfter}
+use Rattle.protocol.proofs.Strings.{NoClashFor-any}
 use Rattle.protocol.proofs.Entries.{less_by_stamp, less_by_kind, less_by_end, not_back, not_self, sorted_before}
 use Rattle.protocol.proofs.Parts.{ascending_collect, length_collect}
 use Rattle.protocol.proofs.Lists.{Contains-collect}
@@ -29,8 +30,13 @@ gave_as : (s : Setting) (work : Work) (stamp : Option Stamp) (given : Stamp) (va
 gave_as s Reads stamp t value how rounds h = (refl, h.0, h.1)
 gave_as s (Writes v) stamp t value how rounds h = absurd h
 
-outcome_at : (s : Setting) (r : Record) (o : Option Outcome) → r.outcome ≡ o → IsOutcome s r.work r.stamp r.outcome → IsOutcome s r.work r.stamp o
+pub outcome_at : (s : Setting) (r : Record) (o : Option Outcome) → r.outcome ≡ o → IsOutcome s r.work r.stamp r.outcome → IsOutcome s r.work r.stamp o
 outcome_at s r o e h = rw e at h
+
+-- no outcome is outvoted
+pub not_outvoted : (s : Setting) (work : Work) (stamp : Option Stamp) (nodes : List ℕ) → IsOutcome s work stamp (Some (Outvoted nodes)) → ⊥
+not_outvoted s Reads stamp nodes h = h
+not_outvoted s (Writes v) stamp nodes h = h
 
 -- a write's stamp is for its value
 wrote_as : (s : Setting) (work : Work) (stamp : Option Stamp) (o : Option Outcome) (value : List ℕ) (t : Stamp) → work ≡ Writes value → stamp ≡ Some t → IsOutcome s work stamp o → IsGood s t value
@@ -181,7 +187,7 @@ module _ (s : Setting) (good : IsValid s) (w : World) (safe : IsSafe s w) where
         let b = started_entry y start k g in
         let began : b.of.start ≡ start = (let q = b.start in cc) in
         let order : IsAfter s x.stamp b.of.work y.stamp =
-        safe.ordered apart a.of b.of end x.stamp y.stamp a.there b.there (sym a.end ∙ f) a.stamp b.stamp (sym b.block ∙ sym e ∙ a.block) (omega arith) in
+        safe.ordered a.of b.of (NoClashFor-any s w b.of.work apart) end x.stamp y.stamp a.there b.there (sym a.end ∙ f) a.stamp b.stamp (sym b.block ∙ sym e ∙ a.block) (omega arith) in
         elim b.kind [
           | inl q ↦ reads a b q.1 (reads_as b.of.work q.0 order) began q.2 q.3
           | inr q ↦ less_by_stamp x y e (lower_time x.stamp y.stamp (writes_as b.of.work q.0 q.1 order))

@@ -17,6 +17,7 @@ use Rattle.protocol.specs.World.Event.{Start, Resend, Give, Hear, CrashNode, Cra
 use Rattle.protocol.proofs.Counting.{update-cases, both_true}
 use Rattle.protocol.proofs.Lists.{Contains-one, Contains-none, Contains-head}
 use Rattle.protocol.proofs.Order.{same_stamp-refl, ≼-refl}
+use Rattle.protocol.proofs.Tests.{is_eqb}
 use Rattle.protocol.proofs.Rounds.{same-refl}
 use Rattle.protocol.proofs.Invariant.{IsSafe, IsStored}
 use Rattle.protocol.proofs.Starting.{started_safe}
@@ -59,16 +60,13 @@ start_safe s good = record {
   answered = λ m task reply h. absurd (Contains-none m h);
   tasks = λ c task e. absurd (cc e);
   records = λ r h. absurd (Contains-none r h);
-  aimed = λ apart x end stamp c task h. absurd (Contains-none x h);
-  ordered = λ apart x y end stamp last h. absurd (Contains-none x h);
+  aimed = λ c task apart x end stamp h. absurd (Contains-none x h);
+  ordered = λ x y apart end stamp last h. absurd (Contains-none x h);
 }
 
 module _ (s : Setting) (good : IsValid s) (w : World) (safe : IsSafe s w) (place : ℕ) (later : w.place ≤ place) where
   given_safe : (i : ℕ) → i < s.n → s.lying_node i ≡ false → (m : Message) → Contains w.pool m → IsAskTo s i m → IsSafe s (given s w place i m m.body)
   given_safe i l h m there asks = rw asks.2 (handled_safe s w safe place later i l h m there asks.0 asks.1 asks.2)
-
-  is_eqb : (x y : ℕ) → eqb x y ≡ true → x ≡ y
-  is_eqb x y h = grind (arith, nat_tests)
 
   kind_as : (stage : Stage) (a r : Reply) → a ≡ r → is_of_kind stage a ≡ true → is_of_kind stage r ≡ true
   kind_as stage a r e h = rw e at h

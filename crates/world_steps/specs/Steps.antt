@@ -14,8 +14,8 @@ use Rattle.client_core.specs.Clients.{ClientView}
 use Rattle.world_steps.specs.Worlds.{WorldView, setting_in, world_in}
 
 -- the client of a number
-abbrev pub seated : WorldView → ℕ → ClientView
-seated v c = record { config = v.config; id = c; seen = client_at v.seen c }
+abbrev pub client_in : WorldView → ℕ → ClientView
+client_in v c = record { config = v.config; id = c; seen = client_at v.seen c }
 
 -- node i handles an ask, and these messages are sent
 abbrev pub handles : Setting → World → ℕ → ℕ → Ask → List Message → World

@@ -1,9 +1,9 @@
 //! What takes place at nodes: messages are sent, asks are handled, nodes crash and prune.
 
-ghost use Rattle.std.specs.Prelude.{◌≡◌, ◌<◌, if◌then◌else◌, Some, IfOk, OnOk, OnErr};
-ghost use Rattle.stamp_order.specs.Stamps.{up_to};
-ghost use Rattle.protocol.specs.World.{sent, answer_of, happens, only_place, greatest_given, given_of, greater_stamp};
-ghost use Rattle.protocol.specs.Seen.{record_of, block_of};
+ghost use Rattle.std.specs.Prelude.{◌≡◌, ◌<◌, nat_lt, IfOk, OnOk, OnErr};
+ghost use Rattle.protocol.specs.World.{sent, answer_of, happens, greatest_given};
+ghost use Rattle.protocol.specs.Lines.{is_busy_at};
+ghost use Rattle.protocol.specs.Seen.{block_of};
 ghost use Rattle.protocol.specs.World.Event.{CrashNode as NodeCrashes, Prune as Prunes};
 ghost use Rattle.world_steps.specs.Worlds.{setting_in, world_in, with_seen};
 ghost use Rattle.protocol.specs.Count.{one_more};
@@ -11,11 +11,12 @@ ghost use Rattle.node_core.specs.Seen.{with_versions, after_of};
 ghost use Rattle.world_steps.specs.Steps.{handles};
 ghost use Rattle.world_steps.specs.Acceptances.{accepts_of, told_of, new_stamp};
 
+use crate::block_use::{BlockUse, UNUSED};
 use crate::state::State;
 use lists::{ItemList, NoMemory};
 use node_core::Node;
 use quorum_rules::Config;
-use run_words::{Accepted, Outcome, Record};
+use run_words::Accepted;
 use stamp_order::Stamp;
 use wire_forms::{Ask, Body, Mail, Message, Op, Reply, Request};
 
@@ -39,8 +40,8 @@ impl State {
         requires { node < self.now.config.n }
         ensures { IfOk result (λ m. m ≡ answer_of (setting_in self.now) (world_in self.now) node message.now ask.now) }
     {
-        let host = &self.hosts[usize::from(node)];
-        let reply = host.node.reply_to(ask)?;
+        let slot = &self.node_slots[usize::from(node)];
+        let reply = slot.node.reply_to(ask)?;
         Ok(Message {
             client: message.client,
             node,
@@ -67,8 +68,8 @@ impl State {
     {
         let sent = self.pool.len();
         self.pool.append(&mut mail)?;
-        let host = &mut self.hosts[usize::from(node)];
-        match handle(&mut host.node, node, &self.config, ask, &mut self.accepted) {
+        let slot = &mut self.node_slots[usize::from(node)];
+        match handle(&mut slot.node, node, &self.config, ask, &mut self.accepted) {
             Ok(()) => {
                 self.place = place;
                 Ok(())
@@ -97,22 +98,20 @@ impl State {
         ensures lying_nodes { self.new.lying_nodes ≡ self.old.lying_nodes }
         ensures lying_clients { self.new.lying_clients ≡ self.old.lying_clients }
     {
-        let host = &mut self.hosts[usize::from(node)];
-        host.crashed = true;
+        let slot = &mut self.node_slots[usize::from(node)];
+        slot.crashed = true;
         self.place = place;
     }
 
-    /// The greatest stamp that a completed read of the block gave.
-    pub(crate) fn greatest_given(&self, block: u32) -> Option<Stamp>
-        ensures { result ≡ greatest_given block self.now.seen.records }
+    /// What a prune of the block goes by.
+    pub(crate) fn block_use(&self, block: u32) -> BlockUse
+        ensures at_work { nat_lt 0 result.at_work ≡ is_busy_at (setting_in self.now) (world_in self.now) block }
+        ensures given { result.given ≡ greatest_given block self.now.seen.records }
     {
-        self.records
-            .as_slice()
-            .iter()
-            .rev()
-            .fold(None, |greatest, record| {
-                greater(given(block, record), greatest)
-            })
+        match self.uses.get(block as usize) {
+            Some(block_use) => *block_use,
+            None => UNUSED,
+        }
     }
 
     /// A node prunes a block by the greatest stamp that a completed read of it gave.
@@ -125,12 +124,12 @@ impl State {
         ensures lying_nodes { self.new.lying_nodes ≡ self.old.lying_nodes }
         ensures lying_clients { self.new.lying_clients ≡ self.old.lying_clients }
     {
-        let Some(stamp) = self.greatest_given(block) else {
+        let Some(stamp) = self.block_use(block).given else {
             self.pass(place);
             return;
         };
-        let host = &mut self.hosts[usize::from(node)];
-        host.node.prune(block, &stamp);
+        let slot = &mut self.node_slots[usize::from(node)];
+        slot.node.prune(block, &stamp);
         self.place = place;
     }
 }
@@ -179,37 +178,6 @@ fn new_stamp(node: &Node, config: &Config, ask: &Ask) -> Option<Stamp>
         }
         _ => None,
     }
-}
-
-/// The stamp that the record's read of the block gave, if it is one.
-fn given(block: u32, told: &Record) -> Option<Stamp>
-    ensures { result ≡ given_of block (record_of told.now) }
-{
-    if block_of(&told.op) != block {
-        return None;
-    }
-    match &told.outcome {
-        Some(Outcome::Gave { stamp, .. }) => Some(*stamp),
-        _ => None,
-    }
-}
-
-/// The greater of the two, where there are two.
-fn greater(x: Option<Stamp>, y: Option<Stamp>) -> Option<Stamp>
-    ensures { result ≡ greater_stamp x y }
-{
-    match (x, y) {
-        (Some(x), Some(y)) => Some(later(x, y)),
-        (x, None) => x,
-        (None, y) => y,
-    }
-}
-
-/// The greater of the two.
-fn later(x: Stamp, y: Stamp) -> Stamp
-    ensures { result ≡ (if up_to x y then y else x) }
-{
-    if x.cmp(&y).is_le() { y } else { x }
 }
 
 /// The block that the operation is on.

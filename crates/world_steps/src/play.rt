@@ -1,6 +1,6 @@
 //! What lines make of the world.
 
-ghost use Rattle.std.specs.Prelude.{◌≡◌, ◌≢◌, ◌<◌, ◌≤◌, OnOk, OnErr, IsErrOf, slice_get};
+ghost use Rattle.std.specs.Prelude.{false, ◌≡◌, ◌≢◌, ◌<◌, ◌≤◌, OnOk, OnErr, IsErrOf, slice_get};
 ghost use Rattle.std.specs.declared.option.Option.TheVariants.{None, Some};
 ghost use Rattle.protocol.specs.Messages.{Message as Messages};
 ghost use Rattle.protocol.specs.Setting.{first_stamp};
@@ -114,6 +114,7 @@ impl State {
         requires client { client ≤ 1000 }
         requires node { node < self.now.config.n }
         requires working { IsWorking self.now client }
+        requires awake { (world_in self.now).client_crashed client ≡ false }
         ensures ok { OnOk result (IsPlayedBy self.old self.new place (lines.Call client node)) }
         ensures err { OnErr result (self.new ≡ self.old) }
     {
@@ -185,6 +186,7 @@ impl State {
         requires client { client ≤ 1000 }
         requires node { node < self.now.config.n }
         requires working { IsWorking self.now client }
+        requires awake { (world_in self.now).client_crashed client ≡ false }
         requires rule { rule ≢ Rule.Silent }
         ensures ok { OnOk result (IsPlayedBy self.old self.new place (lines.False client node rule)) }
         ensures err { OnErr result (self.new ≡ self.old) }

@@ -19,4 +19,4 @@ loop-preserved g c =
     let items : c.extend_from_slice.new.self.items ≡ c.loop.input.items ++ given = c.in_ok-extend_from_slice-in-Ok.ensures.items ∙ ap (λ z. c.loop.input.items ++ z) (take-append-le c.in-Ok.count c.read.new.room _ c.in-Ok.ensures.bound.0) in
     let size = ap length items in
     let more : c.loop.counter + 1 ≤ length c.extend_from_slice.new.self.items = omega (arith, size, length-append c.loop.input.items given, c.in-Ok.ensures.bound, c.in-Ok.count-test.1, c.loop.invariant) in
-    (rw items (Consumes-then _ _ _ c.loop.input.items given c.loop.invariant.0 c.in-Ok.ensures.bytes.0), omega (arith, c.in-Ok.ensures.cause.later, c.loop.invariant), more, omega (arith, c.if-len-gt-LIMIT.false))
+    (rw items (Consumes-then _ _ _ c.loop.input.items given c.loop.invariant.0 c.in-Ok.ensures.bytes.0), c.in-Ok.ensures.cause.calm ∙ c.loop.invariant.1, more, omega (arith, c.if-len-gt-LIMIT.false))

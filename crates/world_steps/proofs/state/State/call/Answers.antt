@@ -2,7 +2,7 @@ use Rattle.std.proofs.Common.{rules, ◌∙◌, sym}
 use Rattle.world_steps.specs.Worlds.{setting_in, world_in}
 use Rattle.world_steps.proofs.state.State.call.Goals as goal
 use Rattle.std.proofs.lemmas.Result.{on_ok_weaker}
-use Rattle.world_steps.proofs.Lines.{called_plays}
+use Rattle.world_steps.proofs.LineEvents.{called_plays}
 
 -- src/play.rt:86:5
 pub returns-clause-ok : goal.returns-clause-ok

@@ -3,7 +3,7 @@ use Rattle.world_steps.specs.Worlds.{setting_in, world_in}
 use Rattle.world_steps.proofs.state.State.poke.Goals as goal
 use Rattle.std.proofs.lemmas.Result.{on_ok_weaker}
 use Rattle.wire_forms.specs.declared.message.Body.TheVariants.{Ask as Asks}
-use Rattle.world_steps.proofs.Lines.{poked_plays}
+use Rattle.world_steps.proofs.LineEvents.{poked_plays}
 
 -- src/play.rt:137:5
 pub returns-clause-ok : goal.returns-clause-ok
