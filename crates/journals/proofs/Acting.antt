@@ -6,7 +6,6 @@ use Rattle.std.proofs.lemmas.List.{length-set}
 use Rattle.quorum_rules.specs.Limits.{Numbers}
 use Rattle.protocol.specs.Messages.{Message, Body, Reply, Ask, Version, IsFormedReply}
 use Rattle.wire_forms.specs.declared.message.Body.TheVariants.{Ask as Asks, Answer as Answers}
-use Rattle.protocol.specs.Setting.{Setting, IsValid}
 use Rattle.protocol.specs.Lines.{Rule}
 use Rattle.protocol.specs.Nodes.{pruned}
 use Rattle.protocol.specs.Instance.{setting}
@@ -18,7 +17,6 @@ use Rattle.journals.specs.declared.desk.Way.TheVariants.{Call}
 use Rattle.journals.specs.declared.node.Nature.TheVariants.{Honest, Lying as Lies}
 use Rattle.journals.specs.declared.node.Silence.TheVariants.{Crashed, Dropped, Held, Lying}
 use Rattle.journals.specs.declared.node.NodeAct.TheVariants.{Answered, Lied, Silent, CrashedAt, Delivered, LateLost, Pruned}
-use Rattle.journals.proofs.Forming.{IsFormedWhere, false_formed}
 
 -- a node that hasn't crashed and doesn't lie
 pub record IsUpright (s : NodeState) (nature : Nature) : Type 0 where
@@ -99,11 +97,11 @@ pub record IsLie (ask reply : Message) : Type 0 where
   pub answers : reply.body ≡ Answers told
   pub formed : IsFormedReply told
 
-pub lie_is : (s : Setting) (good : IsValid s) (ask reply : Message) (rule : Rule) (o : Option Reply) → IsFormedWhere o → replied ask o ≡ Some reply → IsLie ask reply
-lie_is s good ask reply rule None f e = absurd (cc)
-lie_is s good ask reply rule (Some told) f e =
+pub lie_is : (ask reply : Message) (o : Option Reply) → ((told : Reply) → o ≡ Some told → IsFormedReply told) → replied ask o ≡ Some reply → IsLie ask reply
+lie_is ask reply None f e = absurd (cc)
+lie_is ask reply (Some told) f e =
     let q : record { client = ask.client; node = ask.node; tag = ask.tag; body = Answers told } ≡ reply = cc in
-    record { client = ap (λ (m : Message). m.client) (sym q); node = ap (λ (m : Message). m.node) (sym q); told = told; answers = ap (λ (m : Message). m.body) (sym q); formed = f }
+    record { client = ap (λ (m : Message). m.client) (sym q); node = ap (λ (m : Message). m.node) (sym q); told = told; answers = ap (λ (m : Message). m.body) (sym q); formed = f told refl }
 
 -- ---- what an act leaves as it was
 

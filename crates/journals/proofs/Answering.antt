@@ -30,7 +30,6 @@ use Rattle.journals.specs.Steps.Step.{AtNode}
 use Rattle.journals.specs.Merging.{line_of, IsFirst}
 use Rattle.journals.specs.Agreement.{IsNode, IsDesk, Agrees}
 use Rattle.journals.proofs.Lists.{Contains-head, number_of, update-same, update-other, at_update}
-use Rattle.journals.proofs.Forming.{IsFormedWhere, false_formed}
 use Rattle.journals.proofs.Acting.{IsUpright, IsLie, lie_is, answered as means_answered, told_lie, crashed_called, crashed_late, delivered as means_delivered}
 use Rattle.journals.proofs.Frames.{Frame, set, Before, Taken, honest_by, lying_by}
 use Rattle.journals.proofs.Effects.{OnlyNode, OnlyClient, answering, given_only, place_node, reply_same, served_same, place_client, heard_only, told_desk}
@@ -224,7 +223,7 @@ module _ {f : Frame} {w : World} {g : Cluster} {n : ℕ} (b : Before f w g n) wh
       (
         lying_by f b.behave i q.0,
         is.comes.0 ∙ (b.fixed.nodes i).number,
-        lie_is (set f) b.good ask answer q.1 (false_reply (set f) q.1 ask.node (is.comes.1).request) (false_formed (set f) b.good q.1 ask.node (is.comes.1).request) o,
+        lie_is ask answer (false_reply (set f) q.1 ask.node (is.comes.1).request) (b.laws.formed f.config f.nodes f.clients b.cluster q.1 ask.node (is.comes.1).request) o,
       )
 
   tell : (i : ℕ) (ask answer : Message) → i < f.config.n → IsAct (f.conduct.nature i) (g.nodes i) (Lied ask answer) → IsClient (set f) ask.client → f.clients ask.client ≡ false → DeskGoes (g.desks ask.client) (Call ByCall ask (Some answer))

@@ -4,11 +4,11 @@ use Rattle.std.specs.declared.option.Option.TheVariants.{None, Some}
 use Rattle.std.proofs.lemmas.List.{length-replicate}
 use Rattle.quorum_rules.specs.Limits.{Numbers}
 use Rattle.protocol.specs.Messages.{Message}
-use Rattle.protocol.specs.Setting.{Setting, IsValid}
+use Rattle.protocol.specs.Setting.{Setting}
 use Rattle.protocol.specs.Operations.{Task}
 use Rattle.protocol.specs.World.{World, under_way}
 use Rattle.protocol.specs.Lines.{Line, FitsLine, fault, plays}
-use Rattle.protocol.specs.Instance.{setting_of}
+use Rattle.protocol.specs.Instance.{setting_of, IsCluster}
 use Rattle.protocol.specs.Seen.{Hearing}
 use Rattle.protocol.specs.Seen.Hearing.{Ignored, Counted, Begins, Ended as Ends}
 use Rattle.protocol.specs.Facts.{IsWorking}
@@ -48,7 +48,7 @@ told_is_for : (config : Numbers) (c n : ℕ) (d : DeskState) (o : Option Message
 told_is_for config c n d None k = k
 told_is_for config c n d (Some m) k = heard_is_for config c d.client (hears d.client d.client.seen.task m) k
 
-desk_is_for : (config : Numbers) (c n : ℕ) (d : DeskState) (act : DeskAct) → IsFor config c d.client → IsFor config c (desk_after d n act).client
+pub desk_is_for : (config : Numbers) (c n : ℕ) (d : DeskState) (act : DeskAct) → IsFor config c d.client → IsFor config c (desk_after d n act).client
 desk_is_for config c n d (Start op) k = record { cluster = k.cluster; number = k.number }
 desk_is_for config c n d Crash k = k
 desk_is_for config c n d (Call way ask reply) k = told_is_for config c n d reply k
@@ -88,7 +88,7 @@ module _ (f : Frame) where
 -- a world of a run and the cluster that agrees with it, before the line of number n
 pub record Before (f : Frame) (w : World) (g : Cluster) (n : ℕ) : Type 0 where
   pub laws : Laws
-  pub good : IsValid (set f)
+  pub cluster : IsCluster f.config f.nodes
   pub behave : IsConduct f.nodes f.conduct
   pub works : (c : ℕ) (task : Task) → under_way w c ≡ Some task → IsWorking (set f) w c task
   pub fixed : AreOf f g

@@ -49,7 +49,7 @@ module _ (laws : Laws) (f : Frame) (cluster : IsCluster f.config f.nodes) (behav
   pub before : {w : World} {g : Cluster} {n : ℕ} → Stands w g n → Before f w g n
   before {w = w} h = record {
     laws = laws;
-    good = laws.cluster f.config f.nodes f.clients cluster;
+    cluster = cluster;
     behave = behave;
     works = laws.tasks f.config f.nodes f.clients cluster h.lines w h.run;
     fixed = h.fixed;
@@ -82,7 +82,7 @@ module _ (laws : Laws) (f : Frame) (cluster : IsCluster f.config f.nodes) (behav
       let taken = step_taken b k e number goes in
       record {
         lines = h.lines ++ (n + 1, line_of (set f) k e) ∷ [];
-        run = (laws.runs (set f) (start_world (set f)) (plays (set f) w (n + 1) (line_of (set f) k e)) h.lines ((n + 1, line_of (set f) k e) ∷ [])).1 (w, h.run, (later b, taken.fits, taken.fine, refl));
+        run = (laws.runs (set f) (start_world (set f)) h.lines ((n + 1, line_of (set f) k e) ∷ []) (plays (set f) w (n + 1) (line_of (set f) k e))).1 (w, h.run, (later b, taken.fits, taken.fine, refl));
         fixed = step_of f g h.fixed n e;
         agrees = taken.agrees;
         tells = step_tells b k e goes;

@@ -1,6 +1,5 @@
 pub mod Lists
 pub mod Cited
-pub mod Forming
 pub mod Acting
 pub mod Frames
 pub mod Effects
@@ -13,3 +12,5 @@ pub mod Pruning
 pub mod Induction
 pub mod Projections
 pub mod Law
+pub mod Fitting
+pub mod Doing

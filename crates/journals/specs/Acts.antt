@@ -114,6 +114,11 @@ answer_of (Delivered ask reply) = Nothing Held
 answer_of (LateLost ask) = Nothing Crashed
 answer_of (Pruned block stamp) = Nothing Crashed
 
+-- the reply that the caller hears, if it hears one
+abbrev pub reply_in : Answer → Option Message
+reply_in (Replies reply) = Some reply
+reply_in (Nothing why) = None
+
 -- why a node acts: an ask comes by some way, a held ask comes late, or it is to prune
 pub data Cause : Type 0 where
   Comes : Way → Message → Cause

@@ -63,6 +63,9 @@ pub record AreKept (conduct : Conduct) (j : Journals) : Type 0 where
   pub nodes : (i : ℕ) → IsNodeKept conduct j i
   pub desks : (c : ℕ) → IsDeskKept j c
 
+abbrev pub IsKept : Journals → Type 0
+IsKept j = (conduct : Conduct) × AreKept conduct j
+
 -- the node's entry of this number is the other side of the client's
 abbrev pub HasSide : Journals → ℕ → DeskEntry → Type 0
 HasSide j c e = (i : ℕ) × (act : NodeAct) × Contains (at_node j i) (record { number = e.number; act = act }) × (side act ≡ Some (c, e.act))

@@ -1,16 +1,23 @@
 -- What holds of journals of a run in threads and of their lines.
-use Rattle.std.specs.Prelude.{◌≡◌, ◌⊎◌, ℕ, ◌<◌, ◌+◌, false, List, take, length}
+use Rattle.std.specs.Prelude.{◌≡◌, ℕ, ◌<◌, ◌+◌, true, false, List, take}
+use Rattle.std.specs.declared.option.Option.TheVariants.{None, Some}
 use Rattle.std.specs.List.{Contains}
-use Rattle.protocol.specs.World.{World, start_world}
-use Rattle.protocol.specs.Lines.{Line, IsRun}
+use Rattle.protocol.specs.Messages.{Stamp, Message}
+use Rattle.wire_forms.specs.Liars.{has_number}
+use Rattle.protocol.specs.Instance.{setting, IsCluster}
+use Rattle.protocol.specs.World.{World, IsAskTo, start_world}
+use Rattle.protocol.specs.Lines.{Line, FitsLine, IsRun}
 use Rattle.protocol.specs.History.{Entry, IsHistory, Legal, InTime, NoClash}
 use Rattle.protocol.specs.Setting.{Sound}
 use Rattle.protocol.specs.History.Kind.{Read}
-use Rattle.journals.specs.Desks.{Ended, desk_after_all, new_desk}
-use Rattle.journals.specs.Steps.{Step, Conduct}
+use Rattle.journals.specs.Acts.{Nature, NodeState, act, late_act, can_prune, answer_of, reply_in, IsAct, IsOldest}
+use Rattle.journals.specs.declared.node.NodeAct.TheVariants.{Pruned}
+use Rattle.journals.specs.declared.desk.DeskAct.TheVariants.{Call}
+use Rattle.journals.specs.Desks.{Way, Ended, desk_after_all, new_desk}
+use Rattle.journals.specs.Steps.{Step, Conduct, side}
 use Rattle.journals.specs.Merging.{line_of}
 use Rattle.journals.specs.Agreement.{Reaches, ended_record}
-use Rattle.journals.specs.Journals.{Journals, setting_for, at_desk, cluster_at, IsEntry, InOrder, IsMerge, AreOfRun}
+use Rattle.journals.specs.Journals.{Journals, setting_for, at_desk, cluster_at, IsEntry, InOrder, IsMerge, AreKept, PairsAgree, AreOfRun}
 
 -- the law holds of journals of a run and of their lines
 abbrev pub OfMerged : (Conduct → Journals → List (ℕ × Line) → Type 0) → Type 0
@@ -45,6 +52,29 @@ abbrev pub AreSound : Conduct → Journals → List (ℕ × Line) → Type 0
 AreSound conduct j lines =
     (w : World) (h : List Entry) (e : Entry) → IsRun (setting_for j) lines w → IsHistory (setting_for j) w h
     → Contains h e → e.kind ≡ Read → Sound (setting_for j) e.stamp e.value
+
+-- the line of each entry of kept journals is one of their configuration
+abbrev pub AllFit : Type 0
+AllFit =
+    (conduct : Conduct) (j : Journals) → IsCluster j.config (has_number j.liars.nodes) → AreKept conduct j → PairsAgree j
+    → (n : ℕ) (e : Step) → IsEntry j n e → (k : ℕ) → FitsLine (setting_for j) (line_of (setting_for j) k e)
+
+-- what a node does with an ask to it goes by its rules, and is the node's side of a call whose caller hears its answer
+abbrev pub CallsGo : Type 0
+CallsGo =
+    (nature : Nature) (s : NodeState) (way : Way) (ask : Message) → IsAskTo (setting s.node.config) s.node.number ask
+    → IsAct nature s (act s nature way ask) × (side (act s nature way ask) ≡ Some (ask.client, Call way ask (reply_in (answer_of (act s nature way ask)))))
+
+-- and so does what it does with the oldest of its late mail, and a prune; neither has a caller
+abbrev pub LateActsGo : Type 0
+LateActsGo =
+    (nature : Nature) (s : NodeState) (ask : Message) → IsAskTo (setting s.node.config) s.node.number ask → IsOldest s.late ask
+    → IsAct nature s (late_act s nature ask) × (side (late_act s nature ask) ≡ None)
+
+abbrev pub PrunesGo : Type 0
+PrunesGo =
+    (nature : Nature) (s : NodeState) (block : ℕ) (stamp : Stamp) → can_prune s nature ≡ true → block < s.node.config.blocks
+    → IsAct nature s (Pruned block stamp)
 
 -- two lists of lines of one set of journals are equal
 abbrev pub AreOnce : Type 0

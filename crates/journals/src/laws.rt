@@ -1,6 +1,21 @@
 //! Laws of merged journals, each the contract of a function that does nothing.
 
-ghost use Rattle.journals.specs.Merged.{OfMerged, AllReach, AreRun, AreNumbered, AllRecorded, AreLegal, AreSound, AreOnce, AreOrdered};
+ghost use Rattle.journals.specs.Merged.{OfMerged, AllReach, AreRun, AreNumbered, AllRecorded, AreLegal, AreSound, AreOnce, AreOrdered, AllFit, CallsGo, LateActsGo, PrunesGo};
+
+/// What a node does goes by its rules: so a journal to which it is added stays kept. What it does with an ask is its side of the
+/// call of the caller who hears its answer, so the two agree.
+pub fn acts()
+    ensures calls { CallsGo }
+    ensures late { LateActsGo }
+    ensures prunes { PrunesGo }
+{}
+
+/// The line of each entry of kept journals is one that a run of their cluster may have.
+pub fn fitting_lines()
+    ensures { AllFit }
+{
+    protocol::laws::false_replies();
+}
 
 /// The lines of the journals of a run in threads are a run from the beginning: none of them is refused. After the first `n`
 /// lines each node that isn't declared lying, and each correct client, is what its journal's entries with numbers below `n` make
@@ -12,7 +27,7 @@ pub fn merged_runs()
     ensures legal { OfMerged AreLegal }
     ensures sound { OfMerged AreSound }
 {
-    protocol::laws::cluster();
+    protocol::laws::false_replies();
     protocol::laws::refusals();
     protocol::laws::pools();
     protocol::laws::runs();

@@ -6,7 +6,7 @@ use Rattle.journals.proofs.laws.merged_runs.Goals as goal
 pub returns : goal.returns
 returns c =
     let laws : Laws = record {
-      cluster = c.cluster.ensures;
+      formed = c.false_replies.ensures;
       taken = c.refusals.ensures.taken;
       grows = c.pools.ensures.lines;
       runs = c.runs.ensures;
