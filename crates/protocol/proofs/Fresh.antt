@@ -416,10 +416,10 @@ module _ (s : Setting) (good : IsValid s) where
       made_at = (line_taken Before w right_at.safe logged_at place later line fits fine).made k m told sent.new sent.sent body honest.1
 
       pub run_always : (h : IsHosted s (plays s w place line) k m told)
-          × (h.ask.block < s.blocks → (stamp : Stamp) → Accepts s w m.node h.ask.block stamp → IsNotBehind (HasPruned s lines m.node h.ask.block place) stamp h.ask.request told)
+          × ((stamp : Stamp) → h.ask.block < s.blocks → Accepts s w m.node h.ask.block stamp → IsNotBehind (HasPruned s lines m.node h.ask.block place) stamp h.ask.request told)
       run_always = (
         made_at.0,
-        λ below stamp a.
+        λ stamp below a.
             behind_as (IsWide s Before m.node made_at.0.ask.block) (HasPruned s lines m.node made_at.0.ask.block place)
             (λ bound wide p k node block. elim k [ inl q ↦ absurd q | inr q ↦ wide p q node block (let l = logged_at.past p (inr q) in omega (arith, l, later)) ])
             stamp made_at.0.ask.request told (made_at.1 below stamp a),

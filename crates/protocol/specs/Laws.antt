@@ -211,8 +211,8 @@ module _ (s : Setting) (w : World) where
       → m.body ≡ Answers reply
       → IsHonest s m.node
       → (h : IsHosted s (plays s w place line) k m reply)
-      × (h.ask.block < s.blocks
-      → (stamp : Stamp)
+      × ((stamp : Stamp)
+      → h.ask.block < s.blocks
       → HasAccepted s w m.node h.ask.block stamp
       → IsNotBehind (HasPruned s lines m.node h.ask.block place) stamp h.ask.request reply)
 
