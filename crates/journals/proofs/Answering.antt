@@ -1,5 +1,5 @@
 -- What a step's line needs and leaves, kind by kind: what a node answers, delivers late, crashes at, and what a liar tells.
-use Rattle.std.proofs.Common.{◌≡◌, ℕ, ◌+◌, ◌<◌, ◌≤◌, Bool, true, false, cond, List, [], ◌∷◌, Option, refl, sym, ◌∙◌, ap, subst, inl, inr, arith}
+use Rattle.std.proofs.Common.{◌≡◌, ℕ, ◌+◌, ◌<◌, Bool, true, false, cond, List, [], ◌∷◌, Option, refl, sym, ◌∙◌, ap, subst, inl, inr, arith}
 use Rattle.std.specs.Prelude.{slice_get}
 use Rattle.std.specs.declared.option.Option.TheVariants.{None, Some}
 use Rattle.std.specs.List.{Contains}
@@ -8,12 +8,11 @@ use Rattle.std.proofs.lemmas.Option.{slice_get_within}
 use Rattle.wire_forms.specs.declared.Body.TheVariants.{Ask as Asks, Answer as Answers}
 use Rattle.protocol.specs.Count.{update}
 use Rattle.protocol.specs.Messages.{IsFormedBody, Message, Version, Body, Reply, Ask}
-use Rattle.protocol.specs.Setting.{Setting, IsValid}
-use Rattle.protocol.specs.Instance.{setting}
+use Rattle.protocol.specs.Setting.{Setting}
 use Rattle.protocol.specs.Nodes.{reply}
 use Rattle.protocol.specs.Operations.{Task, outstanding, ask_of}
 use Rattle.protocol.specs.World.{World, IsClient, IsOfLiar, under_way, only_place, sent, given, heard, all_happen, answer_of, AllAllowed}
-use Rattle.protocol.specs.Lines.{Rule, false_reply, plays, called as call_events, given_at}
+use Rattle.protocol.specs.Lines.{false_reply, plays, called as call_events, given_at}
 use Rattle.run_words.specs.declared.line.Line.TheVariants.{Call as Calls, Give, Lost, CrashNode, Tell, Poke}
 use Rattle.protocol.specs.Seen.{SeenTask, started_task, task_at, hearing}
 use Rattle.protocol.specs.Views.{IsFull, task_after}
@@ -24,7 +23,7 @@ use Rattle.journals.specs.declared.node.NodeAct.TheVariants.{Answered, Lied, Cra
 use Rattle.journals.specs.declared.desk.DeskAct.TheVariants.{Call}
 use Rattle.journals.specs.declared.desk.Way.TheVariants.{Call as ByCall}
 use Rattle.journals.specs.Acts.{NodeState, IsAct, after, served, with_reply, true_answer, is_spent}
-use Rattle.journals.specs.Desks.{DeskAct, DeskState, desk_after, desk_told, DeskGoes, ActsAs, LiarCalls}
+use Rattle.journals.specs.Desks.{DeskAct, DeskState, desk_after, desk_told, DeskGoes, ActsAs}
 use Rattle.journals.specs.Steps.{Cluster, Goes, cluster_after, called, side}
 use Rattle.journals.specs.Steps.Step.{AtNode}
 use Rattle.journals.specs.Merging.{line_of, IsFirst}
@@ -33,7 +32,7 @@ use Rattle.journals.proofs.Lists.{Contains-head, number_of, update-same, update-
 use Rattle.journals.proofs.Acting.{IsUpright, IsLie, lie_is, answered as means_answered, told_lie, crashed_called, crashed_late, delivered as means_delivered}
 use Rattle.journals.proofs.Frames.{Frame, set, Before, Taken, honest_by, lying_by}
 use Rattle.journals.proofs.Effects.{OnlyNode, OnlyClient, answering, given_only, place_node, reply_same, served_same, place_client, heard_only, told_desk}
-use Rattle.journals.proofs.Taking.{same_node, same_desk, of_rest, asked_is, soon, later, grows, agree_node, silent_desks, lost_fine, lost_agrees}
+use Rattle.journals.proofs.Taking.{same_node, same_desk, of_rest, asked_is, soon, grows, agree_node, silent_desks, lost_fine, lost_agrees}
 
 -- every other client stays
 pub other_desk : (s : Setting) (v u : World) (c : ℕ) (o : Option Task) → OnlyClient v u c o → (x : ℕ) (d : DeskState) → (x ≡ c → ⊥) → IsDesk s v x d → IsDesk s u x d
@@ -200,7 +199,6 @@ module _ {f : Frame} {w : World} {g : Cluster} {n : ℕ} (b : Before f w g n) wh
             (liar_desks u own.life own.started own.clients own.task ask.client (Call ByCall ask (Some answer)) lying)
             (λ m good running there. grows b (Poke ask) m (b.agrees.sent i m good running there));
       }
-
     where
       of_sent : (i : ℕ) (v : World) (vs : ℕ → List Version) → OnlyNode (sent (set f) w (n + 1) (ask ∷ [])) v i vs → OnlyNode w (only_place (set f) v (n + 1)) i vs
       of_sent i v vs h = record { own = h.own; others = h.others; nodes = h.nodes; task = h.task; life = h.life; started = h.started; clients = h.clients; records = h.records }
@@ -219,8 +217,7 @@ module _ {f : Frame} {w : World} {g : Cluster} {n : ℕ} (b : Before f w g n) wh
   lie_here i ask answer is =
       let q = told_lie (g.nodes i) (f.conduct.nature i) ask answer is.done in
       let e : answer_to (g.nodes i).node.config q.1 ask (Asks is.comes.1) ≡ Some answer = subst (λ (x : Body). answer_to (g.nodes i).node.config q.1 ask x ≡ Some answer) is.comes.2 q.2 in
-      let o : answer_to f.config q.1 ask (Asks is.comes.1) ≡ Some answer = subst (λ (x : Numbers). answer_to x q.1 ask (Asks is.comes.1) ≡ Some answer) (b.fixed.nodes i).config e in
-      (
+      let o : answer_to f.config q.1 ask (Asks is.comes.1) ≡ Some answer = subst (λ (x : Numbers). answer_to x q.1 ask (Asks is.comes.1) ≡ Some answer) (b.fixed.nodes i).config e in (
         lying_by f b.behave i q.0,
         is.comes.0 ∙ (b.fixed.nodes i).number,
         lie_is ask answer (false_reply (set f) q.1 ask.node (is.comes.1).request) (b.laws.formed f.config f.nodes f.clients b.cluster q.1 ask.node (is.comes.1).request) o,

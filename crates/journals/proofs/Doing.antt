@@ -1,18 +1,16 @@
 -- What a node does goes by its rules.
-use Rattle.std.proofs.Common.{◌≡◌, ◌⊎◌, ℕ, ◌<◌, Bool, true, false, cond, List, Option, refl, sym, ◌∙◌, ap, subst, inl, inr}
+use Rattle.std.proofs.Common.{◌≡◌, Bool, true, false, cond, Option, refl, sym, ap, subst}
 use Rattle.std.specs.declared.option.Option.TheVariants.{None, Some}
-use Rattle.protocol.specs.Messages.{Stamp, Message}
-use Rattle.protocol.specs.Instance.{setting}
-use Rattle.protocol.specs.World.{IsAskTo}
+use Rattle.protocol.specs.Messages.{Message}
 use Rattle.liar_rules.specs.Answers.{answer_to}
 use Rattle.journals.specs.declared.desk.DeskAct.TheVariants.{Call as CallAct}
 use Rattle.journals.specs.declared.desk.Way.{Way}
 use Rattle.journals.specs.declared.desk.Way.TheVariants.{Call, Drop, Hold}
 use Rattle.journals.specs.declared.node.Nature.TheVariants.{Honest, Lying as Lies}
-use Rattle.journals.specs.declared.node.Silence.TheVariants.{Crashed, Dropped, Held, Lying}
-use Rattle.journals.specs.declared.node.NodeAct.TheVariants.{Answered, Lied, Silent, CrashedAt, Delivered, LateLost, Pruned}
-use Rattle.journals.specs.Acts.{NodeAct, Nature, NodeState, Cause, cause_of, act, late_act, answers, handles, lied, is_spent, answer_of, reply_in, act_by, MayCome, IsAct, IsOldest}
-use Rattle.journals.specs.Acts.Cause.{Comes, ComesLate, Prunes}
+use Rattle.journals.specs.declared.node.Silence.TheVariants.{Crashed}
+use Rattle.journals.specs.declared.node.NodeAct.TheVariants.{Silent, CrashedAt, LateLost}
+use Rattle.journals.specs.Acts.{NodeAct, Nature, NodeState, cause_of, act, late_act, answers, handles, lied, is_spent, answer_of, reply_in, act_by, MayCome}
+use Rattle.journals.specs.Acts.Cause.{Comes, ComesLate}
 use Rattle.journals.specs.Steps.{side}
 use Rattle.journals.specs.Merged.{CallsGo, LateActsGo, PrunesGo}
 

@@ -1,5 +1,5 @@
 -- The line of an entry of kept journals is one of their configuration.
-use Rattle.std.proofs.Common.{◌≡◌, ℕ, ◌<◌, Bool, true, false, cond, List, [], ◌∷◌, refl, sym, ◌∙◌, ap, subst, inl, inr}
+use Rattle.std.proofs.Common.{◌≡◌, ℕ, ◌<◌, Bool, true, false, cond, List, [], ◌∷◌, refl, sym, subst, inl, inr}
 use Rattle.std.specs.declared.option.Option.TheVariants.{Some}
 use Rattle.std.specs.List.{Contains}
 use Rattle.std.proofs.lemmas.List.{length-replicate}
@@ -8,7 +8,7 @@ use Rattle.wire_forms.specs.Liars.{has_number}
 use Rattle.wire_forms.specs.declared.op.Op.{Op}
 use Rattle.wire_forms.specs.declared.op.Op.TheVariants.{Read as ReadOp, Write as WriteOp}
 use Rattle.wire_forms.specs.declared.Body.TheVariants.{Ask as Asks}
-use Rattle.protocol.specs.Messages.{IsFormedBody, Message, Body}
+use Rattle.protocol.specs.Messages.{IsFormedBody, Body}
 use Rattle.protocol.specs.Setting.{IsBlock}
 use Rattle.protocol.specs.Laws.{InEachCluster, FalseIsFormed}
 use Rattle.protocol.specs.Instance.{setting, setting_of}
@@ -21,7 +21,7 @@ use Rattle.journals.specs.declared.desk.Way.TheVariants.{Call as ByCall}
 use Rattle.journals.specs.Acts.{NodeEntry, Nature, NodeState, new_state, after, IsAct, NodeKept}
 use Rattle.journals.specs.Desks.{DeskEntry, DeskState, new_desk, desk_after, ActsAs, DeskKept}
 use Rattle.journals.specs.Steps.Step.{AtNode, AtDesk}
-use Rattle.journals.specs.Merging.{line_of, start_line}
+use Rattle.journals.specs.Merging.{start_line}
 use Rattle.journals.specs.Journals.{setting_for, at_node, at_desk}
 use Rattle.journals.specs.Merged.{AllFit}
 use Rattle.journals.proofs.Lists.{Contains-none, Contains-cons_cases}

@@ -1,5 +1,5 @@
 -- A cluster whose nodes and clients go by a frame: what stays fixed about them, step by step.
-use Rattle.std.proofs.Common.{◌≡◌, ℕ, ◌+◌, Bool, true, false, List, Option, refl, sym, ◌∙◌, ap, subst}
+use Rattle.std.proofs.Common.{◌≡◌, ℕ, ◌+◌, Bool, true, false, Option, refl, sym, ◌∙◌}
 use Rattle.std.specs.declared.option.Option.TheVariants.{None, Some}
 use Rattle.std.proofs.lemmas.List.{length-replicate}
 use Rattle.quorum_rules.specs.Limits.{Numbers}
@@ -13,7 +13,7 @@ use Rattle.protocol.specs.Seen.{Hearing}
 use Rattle.protocol.specs.Seen.Hearing.{Ignored, Counted, Begins, Ended as Ends}
 use Rattle.protocol.specs.Facts.{IsWorking}
 use Rattle.client_core.specs.Clients.{ClientView, hears}
-use Rattle.journals.specs.Acts.{NodeState, NodeAct, after}
+use Rattle.journals.specs.Acts.{NodeState, after}
 use Rattle.journals.specs.Desks.{DeskState, DeskAct, by_hearing, desk_told, desk_after}
 use Rattle.journals.specs.declared.desk.DeskAct.TheVariants.{Start, Crash, Call}
 use Rattle.journals.specs.Steps.{Step, Cluster, Conduct, IsConduct, is_lying, side, called, new_cluster, cluster_after}

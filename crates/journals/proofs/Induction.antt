@@ -1,7 +1,6 @@
 -- The lines of steps that go are a run, and each of its worlds agrees with the cluster after as many steps.
-use Rattle.std.proofs.Common.{◌≡◌, ℕ, zero, suc, ◌+◌, ◌<◌, List, [], ◌∷◌, ◌++◌, map, take, Option, refl, sym, ◌∙◌, ap, subst, arith, append_assoc}
-use Rattle.std.specs.declared.option.Option.TheVariants.{None, Some}
-use Rattle.protocol.specs.Setting.{Setting}
+use Rattle.std.proofs.Common.{◌≡◌, ℕ, zero, suc, ◌+◌, ◌<◌, List, [], ◌∷◌, ◌++◌, map, take, Option, refl, sym, ap, subst}
+use Rattle.std.specs.declared.option.Option.TheVariants.{Some}
 use Rattle.std.proofs.lemmas.List.{get_or-replicate}
 use Rattle.node_core.specs.Seen.{versions_in, new_node}
 use Rattle.protocol.specs.Nodes.{first_version}

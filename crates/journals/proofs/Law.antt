@@ -1,5 +1,5 @@
 -- The lines of journals of a run in threads are a run, whose worlds agree with the journals; and there is just one list of them.
-use Rattle.std.proofs.Common.{◌≡◌, ℕ, zero, suc, ◌+◌, ◌<◌, ◌≤◌, Bool, true, false, List, [], ◌∷◌, ◌++◌, map, take, drop, length, Option, refl, sym, ◌∙◌, ap, subst, inl, inr, arith}
+use Rattle.std.proofs.Common.{◌≡◌, ℕ, zero, suc, ◌+◌, ◌<◌, ◌≤◌, List, [], ◌∷◌, map, take, drop, length, Option, refl, sym, ◌∙◌, ap, subst, inl, inr, arith}
 use Rattle.std.specs.declared.option.Option.TheVariants.{None, Some}
 use Rattle.std.specs.List.{Contains, AllByRecursion}
 use Rattle.std.proofs.lemmas.List.{take-append-drop}
@@ -7,12 +7,12 @@ use Rattle.wire_forms.specs.Liars.{has_number}
 use Rattle.protocol.specs.Messages.{Message}
 use Rattle.protocol.specs.Setting.{Setting}
 use Rattle.protocol.specs.World.{World, start_world}
-use Rattle.protocol.specs.Lines.{Line, Run, IsRun, plays}
-use Rattle.journals.specs.Desks.{Ended, DeskState, new_desk, desk_after_all}
+use Rattle.protocol.specs.Lines.{Line, Run, plays}
+use Rattle.journals.specs.Desks.{DeskState, new_desk, desk_after_all}
 use Rattle.journals.specs.Steps.{Step, Cluster, Conduct, new_cluster, cluster_replay}
 use Rattle.journals.specs.Merging.{line_of, late_ask, IsFirst, IsNumber, next_world, Merged}
 use Rattle.journals.specs.Agreement.{Reaches, ended_record}
-use Rattle.journals.specs.Journals.{Journals, setting_for, at_desk, desks_before, cluster_at, AreOfRun, IsEntry, InOrder, IsMerge}
+use Rattle.journals.specs.Journals.{Journals, setting_for, cluster_at, AreOfRun, IsMerge}
 use Rattle.journals.specs.Merged.{OfMerged, AllReach, AreRun, AreNumbered, AllRecorded, AreOnce, AreOrdered}
 use Rattle.journals.proofs.Cited.{Laws}
 use Rattle.journals.proofs.Lists.{Contains-head, Contains-none, Contains-rest, Contains-cons_cases}
@@ -88,11 +88,11 @@ numbered_from s (x ∷ es) w place lines counts merged n e there =
     let rest = numbered_from s es (next_world s w (place + 1) (line_of s merged.0 x.1)) (place + 1) merged.1 counts.1 merged.4 n e in
     elim (Contains-cons_cases (n, e) x es there) [
       | inl is ↦ (
-          merged.0,
-          subst (λ (ls : List (ℕ × Line)). Contains ls (n + 1, line_of s merged.0 e)) (sym merged.3)
-              (subst (λ (l : ℕ × Line). Contains ((place + 1, line_of s merged.0 x.1) ∷ merged.1) l)
-              (ap (λ (m : ℕ). (m + 1, line_of s merged.0 x.1)) (sym counts.0) ∙ ap (λ (y : Numbered). (y.0 + 1, line_of s merged.0 y.1)) (sym is)) (Contains-head (place + 1, line_of s merged.0 x.1) merged.1)),
-        )
+        merged.0,
+        subst (λ (ls : List (ℕ × Line)). Contains ls (n + 1, line_of s merged.0 e)) (sym merged.3)
+            (subst (λ (l : ℕ × Line). Contains ((place + 1, line_of s merged.0 x.1) ∷ merged.1) l)
+            (ap (λ (m : ℕ). (m + 1, line_of s merged.0 x.1)) (sym counts.0) ∙ ap (λ (y : Numbered). (y.0 + 1, line_of s merged.0 y.1)) (sym is)) (Contains-head (place + 1, line_of s merged.0 x.1) merged.1)),
+      )
       | inr later ↦ (let q = rest later in (q.0, subst (λ (ls : List (ℕ × Line)). Contains ls (n + 1, line_of s q.0 e)) (sym merged.3) (Contains-rest (n + 1, line_of s q.0 e) (place + 1, line_of s merged.0 x.1) merged.1 q.1)))
     ]
 
@@ -129,4 +129,3 @@ merge_once j one other a b =
     let s = setting_for j in
     let same : a.0 ≡ b.0 = same_ascending (λ (p : Numbered). p.0) a.0 b.0 a.1.ascending b.1.ascending (λ p h. (b.1.entries p).1 ((a.1.entries p).0 h)) (λ p h. (a.1.entries p).1 ((b.1.entries p).0 h)) in
     lines_once s (map (λ p. p.1) a.0) (Some (start_world s)) 0 one other a.2 (subst (λ (es : List Numbered). Merged s (Some (start_world s)) 0 (map (λ p. p.1) es) other) (sym same) b.2)
-

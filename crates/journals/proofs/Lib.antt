@@ -14,3 +14,5 @@ pub mod Projections
 pub mod Law
 pub mod Fitting
 pub mod Doing
+pub mod Phasing
+mod Example

@@ -1,11 +1,9 @@
 -- What a prune's line needs and leaves.
-use Rattle.std.proofs.Common.{◌≡◌, ◌⊎◌, ◌↔◌, ℕ, ◌+◌, ◌<◌, Bool, true, false, cond, List, Option, refl, sym, ◌∙◌, ap, subst, inl, inr, arith, eqb}
+use Rattle.std.proofs.Common.{◌≡◌, ◌⊎◌, ℕ, ◌+◌, ◌<◌, Bool, true, false, cond, List, Option, refl, sym, ◌∙◌, ap, subst, inl, inr, arith, eqb}
 use Rattle.std.specs.declared.option.Option.TheVariants.{None, Some}
-use Rattle.std.specs.List.{Contains}
 use Rattle.std.proofs.lemmas.Bool.Decides.{nat_tests}
 use Rattle.quorum_rules.specs.Limits.{Numbers}
 use Rattle.stamp_order.specs.declared.Stamp.{Stamp}
-use Rattle.stamp_order.specs.Stamps.{◌≼◌}
 use Rattle.run_words.specs.declared.outcome.Outcome.{Outcome}
 use Rattle.protocol.specs.Count.{update}
 use Rattle.protocol.specs.Messages.{Version}
@@ -13,16 +11,16 @@ use Rattle.protocol.specs.Nodes.{pruned}
 use Rattle.protocol.specs.Instance.{setting}
 use Rattle.protocol.specs.Operations.{Task}
 use Rattle.protocol.specs.World.{World, Record, IsQuiet, unless, stamp_given, given_of, pruned_at, greatest_given}
-use Rattle.protocol.specs.Facts.{HasGave, IsGreatestGiven}
+use Rattle.protocol.specs.Facts.{HasGave}
 use Rattle.protocol.specs.Lines.{plays}
 use Rattle.run_words.specs.declared.line.Line.TheVariants.{Prune}
 use Rattle.protocol.specs.Seen.{SeenTask, started_task, task_at}
 use Rattle.node_core.specs.Seen.{SeenNode, versions_in, with_versions}
 use Rattle.journals.specs.declared.node.NodeAct.TheVariants.{Pruned}
-use Rattle.journals.specs.Acts.{NodeState, after}
+use Rattle.journals.specs.Acts.{after}
 use Rattle.journals.specs.Steps.{Cluster, Goes, HasGiven, PruneGoes, cluster_after}
 use Rattle.journals.specs.Steps.Step.{AtNode}
-use Rattle.journals.specs.Agreement.{IsNode, IsDesk, IsEnded, ended_record}
+use Rattle.journals.specs.Agreement.{IsNode, IsDesk, ended_record}
 use Rattle.journals.proofs.Lists.{update-cases, update-same, update-other}
 use Rattle.journals.proofs.Acting.{pruning}
 use Rattle.journals.proofs.Frames.{Frame, set, Before, Taken}

@@ -29,7 +29,6 @@ use Rattle.journals.specs.Steps.{Cluster, cluster_after, CallGoes, Goes, called}
 use Rattle.journals.specs.Steps.Step.{AtNode, AtDesk}
 use Rattle.journals.specs.Merging.{start_line}
 use Rattle.journals.specs.Agreement.{IsNode, IsDesk, Agrees}
-use Rattle.journals.proofs.Cited.{Laws}
 use Rattle.journals.proofs.Lists.{Contains-one, Contains-rest, update-same, update-other, at_update}
 use Rattle.journals.proofs.Frames.{Frame, set, IsFor, Before, Taken}
 use Rattle.journals.proofs.Effects.{plays_pool, asks_is}
@@ -53,9 +52,6 @@ asked_is f c client ask own may =
     ∙ ap (λ (k : Numbers). outstanding_of (setting k) client.id client.seen.task ask.node) (sym own.cluster) ∙ may.outstanding)
 
 module _ {f : Frame} {w : World} {g : Cluster} {n : ℕ} (b : Before f w g n) where
-
-
-
   pub later : w.place < n + 1
   later = let e = b.at in omega (arith, e)
 

@@ -1,5 +1,5 @@
 -- The records and the desks tell alike of the operations that ended, after each kind of step.
-use Rattle.std.proofs.Common.{◌≡◌, ◌⊎◌, ℕ, ◌+◌, ◌<◌, Bool, true, false, cond, List, [], ◌∷◌, ◌++◌, Option, refl, sym, ◌∙◌, ap, subst, inl, inr}
+use Rattle.std.proofs.Common.{◌≡◌, ◌⊎◌, ℕ, ◌+◌, Bool, true, false, cond, List, [], ◌∷◌, ◌++◌, Option, refl, sym, ◌∙◌, ap, subst, inl, inr}
 use Rattle.std.specs.Prelude.{slice_get}
 use Rattle.std.specs.declared.option.Option.TheVariants.{None, Some}
 use Rattle.std.specs.List.{Contains}
@@ -24,17 +24,17 @@ use Rattle.journals.specs.declared.node.NodeAct.TheVariants.{Answered, Lied, Sil
 use Rattle.journals.specs.declared.desk.DeskAct.TheVariants.{Start, Crash, Call}
 use Rattle.journals.specs.declared.desk.Way.TheVariants.{Call as ByCall}
 use Rattle.journals.specs.Acts.{NodeState, IsAct, way_of}
-use Rattle.journals.specs.Desks.{Way, DeskAct, DeskState, Ended, ended_by, desk_heard, desk_told, desk_after, DeskGoes, ActsAs}
+use Rattle.journals.specs.Desks.{Way, DeskAct, DeskState, Ended, ended_by, desk_told, desk_after, DeskGoes, ActsAs}
 use Rattle.journals.specs.Steps.{Cluster, Step, cluster_after, Goes, called}
 use Rattle.journals.specs.Steps.Step.{AtNode, AtDesk}
 use Rattle.journals.specs.Merging.{line_of, start_line}
-use Rattle.journals.specs.Agreement.{IsDesk, IsEnded, TellAlike, ended_record}
+use Rattle.journals.specs.Agreement.{IsEnded, TellAlike, ended_record}
 use Rattle.journals.proofs.Cited.{Laws}
 use Rattle.journals.proofs.Lists.{Contains-one, update-cases, update-same}
 use Rattle.journals.proofs.Acting.{answered as means_answered}
 use Rattle.journals.proofs.Frames.{Frame, set, Before}
 use Rattle.journals.proofs.Effects.{given_only, heard_is, hears_is}
-use Rattle.journals.proofs.Answering.{node_here, task_now, out, asked, told, call_given, told_is, Asked, asked_now, lie_here}
+use Rattle.journals.proofs.Answering.{node_here, task_now, asked, told, call_given, told_is, asked_now, lie_here}
 
 -- ---- records as they come and change
 
@@ -124,19 +124,19 @@ module _ {f : Frame} {w : World} {g : Cluster} {n : ℕ} (b : Before f w g n) wh
       → ((c : ℕ) → f.clients c ≡ false → (h.desks c).ended ≡ (g.desks c).ended) → TellAlike (set f) v h
   same_tell v h records desks = record {
     ended = λ r x. (records r x.operation.outcome (ap (λ (y : Record). y.outcome) x.is)).1 (b.tells.ended r (record {
-          client = x.client;
-          correct = x.correct;
-          operation = x.operation;
-          there = subst (λ (l : List Ended). Contains l x.operation) (desks x.client x.correct) x.there;
-          is = x.is;
-        }));
+      client = x.client;
+      correct = x.correct;
+      operation = x.operation;
+      there = subst (λ (l : List Ended). Contains l x.operation) (desks x.client x.correct) x.there;
+      is = x.is;
+    }));
     told = λ r outcome k e. let x = b.tells.told r outcome ((records r outcome e).0 k) e in record {
-          client = x.client;
-          correct = x.correct;
-          operation = x.operation;
-          there = subst (λ (l : List Ended). Contains l x.operation) (sym (desks x.client x.correct)) x.there;
-          is = x.is;
-        };
+      client = x.client;
+      correct = x.correct;
+      operation = x.operation;
+      there = subst (λ (l : List Ended). Contains l x.operation) (sym (desks x.client x.correct)) x.there;
+      is = x.is;
+    };
   }
 
   -- the records stay, and no desk ends anything new
@@ -174,12 +174,12 @@ module _ {f : Frame} {w : World} {g : Cluster} {n : ℕ} (b : Before f w g n) wh
         told = λ k outcome h q. elim ((law k outcome q).0 h) [
           | inl old ↦ older d' o now (b.tells.told k outcome (forth k old) q)
           | inr new ↦ (let p = made_of c o k new in record {
-              client = c;
-              correct = right;
-              operation = p.0;
-              there = subst (λ (z : DeskState). Contains z.ended p.0) (sym (update-same g.desks c d')) (subst (λ (l : List Ended). Contains l p.0) (sym now) (new_ended d.ended o p.0 p.1));
-              is = p.2;
-            })
+            client = c;
+            correct = right;
+            operation = p.0;
+            there = subst (λ (z : DeskState). Contains z.ended p.0) (sym (update-same g.desks c d')) (subst (λ (l : List Ended). Contains l p.0) (sym now) (new_ended d.ended o p.0 p.1));
+            is = p.2;
+          })
         ];
       })
     where

@@ -5,3 +5,4 @@ pub mod Merging
 pub mod Agreement
 pub mod Journals
 pub mod Merged
+pub mod Phases

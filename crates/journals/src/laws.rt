@@ -1,5 +1,6 @@
 //! Laws of merged journals, each the contract of a function that does nothing.
 
+ghost use Rattle.journals.specs.Phases.{PhasesFollow};
 ghost use Rattle.journals.specs.Merged.{OfMerged, AllReach, AreRun, AreNumbered, AllRecorded, AreLegal, AreSound, AreOnce, AreOrdered, AllFit, CallsGo, LateActsGo, PrunesGo};
 
 /// What a node does goes by its rules: so a journal to which it is added stays kept. What it does with an ask is its side of the
@@ -16,6 +17,12 @@ pub fn fitting_lines()
 {
     protocol::laws::false_replies();
 }
+
+/// In journals of phases, each prune goes by what the clients had read until then: when a phase closes, each correct client has
+/// crashed or has nothing under way, and nobody but nodes that prune does anything until its prunes are done.
+pub fn phases()
+    ensures { PhasesFollow }
+{}
 
 /// The lines of the journals of a run in threads are a run from the beginning: none of them is refused. After the first `n`
 /// lines each node that isn't declared lying, and each correct client, is what its journal's entries with numbers below `n` make
