@@ -10,10 +10,11 @@ use Rattle.protocol.specs.World.{World, start_world}
 use Rattle.protocol.specs.Lines.{Line, Run, plays}
 use Rattle.journals.specs.Desks.{DeskState, new_desk, desk_after_all}
 use Rattle.journals.specs.Steps.{Step, Cluster, Conduct, new_cluster, cluster_replay}
+use Rattle.journals.specs.Steps.Step.{AtNode, AtDesk}
 use Rattle.journals.specs.Merging.{line_of, late_ask, IsFirst, IsNumber, next_world, Merged}
 use Rattle.journals.specs.Agreement.{Reaches, ended_record}
 use Rattle.journals.specs.Journals.{Journals, setting_for, cluster_at, AreOfRun, IsMerge}
-use Rattle.journals.specs.Merged.{OfMerged, AllReach, AreRun, AreNumbered, AllRecorded, AreOnce, AreOrdered}
+use Rattle.journals.specs.Merged.{OfMerged, AllReach, AreRun, AreNumbered, AreShown, AllRecorded, AreOnce, AreOrdered}
 use Rattle.journals.proofs.Cited.{Laws}
 use Rattle.journals.proofs.Lists.{Contains-head, Contains-none, Contains-rest, Contains-cons_cases}
 use Rattle.journals.proofs.Picks.{Numbered, Counts, counts_split, same_ascending}
@@ -99,6 +100,12 @@ numbered_from s (x ∷ es) w place lines counts merged n e there =
 pub are_numbered : OfMerged AreNumbered
 are_numbered conduct j lines of_run merge n e there =
     numbered_from (setting_for j) merge.0 (Some (start_world (setting_for j))) 0 lines (counts_of j of_run.drawn of_run.numbers merge.0 merge.1) merge.2 n e ((merge.1.entries (n, e)).1 there)
+
+pub are_shown : OfMerged AreShown
+are_shown conduct j lines of_run merge c x there = elim (of_run.pairs.answered c x there) [
+  | inl own ↦ (let q = are_numbered conduct j lines of_run merge x.number (AtDesk c x.act) (own, there) in (AtDesk c x.act, inl refl, q.0, q.1))
+  | inr other ↦ (let q = are_numbered conduct j lines of_run merge x.number (AtNode other.0 other.1) other.2 in (AtNode other.0 other.1, inr (other.0, other.1, refl, other.3), q.0, q.1))
+]
 
 pub are_ordered : AreOrdered
 are_ordered conduct j of_run = let q = in_order j of_run.drawn of_run.numbers in (q.0, q.1)

@@ -1,5 +1,5 @@
 -- What holds of journals of a run in threads and of their lines.
-use Rattle.std.specs.Prelude.{◌≡◌, ℕ, ◌<◌, ◌+◌, true, false, List, take}
+use Rattle.std.specs.Prelude.{◌≡◌, ◌⊎◌, ℕ, ◌<◌, ◌+◌, true, false, List, take}
 use Rattle.std.specs.declared.option.Option.TheVariants.{None, Some}
 use Rattle.std.specs.List.{Contains}
 use Rattle.protocol.specs.Messages.{Stamp, Message}
@@ -10,11 +10,12 @@ use Rattle.protocol.specs.Lines.{Line, FitsLine, IsRun}
 use Rattle.protocol.specs.History.{Entry, IsHistory, Legal, InTime, NoClash}
 use Rattle.protocol.specs.Setting.{Sound}
 use Rattle.protocol.specs.History.Kind.{Read}
-use Rattle.journals.specs.Acts.{Nature, NodeState, act, late_act, can_prune, answer_of, reply_in, IsAct, IsOldest}
+use Rattle.journals.specs.Acts.{NodeAct, Nature, NodeState, act, late_act, can_prune, answer_of, reply_in, IsAct, IsOldest}
 use Rattle.journals.specs.declared.node.NodeAct.TheVariants.{Pruned}
 use Rattle.journals.specs.declared.desk.DeskAct.TheVariants.{Call}
-use Rattle.journals.specs.Desks.{Way, Ended, desk_after_all, new_desk}
+use Rattle.journals.specs.Desks.{Way, DeskAct, DeskEntry, Ended, desk_after_all, new_desk}
 use Rattle.journals.specs.Steps.{Step, Conduct, side}
+use Rattle.journals.specs.Steps.Step.{AtNode, AtDesk}
 use Rattle.journals.specs.Merging.{line_of}
 use Rattle.journals.specs.Agreement.{Reaches, ended_record}
 use Rattle.journals.specs.Journals.{Journals, setting_for, at_desk, cluster_at, IsEntry, InOrder, IsMerge, AreKept, PairsAgree, AreOfRun}
@@ -34,6 +35,16 @@ AreRun conduct j lines = (w : World) × IsRun (setting_for j) lines w
 -- there is a line for each number: that of number n has the place n + 1
 abbrev pub AreNumbered : Conduct → Journals → List (ℕ × Line) → Type 0
 AreNumbered conduct j lines = (n : ℕ) (e : Step) → IsEntry j n e → (k : ℕ) × Contains lines (n + 1, line_of (setting_for j) k e)
+
+-- the step is the client's own act, or the node's side of its call
+abbrev pub IsStepOf : ℕ → DeskAct → Step → Type 0
+IsStepOf c act e = (e ≡ AtDesk c act) ⊎ ((i : ℕ) × (a : NodeAct) × (e ≡ AtNode i a) × (side a ≡ Some (c, act)))
+
+-- each entry of each client is shown by the line of its number
+abbrev pub AreShown : Conduct → Journals → List (ℕ × Line) → Type 0
+AreShown conduct j lines =
+    (c : ℕ) (x : DeskEntry) → Contains (at_desk j c) x
+    → (e : Step) × IsStepOf c x.act e × (k : ℕ) × Contains lines (x.number + 1, line_of (setting_for j) k e)
 
 -- each operation that a correct client ended stands in the records, with the places of its start and of its end
 abbrev pub AllRecorded : Conduct → Journals → List (ℕ × Line) → Type 0

@@ -1,7 +1,9 @@
 //! Laws of merged journals, each the contract of a function that does nothing.
 
 ghost use Rattle.journals.specs.Phases.{PhasesFollow};
-ghost use Rattle.journals.specs.Merged.{OfMerged, AllReach, AreRun, AreNumbered, AllRecorded, AreLegal, AreSound, AreOnce, AreOrdered, AllFit, CallsGo, LateActsGo, PrunesGo};
+ghost use Rattle.journals.specs.Merged.{OfMerged, AllReach, AreRun, AllRecorded, AreLegal, AreSound};
+ghost use Rattle.journals.specs.Merged.{AreOnce, AreOrdered, AreNumbered, AreShown, AllFit};
+ghost use Rattle.journals.specs.Merged.{CallsGo, LateActsGo, PrunesGo};
 
 /// What a node does goes by its rules: so a journal to which it is added stays kept. What it does with an ask is its side of the
 /// call of the caller who hears its answer, so the two agree.
@@ -46,9 +48,10 @@ pub fn merged_runs()
 }
 
 /// Journals have at most one list of lines, and those of a run have one order of their entries. Each entry has its line, that of
-/// number `n` at the place `n + 1`: so the lines show each call of each client.
+/// number `n` at the place `n + 1`; and so has each entry of each client, where its call stands at a node.
 pub fn one_merge()
     ensures once { AreOnce }
     ensures ordered { AreOrdered }
     ensures numbered { OfMerged AreNumbered }
+    ensures shown { OfMerged AreShown }
 {}
