@@ -19,7 +19,7 @@ use crate::block_use::{greater, leave, stamp_given};
 use crate::nodes::block_of;
 use crate::state::State;
 use client_core::{Client, Heard};
-use lists::{Copied, ItemList, NoMemory, Shared};
+use lists::{Copied, ItemList, NoMemory};
 use quorum_rules::Config;
 use run_words::{Outcome, Record};
 use stamp_order::Stamp;
@@ -212,7 +212,7 @@ impl State {
         client: u32,
         node: u8,
         ask: &Ask,
-        added: Option<Shared<Version>>,
+        added: Option<Version>,
         message: Message,
     ) -> Result<(), NoMemory>
         requires later { self.now.seen.place < place }
