@@ -13,7 +13,7 @@ use Rattle.protocol.specs.Instance.{setting}
 use Rattle.protocol.specs.Operations.{Task, Outcome, Decision, answered, decide}
 use Rattle.protocol.specs.Operations.Decision.{GoesOn, Ends as EndsWith}
 use Rattle.protocol.specs.World.{World, heard, heard_by, with_record, chosen_stamp}
-use Rattle.protocol.specs.Seen.{SeenTask, record_of, chosen_of, Hearing, client_at, task_at, started_task, seen_goes_on, seen_counted, is_counted, answers_of, by_decision, after_counting, hearing}
+use Rattle.protocol.specs.Seen.{SeenTask, record_of, phase_of, chosen_of, Hearing, client_at, task_at, started_task, seen_goes_on, seen_counted, is_counted, answers_of, by_decision, after_counting, hearing}
 use Rattle.protocol.specs.Seen.Hearing.{Ignored, Counted, Begins, Ended}
 use Rattle.protocol.proofs.Seeing.{length-goes_on, length-counted, after_hearing, heard_by-seen}
 use Rattle.client_core.specs.Clients.{ClientView, with_task, hears, told}
@@ -71,6 +71,10 @@ hearing_of v k m = hears (client_in v k) (client_at v.seen k).task m
 -- an operation under way has an answer or none for each node, and no more phases than places so far
 abbrev pub Fits : ℕ → ℕ → Option SeenTask → Type 0
 Fits n place o = IfSome o (λ t. (length t.answers ≡ n) × (t.phase ≤ place))
+
+pub fits-phase : (n place : ℕ) (o : Option SeenTask) → Fits n place o → phase_of o ≤ place
+fits-phase n place None fit = omega arith
+fits-phase n place (Some t) fit = fit.1
 
 pub slot-fits : (w : Inside) → IsWorld w.config w.node_slots.items w.client_slots.items w.records w.place → (k : ℕ) → k ≤ 1000 → Fits w.config.n w.place (client_at (the_view w).seen k).task
 slot-fits w good k l = at (slice_get_cases w.client_slots.items k).1

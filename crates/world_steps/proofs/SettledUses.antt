@@ -5,7 +5,7 @@ use Rattle.std.specs.Option.{option_map}
 use Rattle.std.specs.List.{count_by}
 use Rattle.std.specs.declared.option.Option.TheVariants.{None, Some}
 use Rattle.std.proofs.lemmas.List.{take_all, get_or_default}
-use Rattle.std.proofs.lemmas.Option.{slice_get_cases, slice_get_read}
+use Rattle.std.proofs.lemmas.Option.{slice_get_cases}
 use Rattle.stamp_order.specs.declared.Stamp.{Stamp}
 use Rattle.run_words.specs.declared.record.Record.{Record as Told}
 use Rattle.protocol.specs.Count.{count}
@@ -25,7 +25,7 @@ use Rattle.world_steps.specs.AnswerEffects.{IsSame, MayGoOn, Becomes}
 use Rattle.world_steps.proofs.ClientSlots.{slot-task, slot-crashed}
 use Rattle.world_steps.proofs.GreatestGiven.{given_none, given_here, given_elsewhere, greatest-told}
 use Rattle.world_steps.proofs.BlockUses.{count_items, eqb-same, eqb-other, works_on_task, idle_works_nowhere, crashed_works_nowhere, used-there, use-there, uses-kept, uses-set, count-kept, works-there}
-use Rattle.world_steps.proofs.SettledRecords.{record-there, record-within, task-there, task-is}
+use Rattle.world_steps.proofs.SettledRecords.{record-there, task-there, task-is}
 
 -- ---- the world's count
 
@@ -74,15 +74,6 @@ module _ (w : Inside) (k : ℕ) (inside : k < length w.client_slots.items) (slot
       at (Some t) e = (t, refl)
 
   module _ (t : SeenTask) (busy : slot.client.seen.task ≡ Some t) where
-    -- the block that its record tells
-    pub told-block : (r : Told) → r ≡ get_or w.records slot.index r → block_of r.op ≡ t.block
-    told-block r e =
-        let known = record-there w k inside slot there good t busy in
-        let l = record-within w k inside slot there good t busy in
-        let same : Some r ≡ Some known.0 = sym (slice_get_read w.records (length w.records) slot.index r refl l e) ∙ known.1 in
-        let q : r ≡ known.0 = cc in
-        ap (λ (x : Told). block_of x.op) q ∙ ap (λ (x : Record). x.block) known.2
-
     pub left-some : slot.crashed ≡ false → (b : ℕ) → b ≡ t.block → Some b ≡ option_map (λ (t : Task). t.block) (under_way (world_in (the_view w)) k)
     left-some awake b e = ap Some e ∙ sym (left-is ∙ (λ i. option_map (λ (t : Task). t.block) (unless (awake i) (started_task slot.start (busy i)))))
 
@@ -209,9 +200,9 @@ module _ (w : Inside) (k : ℕ) (inside : k < length w.client_slots.items) (slot
             subst (λ (o : Option SeenTask). Becomes w.config w.place (Some (task_at slot.start task)) o) goes
             (subst (λ (o : Option Task). Becomes w.config w.place o hearer.seen.task) (task-is w k inside slot there good hearer same None None None may) may)
 
-    module _ (idle : hearer.seen.task ≡ None) (awake : slot.crashed ≡ false) (r : Told) (read : r ≡ get_or w.records slot.index r) (b : ℕ) (block : b ≡ block_of r.op) where
+    module _ (idle : hearer.seen.task ≡ None) (awake : slot.crashed ≡ false) (b : ℕ) (block : (r : Told) → slice_get w.records slot.index ≡ Some r → b ≡ block_of r.op) where
       own : b ≡ task.block
-      own = block ∙ told-block task busy r read
+      own = block known.0 known.1 ∙ ap (λ (x : Record). x.block) known.2
 
       pub end-there : b < length w.uses.items
       end-there = let l = block-there task busy awake in let e = own in omega (arith, l, e)

@@ -19,7 +19,7 @@ use crate::block_use::{greater, leave, stamp_given};
 use crate::nodes::block_of;
 use crate::state::State;
 use client_core::{Client, Heard};
-use lists::{Copied, ItemList, NoMemory, Shared};
+use lists::{Copied, ItemList, NoMemory};
 use quorum_rules::Config;
 use run_words::{Outcome, Record};
 use stamp_order::Stamp;
@@ -154,7 +154,7 @@ impl State {
         let slot = &mut self.client_slots[client as usize];
         slot.client = hearer;
         let index = slot.index;
-        let block = block_of(&self.records.as_slice()[index].op);
+        let block = block_told(&self.records, index);
         let block_use = &mut self.uses[block as usize];
         block_use.at_work -= 1;
         block_use.given = greater(stamp_given(&outcome), block_use.given);
@@ -212,7 +212,7 @@ impl State {
         client: u32,
         node: u8,
         ask: &Ask,
-        added: Option<Shared<Version>>,
+        added: Option<Version>,
         message: Message,
     ) -> Result<(), NoMemory>
         requires later { self.now.seen.place < place }
@@ -346,6 +346,14 @@ fn add(
         pool.truncate(len);
     }
     told
+}
+
+/// The block that the operation of this record is on.
+fn block_told(records: &ItemList<Record>, index: usize) -> u32
+    requires { index < length records.now }
+    ensures { (r : Told) → slice_get records.now index ≡ Some r → result ≡ block_of r.op }
+{
+    block_of(&records.as_slice()[index].op)
 }
 
 /// Tells in the record of this number how its operation stands.

@@ -13,7 +13,7 @@ ghost use Rattle.world_steps.specs.Acceptances.{told_of};
 
 use crate::block_use::{BlockUse, UNUSED};
 use crate::state::State;
-use lists::{ItemList, NoMemory, Shared};
+use lists::{ItemList, NoMemory};
 use node_core::{Node, Prepared};
 use run_words::Accepted;
 use wire_forms::{Ask, Body, Mail, Message, Op, Version};
@@ -39,7 +39,7 @@ impl State {
         node: u8,
         message: &Message,
         ask: &Ask,
-    ) -> Result<(Message, Option<Shared<Version>>), NoMemory>
+    ) -> Result<(Message, Option<Version>), NoMemory>
         requires { node < self.now.config.n }
         ensures answer { IfOk result (λ r. r.0 ≡ answer_of (setting_in self.now) (world_in self.now) node message.now ask.now) }
         ensures added { IfOk result (λ r. r.1 ≡ accepts_in (setting_in self.now) (world_in self.now) node ask.now) }
@@ -61,7 +61,7 @@ impl State {
         place: u64,
         node: u8,
         ask: &Ask,
-        added: Option<Shared<Version>>,
+        added: Option<Version>,
         mut mail: Mail,
     ) -> Result<(), NoMemory>
         requires later { self.now.seen.place < place }
@@ -146,7 +146,7 @@ fn keep(
     node: &mut Node,
     number: u8,
     ask: &Ask,
-    added: Option<Shared<Version>>,
+    added: Option<Version>,
     accepted: &mut ItemList<Accepted>,
 ) -> Result<(), NoMemory>
     requires { added ≡ accepts_of node.old ask.now }

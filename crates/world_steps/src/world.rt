@@ -23,9 +23,14 @@ use wire_forms::{Liars, Message};
 
 /// The last world of a run. Contracts see the cluster's numbers, who lies, and the world of the definitions; and that lines of
 /// a run lead to it, so that the laws of every run hold of it.
-#[derive(Drop)]
 pub struct World {
     state: State,
+}
+
+impl Drop for World {
+    fn drop(self) {
+        let World { state: _state } = self;
+    }
 }
 
 impl Model for World {

@@ -1,10 +1,8 @@
-use Rattle.std.proofs.Common.{◌≡◌, get_or, refl, sym, ◌∙◌, ap, subst, arith}
+use Rattle.std.proofs.Common.{◌≡◌, refl, sym, ◌∙◌, ap, subst, arith}
 use Rattle.std.specs.Prelude.{IfSome}
 use Rattle.std.specs.Vec.{with_item}
 use Rattle.std.specs.declared.option.Option.TheVariants.{None, Some}
-use Rattle.run_words.specs.declared.record.Record.{Record as Told}
 use Rattle.protocol.specs.World.{stamp_of_outcome}
-use Rattle.protocol.specs.Seen.{block_of}
 use Rattle.world_steps.specs.Worlds.{world_in}
 use Rattle.world_steps.specs.contracts.state.State.{the_view}
 use Rattle.world_steps.specs.AnswerEffects.{IsSame, Becomes, settled}
@@ -21,7 +19,7 @@ index_mut-block_use-requires c =
     c.args.hearer (subst (λ v. IsSame v c.args.client c.args.hearer) (sym c.self.view_is) c.requires.hearer)
     (subst (λ v. Becomes v.config v.seen.place ((world_in v).task c.args.client) c.args.hearer.seen.task) (sym c.self.view_is) (subst (λ o. Becomes c.args.self.now.config c.args.self.now.seen.place ((world_in c.args.self.now).task c.args.client) o) (sym c.requires.idle) c.requires.task))
     c.requires.idle (sym (slot-crashed c.self.inside c.args.client (client_slot-within _ _ _ _ _ c.self.invariant.0 c.args.client c.requires.client) c.index_mut-slot.result.now c.index_mut-slot.ensures.value) ∙ ap (λ v. (world_in v).client_crashed c.args.client) c.self.view_is ∙ c.requires.awake)
-    c.index-as_slice-index.result (c.index-as_slice-index.is ∙ ap (λ rs. get_or rs c.index_mut-slot.result.now.index c.index-as_slice-index.result) c.as_slice.ensures) c.block_of-block.result (c.block_of-block.ensures ∙ ap (λ (r : Told). block_of r.op) (sym c.index-as_slice-index.is))
+    c.block_told-block.result c.block_told-block.ensures
     in
     omega (arith, l)
 
@@ -32,8 +30,14 @@ overflow_sub-block_use c =
     c.args.hearer (subst (λ v. IsSame v c.args.client c.args.hearer) (sym c.self.view_is) c.requires.hearer)
     (subst (λ v. Becomes v.config v.seen.place ((world_in v).task c.args.client) c.args.hearer.seen.task) (sym c.self.view_is) (subst (λ o. Becomes c.args.self.now.config c.args.self.now.seen.place ((world_in c.args.self.now).task c.args.client) o) (sym c.requires.idle) c.requires.task))
     c.requires.idle (sym (slot-crashed c.self.inside c.args.client (client_slot-within _ _ _ _ _ c.self.invariant.0 c.args.client c.requires.client) c.index_mut-slot.result.now c.index_mut-slot.ensures.value) ∙ ap (λ v. (world_in v).client_crashed c.args.client) c.self.view_is ∙ c.requires.awake)
-    c.index-as_slice-index.result (c.index-as_slice-index.is ∙ ap (λ rs. get_or rs c.index_mut-slot.result.now.index c.index-as_slice-index.result) c.as_slice.ensures) c.block_of-block.result (c.block_of-block.ensures ∙ ap (λ (r : Told). block_of r.op) (sym c.index-as_slice-index.is))
+    c.block_told-block.result c.block_told-block.ensures
     c.index_mut-block_use.result.now c.index_mut-block_use.ensures.value
+
+pub block_told-block-requires : goal.block_told-block-requires
+block_told-block-requires c =
+    settle-within c.self.inside c.args.client (client_slot-within _ _ _ _ _ c.self.invariant.0 c.args.client c.requires.client) c.index_mut-slot.result.now c.index_mut-slot.ensures.value c.self.invariant.0
+    c.args.hearer (subst (λ v. IsSame v c.args.client c.args.hearer) (sym c.self.view_is) c.requires.hearer) None None None
+    (subst (λ v. Becomes v.config v.seen.place ((world_in v).task c.args.client) c.args.hearer.seen.task) (sym c.self.view_is) (subst (λ o. Becomes c.args.self.now.config c.args.self.now.seen.place ((world_in c.args.self.now).task c.args.client) o) (sym c.requires.idle) c.requires.task))
 
 pub tell-requires : goal.tell-requires
 tell-requires c =
@@ -53,7 +57,7 @@ invariant_of-self c = (
       c.args.hearer (subst (λ v. IsSame v c.args.client c.args.hearer) (sym c.self.view_is) c.requires.hearer)
       (subst (λ v. Becomes v.config v.seen.place ((world_in v).task c.args.client) c.args.hearer.seen.task) (sym c.self.view_is) (subst (λ o. Becomes c.args.self.now.config c.args.self.now.seen.place ((world_in c.args.self.now).task c.args.client) o) (sym c.requires.idle) c.requires.task))
       c.requires.idle (sym (slot-crashed c.self.inside c.args.client (client_slot-within _ _ _ _ _ c.self.invariant.0 c.args.client c.requires.client) c.index_mut-slot.result.now c.index_mut-slot.ensures.value) ∙ ap (λ v. (world_in v).client_crashed c.args.client) c.self.view_is ∙ c.requires.awake)
-      c.index-as_slice-index.result (c.index-as_slice-index.is ∙ ap (λ rs. get_or rs c.index_mut-slot.result.now.index c.index-as_slice-index.result) c.as_slice.ensures) c.block_of-block.result (c.block_of-block.ensures ∙ ap (λ (r : Told). block_of r.op) (sym c.index-as_slice-index.is))
+      c.block_told-block.result c.block_told-block.ensures
       c.index_mut-block_use.result.now c.index_mut-block_use.ensures.value c.stamp_of-stamp.result c.args.outcome c.tell.new.records c.tell.ensures),
 )
 
