@@ -1,4 +1,4 @@
-use Rattle.std.proofs.Common.{◌≡◌, ◌<◌, ◌∙◌, ap, sym, subst, length, arith, [], ◌∷◌, List, OnOk, IsErrOf, get_or}
+use Rattle.std.proofs.Common.{◌≡◌, ◌<◌, ◌∙◌, ap, sym, subst, length, arith, [], List, OnOk, IsErrOf}
 use Rattle.std.specs.Prelude.{slice_index_or, slice_set, option_map}
 use Rattle.std.specs.declared.option.Option.TheVariants.{None, Some}
 use Rattle.quorum_rules.specs.Limits.{Numbers}
@@ -10,15 +10,15 @@ use Rattle.line_forms.specs.declared.cause.Cause.TheVariants.{Step}
 use Rattle.line_forms.specs.declared.refusal.LineRefusal.TheVariants as refusals
 use Rattle.world_steps.specs.Worlds.{setting_in, world_in}
 use Rattle.script_run.specs.Performing.{next_cause, started_by, stepped}
-use Rattle.script_run.specs.Desks.{DesksView, desks_in}
-use Rattle.script_run.proofs.Keeping.{both, on_ok, left_set, desk_is, step_fits, desks_stay}
-use Rattle.script_run.proofs.desks.Desks.step.Goals as goal
+use Rattle.script_run.specs.CommandQueues.{QueuesView, queues_in}
+use Rattle.script_run.proofs.Keeping.{both, on_ok, left_set, queue_is, step_fits, queues_stay}
+use Rattle.script_run.proofs.command_queues.CommandQueues.step.Goals as goal
 
 pub invariant_of-self-2 : goal.invariant_of-self-2
 invariant_of-self-2 c =
     let count = c.self.invariant.0.count in
     let low = c.requires.client in
-    (desks_stay c.self.inside.config c.self.inside.left.items c.args.client c.in-Some.step c.next.new.self c.self.invariant.0 (omega arith) c.index_mut.result.now c.index_mut.ensures.value c.in-Some.ensures.steps, c.self.invariant.1)
+    (queues_stay c.self.inside.config c.self.inside.left.items c.args.client c.in-Some.step c.next.new.self c.self.invariant.0 (omega arith) c.index_mut.result.now c.index_mut.ensures.value c.in-Some.ensures.steps, c.self.invariant.1)
 
 pub line_of-requires : goal.line_of-requires
 line_of-requires c =
@@ -31,13 +31,13 @@ pub invariant_of-self-in_err-line : goal.invariant_of-self-in_err-line
 invariant_of-self-in_err-line c =
     let count = c.self.invariant.0.count in
     let low = c.requires.client in
-    (desks_stay c.self.inside.config c.self.inside.left.items c.args.client c.in-Some.step c.next.new.self c.self.invariant.0 (omega arith) c.index_mut.result.now c.index_mut.ensures.value c.in-Some.ensures.steps, c.self.invariant.1)
+    (queues_stay c.self.inside.config c.self.inside.left.items c.args.client c.in-Some.step c.next.new.self c.self.invariant.0 (omega arith) c.index_mut.result.now c.index_mut.ensures.value c.in-Some.ensures.steps, c.self.invariant.1)
 
 pub invariant_of-self-3 : goal.invariant_of-self-3
 invariant_of-self-3 c =
     let count = c.self.invariant.0.count in
     let low = c.requires.client in
-    (desks_stay c.self.inside.config c.self.inside.left.items c.args.client c.in-Some.step c.next.new.self c.self.invariant.0 (omega arith) c.index_mut.result.now c.index_mut.ensures.value c.in-Some.ensures.steps, c.play.ensures.cluster ∙ c.self.invariant.1)
+    (queues_stay c.self.inside.config c.self.inside.left.items c.args.client c.in-Some.step c.next.new.self c.self.invariant.0 (omega arith) c.index_mut.result.now c.index_mut.ensures.value c.in-Some.ensures.steps, c.play.ensures.cluster ∙ c.self.invariant.1)
 
 pub returns-clause-allowed : goal.returns-clause-allowed
 returns-clause-allowed c =
@@ -45,8 +45,8 @@ returns-clause-allowed c =
     let low = c.requires.client in
     let w = c.self.inside.world in
     let k = c.args.client in
-    let at = desk_is c.self.inside.config c.self.inside.left.items k c.in-Some.step c.next.new.self c.self.invariant.0 (omega arith) c.index_mut.result.now c.index_mut.ensures.value c.in-Some.ensures.steps in
-    subst (λ (d : DesksView). OnOk c.play.result (next_cause (setting_in d.world) (world_in d.world) k (slice_index_or d.left k []) ≡ None)) c.self.view_is
+    let at = queue_is c.self.inside.config c.self.inside.left.items k c.in-Some.step c.next.new.self c.self.invariant.0 (omega arith) c.index_mut.result.now c.index_mut.ensures.value c.in-Some.ensures.steps in
+    subst (λ (d : QueuesView). OnOk c.play.result (next_cause (setting_in d.world) (world_in d.world) k (slice_index_or d.left k []) ≡ None)) c.self.view_is
     (subst (λ (zs : List BlockStep). OnOk c.play.result (next_cause (setting_in w) (world_in w) k zs ≡ None)) (sym at)
     (subst (λ (l : Line). OnOk c.play.result (option_map Step (fault (setting_in w) (world_in w) l) ≡ None)) c.in_ok-line.ensures.line c.play.ensures.allowed))
 
@@ -58,10 +58,10 @@ returns-clause-ok c =
     let k = c.args.client in
     let left = c.self.inside.left.items in
     let within : k < length left = omega arith in
-    let new = desks_in (record { world = c.play.new.world; left = slice_set left k c.next.new.self }) in
-    let at = desk_is c.self.inside.config left k c.in-Some.step c.next.new.self c.self.invariant.0 within c.index_mut.result.now c.index_mut.ensures.value c.in-Some.ensures.steps in
-    subst (λ (d : DesksView). OnOk c.play.result (new ≡ stepped (setting_in d.world) (desks_in d) c.args.place k (slice_index_or d.left k []))) c.self.view_is
-    (subst (λ (zs : List BlockStep). OnOk c.play.result (new ≡ stepped (setting_in w) (desks_in (record { world = w; left = left })) c.args.place k zs)) (sym at)
+    let new = queues_in (record { world = c.play.new.world; left = slice_set left k c.next.new.self }) in
+    let at = queue_is c.self.inside.config left k c.in-Some.step c.next.new.self c.self.invariant.0 within c.index_mut.result.now c.index_mut.ensures.value c.in-Some.ensures.steps in
+    subst (λ (d : QueuesView). OnOk c.play.result (new ≡ stepped (setting_in d.world) (queues_in d) c.args.place k (slice_index_or d.left k []))) c.self.view_is
+    (subst (λ (zs : List BlockStep). OnOk c.play.result (new ≡ stepped (setting_in w) (queues_in (record { world = w; left = left })) c.args.place k zs)) (sym at)
     (on_ok c.play.result
     (λ e. both (world_in c.play.new.world) (plays (setting_in w) (world_in w) c.args.place (started_by (setting_in w) (world_in w) k c.in-Some.step)) _ _ (e ∙ ap (plays (setting_in w) (world_in w) c.args.place) c.in_ok-line.ensures.line) (left_set left k c.next.new.self within))
     c.play.ensures.ok))
@@ -72,7 +72,7 @@ returns-clause-cause c =
     let low = c.requires.client in
     let w = c.self.inside.world in
     let k = c.args.client in
-    let at = desk_is c.self.inside.config c.self.inside.left.items k c.in-Some.step c.next.new.self c.self.invariant.0 (omega arith) c.index_mut.result.now c.index_mut.ensures.value c.in-Some.ensures.steps in
-    subst (λ (d : DesksView). (x : Causes) → IsErrOf c.play.result (refusals.Cause x) → next_cause (setting_in d.world) (world_in d.world) k (slice_index_or d.left k []) ≡ Some x) c.self.view_is
+    let at = queue_is c.self.inside.config c.self.inside.left.items k c.in-Some.step c.next.new.self c.self.invariant.0 (omega arith) c.index_mut.result.now c.index_mut.ensures.value c.in-Some.ensures.steps in
+    subst (λ (d : QueuesView). (x : Causes) → IsErrOf c.play.result (refusals.Cause x) → next_cause (setting_in d.world) (world_in d.world) k (slice_index_or d.left k []) ≡ Some x) c.self.view_is
     (subst (λ (zs : List BlockStep). (x : Causes) → IsErrOf c.play.result (refusals.Cause x) → next_cause (setting_in w) (world_in w) k zs ≡ Some x) (sym at)
     (subst (λ (l : Line). (x : Causes) → IsErrOf c.play.result (refusals.Cause x) → option_map Step (fault (setting_in w) (world_in w) l) ≡ Some x) c.in_ok-line.ensures.line c.play.ensures.cause))

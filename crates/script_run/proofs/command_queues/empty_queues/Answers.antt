@@ -1,5 +1,5 @@
 use Rattle.std.proofs.Common.{◌≡◌, [], replicate, ap, ◌∙◌, arith}
-use Rattle.script_run.proofs.desks.empty_desks.Goals as goal
+use Rattle.script_run.proofs.command_queues.empty_queues.Goals as goal
 
 pub returns : goal.returns
 returns c =

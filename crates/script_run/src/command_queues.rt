@@ -1,4 +1,4 @@
-ghost use Rattle.std.specs.Prelude.{◌≡◌, ◌≤◌, ◌<◌, ◌+◌, [], length, replicate, option_map, unwrap_or, All, IfOk, OnOk, IsErrOf};
+ghost use Rattle.std.specs.Prelude.{◌≡◌, ◌≤◌, ◌<◌, ◌+◌, [], length, replicate, option_map, unwrap_or, slice_set, All, IfSome, IfNone, IfOk, OnOk, IsErrOf};
 ghost use Rattle.std.specs.declared.option.Option.TheVariants.{None, Some};
 ghost use Rattle.wire_forms.specs.Liars.{has_number};
 ghost use Rattle.protocol.specs.Instance.{setting_of};
@@ -9,12 +9,13 @@ ghost use Rattle.block_device.specs.Device.{merged};
 ghost use Rattle.protocol.specs.Setting.{zeros};
 ghost use Rattle.protocol.specs.Messages.{IsBytes};
 ghost use Rattle.run_words.specs.declared.line.Line.TheVariants.{Write};
+ghost use Rattle.event_lines.specs.declared.line.ReplayLine.TheVariants.{Plain};
 ghost use Rattle.line_forms.specs.declared.cause.Cause.TheVariants.{Step};
 ghost use Rattle.line_forms.specs.declared.cause.Cause.{Cause as Causes};
 ghost use Rattle.event_lines.specs.Lines.{IsEventLine};
 ghost use Rattle.world_steps.specs.Worlds.{setting_in, world_in, AreLiars};
-ghost use Rattle.script_run.specs.Performing.{start_desks, cause_of, after_line, started_by, command_cause, next_cause, begun, stepped, latest_read};
-ghost use Rattle.script_run.specs.Desks.{desks_in};
+ghost use Rattle.script_run.specs.Performing.{returning, start_queues, cause_of, after_line, started_by, command_cause, next_cause, begun, stepped, latest_read};
+ghost use Rattle.script_run.specs.CommandQueues.{queues_in};
 
 use crate::latest::latest_read;
 use block_device::{BlockStep, Command, DeviceOp, commands, merge, range_fault};
@@ -32,9 +33,9 @@ use world_steps::{StepRefusal, World};
 /// How many client numbers there are, with the first, which nobody has.
 const CLIENTS: usize = 1001;
 
-/// A world, and for each client what is left of its last command. Contracts see the desks of the definitions.
+/// A world, and for each client what is left of its last command. Contracts see the queues of the definitions.
 #[derive(Drop)]
-pub struct Desks {
+pub struct CommandQueues {
     alloc: Global,
     config: Config,
     world: World,
@@ -42,28 +43,28 @@ pub struct Desks {
     left: Vec<Command>,
 }
 
-impl Model for Desks {
+impl Model for CommandQueues {
     ghost use Rattle.std.specs.Prelude.{◌≡◌};
-    ghost use Rattle.script_run.specs.Desks.{DesksView, AreDesks};
+    ghost use Rattle.script_run.specs.CommandQueues.{QueuesView, AreQueues};
 
-    ghost Value = { DesksView };
+    ghost Value = { QueuesView };
 
     ghost view = { λ d. record { world = d.world; left = d.left.items } };
 
-    ghost invariant = { λ d. AreDesks d.config d.left.items × (d.world.config ≡ d.config) };
+    ghost invariant = { λ d. AreQueues d.config d.left.items × (d.world.config ≡ d.config) };
 }
 
-impl Desks {
-    /// The desks before anything took place.
-    pub fn new(alloc: Global, config: &Config, liars: &Liars) -> Result<Desks, NoMemory>
+impl CommandQueues {
+    /// The queues before anything took place.
+    pub fn new(alloc: Global, config: &Config, liars: &Liars) -> Result<CommandQueues, NoMemory>
         requires { AreLiars config.now liars.now }
         ensures cluster { IfOk result (λ d. d.world.config ≡ config.now) }
         ensures liars { IfOk result (λ d. setting_in d.world ≡ setting_of config.now (has_number liars.now.nodes) (has_number liars.now.clients)) }
-        ensures start { IfOk result (λ d. desks_in d ≡ start_desks (setting_in d.world)) }
+        ensures start { IfOk result (λ d. queues_in d ≡ start_queues (setting_in d.world)) }
     {
         let world = World::new(alloc, config, liars)?;
-        let left = empty_desks(alloc)?;
-        Ok(Desks {
+        let left = empty_queues(alloc)?;
+        Ok(CommandQueues {
             alloc,
             config: *config,
             world,
@@ -75,14 +76,14 @@ impl Desks {
     pub fn perform(&mut self, place: u64, line: &ReplayLine) -> Result<(), LineRefusal>
         requires later { self.now.world.seen.place < place }
         requires line { IsEventLine self.now.world.config line.now }
-        ensures allowed { OnOk result (cause_of (setting_in self.old.world) self.old.world.config (desks_in self.old) line.now ≡ None) }
-        ensures ok { OnOk result (desks_in self.new ≡ after_line (setting_in self.old.world) self.old.world.config (desks_in self.old) place line.now) }
+        ensures allowed { OnOk result (cause_of (setting_in self.old.world) self.old.world.config (queues_in self.old) line.now ≡ None) }
+        ensures ok { OnOk result (queues_in self.new ≡ after_line (setting_in self.old.world) self.old.world.config (queues_in self.old) place line.now) }
         ensures cluster { OnOk result (self.new.world.config ≡ self.old.world.config) }
         ensures setting { OnOk result (setting_in self.new.world ≡ setting_in self.old.world) }
-        ensures cause { (c : Causes) → IsErrOf result (LineRefusal.Cause c) → cause_of (setting_in self.old.world) self.old.world.config (desks_in self.old) line.now ≡ Some c }
+        ensures cause { (c : Causes) → IsErrOf result (LineRefusal.Cause c) → cause_of (setting_in self.old.world) self.old.world.config (queues_in self.old) line.now ≡ Some c }
     {
         match line {
-            ReplayLine::Plain(line) => play(&mut self.world, place, line),
+            ReplayLine::Plain(line) => self.play(place, line),
             ReplayLine::Put {
                 client,
                 offset,
@@ -109,15 +110,32 @@ impl Desks {
         }
     }
 
+    /// Does a plain line's events. A client that comes back drops the steps that it had left.
+    fn play(&mut self, place: u64, line: &Line) -> Result<(), LineRefusal>
+        requires later { self.now.world.seen.place < place }
+        requires fits { FitsLine (setting_in self.now.world) line.now }
+        ensures allowed { OnOk result (cause_of (setting_in self.old.world) self.old.world.config (queues_in self.old) (Plain line.now) ≡ None) }
+        ensures ok { OnOk result (queues_in self.new ≡ after_line (setting_in self.old.world) self.old.world.config (queues_in self.old) place (Plain line.now)) }
+        ensures cluster { OnOk result (self.new.world.config ≡ self.old.world.config) }
+        ensures setting { OnOk result (setting_in self.new.world ≡ setting_in self.old.world) }
+        ensures cause { (c : Causes) → IsErrOf result (LineRefusal.Cause c) → cause_of (setting_in self.old.world) self.old.world.config (queues_in self.old) (Plain line.now) ≡ Some c }
+    {
+        if let Err(refusal) = play(&mut self.world, place, line) {
+            return Err(refusal);
+        }
+        drop_steps(&mut self.left, returning(line), self.alloc);
+        Ok(())
+    }
+
     /// Begins a client's command.
     fn begin(&mut self, place: u64, client: u32, op: &DeviceOp) -> Result<(), LineRefusal>
         requires later { self.now.world.seen.place < place }
         requires client { client ≤ 1000 }
-        ensures allowed { OnOk result (command_cause (fault_of self.old.world.config op.now) ((desks_in self.old).left client) ≡ None) }
-        ensures ok { OnOk result (desks_in self.new ≡ begun (setting_in self.old.world) self.old.world.config (desks_in self.old) place client op.now) }
+        ensures allowed { OnOk result (command_cause (fault_of self.old.world.config op.now) ((queues_in self.old).left client) ≡ None) }
+        ensures ok { OnOk result (queues_in self.new ≡ begun (setting_in self.old.world) self.old.world.config (queues_in self.old) place client op.now) }
         ensures cluster { OnOk result (self.new.world.config ≡ self.old.world.config) }
         ensures setting { OnOk result (setting_in self.new.world ≡ setting_in self.old.world) }
-        ensures cause { (c : Causes) → IsErrOf result (LineRefusal.Cause c) → command_cause (fault_of self.old.world.config op.now) ((desks_in self.old).left client) ≡ Some c }
+        ensures cause { (c : Causes) → IsErrOf result (LineRefusal.Cause c) → command_cause (fault_of self.old.world.config op.now) ((queues_in self.old).left client) ≡ Some c }
     {
         let command = self.command(client, op)?;
         play(&mut self.world, place, &Line::Lost { client, node: 0 })?;
@@ -128,10 +146,10 @@ impl Desks {
     /// The command of a client that may begin it.
     fn command(&self, client: u32, op: &DeviceOp) -> Result<Command, LineRefusal>
         requires { client ≤ 1000 }
-        ensures allowed { OnOk result (command_cause (fault_of self.now.world.config op.now) ((desks_in self.now).left client) ≡ None) }
+        ensures allowed { OnOk result (command_cause (fault_of self.now.world.config op.now) ((queues_in self.now).left client) ≡ None) }
         ensures steps { IfOk result (λ steps. steps ≡ steps_of self.now.world.config op.now) }
         ensures fit { IfOk result (λ steps. All (Fits self.now.world.config) steps) }
-        ensures cause { (c : Causes) → IsErrOf result (LineRefusal.Cause c) → command_cause (fault_of self.now.world.config op.now) ((desks_in self.now).left client) ≡ Some c }
+        ensures cause { (c : Causes) → IsErrOf result (LineRefusal.Cause c) → command_cause (fault_of self.now.world.config op.now) ((queues_in self.now).left client) ≡ Some c }
     {
         if let Some(fault) = range_fault(&self.config, op) {
             return Err(LineRefusal::Cause(Cause::Device(fault)));
@@ -149,11 +167,11 @@ impl Desks {
     fn step(&mut self, place: u64, client: u32) -> Result<(), LineRefusal>
         requires later { self.now.world.seen.place < place }
         requires client { client ≤ 1000 }
-        ensures allowed { OnOk result (next_cause (setting_in self.old.world) (desks_in self.old).world client ((desks_in self.old).left client) ≡ None) }
-        ensures ok { OnOk result (desks_in self.new ≡ stepped (setting_in self.old.world) (desks_in self.old) place client ((desks_in self.old).left client)) }
+        ensures allowed { OnOk result (next_cause (setting_in self.old.world) (queues_in self.old).world client ((queues_in self.old).left client) ≡ None) }
+        ensures ok { OnOk result (queues_in self.new ≡ stepped (setting_in self.old.world) (queues_in self.old) place client ((queues_in self.old).left client)) }
         ensures cluster { OnOk result (self.new.world.config ≡ self.old.world.config) }
         ensures setting { OnOk result (setting_in self.new.world ≡ setting_in self.old.world) }
-        ensures cause { (c : Causes) → IsErrOf result (LineRefusal.Cause c) → next_cause (setting_in self.old.world) (desks_in self.old).world client ((desks_in self.old).left client) ≡ Some c }
+        ensures cause { (c : Causes) → IsErrOf result (LineRefusal.Cause c) → next_cause (setting_in self.old.world) (queues_in self.old).world client ((queues_in self.old).left client) ≡ Some c }
     {
         let Some(step) = self.left[client as usize].next() else {
             return Err(LineRefusal::Cause(Cause::NoCommand));
@@ -196,13 +214,13 @@ impl Desks {
     pub fn into_world(self) -> World
         ensures { result ≡ self.world }
     {
-        let Desks { world, .. } = self;
+        let CommandQueues { world, .. } = self;
         world
     }
 }
 
-/// A desk for each client, with no step left.
-fn empty_desks(alloc: Global) -> Result<Vec<Command>, NoMemory>
+/// A queue for each client, with no step.
+fn empty_queues(alloc: Global) -> Result<Vec<Command>, NoMemory>
     ensures { IfOk result (λ left. left.items ≡ replicate 1001 []) }
 {
     let mut left = Vec::with_capacity(alloc, CLIENTS)?;
@@ -239,5 +257,26 @@ fn write_of(client: u32, block: u32, value: Bytes) -> Line
         client,
         block,
         value,
+    }
+}
+
+/// Who comes back at the line.
+fn returning(line: &Line) -> Option<u32>
+    ensures { result ≡ returning line.now }
+{
+    match line {
+        Line::Back { client } => Some(*client),
+        _ => None,
+    }
+}
+
+/// Leaves the client, if there is one, without steps.
+fn drop_steps(left: &mut Vec<Command>, client: Option<u32>, alloc: Global)
+    requires { IfSome client (λ c. c < length left.old.items) }
+    ensures kept { IfNone client (left.new.items ≡ left.old.items) }
+    ensures dropped { IfSome client (λ c. left.new.items ≡ slice_set left.old.items c []) }
+{
+    if let Some(client) = client {
+        left[client as usize] = Command::of(ItemList::new(alloc));
     }
 }
