@@ -21,6 +21,7 @@ use Rattle.protocol.specs.History.IsValue.{written, given}
 use Rattle.protocol.specs.History.IsSeen.{sum_seen, fragment_seen}
 use Rattle.protocol.proofs.Order.{≼-refl, ≼-cases, before-≼, lower_time}
 use Rattle.protocol.proofs.Invariant.{IsSafe, IsGood, IsGiven, IsOutcome, IsAfter}
+use Rattle.protocol.proofs.Seen.{NoClashFor-any}
 use Rattle.protocol.proofs.Entries.{less_by_stamp, less_by_kind, less_by_end, not_back, not_self, sorted_before}
 use Rattle.protocol.proofs.Parts.{ascending_collect, length_collect}
 use Rattle.protocol.proofs.Lists.{Contains-collect}
@@ -181,7 +182,7 @@ module _ (s : Setting) (good : IsValid s) (w : World) (safe : IsSafe s w) where
         let b = started_entry y start k g in
         let began : b.of.start ≡ start = (let q = b.start in cc) in
         let order : IsAfter s x.stamp b.of.work y.stamp =
-        safe.ordered apart a.of b.of end x.stamp y.stamp a.there b.there (sym a.end ∙ f) a.stamp b.stamp (sym b.block ∙ sym e ∙ a.block) (omega arith) in
+        safe.ordered a.of b.of (NoClashFor-any s w b.of.work apart) end x.stamp y.stamp a.there b.there (sym a.end ∙ f) a.stamp b.stamp (sym b.block ∙ sym e ∙ a.block) (omega arith) in
         elim b.kind [
           | inl q ↦ reads a b q.1 (reads_as b.of.work q.0 order) began q.2 q.3
           | inr q ↦ less_by_stamp x y e (lower_time x.stamp y.stamp (writes_as b.of.work q.0 q.1 order))

@@ -26,7 +26,7 @@ use Rattle.std.proofs.lemmas.Cmp.{tied_itself, nat_list_cmp_total}
 use Rattle.protocol.proofs.Counting.{count_not, both_true}
 use Rattle.protocol.proofs.Order.{≼-refl, before-≼, lower_time, same_stamp-≡, stamps_order, times_order}
 use Rattle.protocol.proofs.Highest.{highest_above, highest_is}
-use Rattle.protocol.proofs.Invariant.{Quorum, IsQuorum, IsSafe, IsFresh, IsOpen, Fits, Accepts}
+use Rattle.protocol.proofs.Invariant.{Quorum, IsSafe, IsFresh, IsOpen, Fits, Accepts}
 
 -- the same bytes
 pub same-≡ : (xs ys : List ℕ) → same xs ys ≡ true → xs ≡ ys
@@ -143,12 +143,12 @@ module _ (s : Setting) (good : IsValid s) (w : World) (safe : IsSafe s w) (c : �
   fits_at i reply l h e =
       safe.answered _ task reply (heard i reply e).0 refl (safe.tasks c task busy).correct l (is_honest s i h) (record { client = busy; op = refl; phase = refl })
 
-  fresh_at : (stamp : Stamp) (end : ℕ) (q : Quorum s (IsQuorum s) w task.block stamp end) → end < task.start → (i : ℕ) (reply : Reply) → i < s.n → q.members i ≡ true → answers i ≡ Some reply → IsFresh s w task.block task.start stamp task.stage reply
+  fresh_at : (stamp : Stamp) (end : ℕ) (q : Quorum s w task.block stamp end) → end < task.start → (i : ℕ) (reply : Reply) → i < s.n → q.members i ≡ true → answers i ≡ Some reply → IsFresh s w task.block task.start stamp task.stage reply
   fresh_at stamp end q late i reply l m e =
       q.fresh _ reply task (heard i reply e).0 refl l m (safe.tasks c task busy).correct (record { client = busy; op = refl; phase = refl }) refl late
 
   -- the time drawn from isn't below what was completed before the start
-  pub drawn_above : task.stage ≡ Times → (stamp : Stamp) (end : ℕ) → Quorum s (IsQuorum s) w task.block stamp end → end < task.start → stamp.time ≤ drawn_from s answers
+  pub drawn_above : task.stage ≡ Times → (stamp : Stamp) (end : ℕ) → Quorum s w task.block stamp end → end < task.start → stamp.time ≤ drawn_from s answers
   drawn_above stage stamp end q late =
       let top = highest_above leb times_order s.n (s.b + 1) (λ i. time_of (answers i)) stamp.time q.members (λ i. is_answered (answers i)) (omega arith)
       (omega (arith, q.enough, enough, good.quorum_low)) each in
@@ -193,7 +193,7 @@ module _ (s : Setting) (good : IsValid s) (w : World) (safe : IsSafe s w) (c : �
         (omega (arith, good.quorum_low)) (omega (arith, honest_many s good, enough, good.quorum_high, good.liars_few)) first_each
 
     -- the pivot isn't below what was completed before the start
-    pub pivot_above : (p : Stamp) → pivot s answers bound ≡ Some p → (stamp : Stamp) (end : ℕ) → Quorum s (IsQuorum s) w task.block stamp end → end < task.start → has bound stamp ≡ true → IsOpen s w task.block task.start bound → stamp ≼ p
+    pub pivot_above : (p : Stamp) → pivot s answers bound ≡ Some p → (stamp : Stamp) (end : ℕ) → Quorum s w task.block stamp end → end < task.start → has bound stamp ≡ true → IsOpen s w task.block task.start bound → stamp ≼ p
     pivot_above p is stamp end q late inside wide =
         let top = highest_above up_to stamps_order s.n (s.qc - s.t) (stamps s answers bound) stamp q.members (λ i. is_answered (answers i))
         (omega (arith, good.quorum_low)) (omega (arith, q.enough, enough, good.quorum_low)) each in

@@ -59,8 +59,8 @@ start_safe s good = record {
   answered = λ m task reply h. absurd (Contains-none m h);
   tasks = λ c task e. absurd (cc e);
   records = λ r h. absurd (Contains-none r h);
-  aimed = λ apart x end stamp c task h. absurd (Contains-none x h);
-  ordered = λ apart x y end stamp last h. absurd (Contains-none x h);
+  aimed = λ c task apart x end stamp h. absurd (Contains-none x h);
+  ordered = λ x y apart end stamp last h. absurd (Contains-none x h);
 }
 
 module _ (s : Setting) (good : IsValid s) (w : World) (safe : IsSafe s w) (place : ℕ) (later : w.place ≤ place) where
