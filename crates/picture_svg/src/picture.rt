@@ -1,4 +1,6 @@
 //! What a picture shows, as data: who takes part, the places, and what takes place between them.
+ghost use Rattle.std.specs.Prelude.{◌≡◌, []};
+
 use std::alloc::Global;
 use std::fmt;
 
@@ -136,7 +138,14 @@ pub struct Picture {
 
 impl Picture {
     /// A picture of nothing.
-    pub fn new(alloc: Global) -> Picture {
+    pub fn new(alloc: Global) -> Picture
+        ensures lifelines { result.lifelines.items ≡ [] }
+        ensures rows { result.rows.items ≡ [] }
+        ensures arrows { result.arrows.items ≡ [] }
+        ensures stretches { result.stretches.items ≡ [] }
+        ensures marks { result.marks.items ≡ [] }
+        ensures texts { (result.caption.items ≡ []) × (result.report.items ≡ []) }
+    {
         Picture {
             caption: Vec::new(alloc),
             lifelines: Vec::new(alloc),
