@@ -7,8 +7,11 @@ use std::fmt::Write;
 use text_lines::Text;
 use wire_forms::Op;
 
-/// How many characters a field has at most.
-const FIELD: usize = 14;
+/// How many characters a value has at most: those of its first bytes.
+const VALUE: usize = 1 + 2 * BYTES;
+
+/// How many characters another field has at most.
+const FIELD: usize = 28;
 
 /// How many characters a line has at most.
 const LINE: usize = 60;
@@ -36,7 +39,8 @@ pub fn short_line(alloc: Global, line: &str) -> Result<String, NoMemory> {
         if i > 0 {
             short.push(' ')?;
         }
-        short.push_str(shortened(alloc, field, FIELD)?.as_str())?;
+        let most = if field.starts_with('x') { VALUE } else { FIELD };
+        short.push_str(shortened(alloc, field, most)?.as_str())?;
     }
     shortened(alloc, short.as_str(), LINE)
 }
