@@ -6,6 +6,7 @@ use Rattle.std.proofs.lemmas.Fmt.{decimal_nonempty}
 use Rattle.std.proofs.lemmas.Bool.{eq-eqb}
 use Rattle.std.proofs.lemmas.Bool.Decides.{nat_tests}
 use Rattle.quorum_rules.specs.Limits.{Numbers}
+use Rattle.quorum_rules.specs.declared.Edition.{Edition}
 use Rattle.text_lines.specs.Lines.{fields_of, line_of_fields}
 use Rattle.text_lines.specs.Fields.{value_text, IsBytes}
 use Rattle.text_lines.proofs.Numbers.{number_of-decimal}
@@ -22,7 +23,7 @@ use Rattle.line_forms.specs.declared.cause.Cause.TheVariants.{UnknownWord}
 use Rattle.event_lines.specs.declared.line.ReplayLine.{ReplayLine}
 use Rattle.event_lines.specs.declared.line.ReplayLine.TheVariants.{Plain, Put, Get, Next}
 use Rattle.event_lines.specs.Lines.{IsClient, IsNode, IsBlock, IsValue, IsEventLine, event_fields, event_text, rule_text}
-use Rattle.event_lines.specs.Forms.{rule, fields_cause, message_cause, line_cause, event_cause}
+use Rattle.event_lines.specs.Forms.{rule, back_forms, fields_cause, message_cause, line_cause, event_cause}
 use Rattle.event_lines.specs.Messages.{Part, are_of}
 use Rattle.event_lines.proofs.Lacking.{event_lacks}
 use Rattle.event_lines.proofs.Messages.{any_fits, ask_fits, answer_fits}
@@ -159,8 +160,11 @@ plain_fine c (Sound k i b t v) h =
 plain_fine c (Mix k i b t v w) h =
     only_form (client ∷ node c.n ∷ block c.blocks ∷ any_u64 ∷ value c.size ∷ value c.size ∷ []) (decimal k ∷ decimal i ∷ decimal b ∷ decimal t ∷ value_text v ∷ value_text w ∷ [])
     (a_client k h.0, (a_node c i h.1, (a_block c b h.2, (a_u64 t h.3, (a_value c v h.4, (a_value c w h.5, tt))))))
-plain_fine c (Prune i b) h = absurd h
-plain_fine c (Back k) h = absurd h
+plain_fine c (Prune i b) h = only_form (node c.n ∷ block c.blocks ∷ []) (decimal i ∷ decimal b ∷ []) (a_node c i h.0, (a_block c b h.1, tt))
+plain_fine c (Back k) h =
+    let fields = codes "client" ∷ decimal k ∷ [] in
+    ap (λ (e : Edition). fields_cause (back_forms e) fields) h.0
+    ∙ only_form (word (codes "client" ∷ []) ∷ client ∷ []) fields (a_word (codes "client") refl refl, (a_client k h.1, tt))
 plain_fine c (Restart i) h = absurd h
 
 pub line_fine : (c : Numbers) (l : ReplayLine) → IsEventLine c l → line_cause c (event_fields l) ≡ None

@@ -143,8 +143,8 @@ module _ (mark : ℕ) (some : 0 < mark) (low : mark < 46) where
       (high_lacks mark (codes "sound") low refl, (client_lacks client h.0, (node_lacks c node h.1, (block_lacks c block h.2, (number_lacks time h.3, (value_lacks v, tt))))))
   line_lacks c (Mix client node block time v w) h =
       (high_lacks mark (codes "mix") low refl, (client_lacks client h.0, (node_lacks c node h.1, (block_lacks c block h.2, (number_lacks time h.3, (value_lacks v, (value_lacks w, tt)))))))
-  line_lacks c (Prune node block) h = absurd h
-  line_lacks c (Back client) h = absurd h
+  line_lacks c (Prune node block) h = (high_lacks mark (codes "prune") low refl, (node_lacks c node h.0, (block_lacks c block h.1, tt)))
+  line_lacks c (Back client) h = (high_lacks mark (codes "back") low refl, (high_lacks mark (codes "client") low refl, (client_lacks client h.1, tt)))
   line_lacks c (Restart node) h = absurd h
 
   pub event_lacks : (c : Numbers) (l : ReplayLine) → IsEventLine c l → AllLack mark (event_fields l)

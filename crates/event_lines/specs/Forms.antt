@@ -1,6 +1,8 @@
 -- What may follow an event line's word, and what is wrong with an event line.
 use Rattle.std.specs.Prelude.{ℕ, Bool, not, List, [], ◌∷◌, ◌++◌, codes, Option, Some, None, if◌then◌else◌}
 use Rattle.quorum_rules.specs.Limits.{Numbers}
+use Rattle.quorum_rules.specs.declared.Edition.{Edition}
+use Rattle.quorum_rules.specs.declared.Edition.TheVariants.{One, Two}
 use Rattle.text_lines.specs.Lines.{fields_of}
 use Rattle.line_forms.specs.Tables.{first_of}
 use Rattle.line_forms.specs.Texts.{is_empty}
@@ -10,7 +12,7 @@ use Rattle.line_forms.specs.declared.cause.Cause.{Cause}
 use Rattle.line_forms.specs.declared.cause.Cause.TheVariants.{UnknownWord, WrongCount, BadMessage}
 use Rattle.event_lines.specs.Messages.{Part, ask_forms, answer_forms, are_of}
 use Rattle.event_lines.specs.Words.{Form, Speech, Word, word_of}
-use Rattle.event_lines.specs.declared.word.Form.TheVariants.{Write, Read, Resend, Call, Give, Hear, Lost, Crash, False, Sound, Mix, Put, Get, Next}
+use Rattle.event_lines.specs.declared.word.Form.TheVariants.{Write, Read, Resend, Call, Give, Hear, Lost, Crash, False, Sound, Mix, Prune, Back, Put, Get, Next}
 use Rattle.event_lines.specs.declared.word.Speech.TheVariants.{Lie, Tell, Poke}
 use Rattle.event_lines.specs.declared.word.Word.TheVariants.{Form as Fields, Speech as Message}
 
@@ -19,6 +21,11 @@ use Rattle.event_lines.specs.declared.word.Word.TheVariants.{Form as Fields, Spe
 -- how a lying node may answer
 abbrev pub rule : Kind
 rule = word (codes "old" ∷ codes "top" ∷ codes "bad" ∷ [])
+
+-- a client comes back in edition 2 alone
+abbrev pub back_forms : Edition → List (List Kind)
+back_forms One = []
+back_forms Two = (word (codes "client" ∷ []) ∷ client ∷ []) ∷ []
 
 -- the fields: those of one of these forms, which their fixed words tell apart
 abbrev pub forms_of : Numbers → Form → List (List Kind)
@@ -33,6 +40,8 @@ forms_of c Crash = (word (codes "node" ∷ []) ∷ node c.n ∷ []) ∷ (word (c
 forms_of c False = (client ∷ node c.n ∷ rule ∷ []) ∷ []
 forms_of c Sound = (client ∷ node c.n ∷ block c.blocks ∷ any_u64 ∷ value c.size ∷ []) ∷ []
 forms_of c Mix = (client ∷ node c.n ∷ block c.blocks ∷ any_u64 ∷ value c.size ∷ value c.size ∷ []) ∷ []
+forms_of c Prune = (node c.n ∷ block c.blocks ∷ []) ∷ []
+forms_of c Back = back_forms c.edition
 forms_of c Put = (client ∷ any_u64 ∷ bytes ∷ []) ∷ []
 forms_of c Get = (client ∷ any_u64 ∷ any_u64 ∷ []) ∷ []
 forms_of c Next = (client ∷ []) ∷ []

@@ -1,6 +1,7 @@
 -- The event lines of a replay script, and their texts.
 use Rattle.std.specs.Prelude.{◌≡◌, ◌≢◌, ℕ, ◌^◌, ◌<◌, ◌≤◌, true, List, [], ◌∷◌, length, codes, decimal}
 use Rattle.quorum_rules.specs.Limits.{Numbers}
+use Rattle.quorum_rules.specs.declared.Edition.TheVariants.{Two}
 use Rattle.text_lines.specs.Lines.{line_of_fields}
 use Rattle.text_lines.specs.Fields.{value_text, IsBytes}
 use Rattle.wire_forms.specs.declared.rule.Rule.{Rule}
@@ -47,8 +48,8 @@ IsLine c (Poke message) = IsMessage message × (is_ask message.body ≡ true)
 IsLine c (False client node rule) = IsClient client × IsNode c node × (rule ≢ Silent)
 IsLine c (Sound client node block time value) = IsClient client × IsNode c node × IsBlock c block × (time < 2 ^ 64) × IsValue c value
 IsLine c (Mix client node block time value other) = IsClient client × IsNode c node × IsBlock c block × (time < 2 ^ 64) × IsValue c value × IsValue c other
-IsLine c (Prune node block) = ⊥
-IsLine c (Back client) = ⊥
+IsLine c (Prune node block) = IsNode c node × IsBlock c block
+IsLine c (Back client) = (c.edition ≡ Two) × IsClient client
 IsLine c (Restart node) = ⊥
 
 -- an event line of a replay script for a cluster of these numbers
@@ -83,8 +84,8 @@ line_fields (Poke message) = codes "poke" ∷ message_fields message
 line_fields (False client node rule) = codes "false" ∷ decimal client ∷ decimal node ∷ rule_text rule ∷ []
 line_fields (Sound client node block time value) = codes "sound" ∷ decimal client ∷ decimal node ∷ decimal block ∷ decimal time ∷ value_text value ∷ []
 line_fields (Mix client node block time value other) = codes "mix" ∷ decimal client ∷ decimal node ∷ decimal block ∷ decimal time ∷ value_text value ∷ value_text other ∷ []
-line_fields (Prune node block) = []
-line_fields (Back client) = []
+line_fields (Prune node block) = codes "prune" ∷ decimal node ∷ decimal block ∷ []
+line_fields (Back client) = codes "back" ∷ codes "client" ∷ decimal client ∷ []
 line_fields (Restart node) = []
 
 abbrev pub event_fields : ReplayLine → List (List ℕ)
@@ -106,7 +107,5 @@ abbrev pub HasText : ReplayLine → Type 0
 HasText (Plain (Lie message)) = HasLimits message.body
 HasText (Plain (Tell message)) = HasLimits message.body
 HasText (Plain (Poke message)) = HasLimits message.body
-HasText (Plain (Prune node block)) = ⊥
-HasText (Plain (Back client)) = ⊥
 HasText (Plain (Restart node)) = ⊥
 HasText _ = Unit {0}

@@ -28,9 +28,11 @@ use text_lines::{cut, fields};
 /// a space at an end or beside another; `BadNumber`, where a field isn't a number of its type;
 /// `OutOfRange`, where a client isn't 1 to 1000, or the cluster hasn't the node or the block;
 /// `BadValue`, where a value isn't one, or hasn't the length of a block (what `put` writes has any
-/// length). After `lie`, `tell` and `poke` comes the text of a message: `WrongCount` where nothing
-/// follows the word, and `BadMessage` where the rest isn't the text of a message, of an answer after
-/// `tell`, or of an ask after `poke`.
+/// length). A line `back` may stand in edition 2 alone.
+///
+/// After `lie`, `tell` and `poke` comes the text of a message: `WrongCount` where nothing follows the
+/// word, and `BadMessage` where the rest isn't the text of a message, of an answer after `tell`, or of
+/// an ask after `poke`.
 #[tactic(auto, using(text_lines::proofs::Joined::line_from_fields), unfolding(crate::specs::Forms::event_cause))]
 pub fn read_event(alloc: Global, config: &Config, line: &[u8]) -> Result<ReplayLine, LineRefusal>
     ensures { Gives (λ l. IsEventLine config.now l × (event_text l ≡ line.now)) (event_cause config.now line.now) result }
@@ -80,7 +82,7 @@ fn read_fields(
 ) -> Result<ReplayLine, LineRefusal>
     ensures { Gives (IsSpelled config.now (form_text form ∷ texts fields.now)) (fields_cause (forms_of config.now form) (texts fields.now)) result }
 {
-    if !has_words(form, fields) {
+    if !has_words(config, form, fields) {
         return Err(LineRefusal::Cause(Cause::UnknownWord));
     }
     if fields.len() != form.count() || has_empty(fields) {
@@ -102,18 +104,22 @@ fn read_fields(
         Form::Mix => forms::mix(
             alloc, config, fields[0], fields[1], fields[2], fields[3], fields[4], fields[5],
         ),
+        Form::Prune => forms::prune(config, fields[0], fields[1]),
+        Form::Back => forms::back(config, fields[0], fields[1]),
         Form::Put => forms::put(alloc, fields[0], fields[1], fields[2]),
         Form::Get => forms::get(fields[0], fields[1], fields[2]),
         Form::Next => forms::next(fields[0]),
     }
 }
 
-/// Whether the fixed words among the fields, as far as there are fields, are ones of the form.
-fn has_words(form: Form, fields: &[&[u8]]) -> bool
-    ensures { (c : Numbers) → result ≡ list_any (has_its_words (texts fields.now)) (forms_of c form) }
+/// Whether a line of the form may stand here, and the fixed words among the fields, as far as there are
+/// fields, are ones of the form.
+fn has_words(config: &Config, form: Form, fields: &[&[u8]]) -> bool
+    ensures { result ≡ list_any (has_its_words (texts fields.now)) (forms_of config.now form) }
 {
     match form {
         Form::Crash => has_crash_word(fields),
+        Form::Back => has_back_word(config, fields),
         Form::False => has_rule(fields),
         _ => true,
     }
@@ -125,6 +131,19 @@ fn has_crash_word(fields: &[&[u8]]) -> bool
 {
     match fields.split_first() {
         Some((what, _)) => *what == b"node".as_slice() || *what == b"client".as_slice(),
+        None => true,
+    }
+}
+
+/// Whether a client may come back, and `client` follows `back`, or nothing.
+fn has_back_word(config: &Config, fields: &[&[u8]]) -> bool
+    ensures { result ≡ list_any (has_its_words (texts fields.now)) (forms_of config.now Form.Back) }
+{
+    if config.edition() == 1 {
+        return false;
+    }
+    match fields.split_first() {
+        Some((what, _)) => *what == b"client".as_slice(),
         None => true,
     }
 }

@@ -12,8 +12,8 @@ ghost use Rattle.event_lines.specs.Lines.{IsSpelled, rule_text};
 
 use crate::line::ReplayLine;
 use crate::numbers::{
-    self, Forged, client_and_block, client_and_node, client_and_u64, is_client, node_and_message,
-    read_forged,
+    self, Forged, client_and_block, client_and_node, client_and_u64, is_client, node_and_block,
+    node_and_message, read_forged,
 };
 use crate::word::Form;
 use cross_sum::Bytes;
@@ -217,6 +217,27 @@ pub fn mix(
         value,
         other,
     }))
+}
+
+pub fn prune(config: &Config, node: &[u8], block: &[u8]) -> Result<ReplayLine, LineRefusal>
+    requires { has_empty_field (node.now ∷ block.now ∷ []) ≡ false }
+    ensures { Gives (IsSpelled config.now (codes "prune" ∷ node.now ∷ block.now ∷ []))
+        (fields_cause (forms_of config.now Form.Prune) (node.now ∷ block.now ∷ [])) result }
+{
+    let (node, block) = node_and_block(config, node, block)?;
+    Ok(ReplayLine::Plain(Line::Prune { node, block }))
+}
+
+pub fn back(config: &Config, what: &[u8], client: &[u8]) -> Result<ReplayLine, LineRefusal>
+    requires { has_empty_field (what.now ∷ client.now ∷ []) ≡ false }
+    ensures { Gives (IsSpelled config.now (codes "back" ∷ what.now ∷ client.now ∷ []))
+        (fields_cause (forms_of config.now Form.Back) (what.now ∷ client.now ∷ [])) result }
+{
+    if config.edition() == 1 || what != b"client".as_slice() {
+        return Err(LineRefusal::Cause(Cause::UnknownWord));
+    }
+    let client = numbers::client(client)?;
+    Ok(ReplayLine::Plain(Line::Back { client }))
 }
 
 /// The value of any length that a field spells.

@@ -11,8 +11,6 @@ mod line;
 mod message;
 mod numbers;
 mod printing;
-#[cfg(test)]
-mod tests;
 mod word;
 
 pub use event::read_event;

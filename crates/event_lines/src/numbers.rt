@@ -93,6 +93,20 @@ pub fn client_and_node(
     Ok((client, node))
 }
 
+/// The node and the block that two fields spell.
+pub fn node_and_block(config: &Config, node: &[u8], block: &[u8]) -> Result<(u8, u32), LineRefusal>
+    requires { has_empty_field (node.now ∷ block.now ∷ []) ≡ false }
+    ensures { Gives (λ read. IsNode config.now read.0 × IsBlock config.now read.1 × (node.now ≡ decimal read.0) × (block.now ≡ decimal read.1))
+        (form_cause (kinds.node config.now.n ∷ kinds.block config.now.blocks ∷ []) (node.now ∷ block.now ∷ [])) result }
+{
+    let node = number_u8(node).ok_or(Cause::BadNumber)?;
+    let block = number_u32(block).ok_or(Cause::BadNumber)?;
+    if !is_node(config, node) || !is_block(config, block) {
+        return Err(LineRefusal::Cause(Cause::OutOfRange));
+    }
+    Ok((node, block))
+}
+
 /// The node and the number of a message that two fields spell.
 pub fn node_and_message(
     config: &Config,

@@ -17,7 +17,7 @@ use wire_forms::{Message, Rule, print};
 
 /// Adds the text of an event line, its newline aside.
 ///
-/// The line is none of a later edition, and the strings of its message, if it has one, are within the
+/// The line isn't `Restart`, which has no text, and the strings of its message, if it has one, are within the
 /// limits of messages' texts. After `NoMemory` the text may end within the line.
 pub fn add_event(alloc: Global, text: &mut Text, line: &ReplayLine) -> Result<(), NoMemory>
     requires { HasText line.now }
@@ -90,7 +90,9 @@ fn add_line(alloc: Global, text: &mut Text, line: &Line) -> Result<(), NoMemory>
             add_sound(text, b"mix", *client, *node, *block, *time, value)?;
             add_value(text, other)
         }
-        Line::Prune { .. } | Line::Back { .. } | Line::Restart { .. } => Ok(()),
+        Line::Prune { node, block } => add_two(text, b"prune", u64::from(*node), u64::from(*block)),
+        Line::Back { client } => add_one(text, b"back client", u64::from(*client)),
+        Line::Restart { .. } => Ok(()),
     }
 }
 

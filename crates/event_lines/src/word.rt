@@ -23,6 +23,10 @@ pub enum Form {
     Sound,
     /// A client, a node, a block, a time and two values.
     Mix,
+    /// A node and a block.
+    Prune,
+    /// `client` and a client.
+    Back,
     /// A client, a place and a value of any length.
     Put,
     /// A client, a place and a length.
@@ -41,7 +45,8 @@ impl Form {
     {
         match self {
             Form::Resend | Form::Next => 1,
-            Form::Read | Form::Call | Form::Give | Form::Hear | Form::Lost | Form::Crash => 2,
+            Form::Read | Form::Call | Form::Give | Form::Hear => 2,
+            Form::Lost | Form::Crash | Form::Prune | Form::Back => 2,
             Form::Write | Form::False | Form::Put | Form::Get => 3,
             Form::Sound => 5,
             Form::Mix => 6,
@@ -87,6 +92,8 @@ impl Word {
             b"false" => Some(Word::Form(Form::False)),
             b"sound" => Some(Word::Form(Form::Sound)),
             b"mix" => Some(Word::Form(Form::Mix)),
+            b"prune" => Some(Word::Form(Form::Prune)),
+            b"back" => Some(Word::Form(Form::Back)),
             b"put" => Some(Word::Form(Form::Put)),
             b"get" => Some(Word::Form(Form::Get)),
             b"next" => Some(Word::Form(Form::Next)),

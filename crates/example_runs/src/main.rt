@@ -57,9 +57,14 @@ fn replayed(rt: &HostRuntime, name: &str) -> io::Result<Outcome> {
 }
 
 fn checked(rt: &HostRuntime, name: &str) -> io::Result<Outcome> {
-    let (_, written) = answered(rt.alloc(), "check", file_of(rt, name, "report")?)?;
+    let (status, written) = answered(rt.alloc(), "check", file_of(rt, name, "report")?)?;
     let verdict = file_of(rt, name, "verdict")?;
-    if written.taken() == verdict.as_slice() {
+    let number = if verdict.as_slice() == b"legal\n".as_slice() {
+        0
+    } else {
+        1
+    };
+    if written.taken() == verdict.as_slice() && status.number() == number {
         Ok(Outcome::Ok)
     } else {
         Ok(Outcome::Differs)

@@ -1,5 +1,5 @@
 -- The head lines of a valid configuration have no cause.
-use Rattle.std.proofs.Common.{◌≡◌, ℕ, ◌^◌, ◌<◌, false, eqb, List, [], ◌∷◌, ◌++◌, length, map, Option, unwrap_or, None, refl, sym, ap, ◌∙◌, arith, append_assoc, lit≤}
+use Rattle.std.proofs.Common.{◌≡◌, ℕ, ◌^◌, ◌<◌, false, eqb, List, [], ◌∷◌, ◌++◌, length, map, get_or, Option, unwrap_or, None, refl, sym, ap, ◌∙◌, arith, append_assoc, lit≤}
 use Rattle.std.specs.Prelude.{codes, decimal}
 use Rattle.std.specs.List.{list_any, AllByRecursion}
 use Rattle.std.proofs.lemmas.Fmt.{decimal_nonempty}
@@ -57,6 +57,11 @@ pub numbers_back : (c : Numbers) → IsValid c → numbers_in (edition_of (heade
 numbers_back c v =
     ap (λ (e : Option Edition). numbers_in (unwrap_or e One) (fields_of (line_of_fields (cluster_fields c)))) (edition_back c.edition)
     ∙ ap (numbers_in c.edition) (cluster_apart c v) ∙ sym (ap (numbers_at c.edition) (all_read (in_order c) (small c v)))
+
+-- lines that begin with the head lines of a valid configuration begin with those of no other
+pub one_head : (c d : Numbers) (xs ys : List (List ℕ)) → IsValid c → IsValid d → head_lines c ++ xs ≡ head_lines d ++ ys → c ≡ d
+one_head c d xs ys v w e =
+    sym (numbers_back c v) ∙ ap (λ (ls : List (List ℕ)). numbers_in (edition_of (get_or ls 0 [])) (fields_of (get_or ls 1 []))) e ∙ numbers_back d w
 
 no_config_cause : (c : Numbers) → IsValid c → config_cause c ≡ None
 no_config_cause c v = rw (none_of_valid c v) refl

@@ -17,7 +17,7 @@ pub enum Cause {
     Empty,
     /// The last line has no newline.
     Cut,
-    /// The first line of a script isn't its header.
+    /// The first line of a script is the header of no edition.
     BadHeader,
     /// The line's word, or a fixed word after it, isn't one that may stand there.
     UnknownWord,

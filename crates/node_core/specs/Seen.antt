@@ -1,8 +1,8 @@
 -- What contracts see of a node.
-use Rattle.std.specs.Prelude.{◌≡◌, ℕ, ◌<◌, List, [], ◌∷◌, length, map, replicate, slice_index_or, slice_set}
+use Rattle.std.specs.Prelude.{◌≡◌, ℕ, ◌<◌, Option, List, [], ◌∷◌, length, map, replicate, slice_index_or, slice_set}
 use Rattle.quorum_rules.specs.Limits.{Numbers, IsValid}
 use Rattle.protocol.specs.Messages.{Version, Ask, Reply}
-use Rattle.protocol.specs.Nodes.{first_version, reply, after}
+use Rattle.protocol.specs.Nodes.{first_version, reply, accepts, after}
 use Rattle.protocol.specs.Instance.{setting}
 
 -- a node: its configuration, its number, and for each block the versions that it keeps, in order of acceptance
@@ -26,6 +26,10 @@ new_node config number = record { config = config; number = number; blocks = rep
 -- what the node answers
 abbrev pub reply_of : SeenNode → Ask → Reply
 reply_of node ask = reply (setting node.config) node.number (versions_in node ask.block) ask
+
+-- the version that it adds then, if any
+abbrev pub accepts_of : SeenNode → Ask → Option Version
+accepts_of node ask = accepts (setting node.config) node.number (versions_in node ask.block) ask
 
 -- what it keeps of the asked block when it has answered
 abbrev pub after_of : SeenNode → Ask → List Version

@@ -3,8 +3,10 @@
 
 mod kept;
 pub mod node;
+pub mod prepared;
 
 pub use node::{Node, Stamps};
+pub use prepared::Prepared;
 
 #[cfg(test)]
 mod tests;

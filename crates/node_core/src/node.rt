@@ -1,11 +1,12 @@
-ghost use Rattle.std.specs.Prelude.{◌≡◌, ◌≢◌, ◌<◌, ◌≤◌, ◌↔◌, IsTrue, [], ◌∷◌, ◌++◌, map, replicate, length, OnOk, OnErr, IfOk, IfSome, None};
+ghost use Rattle.std.specs.Prelude.{◌≡◌, ◌≢◌, ◌<◌, ◌≤◌, ◌↔◌, IsTrue, [], ◌∷◌, ◌++◌, map, replicate, length, OnOk, OnErr, IfOk, IfSome, None, is_some};
 ghost use Rattle.quorum_rules.specs.Limits.{IsValid};
-ghost use Rattle.protocol.specs.Nodes.{refusal, found, greatest_in, greatest_time, pruned, added, keeps, first_version};
+ghost use Rattle.protocol.specs.Nodes.{refusal, acknowledged, found, greatest_in, greatest_time, pruned, added, keeps, first_version};
 ghost use Rattle.protocol.specs.Count.{one_more};
 ghost use Rattle.protocol.specs.Instance.{setting};
-ghost use Rattle.node_core.specs.Seen.{SeenNode, versions_in, with_versions, new_node, reply_of, after_of};
+ghost use Rattle.node_core.specs.Seen.{SeenNode, versions_in, with_versions, new_node, reply_of, after_of, accepts_of};
 
 use crate::kept::Kept;
+use crate::prepared::Prepared;
 use lists::{Copied, ItemList, NoMemory};
 use quorum_rules::Config;
 use stamp_order::{Bound, Stamp};
@@ -70,10 +71,8 @@ impl Node {
         ensures ok { OnOk result (self.new ≡ with_versions self.old ask.now.block (after_of self.old ask.now)) }
         ensures err { OnErr result (self.new ≡ self.old) }
     {
-        let reply = self.reply_to(ask)?;
-        if let (Request::Write(version), Reply::Ack) = (&ask.request, &reply) {
-            self.keep(ask.block, version)?;
-        }
+        let Prepared { reply, added } = self.prepare(ask)?;
+        self.commit(ask, added)?;
         Ok(reply)
     }
 
@@ -81,17 +80,68 @@ impl Node {
     pub fn reply_to(&self, ask: &Ask) -> Result<Reply, NoMemory>
         ensures { IfOk result (λ reply. reply ≡ reply_of self.now ask.now) }
     {
+        let Prepared {
+            reply,
+            added: _added,
+        } = self.prepare(ask)?;
+        Ok(reply)
+    }
+
+    /// What the node would answer and add. Nothing changes, and `commit` needs no digest any more.
+    pub fn prepare(&self, ask: &Ask) -> Result<Prepared, NoMemory>
+        ensures reply { IfOk result (λ p. p.reply ≡ reply_of self.now ask.now) }
+        ensures added { IfOk result (λ p. p.added ≡ accepts_of self.now ask.now) }
+    {
         if ask.block >= self.config.blocks() {
-            return Ok(Reply::Refused(Reason::BadBlock));
+            return Ok(answers(Reply::Refused(Reason::BadBlock)));
         }
         match &ask.request {
-            Request::Time => Ok(Reply::TimeIs(self.greatest_time(ask.block))),
-            Request::Read(bound) => self.found(ask.block, bound),
-            Request::Write(version) => Ok(match self.refusal(version) {
-                Some(reason) => Reply::Refused(reason),
-                None => Reply::Ack,
-            }),
+            Request::Time => Ok(answers(Reply::TimeIs(self.greatest_time(ask.block)))),
+            Request::Read(bound) => Ok(answers(self.found(ask.block, bound)?)),
+            Request::Write(version) => self.weigh(ask.block, version),
         }
+    }
+
+    /// Adds what was prepared for the ask. It is the last step that takes memory.
+    pub fn commit(&mut self, ask: &Ask, added: Option<Version>) -> Result<(), NoMemory>
+        requires { added ≡ accepts_of self.old ask.now }
+        ensures ok { OnOk result (self.new ≡ with_versions self.old ask.now.block (after_of self.old ask.now)) }
+        ensures err { OnErr result (self.new ≡ self.old) }
+    {
+        let Some(version) = added else {
+            return Ok(());
+        };
+        let kept = &mut self.blocks[ask.block as usize];
+        kept.add(version)?;
+        Ok(())
+    }
+
+    /// Whether the node would add a version in answer to the ask.
+    pub fn adds(&self, ask: &Ask) -> bool
+        ensures { result ≡ is_some (accepts_of self.now ask.now) }
+    {
+        match &ask.request {
+            Request::Write(version) => {
+                ask.block < self.config.blocks()
+                    && self.refusal(version).is_none()
+                    && !self.keeps(ask.block, &version.stamp)
+            }
+            Request::Time | Request::Read(_) => false,
+        }
+    }
+
+    /// The cluster's numbers.
+    pub fn config(&self) -> &Config
+        ensures { result.now ≡ self.now.config }
+    {
+        &self.config
+    }
+
+    /// The node's number.
+    pub fn number(&self) -> u8
+        ensures { result ≡ self.now.number }
+    {
+        self.number
     }
 
     /// Whether the node keeps a version of this stamp.
@@ -163,17 +213,26 @@ impl Node {
         }
     }
 
-    /// Keeps a version, unless one of its stamp is kept already.
-    fn keep(&mut self, block: u32, version: &Version) -> Result<(), NoMemory>
-        requires there { block < self.old.config.blocks }
-        requires later { 1 ≤ version.now.stamp.time }
-        ensures ok { OnOk result (self.new ≡ with_versions self.old block (one_more (versions_in self.old block) (added None (versions_in self.old block) version.now))) }
-        ensures err { OnErr result (self.new ≡ self.old) }
+    /// The answer to a write, and what is added by it.
+    fn weigh(&self, block: u32, version: &Version) -> Result<Prepared, NoMemory>
+        requires { block < self.now.config.blocks }
+        ensures reply { IfOk result (λ p. p.reply ≡ acknowledged (refusal (setting self.now.config) self.now.number version.now)) }
+        ensures added { IfOk result (λ p. p.added ≡ added (refusal (setting self.now.config) self.now.number version.now) (versions_in self.now block) version.now) }
     {
-        let kept = &mut self.blocks[block as usize];
-        if !kept.has(&version.stamp) {
-            kept.add(version.copy()?)?;
+        match self.refusal(version) {
+            Some(reason) => Ok(answers(Reply::Refused(reason))),
+            None if self.keeps(block, &version.stamp) => Ok(answers(Reply::Ack)),
+            None => Ok(Prepared {
+                reply: Reply::Ack,
+                added: Some(version.copy()?),
+            }),
         }
-        Ok(())
     }
+}
+
+/// An answer by which nothing is added.
+fn answers(reply: Reply) -> Prepared
+    ensures { result ≡ record { reply = reply; added = None } }
+{
+    Prepared { reply, added: None }
 }

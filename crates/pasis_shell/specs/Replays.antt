@@ -52,7 +52,7 @@ pub record Replays (input text : List ℕ) : Type 0 where
   pub book : Book
   pub tells : Tells desks.world.records (first_stamp (cluster_of config liars)) history book
   pub shown : text ≡ report_text book
-  -- whatever starts, deliveries, losses, repeats, crashes and lies the lines make: it is a legal history of one register per block, and in time
+  -- whatever starts, deliveries, losses, repeats, crashes, returns, prunes and lies the lines make: it is a legal history of one register per block, and in time
   pub registers : AreRegisters (cluster_of config liars) desks.world history
   -- it is a history that a report tells, and for the judge too it is legal and in time
   pub told : IsReport book

@@ -15,6 +15,3 @@ pub use status::Status;
 pub use text::{Answer, Refusal};
 pub use top::pasis;
 pub use words::Command;
-
-#[cfg(test)]
-mod tests;

@@ -1,4 +1,5 @@
-ghost use Rattle.std.specs.Prelude.{◌≡◌, Some};
+ghost use Rattle.std.specs.Prelude.{◌≡◌, ◌≢◌, ◌++◌, Some, codes, OnOk};
+ghost use Rattle.std.specs.Io.KnownBytes.{Appends, Keeps};
 ghost use Rattle.std.specs.Fmt.{DisplaysOnOk};
 ghost use Rattle.pasis_shell.specs.declared.status.Status.TheVariants.{BadScript};
 ghost use Rattle.pasis_shell.specs.Statuses.{number_of, status_of_flaw, status_of_read, status_of_refusal, status_text};
@@ -7,7 +8,8 @@ use crate::text::Refusal;
 use history_book::Flaw;
 use line_forms::Cause;
 use outside_io::ReadRefusal;
-use std::fmt;
+use std::io::Write;
+use std::{fmt, io};
 
 /// How a call of the program ended.
 #[derive(Clone, Copy, Debug, PartialEq, Eq)]
@@ -82,6 +84,18 @@ fn write_refusal<W: fmt::Write>(f: &mut fmt::Formatter<W>, line: u64, cause: Cau
 }
 
 impl Status {
+    /// Writes the line that tells of the status, and nothing for `Done`.
+    pub fn tell<W: Write>(&self, to: &mut W) -> io::Result<()>
+        ensures silent { self.now ≡ Status.Done → Keeps (W.contents to.old) (W.contents to.new) }
+        ensures line { self.now ≢ Status.Done
+            → OnOk result (Appends (W.contents to.old) (W.contents to.new) (status_text self.now ++ codes "\n")) }
+    {
+        if *self == Status::Done {
+            return Ok(());
+        }
+        writeln!(to, "{self}")
+    }
+
     /// The status of a text that was written whole, by the flaw that was found.
     pub fn of_flaw(flaw: Option<Flaw>) -> Status
         ensures { result ≡ status_of_flaw flaw }

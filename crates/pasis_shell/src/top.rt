@@ -1,4 +1,4 @@
-ghost use Rattle.std.specs.Prelude.{◌≡◌, ◌≢◌, ◌≤◌, ◌+◌, ◌⊎◌, ◌↔◌, ℕ, List, Option, Some, None, length, IfOk, IfErr, IsErrOf};
+ghost use Rattle.std.specs.Prelude.{◌≡◌, ◌≢◌, ◌≤◌, ◌+◌, ◌⊎◌, ◌↔◌, ℕ, List, Option, Some, None, Err, length, IfOk, IfErr, IsErrOf};
 ghost use Rattle.outside_io.specs.Causes.{Rose};
 ghost use Rattle.outside_io.specs.Given.{GaveAtMost, GaveExactly};
 ghost use Rattle.outside_io.specs.Written.{Adds, AllFlushed, TakesPrefix};
@@ -18,6 +18,7 @@ use outside_io::{LIMIT, Sink, Source, read_all, write_all};
 use std::alloc::Global;
 
 // What a command works on: all of the source, or nothing for `soak`.
+#[tactic(auto, using(crate::proofs::Given::gave_none))]
 fn input_of<S: Source>(alloc: Global, command: Command, source: &mut S) -> Result<Bytes, Status>
     ensures given { IfOk result (λ input. IsGiven command (S.left source.old) (S.left source.new) input) }
     ensures short { IfOk result (λ input. length input ≤ LIMIT) }
@@ -25,7 +26,8 @@ fn input_of<S: Source>(alloc: Global, command: Command, source: &mut S) -> Resul
     ensures first { IsErrOf result Status.ReadFault → GaveAtMost LIMIT (S.left source.old) (S.left source.new) }
     ensures too_long { IsErrOf result Status.TooLong → GaveExactly (LIMIT + 1) (S.left source.old) (S.left source.new) }
     ensures causes { IfErr result CanStopReading }
-    ensures later { S.faults source.old ≤ S.faults source.new }
+    ensures most { GaveAtMost (LIMIT + 1) (S.left source.old) (S.left source.new) }
+    ensures calm { result ≢ Err Status.ReadFault → S.faults source.new ≡ S.faults source.old }
 {
     if let Command::Soak(_) = command {
         return Ok(Bytes::from_vec(Vec::new(alloc)));
@@ -47,7 +49,8 @@ fn answer<S: Source>(alloc: Global, command: Command, source: &mut S) -> Result<
     ensures bad_script { (line : ℕ) (cause : Cause) → IsErrOf result (Status.BadScript line cause)
         → IsRefusedFor command (S.left source.old) (S.left source.new) (Refusal.BadScript (record { line = line; cause = cause })) }
     ensures causes { IfErr result CanStopBefore }
-    ensures later { S.faults source.old ≤ S.faults source.new }
+    ensures most { GaveAtMost (LIMIT + 1) (S.left source.old) (S.left source.new) }
+    ensures calm { result ≢ Err Status.ReadFault → S.faults source.new ≡ S.faults source.old }
 {
     match input_of(alloc, command, source) {
         Ok(input) => match text_of(alloc, command, &input) {
@@ -60,6 +63,7 @@ fn answer<S: Source>(alloc: Global, command: Command, source: &mut S) -> Result<
 
 /// Does what the words ask for: reads the source to its end, makes the whole text, and only then writes and flushes it.
 /// `soak` reads nothing. No contract speaks of what a gate does.
+#[tactic(auto, using(crate::proofs::Given::gave_none))]
 pub fn pasis<S: Source, K: Sink, G: Gate>(
     alloc: Global,
     words: &[String],
@@ -74,6 +78,8 @@ pub fn pasis<S: Source, K: Sink, G: Gate>(
     ensures read_fault { result ≡ Status.ReadFault → Rose S.last (S.faults source.old) (S.faults source.new) }
     ensures first { result ≡ Status.ReadFault → GaveAtMost LIMIT (S.left source.old) (S.left source.new) }
     ensures too_long { result ≡ Status.TooLong → GaveExactly (LIMIT + 1) (S.left source.old) (S.left source.new) }
+    ensures most { GaveAtMost (LIMIT + 1) (S.left source.old) (S.left source.new) }
+    ensures calm_source { result ≢ Status.ReadFault → S.faults source.new ≡ S.faults source.old }
     // an input that is refused, by its first line that has a cause and that line's first cause
     ensures bad_script { (line : ℕ) (cause : Cause) → result ≡ Status.BadScript line cause
         → IsRefused (texts words.now) (S.left source.old) (S.left source.new) (Refusal.BadScript (record { line = line; cause = cause })) }
@@ -83,6 +89,7 @@ pub fn pasis<S: Source, K: Sink, G: Gate>(
     // writing
     ensures unwritten { result ≢ Status.Done → ((flaw : Flaw) → result ≢ Status.Illegal flaw) → result ≢ Status.WriteFault → sink.new ≡ sink.old }
     ensures write_fault { result ≡ Status.WriteFault → Rose K.last (K.faults sink.old) (K.faults sink.new) }
+    ensures calm_sink { result ≢ Status.WriteFault → K.faults sink.new ≡ K.faults sink.old }
     ensures prefix { result ≡ Status.WriteFault → (text : List ℕ) × (flaw : Option Flaw)
         × Answers (texts words.now) (S.left source.old) (S.left source.new) text flaw
         × TakesPrefix (K.taken sink.old) (K.taken sink.new) text }

@@ -1,19 +1,18 @@
 -- In a run of lines no two operations start or end at one place.
-use Rattle.std.proofs.Common.{◌≡◌, ◌⊎◌, ℕ, ◌+◌, ◌-◌, ◌<◌, Bool, true, false, cond, ◌&&◌, List, [], ◌∷◌, ◌++◌, ◌↔◌, Option, refl, sym, ◌∙◌, ap, inl, inr, arith, eqb, ltb}
+use Rattle.std.proofs.Common.{◌≡◌, ℕ, ◌+◌, ◌-◌, ◌<◌, Bool, true, false, cond, List, [], ◌∷◌, ◌++◌, Option, refl, sym, ◌∙◌, ap, inl, inr, arith, ltb}
 use Rattle.std.specs.declared.option.Option.TheVariants.{None, Some}
 use Rattle.std.specs.List.{Contains}
-use Rattle.std.proofs.lemmas.Bool.Decides.{nat_tests}
 use Rattle.std.proofs.lemmas.List.Elements.{Contains-append_cases}
-use Rattle.stamp_order.specs.declared.Stamp.{Stamp}
 use Rattle.protocol.specs.Messages.{Reply, Body, Message}
 use Rattle.wire_forms.specs.declared.Body.TheVariants.{Ask as Asks, Answer as Answers}
 use Rattle.protocol.specs.Setting.{Setting}
 use Rattle.protocol.specs.Operations.{Task, Decision, begun, counted, decide, answered}
 use Rattle.protocol.specs.Operations.Decision.{GoesOn, Ends}
-use Rattle.protocol.specs.World.{World, Record, Event, Allowed, happens, moved, decided, advanced, heard, heard_by, counts, given, resent_by, pruned_at, only_place, open_record, closed_record, replaced_by, with_record, under_way, last_op, greatest_given}
+use Rattle.protocol.specs.World.{World, Record, Event, Allowed, happens, moved, decided, advanced, heard, heard_by, counts, only_place, open_record, closed_record, with_record, under_way, last_op, greatest_given}
 use Rattle.protocol.specs.World.Event.{Start, Resend, Give, Hear, CrashNode, CrashClient, Lie, Prune, Back}
-use Rattle.protocol.specs.Facts.{IsSameOperation, HasOperation}
-use Rattle.protocol.proofs.Lists.{Contains-one, Contains-map, Contains-map_cases}
+use Rattle.protocol.proofs.Lists.{Contains-one}
+use Rattle.protocol.proofs.Replacing.{with_cases}
+use Rattle.protocol.proofs.Growing.{given_records, resent_records, pruned_records}
 use Rattle.protocol.proofs.Invariant.{IsSafe}
 use Rattle.protocol.proofs.Origins.{HasOrigins}
 
@@ -32,48 +31,6 @@ before_place s w safe place l = record {
   starts = λ x h. omega (arith, (safe.records x h).start, l);
   ends = λ x end h e. omega (arith, (safe.records x h).ended end e, l);
 }
-
-apart_by : (a b d e : ℕ) → eqb a b && eqb d e ≡ false → a ≡ b → d ≡ e → ⊥
-apart_by a b d e h p q = grind (arith, nat_tests)
-
-replaced : (r x old : Record) (rs : List Record) (b : Bool) → eqb old.client r.client && eqb old.start r.start ≡ b → Contains rs old → x ≡ cond b r old → (x ≡ r) ⊎ (Contains rs x × (x.client ≡ r.client → x.start ≡ r.start → ⊥))
-replaced r x old rs true t h e = inl e
-replaced r x old rs false t h e = inr (rw e h, λ p q. apart_by old.client r.client old.start r.start t (sym (ap (λ (y : Record). y.client) e) ∙ p) (sym (ap (λ (y : Record). y.start) e) ∙ q))
-
--- a record is the new one, or one of before of another operation
-pub with_cases : (rs : List Record) (r x : Record) → Contains (with_record rs r) x → (x ≡ r) ⊎ (Contains rs x × (x.client ≡ r.client → x.start ≡ r.start → ⊥))
-with_cases rs r x h = let q = Contains-map_cases (replaced_by r) rs x h in replaced r x q.0 rs (eqb q.0.client r.client && eqb q.0.start r.start) refl q.1 q.2
-
-same_tests : (a b d e : ℕ) → a ≡ b → d ≡ e → eqb a b && eqb d e ≡ true
-same_tests a b d e p q = let x : eqb a b ≡ true = grind (arith, nat_tests) in let y : eqb d e ≡ true = grind (arith, nat_tests) in rw (x, y) refl
-
-not_both : (a b d e : ℕ) → ((a ≡ b) × (d ≡ e) → ⊥) → eqb a b && eqb d e ≡ false
-not_both a b d e h = at (eqb a b && eqb d e) refl
-  where
-    at : (t : Bool) → eqb a b && eqb d e ≡ t → t ≡ false
-    at true k = absurd (h (grind (arith, nat_tests), grind (arith, nat_tests)))
-    at false k = refl
-
--- exactly these stand there once r has the place of the record of its operation
-pub with_iff : (rs : List Record) (r x : Record) → Contains (with_record rs r) x ↔ ((x ≡ r × HasOperation rs r) ⊎ (Contains rs x × (IsSameOperation x r → ⊥)))
-with_iff rs r x = (there, back)
-  where
-    at : (old : Record) → Contains rs old → (b : Bool) → eqb old.client r.client && eqb old.start r.start ≡ b → x ≡ cond b r old → (x ≡ r × HasOperation rs r) ⊎ (Contains rs x × (IsSameOperation x r → ⊥))
-    at old h true t e = inl (e, (old, h, (grind (arith, nat_tests), grind (arith, nat_tests))))
-    at old h false t e = inr (rw e h, λ k. apart_by old.client r.client old.start r.start t (sym (ap (λ (y : Record). y.client) e) ∙ k.0) (sym (ap (λ (y : Record). y.start) e) ∙ k.1))
-
-    there : Contains (with_record rs r) x → (x ≡ r × HasOperation rs r) ⊎ (Contains rs x × (IsSameOperation x r → ⊥))
-    there h = let q = Contains-map_cases (replaced_by r) rs x h in at q.0 q.1 (eqb q.0.client r.client && eqb q.0.start r.start) refl q.2
-
-    back : (x ≡ r × HasOperation rs r) ⊎ (Contains rs x × (IsSameOperation x r → ⊥)) → Contains (with_record rs r) x
-    back (inl h) =
-        let old = h.1.0 in
-        let k = Contains-map (replaced_by r) rs old h.1.1 in
-        let l : Contains (with_record rs r) (cond true r old) = rw (same_tests old.client r.client old.start r.start h.1.2.0 h.1.2.1) at k in
-        rw h.0 l
-    back (inr h) =
-        let k = Contains-map (replaced_by r) rs x h.0 in
-        let l : Contains (with_record rs r) (cond false r x) = rw (not_both x.client r.client x.start r.start h.1) at k in l
 
 module _ (rs : List Record) (apart : IsApart rs) (place : ℕ) (early : IsBefore rs place) where
   -- a record that starts now is added
@@ -148,25 +105,13 @@ module _ (s : Setting) (w : World) (safe : IsSafe s w) (origins : HasOrigins s w
   hear_apart c m up (Asks ask) = apart
   hear_apart c m up (Answers reply) = heard_apart c m (w.task c) up refl reply
 
-  pub given_records : (i : ℕ) (m : Message) (body : Body) → (given s w place i m body).records ≡ w.records
-  given_records i m (Asks ask) = refl
-  given_records i m (Answers reply) = refl
-
-  resent_records : (c : ℕ) (o : Option Task) → (resent_by s w place c o).records ≡ w.records
-  resent_records c None = refl
-  resent_records c (Some task) = refl
-
-  pruned_records : (i block : ℕ) (o : Option Stamp) → (pruned_at s w place i block o).records ≡ w.records
-  pruned_records i block None = refl
-  pruned_records i block (Some stamp) = refl
-
   pub happens_apart : (e : Event) → Allowed s w place e → Fine (happens s w place e)
   happens_apart (Start c block work) h = pushed_apart w.records apart place early (open_record c (begun (last_op w c + 1) block work place)) refl refl
-  happens_apart (Resend c) h = rw (resent_records c (w.task c)) apart
-  happens_apart (Give i m) h = rw (given_records i m m.body) apart
+  happens_apart (Resend c) h = rw (resent_records s w place c (w.task c)) apart
+  happens_apart (Give i m) h = rw (given_records s w place i m m.body) apart
   happens_apart (Hear c m) h = hear_apart c m h.3 m.body
   happens_apart (CrashNode i) h = apart
   happens_apart (CrashClient c) h = apart
   happens_apart (Lie m) h = apart
-  happens_apart (Prune i block) h = rw (pruned_records i block (greatest_given block w.records)) apart
+  happens_apart (Prune i block) h = rw (pruned_records s w place i block (greatest_given block w.records)) apart
   happens_apart (Back c) h = apart

@@ -16,6 +16,7 @@ use Rattle.protocol.specs.World.{World, Record, open_record, chosen_stamp, stamp
 use Rattle.protocol.specs.History.{HasWrite, HasLie}
 use Rattle.protocol.specs.Bounds.{lied_time, lied, is_chosen, choices}
 use Rattle.protocol.proofs.Lists.{Contains-none, Contains-head, Contains-rest, Contains-cons_cases, Contains-map}
+use Rattle.protocol.proofs.Tests.{are_same, same_are}
 use Rattle.protocol.proofs.Invariant.{IsSafe}
 use Rattle.protocol.proofs.Heard.{filled}
 
@@ -27,12 +28,6 @@ pub record IsNewer (old r : Record) : Type 0 where
   pub work : old.work ≡ r.work
   pub stamp : (value : List ℕ) (t : Stamp) → old.work ≡ Writes value → old.stamp ≡ Some t → r.stamp ≡ Some t
 
-alike_by : (a b d e : ℕ) → eqb a b && eqb d e ≡ true → (a ≡ b) × (d ≡ e)
-alike_by a b d e h = (grind (arith, nat_tests), grind (arith, nat_tests))
-
-same_tests : (a b d e : ℕ) → a ≡ b → d ≡ e → eqb a b && eqb d e ≡ true
-same_tests a b d e p q = let x : eqb a b ≡ true = grind (arith, nat_tests) in let y : eqb d e ≡ true = grind (arith, nat_tests) in rw (x, y) refl
-
 module _ (rs : List Record) (old r : Record) (newer : IsNewer old r) (only : (x : Record) → Contains rs x → x.client ≡ r.client → x.start ≡ r.start → x ≡ old) where
   -- a write that chose a stamp is there still
   pub writes_still : (block : ℕ) (stamp : Stamp) → HasWrite rs block stamp → HasWrite (with_record rs r) block stamp
@@ -41,7 +36,7 @@ module _ (rs : List Record) (old r : Record) (newer : IsNewer old r) (only : (x 
       at : (b : Bool) → eqb h.write.client r.client && eqb h.write.start r.start ≡ b → Contains (with_record rs r) (cond (eqb h.write.client r.client && eqb h.write.start r.start) r h.write) → HasWrite (with_record rs r) block stamp
       at false e k = record { write = h.write; there = (let l : Contains (with_record rs r) (cond false r h.write) = rw e at k in l); of_block = h.of_block; value = h.value; writes = h.writes; chose = h.chose }
       at true e k =
-          let q = alike_by h.write.client r.client h.write.start r.start e in
+          let q = are_same h.write.client r.client h.write.start r.start e in
           let is = only h.write h.there q.0 q.1 in
           let work : old.work ≡ Writes h.value = sym (ap (λ (x : Record). x.work) is) ∙ h.writes in
           let chose : old.stamp ≡ Some stamp = sym (ap (λ (x : Record). x.stamp) is) ∙ h.chose in
@@ -75,7 +70,7 @@ module _ (rs : List Record) (old r : Record) (newer : IsNewer old r) (only : (x 
       at : (b : Bool) → eqb x.client r.client && eqb x.start r.start ≡ b → cond {A = ℕ} (eqb x.block block && is_chosen x.work x.stamp) 1 0 ≤ cond (eqb (cond b r x).block block && is_chosen (cond b r x).work (cond b r x).stamp) 1 0
       at false e = omega arith
       at true e =
-          let q = alike_by x.client r.client x.start r.start e in
+          let q = are_same x.client r.client x.start r.start e in
           let is = only x there q.0 q.1 in
           rw is (grows_at block (eqb old.block block) (eqb r.block block) (is_chosen old.work old.stamp) (is_chosen r.work r.stamp) (ap (λ (k : ℕ). eqb k block) newer.block) (chosen_more old.work r.work old.stamp r.stamp newer.work newer.stamp))
 
@@ -89,7 +84,7 @@ module _ (rs : List Record) (old r : Record) (newer : IsNewer old r) (only : (x 
   -- and one more where the operation has just chosen
   just_chosen : (block : ℕ) → r.block ≡ block → is_chosen r.work r.stamp ≡ true → is_chosen old.work old.stamp ≡ false → (x : Record) → x ≡ old → cond {A = ℕ} (eqb x.block block && is_chosen x.work x.stamp) 1 0 + 1 ≤ cond (eqb (replaced_by r x).block block && is_chosen (replaced_by r x).work (replaced_by r x).stamp) 1 0
   just_chosen block of_b now before x is =
-      rw is (let t = same_tests old.client r.client old.start r.start newer.client newer.start in
+      rw is (let t = same_are old.client r.client old.start r.start newer.client newer.start in
       let z : cond {A = ℕ} (eqb old.block block && is_chosen old.work old.stamp) 1 0 ≡ 0 = none (eqb old.block block) (is_chosen old.work old.stamp) before in
       let y : cond {A = ℕ} (eqb r.block block && is_chosen r.work r.stamp) 1 0 ≡ 1 = (let e : eqb r.block block ≡ true = grind (arith, nat_tests) in rw (e, now) refl) in
       let u : cond {A = ℕ} (eqb (replaced_by r old).block block && is_chosen (replaced_by r old).work (replaced_by r old).stamp) 1 0 ≡ cond {A = ℕ} (eqb r.block block && is_chosen r.work r.stamp) 1 0 = rw t refl in

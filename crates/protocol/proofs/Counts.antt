@@ -1,9 +1,9 @@
 -- What the counts of a run count.
-use Rattle.std.proofs.Common.{◌≡◌, ◌⊎◌, ◌↔◌, ℕ, suc, ◌+◌, ◌<◌, Bool, true, false, cond, not, ◌||◌, List, [], ◌∷◌, filter, map, length, count_by, Option, refl, sym, ◌∙◌, ap, inl, inr, arith, eqb}
+use Rattle.std.proofs.Common.{◌≡◌, ◌⊎◌, ◌↔◌, ℕ, ◌+◌, ◌<◌, Bool, true, false, cond, not, ◌||◌, List, [], ◌∷◌, filter, map, length, count_by, Option, refl, sym, ◌∙◌, ap, inl, inr, arith, eqb}
 use Rattle.std.specs.declared.option.Option.TheVariants.{None, Some}
 use Rattle.std.specs.declared.cmp.Ordering.TheVariants.{Less}
 use Rattle.std.specs.List.{Contains, AllByRecursion, IsDistinct, list_any, cons_option}
-use Rattle.std.proofs.lemmas.Bool.Decides.{nat_tests}
+use Rattle.std.proofs.lemmas.List.{length-map}
 use Rattle.std.proofs.lemmas.List.Sums.{length-filter, sum_by-cons}
 use Rattle.std.proofs.lemmas.Map.Made.{length-from_same_keys}
 use Rattle.std.proofs.lemmas.Cmp.{nat_eq_equiv}
@@ -17,49 +17,27 @@ use Rattle.protocol.specs.History.{Entry, entry_cmp, IsSorted, IsEntry, IsHistor
 use Rattle.protocol.specs.History.Kind.{Read, Write}
 use Rattle.protocol.specs.Report.{SpentWrite, IsSpentWrite, Ascend, spent_write, spent_writes, is_done, is_spent, is_pending, is_ended, counts_of}
 use Rattle.protocol.proofs.Counting.{cases_bool}
+use Rattle.protocol.proofs.Tests.{is_eqb, eqb_is}
+use Rattle.protocol.proofs.Histories.{outcome_at, not_outvoted, read_end}
 use Rattle.protocol.proofs.Keeping.{or_cases}
-use Rattle.protocol.proofs.Lists.{Contains-none, Contains-head, Contains-rest, Contains-cons_cases, Contains-map, Contains-map_cases}
-use Rattle.protocol.proofs.Entries.{not_self, member_of}
+use Rattle.protocol.proofs.Lists.{filter_is, filter_has, Contains-none, Contains-head, Contains-rest, Contains-cons_cases, Contains-map, Contains-map_cases}
+use Rattle.protocol.proofs.Entries.{same_entry, not_self, member_of}
 use Rattle.protocol.proofs.Invariant.{IsSafe, IsRecord, IsOutcome}
 use Rattle.protocol.proofs.Apart.{IsApart}
 use Rattle.protocol.proofs.Starts.{starts}
 
 -- ---- lists
 
-filter_was : {X : Type 0} (p : X → Bool) (h : List X) (e : X) → Contains (filter p h) e → Contains h e × (p e ≡ true)
-filter_was p [] e k = absurd (Contains-none e k)
-filter_was {X} p (x ∷ xs) e k = at (p x) refl (filter_was p xs e) k
-  where
-    at : (b : Bool) → p x ≡ b → (Contains (filter p xs) e → Contains xs e × (p e ≡ true)) → Contains (cond b (x ∷ filter p xs) (filter p xs)) e → Contains (x ∷ xs) e × (p e ≡ true)
-    at true t rest k = elim (Contains-cons_cases e x (filter p xs) k) [ inl q ↦ rw q (Contains-head x xs, t) | inr l ↦ (let r = rest l in (Contains-rest e x xs r.0, r.1)) ]
-    at false t rest k = let r = rest k in (Contains-rest e x xs r.0, r.1)
-
-filter_has : {X : Type 0} (p : X → Bool) (h : List X) (e : X) → Contains h e → p e ≡ true → Contains (filter p h) e
-filter_has p [] e k t = absurd (Contains-none e k)
-filter_has {X} p (x ∷ xs) e k t = at (p x) refl (λ l. filter_has p xs e l t) (Contains-cons_cases e x xs k)
-  where
-    at : (b : Bool) → p x ≡ b → (Contains xs e → Contains (filter p xs) e) → (e ≡ x) ⊎ Contains xs e → Contains (cond b (x ∷ filter p xs) (filter p xs)) e
-    at true u rest (inl q) = rw q (Contains-head x (filter p xs))
-    at true u rest (inr l) = Contains-rest e x (filter p xs) (rest l)
-    at false u rest (inl q) = absurd (let g : p x ≡ true = rw q at t in cc)
-    at false u rest (inr l) = rest l
-
-is : (m n : ℕ) → eqb m n ≡ true → m ≡ n
-is m n h = grind (arith, nat_tests)
-
 isnt : (m n : ℕ) → (m ≡ n → ⊥) → eqb m n ≡ false
-isnt m n h = elim (cases_bool (eqb m n)) [ inl e ↦ absurd (h (is m n e)) | inr e ↦ e ]
-
-same : (n : ℕ) → eqb n n ≡ true
-same n = grind (arith, nat_tests)
+isnt m n h = elim (cases_bool (eqb m n)) [ inl e ↦ absurd (h (is_eqb m n e)) | inr e ↦ e ]
 
 any_has : (ns : List ℕ) (q : ℕ) → list_any (eqb q) ns ≡ true → Contains ns q
 any_has [] q h = absurd (cc)
-any_has (n ∷ ns) q h = let rest = any_has ns q in elim (or_cases (eqb q n) (list_any (eqb q) ns) h) [ inl e ↦ rw (is q n e) (Contains-head n ns) | inr k ↦ Contains-rest q n ns (rest k) ]
+any_has (n ∷ ns) q h = let rest = any_has ns q in elim (or_cases (eqb q n) (list_any (eqb q) ns) h) [ inl e ↦ rw (is_eqb q n e) (Contains-head n ns) | inr k ↦ Contains-rest q n ns (rest k) ]
 
 has_any : (ns : List ℕ) (q : ℕ) → Contains ns q → list_any (eqb q) ns ≡ true
 has_any [] q h = absurd (Contains-none q h)
-has_any (n ∷ ns) q h = let rest = has_any ns q in elim (Contains-cons_cases q n ns h) [ inl e ↦ rw (e, same n) refl | inr k ↦ rw (rest k) (at (eqb q n)) ]
+has_any (n ∷ ns) q h = let rest = has_any ns q in elim (Contains-cons_cases q n ns h) [ inl e ↦ rw (e, eqb_is n n refl) refl | inr k ↦ rw (rest k) (at (eqb q n)) ]
   where
     at : (b : Bool) → b || true ≡ true
     at true = refl
@@ -70,10 +48,6 @@ alike ms ns to from q = elim (cases_bool (list_any (eqb q) ms)) [
   | inl e ↦ e ∙ sym (has_any ns q (to q (any_has ms q e)))
   | inr e ↦ elim (cases_bool (list_any (eqb q) ns)) [ inl f ↦ absurd (let k = has_any ms q (from q (any_has ns q f)) in cc) | inr f ↦ e ∙ sym f ]
 ]
-
-length-map_of : {X Y : Type 0} (f : X → Y) (xs : List X) → length (map f xs) ≡ length xs
-length-map_of f [] = refl
-length-map_of f (x ∷ xs) = ap suc (length-map_of f xs)
 
 -- two lists whose members that pass have the same numbers, each once
 same_count : {X Y : Type 0} (p : X → Bool) (q : Y → Bool) (f : X → ℕ) (g : Y → ℕ) (xs : List X) (ys : List Y)
@@ -86,15 +60,15 @@ same_count p q f g xs ys a b to from =
     (alike _ _
     (λ n h.
     let m = Contains-map_cases f (filter p xs) n h in
-    let w = filter_was p xs m.0 m.1 in
+    let w = filter_is p xs m.0 m.1 in
     let t = to m.0 w.0 w.1 in
     rw (m.2 ∙ sym t.3) (Contains-map g (filter q ys) t.0 (filter_has q ys t.0 t.1 t.2)))
     (λ n h.
     let m = Contains-map_cases g (filter q ys) n h in
-    let w = filter_was q ys m.0 m.1 in
+    let w = filter_is q ys m.0 m.1 in
     let t = from m.0 w.0 w.1 in
     rw (m.2 ∙ sym t.3) (Contains-map f (filter p xs) t.0 (filter_has p xs t.0 t.1 t.2)))) in
-    sym (length-filter p xs) ∙ sym (length-map_of f (filter p xs)) ∙ k ∙ length-map_of g (filter q ys) ∙ length-filter q ys
+    sym (length-filter p xs) ∙ sym (length-map (filter p xs) f) ∙ k ∙ length-map (filter q ys) g ∙ length-filter q ys
 
 apart_map : {X : Type 0} (p : X → Bool) (f : X → ℕ) (n : ℕ) (xs : List X) → ((x : X) → Contains xs x → p x ≡ true → n ≡ f x → ⊥) → AllByRecursion (λ y. eqb n y ≡ false) (map f (filter p xs))
 apart_map p f n [] h = tt
@@ -142,9 +116,6 @@ distinct_entries (e ∷ es) sorted h = at (is_ended e) refl (distinct_entries es
 
 -- ---- completed operations are the entries that have an end
 
-entry_eq : (e f : Entry) → e.block ≡ f.block → e.stamp ≡ f.stamp → e.kind ≡ f.kind → e.client ≡ f.client → e.start ≡ f.start → e.end ≡ f.end → e.value ≡ f.value → e ≡ f
-entry_eq e f b t k c a z v j = record { block = b j; stamp = t j; kind = k j; client = c j; start = a j; end = z j; value = v j }
-
 no_end : (e : Entry) → e.end ≡ None → is_ended e ≡ true → ⊥
 no_end e q h = absurd (let k : not (is_pending None) ≡ true = rw q at h in cc)
 
@@ -156,13 +127,6 @@ unfolding start_of start_or
 start_is e n q = ap start_or q
 
 module _ (s : Setting) (w : World) (safe : IsSafe s w) (apart : IsApart w.records) where
-  ends : (r : Record) (outcome : Outcome) → Contains w.records r → r.outcome ≡ Some outcome → (end : ℕ) × (r.end ≡ Some end)
-  ends r outcome h e = at r.end refl
-    where
-      at : (o : Option ℕ) → r.end ≡ o → (end : ℕ) × (r.end ≡ Some end)
-      at None f = absurd (let k = (safe.records r h).open_end f in cc)
-      at (Some end) f = (end, f)
-
   -- an entry that has an end is a completed read's or a completed write's
   data Ended (e : Entry) : Type 0 where
     of_read : (r : Record) → Contains w.records r → (how : How) (rounds : ℕ) → r.outcome ≡ Some (Gave e.stamp e.value how rounds) → e.kind ≡ Read → e.block ≡ r.block → e.client ≡ r.client → e.start ≡ Some r.start → e.end ≡ r.end → Ended e
@@ -192,10 +156,10 @@ module _ (s : Setting) (w : World) (safe : IsSafe s w) (apart : IsApart w.record
   one_start e f (of_read r h how m o k b c a z) (of_read q l way n p j d g y x) same =
       let one = one_record e f r q h l a y same in
       let given = gave_stamp r.outcome e.stamp f.stamp e.value f.value how way m n o (ap (λ (t : Record). t.outcome) one ∙ p) in
-      entry_eq e f (b ∙ ap (λ (t : Record). t.block) one ∙ sym d) given.0 (k ∙ sym j) (c ∙ ap (λ (t : Record). t.client) one ∙ sym g) (a ∙ ap (λ (t : Record). Some t.start) one ∙ sym y) (z ∙ ap (λ (t : Record). t.end) one ∙ sym x) given.1
+      same_entry e f (b ∙ ap (λ (t : Record). t.block) one ∙ sym d) given.0 (k ∙ sym j) (c ∙ ap (λ (t : Record). t.client) one ∙ sym g) (a ∙ ap (λ (t : Record). Some t.start) one ∙ sym y) (z ∙ ap (λ (t : Record). t.end) one ∙ sym x) given.1
   one_start e f (of_write r h o v k b c a z) (of_write q l p u j d g y x) same =
       let one = one_record e f r q h l a y same in
-      entry_eq e f (b ∙ ap (λ (t : Record). t.block) one ∙ sym d) (wrote_stamp r.outcome e.stamp f.stamp o (ap (λ (t : Record). t.outcome) one ∙ p)) (k ∙ sym j) (c ∙ ap (λ (t : Record). t.client) one ∙ sym g) (a ∙ ap (λ (t : Record). Some t.start) one ∙ sym y) (z ∙ ap (λ (t : Record). t.end) one ∙ sym x)
+      same_entry e f (b ∙ ap (λ (t : Record). t.block) one ∙ sym d) (wrote_stamp r.outcome e.stamp f.stamp o (ap (λ (t : Record). t.outcome) one ∙ p)) (k ∙ sym j) (c ∙ ap (λ (t : Record). t.client) one ∙ sym g) (a ∙ ap (λ (t : Record). Some t.start) one ∙ sym y) (z ∙ ap (λ (t : Record). t.end) one ∙ sym x)
       (written r.work e.value f.value v (ap (λ (t : Record). t.work) one ∙ u))
   one_start e f (of_read r h how m o k b c a z) (of_write q l p u j d g y x) same =
       let one = one_record e f r q h l a y same in absurd (not_both_kinds r.outcome e.stamp f.stamp e.value how m o (ap (λ (t : Record). t.outcome) one ∙ p))
@@ -214,23 +178,20 @@ module _ (s : Setting) (w : World) (safe : IsSafe s w) (apart : IsApart w.record
     unfolding Found start_of start_or
     wrote_entry r there stamp o Reads e k = absurd k
     wrote_entry r there stamp o (Writes value) e k =
-        let z = ends r (Wrote stamp) there o in
+        let z = read_end s w safe r (Wrote stamp) there o in
         let x : Entry = record { block = r.block; stamp = stamp; kind = Write; client = r.client; start = Some r.start; end = r.end; value = value } in
         (x, (hist.1 x).1 (inr (inl (r, there, e, k.0, refl, refl, refl, refl, refl, inl o))), an_end x z.0 z.1, refl)
 
     gave_entry : (r : Record) → Contains w.records r → (stamp : Stamp) (value : List ℕ) (how : How) (rounds : ℕ) → r.outcome ≡ Some (Gave stamp value how rounds) → Found r
     unfolding Found start_of start_or
     gave_entry r there stamp value how rounds o =
-        let z = ends r (Gave stamp value how rounds) there o in
+        let z = read_end s w safe r (Gave stamp value how rounds) there o in
         let x : Entry = record { block = r.block; stamp = stamp; kind = Read; client = r.client; start = Some r.start; end = r.end; value = value } in
         (x, (hist.1 x).1 (inl (r, there, how, rounds, o, refl, refl, refl, refl, refl)), an_end x z.0 z.1, refl)
 
-    outcome_at : (r : Record) (o : Option Outcome) → r.outcome ≡ o → IsOutcome s r.work r.stamp r.outcome → IsOutcome s r.work r.stamp o
-    outcome_at r o e h = rw e at h
-
     done_entry : (r : Record) → Contains w.records r → (o : Option Outcome) → r.outcome ≡ o → is_done o ≡ true → Found r
     done_entry r there None e t = absurd (cc)
-    done_entry r there (Some (Wrote stamp)) e t = wrote_entry r there stamp e r.work refl (outcome_at r (Some (Wrote stamp)) e (safe.records r there).outcome)
+    done_entry r there (Some (Wrote stamp)) e t = wrote_entry r there stamp e r.work refl (outcome_at s r (Some (Wrote stamp)) e (safe.records r there).outcome)
     done_entry r there (Some Spent) e t = absurd (cc)
     done_entry r there (Some (Gave stamp value how rounds)) e t = gave_entry r there stamp value how rounds e
     done_entry r there (Some (Outvoted nodes)) e t = absurd (cc)
@@ -258,17 +219,13 @@ is_one s w r k = at r.end r.outcome refl refl
     with_outcome : (o : Option Outcome) → r.outcome ≡ o → IsOutcome s r.work r.stamp o
     with_outcome o e = let h = k.outcome in rw e at h
 
-    not_outvoted : (work : Work) (nodes : List ℕ) → IsOutcome s work r.stamp (Some (Outvoted nodes)) → ⊥
-    not_outvoted Reads nodes h = h
-    not_outvoted (Writes v) nodes h = h
-
     at : (z : Option ℕ) (o : Option Outcome) → r.end ≡ z → r.outcome ≡ o → Is r
     at None o e f = let n = k.open_end e in pending (rw n refl) (rw n refl) (rw e refl)
     at (Some end) None e f = absurd (let c = k.closed_end end e in let g = c.1 in cc)
     at (Some end) (Some (Wrote stamp)) e f = done (rw f refl) (rw f refl) (rw e refl)
     at (Some end) (Some Spent) e f = spent (rw f refl) (rw f refl) (rw e refl)
     at (Some end) (Some (Gave stamp value how rounds)) e f = done (rw f refl) (rw f refl) (rw e refl)
-    at (Some end) (Some (Outvoted nodes)) e f = absurd (not_outvoted r.work nodes (with_outcome (Some (Outvoted nodes)) f))
+    at (Some end) (Some (Outvoted nodes)) e f = absurd (not_outvoted s r.work r.stamp nodes (with_outcome (Some (Outvoted nodes)) f))
 
 bits : (r : Record) → Is r → (cond {A = ℕ} (is_done r.outcome) 1 0) + (cond {A = ℕ} (is_spent r.outcome) 1 0) + (cond {A = ℕ} (is_pending r.end) 1 0) ≡ 1
 bits r (done a b c) = rw (a, b, c) refl

@@ -1,22 +1,16 @@
 -- How many different accepted versions pass a test.
-use Rattle.std.proofs.Common.{◌≡◌, ℕ, ◌+◌, ◌<◌, ◌≤◌, Bool, true, false, cond, not, ◌&&◌, ◌||◌, List, [], ◌∷◌, ◌++◌, refl, sym, ◌∙◌, ap, inl, inr, arith, eqb}
+use Rattle.std.proofs.Common.{◌≡◌, ℕ, ◌+◌, ◌<◌, ◌≤◌, Bool, true, false, cond, not, ◌&&◌, ◌||◌, List, [], ◌∷◌, ◌++◌, refl, sym, ◌∙◌, ap, inl, inr, arith}
 use Rattle.std.specs.List.{Contains}
-use Rattle.std.proofs.lemmas.Bool.Decides.{nat_tests}
 use Rattle.protocol.specs.World.{Accepted}
 use Rattle.protocol.specs.Bounds.{same_accepted, is_among, different}
 use Rattle.protocol.proofs.Counting.{both_true, cases_bool}
 use Rattle.protocol.proofs.Order.{same_stamp-≡, same_stamp-refl}
 use Rattle.protocol.proofs.Lists.{Contains-none, Contains-head, Contains-rest, Contains-cons_cases}
+use Rattle.protocol.proofs.Tests.{eqb_self, is_eqb}
 use Rattle.protocol.proofs.Keeping.{or_cases}
 
 fields : (a b : Accepted) → a.node ≡ b.node → a.block ≡ b.block → a.stamp ≡ b.stamp → a ≡ b
 fields a b n k t i = record { node = n i; block = k i; stamp = t i }
-
-is_eqb : (x y : ℕ) → eqb x y ≡ true → x ≡ y
-is_eqb x y h = grind (arith, nat_tests)
-
-eqb_self : (x : ℕ) → eqb x x ≡ true
-eqb_self x = grind (arith, nat_tests)
 
 same-≡ : (a b : Accepted) → same_accepted a b ≡ true → a ≡ b
 same-≡ a b h = let x = both_true _ _ h in let y = both_true _ _ x.0 in fields a b (is_eqb _ _ y.0) (is_eqb _ _ y.1) (same_stamp-≡ _ _ x.1)

@@ -3,7 +3,7 @@ use Rattle.std.proofs.Common.{◌≡◌, ℕ, zero, suc, ◌<◌, true, List, []
 use Rattle.std.specs.declared.option.Option.TheVariants.{None, Some}
 use Rattle.std.specs.declared.cmp.Ordering.{Ordering}
 use Rattle.std.specs.declared.cmp.Ordering.TheVariants.{Less, Equal, Greater}
-use Rattle.std.specs.Ordering.{nat_cmp, is_le, is_lt, ordering_then, ordering_reverse}
+use Rattle.std.specs.Ordering.{nat_cmp, is_lt, ordering_then, ordering_reverse}
 use Rattle.std.specs.Cmp.{IsTotalOrder}
 use Rattle.std.specs.List.{Contains, AllByRecursion}
 use Rattle.std.proofs.lemmas.Bool.Decides.{nat_tests}
@@ -11,7 +11,7 @@ use Rattle.std.proofs.lemmas.Cmp.{then_total, on_total, nat_cmp_total, tied_itse
 use Rattle.stamp_order.specs.declared.Stamp.{Stamp}
 use Rattle.stamp_order.specs.Stamps.{stamp_cmp, up_to, before, ◌≼◌}
 use Rattle.protocol.specs.History.{Entry, is_read, place_cmp, entry_cmp, IsSorted}
-use Rattle.protocol.proofs.Order.{stamp_total}
+use Rattle.protocol.proofs.Order.{then_le, stamp_total}
 
 place_cmp_total : IsTotalOrder place_cmp
 place_cmp_total = record { antisymm = flip; trans = chain; congr = like }
@@ -49,7 +49,7 @@ entry_total =
 nat_equal : (x y : ℕ) → x ≡ y → nat_cmp x y ≡ Equal
 nat_equal x y e = rw e (tied_itself nat_cmp_total y)
 
-nat_less : (x y : ℕ) → x < y → nat_cmp x y ≡ Less
+pub nat_less : (x y : ℕ) → x < y → nat_cmp x y ≡ Less
 nat_less x y h = let e : ltb x y ≡ true = grind (arith, nat_tests) in rw e refl
 
 lt_less : (o : Ordering) → is_lt o ≡ true → o ≡ Less
@@ -76,11 +76,6 @@ less_by_kind x y e f h = rw (nat_equal x.block y.block e, stamp_equal x.stamp y.
 pub less_by_end : (x y : Entry) → x.block ≡ y.block → x.stamp ≡ y.stamp → is_read x.kind ≡ is_read y.kind → (a b : ℕ) → x.end ≡ Some a → y.end ≡ Some b → a < b → entry_cmp x y ≡ Less
 unfolding entry_cmp
 less_by_end x y e f g a b i j h = rw (nat_equal x.block y.block e, stamp_equal x.stamp y.stamp f, nat_equal (is_read x.kind) (is_read y.kind) g, i, j, nat_less a b h) refl
-
-then_le : (a c : Ordering) → is_le (ordering_then a c) ≡ true → is_le a ≡ true
-then_le Less c h = refl
-then_le Equal c h = refl
-then_le Greater c h = absurd (cc)
 
 pub stamp_upto : (x y : Entry) → x.block ≡ y.block → entry_cmp x y ≡ Less → x.stamp ≼ y.stamp
 unfolding entry_cmp up_to
@@ -110,3 +105,7 @@ sorted_before (e ∷ es) (suc i) (suc j) d s l k = sorted_before es i j d s.1 (o
 
 pub member_of : {X : Type 0} (P : X → Type 0) (xs : List X) (x : X) → AllByRecursion P xs → Contains xs x → P x
 member_of {X} P xs x h k = let e = k.2 in let p = each_of P xs k.0 x k.1 h in rw e at p
+
+-- entries that are equal part by part
+pub same_entry : (e f : Entry) → e.block ≡ f.block → e.stamp ≡ f.stamp → e.kind ≡ f.kind → e.client ≡ f.client → e.start ≡ f.start → e.end ≡ f.end → e.value ≡ f.value → e ≡ f
+same_entry e f a b c d g h k i = record { block = a i; stamp = b i; kind = c i; client = d i; start = g i; end = h i; value = k i }

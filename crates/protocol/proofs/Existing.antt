@@ -18,7 +18,7 @@ use Rattle.protocol.specs.History.Kind.{Write, Foreign, Read}
 use Rattle.protocol.proofs.Counting.{cases_bool}
 use Rattle.protocol.proofs.Order.{same_stamp-≡, same_stamp-refl}
 use Rattle.protocol.proofs.Lists.{Contains-none, Contains-head, Contains-rest, Contains-cons_cases, Contains-one}
-use Rattle.protocol.proofs.Entries.{entry_total, member_of}
+use Rattle.protocol.proofs.Entries.{same_entry, entry_total, member_of}
 use Rattle.protocol.proofs.Searches.{find_write, find_read, FirstRead}
 use Rattle.protocol.proofs.Invariant.{IsSafe}
 use Rattle.protocol.proofs.Apart.{IsApart}
@@ -113,32 +113,46 @@ module _ (P : Entry → Type 0) (one : (e f : Entry) → P e → P f → entry_c
         ),
       )
 
-same_entry : (e f : Entry) → e.block ≡ f.block → e.stamp ≡ f.stamp → e.kind ≡ f.kind → e.client ≡ f.client → e.start ≡ f.start → e.end ≡ f.end → e.value ≡ f.value → e ≡ f
-same_entry e f a b c d g h k i = record { block = a i; stamp = b i; kind = c i; client = d i; start = g i; end = h i; value = k i }
-
 module _ (s : Setting) (w : World) (safe : IsSafe s w) (apart : IsApart w.records) where
   abbrev rs : List Record
   rs = w.records
 
-  abbrev ReadOf : Record → Entry → Type 0
-  ReadOf r e = (how : How) × (rounds : ℕ) × (r.outcome ≡ Some (Gave e.stamp e.value how rounds)) × (e.kind ≡ Read) × (e.block ≡ r.block) × (e.client ≡ r.client) × (e.start ≡ Some r.start) × (e.end ≡ r.end)
+  -- what an entry has of its record
+  record IsOf (r : Record) (e : Entry) : Type 0 where
+    block : e.block ≡ r.block
+    client : e.client ≡ r.client
+    start : e.start ≡ Some r.start
+    end : e.end ≡ r.end
+
+  -- the entry of a completed read
+  record ReadOf (r : Record) (e : Entry) : Type 0 where
+    how : How
+    rounds : ℕ
+    gave : r.outcome ≡ Some (Gave e.stamp e.value how rounds)
+    kind : e.kind ≡ Read
+    own : IsOf r e
 
   read_of : (r : Record) (o : Option Outcome) → r.outcome ≡ o → HasAll (ReadOf r)
-  read_of r None q = none_all (ReadOf r) (λ e h. let k = h.2 in cc)
-  read_of r (Some (Wrote t)) q = none_all (ReadOf r) (λ e h. let k = h.2 in cc)
-  read_of r (Some Spent) q = none_all (ReadOf r) (λ e h. let k = h.2 in cc)
-  read_of r (Some (Outvoted nodes)) q = none_all (ReadOf r) (λ e h. let k = h.2 in cc)
+  read_of r None q = none_all (ReadOf r) (λ e h. let k = h.gave in cc)
+  read_of r (Some (Wrote t)) q = none_all (ReadOf r) (λ e h. let k = h.gave in cc)
+  read_of r (Some Spent) q = none_all (ReadOf r) (λ e h. let k = h.gave in cc)
+  read_of r (Some (Outvoted nodes)) q = none_all (ReadOf r) (λ e h. let k = h.gave in cc)
   read_of r (Some (Gave t v how n)) q =
       let x : Entry = record { block = r.block; stamp = t; kind = Read; client = r.client; start = Some r.start; end = r.end; value = v } in
-      one_all (ReadOf r) x (how, n, q, refl, refl, refl, refl, refl)
-      (λ e h. let k : Some (Gave e.stamp e.value h.0 h.1) ≡ Some (Gave t v how n) = sym h.2 ∙ q in
-      same_entry e x h.4 (cc k) h.3 h.5 h.6 h.7 (cc k))
+      one_all (ReadOf r) x (record { how = how; rounds = n; gave = q; kind = refl; own = record { block = refl; client = refl; start = refl; end = refl } })
+      (λ e h. let k : Some (Gave e.stamp e.value h.how h.rounds) ≡ Some (Gave t v how n) = sym h.gave ∙ q in
+      same_entry e x h.own.block (cc k) h.kind h.own.client h.own.start h.own.end (cc k))
 
   abbrev IsDue : Record → ℕ → Stamp → Type 0
   IsDue r block t = (r.outcome ≡ Some (Wrote t)) ⊎ ((r.end ≡ None) × (value : List ℕ) × (end : ℕ) × HasRead rs block t value end)
 
-  abbrev WriteOf : Record → Entry → Type 0
-  WriteOf r e = (r.work ≡ Writes e.value) × (r.stamp ≡ Some e.stamp) × (e.kind ≡ Write) × (e.block ≡ r.block) × (e.client ≡ r.client) × (e.start ≡ Some r.start) × (e.end ≡ r.end) × IsDue r e.block e.stamp
+  -- the entry of a write
+  record WriteOf (r : Record) (e : Entry) : Type 0 where
+    work : r.work ≡ Writes e.value
+    stamp : r.stamp ≡ Some e.stamp
+    kind : e.kind ≡ Write
+    own : IsOf r e
+    due : IsDue r e.block e.stamp
 
   wrote_at : (o : Option Outcome) (t : Stamp) → (o ≡ Some (Wrote t)) ⊎ (o ≡ Some (Wrote t) → ⊥)
   wrote_at None t = inr (λ e. cc)
@@ -162,21 +176,28 @@ module _ (s : Setting) (w : World) (safe : IsSafe s w) (apart : IsApart w.record
       pending (Some x) e h n = inr (λ d. elim d [ inl k ↦ n k | inr k ↦ (let q = k.0 in cc) ])
 
   write_of : (r : Record) (work : Work) → r.work ≡ work → (stamp : Option Stamp) → r.stamp ≡ stamp → HasAll (WriteOf r)
-  write_of r Reads e stamp f = none_all (WriteOf r) (λ x h. let k = h.0 in cc)
-  write_of r (Writes v) e None f = none_all (WriteOf r) (λ x h. let k = h.1 in cc)
+  write_of r Reads e stamp f = none_all (WriteOf r) (λ x h. let k = h.work in cc)
+  write_of r (Writes v) e None f = none_all (WriteOf r) (λ x h. let k = h.stamp in cc)
   write_of r (Writes v) e (Some t) f = elim (due_at r t r.end refl) [
     | inl d ↦
         (let x : Entry = record { block = r.block; stamp = t; kind = Write; client = r.client; start = Some r.start; end = r.end; value = v } in
-        one_all (WriteOf r) x (e, f, refl, refl, refl, refl, refl, d)
-        (λ y h. let p : Writes y.value ≡ Writes v = sym h.0 ∙ e in let q : Some y.stamp ≡ Some t = sym h.1 ∙ f in same_entry y x h.3 (cc q) h.2 h.4 h.5 h.6 (cc p)))
-    | inr n ↦ none_all (WriteOf r) (λ y h. n (let q : Some y.stamp ≡ Some t = sym h.1 ∙ f in let st : y.stamp ≡ t = cc q in let d = h.7 in rw (h.3, st) at d))
+        one_all (WriteOf r) x (record { work = e; stamp = f; kind = refl; own = record { block = refl; client = refl; start = refl; end = refl }; due = d })
+        (λ y h. let p : Writes y.value ≡ Writes v = sym h.work ∙ e in let q : Some y.stamp ≡ Some t = sym h.stamp ∙ f in same_entry y x h.own.block (cc q) h.kind h.own.client h.own.start h.own.end (cc p)))
+    | inr n ↦ none_all (WriteOf r) (λ y h. n (let q : Some y.stamp ≡ Some t = sym h.stamp ∙ f in let st : y.stamp ≡ t = cc q in let d = h.due in rw (h.own.block, st) at d))
   ]
 
-  abbrev ForeignOf : Record → Entry → Type 0
-  ForeignOf r e = (r.block ≡ e.block) × (v : List ℕ) × (how : How) × (n : ℕ) × (r.outcome ≡ Some (Gave e.stamp v how n)) × (e.stamp ≢ first_stamp s) × IsForeign rs e
+  -- the entry of the foreign write that the record's read gave
+  record ForeignOf (r : Record) (e : Entry) : Type 0 where
+    of_block : r.block ≡ e.block
+    value : List ℕ
+    how : How
+    rounds : ℕ
+    gave : r.outcome ≡ Some (Gave e.stamp value how rounds)
+    later : e.stamp ≢ first_stamp s
+    foreign : IsForeign rs e
 
   none_foreign : (r : Record) → ((t : Stamp) (v : List ℕ) (how : How) (n : ℕ) → r.outcome ≡ Some (Gave t v how n) → ⊥) → HasAll (ForeignOf r)
-  none_foreign r h = none_all (ForeignOf r) (λ e k. h e.stamp k.1 k.2 k.3 k.4)
+  none_foreign r h = none_all (ForeignOf r) (λ e k. h e.stamp k.value k.how k.rounds k.gave)
 
   gave_value : (o p : Option Outcome) (t : Stamp) (u v : List ℕ) (h k : How) (m n : ℕ) → o ≡ p → o ≡ Some (Gave t u h m) → p ≡ Some (Gave t v k n) → u ≡ v
   gave_value o p t u v h k m n e f g = let q : Some (Gave t u h m) ≡ Some (Gave t v k n) = sym f ∙ e ∙ g in cc
@@ -200,15 +221,23 @@ module _ (s : Setting) (w : World) (safe : IsSafe s w) (apart : IsApart w.record
   foreign_of r (Some Spent) q = none_foreign r (λ t v how n e. cc)
   foreign_of r (Some (Outvoted nodes)) q = none_foreign r (λ t v how n e. cc)
   foreign_of r (Some (Gave t v how n)) q = elim (cases_bool (same_stamp t (first_stamp s))) [
-    | inl f ↦ none_all (ForeignOf r) (λ e h. h.5 (stamp_of e h.4 ∙ same_stamp-≡ t (first_stamp s) f))
+    | inl f ↦ none_all (ForeignOf r) (λ e h. h.later (stamp_of e h.gave ∙ same_stamp-≡ t (first_stamp s) f))
     | inr f ↦ elim (find_write r.block t rs) [
-      | inl k ↦ none_all (ForeignOf r) (λ e h. h.6.3 (write_as e r.block t (sym h.0) (stamp_of e h.4) k))
+      | inl k ↦ none_all (ForeignOf r) (λ e h. h.foreign.3 (write_as e r.block t (sym h.of_block) (stamp_of e h.gave) k))
       | inr k ↦ elim (find_read r.block t rs) [
         | inl a ↦
             (let x : Entry = record { block = r.block; stamp = t; kind = Foreign; client = t.client; start = None; end = None; value = a.value } in
-            one_all (ForeignOf r) x (refl, v, how, n, q, (λ g. let l : same_stamp t t ≡ false = rw (← g) at f in let m = same_stamp-refl t in cc), (a.end, a.is, a.first, k, refl, refl, refl, refl))
-            (λ e h. let st = stamp_of e h.4 in same_entry e x (sym h.0) st h.6.4 (h.6.5 ∙ ap (λ (y : Stamp). y.client) st) h.6.6 h.6.7 (foreign_as e r.block t (sym h.0) st a h.6)))
-        | inr m ↦ none_all (ForeignOf r) (λ e h. m e.value h.6.0 (let st = stamp_of e h.4 in let z = h.6.1 in rw (← h.0, st) at z))
+            one_all (ForeignOf r) x (record {
+              of_block = refl;
+              value = v;
+              how = how;
+              rounds = n;
+              gave = q;
+              later = λ g. let l : same_stamp t t ≡ false = rw (← g) at f in let m = same_stamp-refl t in cc;
+              foreign = (a.end, a.is, a.first, k, refl, refl, refl, refl);
+            })
+            (λ e h. let st = stamp_of e h.gave in let g = h.foreign in same_entry e x (sym h.of_block) st g.4 (g.5 ∙ ap (λ (y : Stamp). y.client) st) g.6 g.7 (foreign_as e r.block t (sym h.of_block) st a g)))
+        | inr m ↦ none_all (ForeignOf r) (λ e h. m e.value h.foreign.0 (let st = stamp_of e h.gave in let z = h.foreign.1 in rw (← h.of_block, st) at z))
       ]
     ]
   ]
@@ -223,14 +252,14 @@ module _ (s : Setting) (w : World) (safe : IsSafe s w) (apart : IsApart w.record
   entry_of r = both_all (ReadOf r) (λ e. WriteOf r e ⊎ ForeignOf r e) (read_of r r.outcome refl) (both_all (WriteOf r) (ForeignOf r) (write_of r r.work refl r.stamp refl) (foreign_of r r.outcome refl))
 
   to_entry : (e : Entry) → OfSome EntryOf rs e → IsEntry rs (first_stamp s) e
-  to_entry e (r, there, inl h) = inl (r, there, h.0, h.1, h.2, h.3, h.4, h.5, h.6, h.7)
-  to_entry e (r, there, inr (inl h)) = inr (inl (r, there, h.0, h.1, h.2, h.3, h.4, h.5, h.6, h.7))
-  to_entry e (r, there, inr (inr h)) = inr (inr (h.5, h.6))
+  to_entry e (r, there, inl h) = inl (r, there, h.how, h.rounds, h.gave, h.kind, h.own.block, h.own.client, h.own.start, h.own.end)
+  to_entry e (r, there, inr (inl h)) = inr (inl (r, there, h.work, h.stamp, h.kind, h.own.block, h.own.client, h.own.start, h.own.end, h.due))
+  to_entry e (r, there, inr (inr h)) = inr (inr (h.later, h.foreign))
 
   from_entry : (e : Entry) → IsEntry rs (first_stamp s) e → OfSome EntryOf rs e
-  from_entry e (inl h) = (h.0, h.1, inl (h.2, h.3, h.4, h.5, h.6, h.7, h.8, h.9))
-  from_entry e (inr (inl h)) = (h.0, h.1, inr (inl (h.2, h.3, h.4, h.5, h.6, h.7, h.8, h.9)))
-  from_entry e (inr (inr h)) = let r = h.1.1 in (r.read, r.there, inr (inr (r.of_block, e.value, r.how, r.rounds, r.gave, h.0, h.1)))
+  from_entry e (inl h) = (h.0, h.1, inl (record { how = h.2; rounds = h.3; gave = h.4; kind = h.5; own = record { block = h.6; client = h.7; start = h.8; end = h.9 } }))
+  from_entry e (inr (inl h)) = (h.0, h.1, inr (inl (record { work = h.2; stamp = h.3; kind = h.4; own = record { block = h.5; client = h.6; start = h.7; end = h.8 }; due = h.9 })))
+  from_entry e (inr (inr h)) = let r = h.1.1 in (r.read, r.there, inr (inr (record { of_block = r.of_block; value = e.value; how = r.how; rounds = r.rounds; gave = r.gave; later = h.0; foreign = h.1 })))
 
   pub has_history : (h : List Entry) × IsHistory s w h
   has_history =

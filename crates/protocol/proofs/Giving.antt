@@ -24,9 +24,9 @@ use Rattle.protocol.specs.History.IsValue.{zeros_value, written, given}
 use Rattle.protocol.proofs.Counting.{update-cases, update-same}
 use Rattle.protocol.proofs.Lists.{Contains-one, one_more_cases, one_more_left, one_more_new}
 use Rattle.protocol.proofs.Order.{≼-refl, ≼-trans, ≼-time}
-use Rattle.protocol.proofs.Seen.{NoClash-before}
+use Rattle.protocol.proofs.Strings.{NoClash-before, NoClashFor-before}
 use Rattle.protocol.proofs.Keeping.{time_at_least, time_of_one, keeps-Contains, keeps-append, greatest_in_is, greatest_in_above, accepts_is, whole_if_taken, taken, keeps_is, has-down}
-use Rattle.protocol.proofs.Invariant.{AtWork, IsOwned, IsTagged, Quorum, IsQuorum, IsTask, IsStage, IsRecord, IsSafe, IsFresh, Fits, Accepts, IsStored, IsCovered, IsPassed}
+use Rattle.protocol.proofs.Invariant.{AtWork, IsOwned, IsTagged, Quorum, IsTask, IsStage, IsRecord, IsSafe, IsFresh, Fits, Accepts, IsStored, IsCoveredBy, IsPassed}
 
 -- what an honest node answers
 module _ (s : Setting) (w : World) (i block : ℕ) (stored : IsStored s w i block) where
@@ -82,7 +82,7 @@ module _ (s : Setting) (w v : World) (i block : ℕ) where
   Fits-more more (Storing stamp value) (Refused reason) h = tt
 
 module _ (s : Setting) (i : ℕ) (vs : List Version) where
-  reply_inside : (ask : Ask) → ask.block < s.blocks → node.reply s i vs ask ≡ reply_in s i vs ask.request
+  pub reply_inside : (ask : Ask) → ask.block < s.blocks → node.reply s i vs ask ≡ reply_in s i vs ask.request
   reply_inside ask l = let t : ltb ask.block s.blocks ≡ true = grind (arith, nat_tests) in rw t refl
 
   accepts_inside : (ask : Ask) (u : Version) → ask.block < s.blocks → ask.request ≡ Write u → accepts s i vs ask ≡ added (refusal s i u) vs u
@@ -178,10 +178,11 @@ module _ (s : Setting) (w : World) (safe : IsSafe s w) (place : ℕ) (later : w.
   new_kept : (u : Version) → accepts s i old ask ≡ Some u → Contains (after.versions i ask.block) u
   new_kept u e = rw at_ask (one_more_new old (accepts s i old ask) u e)
 
-  covered_after : (j b : ℕ) (stamp : Stamp) → IsStored s w j b → Accepts s after j b stamp → IsCovered s after j b stamp
-  covered_after j b stamp h k = elim (accepted_cases j b stamp k) [
-    | inl q ↦ (let c = h.covered stamp q in
-        record { version = c.version; there = kept_still j b c.version c.there; above = c.above; how = elim c.how [ inl e ↦ inl e | inr p ↦ inr (passed_after b c.version.stamp p) ] })
+  -- what was accepted is still covered, and what is accepted now is kept
+  pub covered_after : (P Q : Stamp → Type 0) → ((t : Stamp) → P t → Q t) → (j b : ℕ) (stamp : Stamp) → ((t : Stamp) → Accepts s w j b t → IsCoveredBy s P w j b t) → Accepts s after j b stamp → IsCoveredBy s Q after j b stamp
+  covered_after P Q map j b stamp h k = elim (accepted_cases j b stamp k) [
+    | inl q ↦ (let c = h stamp q in
+        record { version = c.version; there = kept_still j b c.version c.there; above = c.above; how = elim c.how [ inl e ↦ inl e | inr p ↦ inr (map c.version.stamp p) ] })
     | inr q ↦ record { version = q.0; there = rw (q.2, q.3) (new_kept q.0 q.1); above = rw q.4 (≼-refl q.0.stamp); how = inl (sym q.4) }
   ]
 
@@ -197,7 +198,7 @@ module _ (s : Setting) (w : World) (safe : IsSafe s w) (place : ℕ) (later : w.
         whole = λ u k. elim (kept_cases j b u k) [ inl q ↦ h.whole u q | inr q ↦ rw q.0 (whole_if_taken s i u (accepts_is s i old ask u q.2).fine) ];
         formed = λ u k. elim (kept_cases j b u k) [ inl q ↦ h.formed u q | inr q ↦ new_formed u (accepts_is s i old ask u q.2).asked ];
         kept = λ u k. elim (kept_cases j b u k) [ inl q ↦ accepted_more j b u.stamp (h.kept u q) | inr q ↦ rw (q.0, q.1) (new_accepted u q.2) ];
-        covered = λ stamp k. covered_after j b stamp h k;
+        covered = λ stamp k. covered_after (IsPassed s w b) (IsPassed s after b) (passed_after b) j b stamp h.covered k;
       }
 
   asked_by : s.lying_client m.client ≡ false → (task : Task) → AtWork s w m task → (ask.block ≡ task.block) × (ask.request ≡ request_of s task.stage i)
@@ -298,8 +299,8 @@ module _ (s : Setting) (w : World) (safe : IsSafe s w) (place : ℕ) (later : w.
   fresh_as : (a b start : ℕ) (stamp : Stamp) (stage : Stage) (p q : Reply) → a ≡ b → p ≡ q → IsFresh s w b start stamp stage q → IsFresh s w a start stamp stage p
   fresh_as a b start stamp stage p q e f h = rw (e, f) h
 
-  pub quorum_after : (Enough : (ℕ → Bool) → Type 0) (b : ℕ) (stamp : Stamp) (end : ℕ) → Quorum s Enough w b stamp end → Quorum s Enough after b stamp end
-  quorum_after Enough b stamp end q = record {
+  pub quorum_after : (b : ℕ) (stamp : Stamp) (end : ℕ) → Quorum s w b stamp end → Quorum s after b stamp end
+  quorum_after b stamp end q = record {
     members = q.members;
     enough = q.enough;
     are_honest = q.are_honest;
@@ -328,7 +329,7 @@ module _ (s : Setting) (w : World) (safe : IsSafe s w) (place : ℕ) (later : w.
         open_end = k.open_end;
         closed_end = k.closed_end;
         running = k.running;
-        completed = λ end stamp e f. quorum_after (IsQuorum s) r.block stamp end (k.completed end stamp e f);
+        completed = λ end stamp e f. quorum_after r.block stamp end (k.completed end stamp e f);
       }
 
   value_before : (x : List ℕ) → IsValue s w x → IsValue s after x
@@ -369,6 +370,6 @@ module _ (s : Setting) (w : World) (safe : IsSafe s w) (place : ℕ) (later : w.
     answered = answered_after;
     tasks = tasks_after;
     records = records_after;
-    aimed = λ apart. safe.aimed (apart_before apart);
-    ordered = λ apart. safe.ordered (apart_before apart);
+    aimed = λ c z apart. safe.aimed c z (NoClashFor-before s w after apart_before z.work apart);
+    ordered = λ x y apart. safe.ordered x y (NoClashFor-before s w after apart_before y.work apart);
   }

@@ -21,13 +21,14 @@ use Rattle.protocol.specs.Operations.Stage.{Times, Versions, Storing}
 use Rattle.run_words.specs.declared.outcome.Outcome.TheVariants.{Wrote, Spent, Gave, Outvoted}
 use Rattle.protocol.specs.Operations.Decision.{GoesOn, Ends}
 use Rattle.protocol.specs.World.{Record, World, moved, decided, advanced, open_record, closed_record, chosen_stamp, stamp_of_outcome, under_way}
-use Rattle.protocol.specs.History.{NoClash, IsValue}
+use Rattle.protocol.specs.History.{IsValue}
 use Rattle.protocol.specs.History.IsValue.{zeros_value, written, given}
 use Rattle.protocol.proofs.Counting.{both_true, shared}
 use Rattle.protocol.proofs.Mails.{in_mail}
-use Rattle.protocol.proofs.Invariant.{Quorum, IsQuorum, IsGood, IsGiven, IsStage, IsTask, IsOutcome, IsAimed, IsAfter, IsSafe, Fits, Accepts}
+use Rattle.protocol.proofs.Strings.{NoClashFor-any}
+use Rattle.protocol.proofs.Invariant.{Quorum, IsGood, IsGiven, IsStage, IsTask, IsOutcome, IsAimed, IsAfter, NoClashFor, IsSafe, Fits, Accepts}
 use Rattle.protocol.proofs.Moving.{IsHeld, IsNext, IsMove, moved_safe}
-use Rattle.protocol.proofs.Rounds.{valid_was, honest_many, is_honest, drawn_above, some_pivot, pivot_above, pivot_time, candidate_size, candidate_good, not_poisonous, honest_valid, fits_at}
+use Rattle.protocol.proofs.Rounds.{answered_is, valid_was, honest_many, is_honest, drawn_above, some_pivot, pivot_above, pivot_time, candidate_size, candidate_good, not_poisonous, honest_valid, fits_at}
 use Rattle.protocol.proofs.Order.{same_stamp-≡, same_stamp-refl, ≼-cases}
 use Rattle.protocol.proofs.Parts.{length_chosen, ascending_chosen}
 
@@ -104,15 +105,15 @@ module _ (s : Setting) (good : IsValid s) (w : World) (safe : IsSafe s w) (place
   abbrev pub full : Task
   full = record { op = task.op; block = task.block; work = task.work; start = task.start; phase = task.phase; rounds = task.rounds; stage = task.stage; answers = answers }
 
-  abbrev pub Aims : (Stamp → Type 0) → Type 0
-  Aims P = NoClash s w → (x : Record) (end : ℕ) (stamp : Stamp) → Contains w.records x → x.end ≡ Some end → x.stamp ≡ Some stamp → task.block ≡ x.block → end < task.start → P stamp
+  abbrev pub Aims : Work → (Stamp → Type 0) → Type 0
+  Aims work P = NoClashFor s w work → (x : Record) (end : ℕ) (stamp : Stamp) → Contains w.records x → x.end ≡ Some end → x.stamp ≡ Some stamp → task.block ≡ x.block → end < task.start → P stamp
 
   -- the task goes on as z
   pub open_move : (z : Task) (more : List Message) → z.op ≡ task.op → z.block ≡ task.block → z.work ≡ task.work → z.start ≡ task.start
       → ((z.phase ≡ task.phase) × (z.stage ≡ task.stage)) ⊎ (z.phase ≡ task.phase + 1)
       → ((i : ℕ) (reply : Reply) → z.answers i ≡ Some reply → Contains w.pool (record { client = c; node = i; tag = record { op = z.op; phase = z.phase }; body = Answers reply }) × (is_of_kind z.stage reply ≡ true))
       → ((i : ℕ) → i < s.n → Contains (w.pool ++ more) (outstanding s c z i)) → ((m : Message) → Contains more m → IsFormedBody m.body)
-      → IsStage s z.work z.stage → Aims (λ stamp. IsAimed s stamp z.work z.stage)
+      → IsStage s z.work z.stage → Aims task.work (λ stamp. IsAimed s stamp z.work z.stage)
       → ((m : Message) → Contains more m → (i : ℕ) × (m ≡ outstanding s c z i))
       → ((stamp : Stamp) (value : List ℕ) → task.work ≡ Writes value → chosen_stamp task.work task.stage ≡ Some stamp → chosen_stamp z.work z.stage ≡ Some stamp)
       → IsMove s w safe place later c task busy (Some z) more (open_record c z)
@@ -158,7 +159,7 @@ module _ (s : Setting) (good : IsValid s) (w : World) (safe : IsSafe s w) (place
       }
 
   pub close_move : (outcome : Outcome) → IsOutcome s task.work (stamp_of_outcome outcome) (Some outcome) → ((stamp : Stamp) → stamp_of_outcome outcome ≡ Some stamp → IsHeld s w task.block stamp)
-      → ((last : Stamp) → stamp_of_outcome outcome ≡ Some last → Aims (λ stamp. IsAfter s stamp task.work last))
+      → ((last : Stamp) → stamp_of_outcome outcome ≡ Some last → Aims task.work (λ stamp. IsAfter s stamp task.work last))
       → ((stamp : Stamp) (value : List ℕ) → task.work ≡ Writes value → chosen_stamp task.work task.stage ≡ Some stamp → stamp_of_outcome outcome ≡ Some stamp)
       → IsMove s w safe place later c task busy None [] (closed_record c full place outcome)
   close_move outcome right held orders keeps =
@@ -181,10 +182,10 @@ module _ (s : Setting) (good : IsValid s) (w : World) (safe : IsSafe s w) (place
 
   -- what a decision has to be
   abbrev pub IsDecision : Work → Decision → Type 0
-  IsDecision work (GoesOn stage) = IsStage s work stage × Aims (λ stamp. IsAimed s stamp work stage)
+  IsDecision work (GoesOn stage) = IsStage s work stage × Aims work (λ stamp. IsAimed s stamp work stage)
   IsDecision work (Ends outcome) =
       IsOutcome s work (stamp_of_outcome outcome) (Some outcome) × ((stamp : Stamp) → stamp_of_outcome outcome ≡ Some stamp → IsHeld s w task.block stamp)
-      × ((last : Stamp) → stamp_of_outcome outcome ≡ Some last → Aims (λ stamp. IsAfter s stamp work last))
+      × ((last : Stamp) → stamp_of_outcome outcome ≡ Some last → Aims work (λ stamp. IsAfter s stamp work last))
 
   -- a write that chose a stamp goes on no more, and ends with it
   abbrev pub Keeps : Decision → Type 0
@@ -226,7 +227,7 @@ module _ (s : Setting) (good : IsValid s) (w : World) (safe : IsSafe s w) (place
   pub counting_move : IsMove s w safe place later c task busy (Some full) [] (open_record c full)
   counting_move =
       open_move full [] refl refl refl refl (inl (refl, refl)) heard mailed_same (λ m k. absurd (Contains-none m k)) (safe.tasks c task busy).stage
-      (λ apart x end stamp h e f b l. safe.aimed apart x end stamp c task h e f busy b l) (λ m k. absurd (Contains-none m k)) (λ stamp value e f. f)
+      (λ apart x end stamp h e f b l. safe.aimed c task apart x end stamp h e f busy b l) (λ m k. absurd (Contains-none m k)) (λ stamp value e f. f)
 
   decided_safe : (d : Decision) → IsDecision task.work d → Keeps d → IsSafe s (decided s w place c full d)
   decided_safe (GoesOn stage) h keeps =
@@ -238,7 +239,7 @@ module _ (s : Setting) (good : IsValid s) (w : World) (safe : IsSafe s w) (place
   counted_safe = moved_safe s w safe place later c task busy (Some full) [] (open_record c full) counting_move
 
   -- the quorum of a record on the task's block
-  quorum_of : (x : Record) (end : ℕ) (stamp : Stamp) → Contains w.records x → x.end ≡ Some end → x.stamp ≡ Some stamp → task.block ≡ x.block → Quorum s (IsQuorum s) w task.block stamp end
+  quorum_of : (x : Record) (end : ℕ) (stamp : Stamp) → Contains w.records x → x.end ≡ Some end → x.stamp ≡ Some stamp → task.block ≡ x.block → Quorum s w task.block stamp end
   quorum_of x end stamp h e f b = rw b ((safe.records x h).completed end stamp e f)
 
   module _ (enough : s.n ≤ answered s answers + s.t) where
@@ -263,10 +264,6 @@ module _ (s : Setting) (good : IsValid s) (w : World) (safe : IsSafe s w) (place
         kind Nothing k f = absurd (cc)
         kind (Refused reason) k f = absurd (cc)
 
-    answered_is : (o : Option Reply) → is_answered o ≡ true → (reply : Reply) × (o ≡ Some reply)
-    answered_is None h = absurd (cc)
-    answered_is (Some reply) h = (reply, refl)
-
     held_stored : (p : Stamp) (value : List ℕ) → task.stage ≡ Storing p value → IsHeld s w task.block p
     held_stored p value stage = record {
       members = λ i. honest s i && is_answered (answers i);
@@ -278,8 +275,8 @@ module _ (s : Setting) (good : IsValid s) (w : World) (safe : IsSafe s w) (place
           ack_is i task.stage p value r.0 stage (heard i r.0 r.1).1 (fits_at s good w safe c task busy answers heard enough i r.0 l b.0 r.1);
     }
 
-    stored_aim : (p : Stamp) (value : List ℕ) (work : Work) → task.work ≡ work → task.stage ≡ Storing p value → Aims (λ stamp. IsAimed s stamp work (Storing p value))
-    stored_aim p value work e f apart x end stamp h g k b l = turned (safe.aimed apart x end stamp c task h g k busy b l)
+    stored_aim : (p : Stamp) (value : List ℕ) (work : Work) → task.work ≡ work → task.stage ≡ Storing p value → Aims work (λ stamp. IsAimed s stamp work (Storing p value))
+    stored_aim p value work e f apart x end stamp h g k b l = turned (safe.aimed c task (subst (NoClashFor s w) (sym e) apart) x end stamp h g k busy b l)
       where
         turned : IsAimed s stamp task.work task.stage → IsAimed s stamp work (Storing p value)
         turned h = rw (e, f) at h
@@ -324,17 +321,17 @@ module _ (s : Setting) (good : IsValid s) (w : World) (safe : IsSafe s w) (place
             rw (← q) f.4;
       }
 
-      above : (p : Stamp) → pivot s answers bound ≡ Some p → Aims (λ stamp. stamp ≼ p)
+      above : (p : Stamp) → pivot s answers bound ≡ Some p → Aims Reads (λ stamp. stamp ≼ p)
       above p is apart x end stamp h e f b l =
           pivot_above s good w safe c task busy answers heard enough bound stage p is stamp end (quorum_of x end stamp h e f b) l
-          (inside stamp (safe.aimed apart x end stamp c task h e f busy b l))
-          (λ y last t there of_b m k late. inside t (safe.aimed apart y last t c task there m k busy (sym of_b) late))
+          (inside stamp (safe.aimed c task (NoClashFor-any s w task.work apart) x end stamp h e f busy b l))
+          (λ y last t there of_b m k late. inside t (safe.aimed c task (NoClashFor-any s w task.work apart) y last t there m k busy (sym of_b) late))
         where
           inside : (t : Stamp) → IsAimed s t task.work task.stage → has bound t ≡ true
           inside t h = rw stage at h
 
       poison : (p : Stamp) → pivot s answers bound ≡ Some p → s.qc - s.t ≤ support s answers bound p → same_digests (s.sum_of (candidate s answers bound p)) (sum_of_first (chosen s answers bound p)) ≡ false
-          → Aims (λ stamp. before stamp p ≡ true)
+          → Aims Reads (λ stamp. before stamp p ≡ true)
       poison p is many bad apart x end stamp h e f b l =
           elim (≼-cases stamp p (above p is apart x end stamp h e f b l)) [
             | inl k ↦ k

@@ -90,7 +90,7 @@ module _ (s : Setting) (good : IsValid s) (w : World) (safe : IsSafe s w) (origi
   counted_origins : HasOrigins s (moved s w place c (Some now) [] (open_record c now))
   counted_origins =
       let move = open_move s good w safe place later c task busy answers heard now [] refl refl refl refl (inl (refl, refl)) heard (mailed_same s good w safe place later c task busy answers heard) (λ m k. absurd (Contains-none m k)) (safe.tasks c task busy).stage
-      (λ apart x end stamp h e f b l. safe.aimed apart x end stamp c task h e f busy b l) (λ m k. absurd (Contains-none m k)) (λ stamp value e f. f) in
+      (λ apart x end stamp h e f b l. safe.aimed c task apart x end stamp h e f busy b l) (λ m k. absurd (Contains-none m k)) (λ stamp value e f. f) in
       went_origins s w safe origins place later c task busy (Some now) [] (open_record c now) move (λ stamp value e f. f)
       (λ y e there. let q : y ≡ now = cc in rw q
       (stage-more s w (moved s w place c (Some now) [] (open_record c now))

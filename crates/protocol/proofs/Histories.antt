@@ -21,6 +21,7 @@ use Rattle.protocol.specs.History.IsValue.{written, given}
 use Rattle.protocol.specs.History.IsSeen.{sum_seen, fragment_seen}
 use Rattle.protocol.proofs.Order.{≼-refl, ≼-cases, before-≼, lower_time}
 use Rattle.protocol.proofs.Invariant.{IsSafe, IsGood, IsGiven, IsOutcome, IsAfter}
+use Rattle.protocol.proofs.Strings.{NoClashFor-any}
 use Rattle.protocol.proofs.Entries.{less_by_stamp, less_by_kind, less_by_end, not_back, not_self, sorted_before}
 use Rattle.protocol.proofs.Parts.{ascending_collect, length_collect}
 use Rattle.protocol.proofs.Lists.{Contains-collect}
@@ -29,8 +30,13 @@ gave_as : (s : Setting) (work : Work) (stamp : Option Stamp) (given : Stamp) (va
 gave_as s Reads stamp t value how rounds h = (refl, h.0, h.1)
 gave_as s (Writes v) stamp t value how rounds h = absurd h
 
-outcome_at : (s : Setting) (r : Record) (o : Option Outcome) → r.outcome ≡ o → IsOutcome s r.work r.stamp r.outcome → IsOutcome s r.work r.stamp o
+pub outcome_at : (s : Setting) (r : Record) (o : Option Outcome) → r.outcome ≡ o → IsOutcome s r.work r.stamp r.outcome → IsOutcome s r.work r.stamp o
 outcome_at s r o e h = rw e at h
+
+-- no outcome is outvoted
+pub not_outvoted : (s : Setting) (work : Work) (stamp : Option Stamp) (nodes : List ℕ) → IsOutcome s work stamp (Some (Outvoted nodes)) → ⊥
+not_outvoted s Reads stamp nodes h = h
+not_outvoted s (Writes v) stamp nodes h = h
 
 -- a write's stamp is for its value
 wrote_as : (s : Setting) (work : Work) (stamp : Option Stamp) (o : Option Outcome) (value : List ℕ) (t : Stamp) → work ≡ Writes value → stamp ≡ Some t → IsOutcome s work stamp o → IsGood s t value
@@ -42,17 +48,18 @@ wrote_as s (Writes v) stamp (Some (Outvoted nodes)) value t e f h = absurd h
 wrote_as s (Writes v) None None value t e f h = absurd (cc f)
 wrote_as s (Writes v) (Some g) None value t e f h = let q : v ≡ value = cc in let p : g ≡ t = cc in rw (← q, ← p) h
 
+-- what has an outcome has ended
+pub read_end : (s : Setting) (w : World) → IsSafe s w → (r : Record) (outcome : Outcome) → Contains w.records r → r.outcome ≡ Some outcome → (end : ℕ) × (r.end ≡ Some end)
+read_end s w safe r outcome h e = at r.end refl
+  where
+    at : (o : Option ℕ) → r.end ≡ o → (end : ℕ) × (r.end ≡ Some end)
+    at None f = absurd (let k = (safe.records r h).open_end f in cc)
+    at (Some end) f = (end, f)
+
 module _ (s : Setting) (good : IsValid s) (w : World) (safe : IsSafe s w) where
   -- what a completed read gave
   read_given : (r : Record) (stamp : Stamp) (value : List ℕ) (how : How) (rounds : ℕ) → Contains w.records r → r.outcome ≡ Some (Gave stamp value how rounds) → (r.work ≡ Reads) × (r.stamp ≡ Some stamp) × IsGiven s stamp value
   read_given r stamp value how rounds h e = gave_as s r.work r.stamp stamp value how rounds (outcome_at s r (Some (Gave stamp value how rounds)) e (safe.records r h).outcome)
-
-  read_end : (r : Record) (outcome : Outcome) → Contains w.records r → r.outcome ≡ Some outcome → (end : ℕ) × (r.end ≡ Some end)
-  read_end r outcome h e = at r.end refl
-    where
-      at : (o : Option ℕ) → r.end ≡ o → (end : ℕ) × (r.end ≡ Some end)
-      at None f = absurd (let k = (safe.records r h).open_end f in cc)
-      at (Some end) f = (end, f)
 
   write_good : (r : Record) (value : List ℕ) (stamp : Stamp) → Contains w.records r → r.work ≡ Writes value → r.stamp ≡ Some stamp → IsGood s stamp value
   write_good r value stamp h e f = wrote_as s r.work r.stamp r.outcome value stamp e f (safe.records r h).outcome
@@ -75,7 +82,7 @@ module _ (s : Setting) (good : IsValid s) (w : World) (safe : IsSafe s w) where
 
   pub has_read : (e : Entry) → IsRead w.records e → (end : ℕ) × HasRead w.records e.block e.stamp e.value end
   has_read e h =
-      let x = read_end h.0 (Gave e.stamp e.value h.2 h.3) h.1 h.4 in
+      let x = read_end s w safe h.0 (Gave e.stamp e.value h.2 h.3) h.1 h.4 in
       (x.0, record { read = h.0; there = h.1; of_block = sym h.6; ended = x.1; how = h.2; rounds = h.3; gave = h.4 })
 
   pub read_stamped : (e : Entry) → IsRead w.records e → IsStamped e.stamp e.value
@@ -94,19 +101,15 @@ module _ (s : Setting) (good : IsValid s) (w : World) (safe : IsSafe s w) where
   entry_stamped e (inr (inl h)) = write_stamped e h
   entry_stamped e (inr (inr h)) = foreign_stamped e h.1
 
+  given_low : (stamp : Stamp) (value : List ℕ) → IsGiven s stamp value → first_stamp s ≼ stamp
+  given_low stamp value (inl k) = rw k.0 (≼-refl (first_stamp s))
+  given_low stamp value (inr k) = before-≼ _ _ (lower_time (first_stamp s) stamp k.later)
+
   -- no entry is below the first stamp, and no write has it
   pub entry_low : (e : Entry) → IsEntry w.records (first_stamp s) e → first_stamp s ≼ e.stamp
-  entry_low e (inl h) = let r = has_read e h in given_low (has_read_given e.block r.0 e.stamp e.value r.1)
-    where
-      given_low : IsGiven s e.stamp e.value → first_stamp s ≼ e.stamp
-      given_low (inl k) = rw k.0 (≼-refl (first_stamp s))
-      given_low (inr k) = before-≼ _ _ (lower_time (first_stamp s) e.stamp k.later)
+  entry_low e (inl h) = let r = has_read e h in given_low e.stamp e.value (has_read_given e.block r.0 e.stamp e.value r.1)
   entry_low e (inr (inl h)) = before-≼ _ _ (lower_time (first_stamp s) e.stamp (write_good h.0 e.value e.stamp h.1 h.2 h.3).later)
-  entry_low e (inr (inr h)) = given_low (has_read_given e.block h.1.0 e.stamp e.value h.1.1)
-    where
-      given_low : IsGiven s e.stamp e.value → first_stamp s ≼ e.stamp
-      given_low (inl k) = rw k.0 (≼-refl (first_stamp s))
-      given_low (inr k) = before-≼ _ _ (lower_time (first_stamp s) e.stamp k.later)
+  entry_low e (inr (inr h)) = given_low e.stamp e.value (has_read_given e.block h.1.0 e.stamp e.value h.1.1)
 
   -- the parts that determine a value
   abbrev part : List ℕ → ℕ → Option (ℕ × List ℕ)
@@ -162,7 +165,7 @@ module _ (s : Setting) (good : IsValid s) (w : World) (safe : IsSafe s w) where
   own_entry : (e : Entry) → IsEntry w.records (first_stamp s) e → (IsOf e) ⊎ ((e.start ≡ None) × (e.end ≡ None))
   own_entry e (inl h) =
       let g = read_given h.0 e.stamp e.value h.2 h.3 h.1 h.4 in
-      let x = read_end h.0 (Gave e.stamp e.value h.2 h.3) h.1 h.4 in
+      let x = read_end s w safe h.0 (Gave e.stamp e.value h.2 h.3) h.1 h.4 in
       inl (record { of = h.0; there = h.1; block = h.6; start = h.8; end = h.9; stamp = g.1; kind = inl (g.0, h.5, x.0, x.1) })
   own_entry e (inr (inl h)) = inl (record { of = h.0; there = h.1; block = h.5; start = h.7; end = h.8; stamp = h.3; kind = inr (e.value, h.2, h.4) })
   own_entry e (inr (inr h)) = inr (h.1.6, h.1.7)
@@ -181,7 +184,7 @@ module _ (s : Setting) (good : IsValid s) (w : World) (safe : IsSafe s w) where
         let b = started_entry y start k g in
         let began : b.of.start ≡ start = (let q = b.start in cc) in
         let order : IsAfter s x.stamp b.of.work y.stamp =
-        safe.ordered apart a.of b.of end x.stamp y.stamp a.there b.there (sym a.end ∙ f) a.stamp b.stamp (sym b.block ∙ sym e ∙ a.block) (omega arith) in
+        safe.ordered a.of b.of (NoClashFor-any s w b.of.work apart) end x.stamp y.stamp a.there b.there (sym a.end ∙ f) a.stamp b.stamp (sym b.block ∙ sym e ∙ a.block) (omega arith) in
         elim b.kind [
           | inl q ↦ reads a b q.1 (reads_as b.of.work q.0 order) began q.2 q.3
           | inr q ↦ less_by_stamp x y e (lower_time x.stamp y.stamp (writes_as b.of.work q.0 q.1 order))

@@ -17,7 +17,8 @@ use Rattle.protocol.specs.Operations.Decision.{GoesOn, Ends}
 use Rattle.protocol.specs.World.{World, Event, happens, Allowed, IsAskTo, IsAnswerTo, given, handled, heard, moved, pruned_at, open_record, closed_record, greatest_given, under_way, IsOfLiar, only_place, start_world}
 use Rattle.protocol.specs.World.Event.{Start, Resend, Give, Hear, CrashNode, CrashClient, Lie, Prune, Back}
 use Rattle.protocol.specs.Facts.{HasAccepted, IsGrounded, IsHosted}
-use Rattle.protocol.proofs.Lists.{Contains-slice_get, Contains-one, Contains-none}
+use Rattle.protocol.proofs.Lists.{append_nil, Contains-slice_get, Contains-one, Contains-none}
+use Rattle.protocol.proofs.Tests.{is_ltb}
 use Rattle.protocol.proofs.Keeping.{time_of_one, greatest_in_is}
 use Rattle.protocol.proofs.Mails.{in_mail, mail_answers}
 use Rattle.protocol.proofs.Invariant.{IsSafe, IsStored}
@@ -40,60 +41,55 @@ get_below [] x h = absurd (Contains-none x h)
 get_below (y ∷ xs) x (zero, l, e) = (0, l, ap Some e)
 get_below (y ∷ xs) x (suc k, l, e) = let r = get_below xs x (k, omega (arith, l), e) in (suc r.0, omega (arith, r.1), r.2)
 
-module _ (s : Setting) where
-  -- each answer of an honest node in the pool has its ask
+module _ (s : Setting) (from : ℕ) (P : ℕ → Ask → Reply → Type 0) where
+  -- message k was made from an ask, and P holds of the node, the ask and its reply
+  abbrev pub IsMade : World → ℕ → Message → Reply → Type 0
+  IsMade w k m told = (h : IsHosted s w k m told) × P m.node h.ask told
+
+  -- each answer of an honest node in the pool, from a number on, was made so
   abbrev pub AreHosted : World → Type 0
-  AreHosted w = (k : ℕ) (m : Message) (told : Reply) → slice_get w.pool k ≡ Some m → m.body ≡ Answers told → s.lying_node m.node ≡ false → IsHosted s w k m told
+  AreHosted w = (k : ℕ) (m : Message) (told : Reply) → from ≤ k → slice_get w.pool k ≡ Some m → m.body ≡ Answers told → s.lying_node m.node ≡ false → IsMade w k m told
 
   module _ (w v : World) (i : ℕ) (ask : Ask) (more : (stamp : Stamp) → HasAccepted s w i ask.block stamp → HasAccepted s v i ask.block stamp) where
     grounded_more : (told : Reply) → IsGrounded s w i ask told → IsGrounded s v i ask told
-    grounded_more (TimeIs time) h = (h.0, more h.0 h.1, h.2)
-    grounded_more (Found u) h = more u.stamp h
-    grounded_more Nothing h = tt
+    grounded_more (TimeIs time) h = (h.0, h.1, more h.1 h.2, h.3)
+    grounded_more (Found u) h = (h.0, h.1, h.2, more u.stamp h.3)
+    grounded_more Nothing h = h
     grounded_more Ack h = (h.0, h.1, more h.0.stamp h.2)
     grounded_more (Refused reason) h = tt
+
+  module _ (w v : World) (fresh : List Message) (pool : v.pool ≡ w.pool ++ fresh) (more : (i block : ℕ) (stamp : Stamp) → HasAccepted s w i block stamp → HasAccepted s v i block stamp) where
+    pub still_made : (k : ℕ) (m : Message) (told : Reply) → IsMade w k m told → IsMade v k m told
+    still_made k m told (h, p) = (
+      record {
+        asked = h.asked;
+        earlier = h.earlier;
+        message = h.message;
+        there = rw pool (get_left w.pool fresh h.asked h.message h.there);
+        client = h.client;
+        node = h.node;
+        tag = h.tag;
+        ask = h.ask;
+        asks = h.asks;
+        grounded = grounded_more w v m.node h.ask (more m.node h.ask.block) told h.grounded;
+      },
+      p,
+    )
 
   -- the pool grows by what no honest node answers, and what was accepted stays so
   module _ (w : World) (hosted : AreHosted w) (v : World) (fresh : List Message) (pool : v.pool ≡ w.pool ++ fresh)
       (more : (i block : ℕ) (stamp : Stamp) → HasAccepted s w i block stamp → HasAccepted s v i block stamp) where
-    still_hosted : (k : ℕ) (m : Message) (told : Reply) → IsHosted s w k m told → IsHosted s v k m told
-    still_hosted k m told h = record {
-      asked = h.asked;
-      earlier = h.earlier;
-      message = h.message;
-      there = rw pool (get_left w.pool fresh h.asked h.message h.there);
-      client = h.client;
-      node = h.node;
-      tag = h.tag;
-      ask = h.ask;
-      asks = h.asks;
-      grounded = grounded_more w v m.node h.ask (more m.node h.ask.block) told h.grounded;
-    }
-
     grown : ((m : Message) (told : Reply) → Contains fresh m → m.body ≡ Answers told → s.lying_node m.node ≡ false → ⊥) → AreHosted v
-    grown none k m told e body honest = elim (get_cases w.pool fresh k m (rw pool at e)) [
-      | inl h ↦ still_hosted k m told (hosted k m told h body honest)
+    grown none k m told late e body honest = elim (get_cases w.pool fresh k m (rw pool at e)) [
+      | inl h ↦ still_made w v fresh pool more k m told (hosted k m told late h body honest)
       | inr h ↦ absurd (none m told h.1 body honest)
     ]
 
-  module _ (w : World) (hosted : AreHosted w) (v : World) (pool : v.pool ≡ w.pool) (acc : v.accepted ≡ w.accepted) where
-    unsaid : AreHosted v
-    unsaid k m told e body honest =
-        let h = hosted k m told (rw pool at e) body honest in
-        record {
-          asked = h.asked;
-          earlier = h.earlier;
-          message = h.message;
-          there = rw pool h.there;
-          client = h.client;
-          node = h.node;
-          tag = h.tag;
-          ask = h.ask;
-          asks = h.asks;
-          grounded = grounded_more w v m.node h.ask (λ stamp a. (rw acc a)) told h.grounded;
-        }
+  pub unsaid : (w : World) → AreHosted w → (v : World) → v.pool ≡ w.pool → v.accepted ≡ w.accepted → AreHosted v
+  unsaid w hosted v pool acc = grown w hosted v [] (pool ∙ append_nil w.pool) (λ i block stamp a. (rw acc a)) (λ x told k body honest. Contains-none x k)
 
-  module _ (good : IsValid s) (w : World) (safe : IsSafe s w) (hosted : AreHosted w) where
+  module _ (good : IsValid s) (w : World) (safe : IsSafe s w) (hosted : AreHosted w)
+      (news : (i : ℕ) → i < s.n → s.lying_node i ≡ false → (ask : Ask) → P i ask (reply s i (w.versions i ask.block) ask)) where
     mailed : (v : World) (c : ℕ) (task : Task) → v.pool ≡ w.pool ++ mail s c task → v.accepted ≡ w.accepted → AreHosted v
     mailed v c task pool acc = grown w hosted v (mail s c task) pool (λ i block stamp a. (rw acc a)) (λ m told h body honest. let r = in_mail s c task m h in mail_answers s c task m r.0 told r.2 body)
 
@@ -112,14 +108,14 @@ module _ (s : Setting) where
         grows : (j block : ℕ) (stamp : Stamp) → HasAccepted s w j block stamp → HasAccepted s after j block stamp
         grows = accepted_more s w safe place later i inside upright m there to_i ask asks
 
-        found_grounded : (bound : Bound) (o : Option Version) → greatest_in bound (w.versions i ask.block) ≡ o → IsGrounded s after i ask (found o)
-        found_grounded bound None e = tt
-        found_grounded bound (Some u) e = grows i ask.block u.stamp (stored.kept u (greatest_in_is bound _ u e).0)
+        found_grounded : (bound : Bound) → ask.request ≡ Read bound → (o : Option Version) → greatest_in bound (w.versions i ask.block) ≡ o → IsGrounded s after i ask (found o)
+        found_grounded bound a None e = (bound, a)
+        found_grounded bound a (Some u) e = let g = greatest_in_is bound (w.versions i ask.block) u e in (bound, a, g.1, grows i ask.block u.stamp (stored.kept u g.0))
 
-        time_grounded : IsGrounded s after i ask (TimeIs (greatest_time (w.versions i ask.block)))
-        time_grounded = elim (time_of_one (w.versions i ask.block)) [
-          | inl e ↦ (first_stamp s, inl refl, e)
-          | inr h ↦ (h.0.stamp, grows i ask.block h.0.stamp (stored.kept h.0 h.1), h.2)
+        time_grounded : ask.request ≡ Time → IsGrounded s after i ask (TimeIs (greatest_time (w.versions i ask.block)))
+        time_grounded a = elim (time_of_one (w.versions i ask.block)) [
+          | inl e ↦ (a, first_stamp s, inl refl, e)
+          | inr h ↦ (a, h.0.stamp, grows i ask.block h.0.stamp (stored.kept h.0 h.1), h.2)
         ]
 
         write_grounded : (u : Version) → ask.request ≡ Write u → ask.block < s.blocks → (o : Option Reason) → refusal s i u ≡ o → IsGrounded s after i ask (acknowledged o)
@@ -127,41 +123,40 @@ module _ (s : Setting) where
         write_grounded u e l (Some reason) f = tt
 
         in_range : (request : Request) → ask.request ≡ request → ask.block < s.blocks → IsGrounded s after i ask (reply_in s i (w.versions i ask.block) request)
-        in_range Time e l = time_grounded
-        in_range (Read bound) e l = found_grounded bound (greatest_in bound (w.versions i ask.block)) refl
+        in_range Time e l = time_grounded e
+        in_range (Read bound) e l = found_grounded bound e (greatest_in bound (w.versions i ask.block)) refl
         in_range (Write u) e l = write_grounded u e l (refusal s i u) refl
 
         reply_grounded : IsGrounded s after i ask (reply s i (w.versions i ask.block) ask)
         reply_grounded = at (ltb ask.block s.blocks) refl
           where
-            below : (a b : ℕ) → ltb a b ≡ true → a < b
-            below a b h = grind (arith, Rattle.std.proofs.lemmas.Bool.Decides.nat_tests)
-
             at : (b : Bool) → ltb ask.block s.blocks ≡ b → IsGrounded s after i ask (cond b (reply_in s i (w.versions i ask.block) ask.request) (Refused BadBlock))
-            at true e = in_range ask.request refl (below ask.block s.blocks e)
+            at true e = in_range ask.request refl (is_ltb ask.block s.blocks e)
             at false e = tt
 
-        own : (k : ℕ) → length w.pool ≤ k → (x : Message) (told : Reply) → x ≡ Rattle.protocol.specs.World.answer_of s w i m ask → x.body ≡ Answers told → IsHosted s after k x told
+        own : (k : ℕ) → length w.pool ≤ k → (x : Message) (told : Reply) → x ≡ Rattle.protocol.specs.World.answer_of s w i m ask → x.body ≡ Answers told → IsMade after k x told
         own k past x told e body =
             let g = get_below w.pool m there in
             let said : reply s i (w.versions i ask.block) ask ≡ told = (let b : x.body ≡ Answers (reply s i (w.versions i ask.block) ask) = ap (λ (y : Message). y.body) e in cc) in
-            let node_is : x.node ≡ i = ap (λ (y : Message). y.node) e in
-            record {
-              asked = g.0;
-              earlier = omega (arith, g.1, past);
-              message = m;
-              there = get_left w.pool _ g.0 m g.2;
-              client = sym (ap (λ (y : Message). y.client) e);
-              node = to_i ∙ sym node_is;
-              tag = sym (ap (λ (y : Message). y.tag) e);
-              ask = ask;
-              asks = asks;
-              grounded = rw (node_is, ← said) reply_grounded;
-            }
+            let node_is : x.node ≡ i = ap (λ (y : Message). y.node) e in (
+              record {
+                asked = g.0;
+                earlier = omega (arith, g.1, past);
+                message = m;
+                there = get_left w.pool _ g.0 m g.2;
+                client = sym (ap (λ (y : Message). y.client) e);
+                node = to_i ∙ sym node_is;
+                tag = sym (ap (λ (y : Message). y.tag) e);
+                ask = ask;
+                asks = asks;
+                grounded = rw (node_is, ← said) reply_grounded;
+              },
+              rw (node_is, ← said) (news i inside upright ask),
+            )
 
         pub handled_hosted : AreHosted after
-        handled_hosted k x told e body honest = elim (get_cases w.pool (Rattle.protocol.specs.World.answer_of s w i m ask ∷ []) k x e) [
-          | inl h ↦ still_hosted w hosted after (Rattle.protocol.specs.World.answer_of s w i m ask ∷ []) refl grows k x told (hosted k x told h body honest)
+        handled_hosted k x told late e body honest = elim (get_cases w.pool (Rattle.protocol.specs.World.answer_of s w i m ask ∷ []) k x e) [
+          | inl h ↦ still_made w after (Rattle.protocol.specs.World.answer_of s w i m ask ∷ []) refl grows k x told (hosted k x told late h body honest)
           | inr h ↦ own k h.0 x told (Contains-one x _ h.1) body
         ]
 
@@ -199,4 +194,4 @@ module _ (s : Setting) where
     happens_hosted place (Back c) h = unsaid w hosted _ refl refl
 
   pub start_hosted : AreHosted (start_world s)
-  start_hosted k m told e = absurd (cc)
+  start_hosted k m told late e = absurd (cc)

@@ -5,7 +5,7 @@ use Rattle.std.specs.List.{Contains}
 use Rattle.protocol.specs.Count.{count}
 use Rattle.stamp_order.specs.declared.Stamp.{Stamp}
 use Rattle.stamp_order.specs.Stamps.{has, ◌≼◌}
-use Rattle.protocol.specs.Messages.{IsFormed, IsFormedBody, Version, Ask, Reply, Body, Message}
+use Rattle.protocol.specs.Messages.{Bound, IsFormed, IsFormedBody, Version, Ask, Reply, Body, Message}
 use Rattle.wire_forms.specs.declared.Reply.TheVariants.{TimeIs, Found, Ack}
 use Rattle.wire_forms.specs.declared.Body.TheVariants.{Ask as Asks, Answer as Answers}
 use Rattle.protocol.specs.Setting.{Setting, IsBlock, Sound, zeros, first_stamp}
@@ -16,9 +16,19 @@ use Rattle.protocol.specs.Operations.Stage.{Times, Versions, Storing}
 use Rattle.run_words.specs.declared.outcome.Outcome.TheVariants.{Wrote, Spent, Gave}
 use Rattle.protocol.specs.World.{Record, World, open_record, under_way, last_op, IsClient}
 use Rattle.protocol.specs.History.{NoClash}
-pub use Rattle.protocol.specs.Facts.{AtWork, HasAccepted as Accepts, IsOpen}
+pub use Rattle.protocol.specs.Facts.{HasAccepted as Accepts}
 
 module _ (s : Setting) where
+  -- the message is of the phase that its client's operation is in now
+  pub record AtWork (w : World) (m : Message) (task : Task) : Type 0 where
+    pub client : under_way w m.client ≡ Some task
+    pub op : m.tag.op ≡ task.op
+    pub phase : m.tag.phase ≡ task.phase
+
+  -- the bound has the stamp of each operation on the block that ended before this place
+  abbrev pub IsOpen : World → ℕ → ℕ → Bound → Type 0
+  IsOpen w block start bound = (x : Record) (end : ℕ) (stamp : Stamp) → Contains w.records x → x.block ≡ block → x.end ≡ Some end → x.stamp ≡ Some stamp → end < start → has bound stamp ≡ true
+
   -- its sender doesn't lie
   abbrev pub IsOwned : Body → Message → Type 0
   IsOwned (Asks ask) m = s.lying_client m.client ≡ false
@@ -40,21 +50,17 @@ module _ (s : Setting) where
   -- the answer of a node that had accepted the stamp doesn't fall behind it
   abbrev pub IsFresh : World → ℕ → ℕ → Stamp → Stage → Reply → Type 0
   IsFresh w block start stamp Times (TimeIs time) = stamp.time ≤ time
-  IsFresh w block start stamp (Versions bound) (Found v) = has bound stamp ≡ true → IsOpen s w block start bound → stamp ≼ v.stamp
+  IsFresh w block start stamp (Versions bound) (Found v) = has bound stamp ≡ true → IsOpen w block start bound → stamp ≼ v.stamp
   IsFresh w block start stamp _ _ = Unit {0}
 
-  -- at least qc nodes
-  abbrev pub IsQuorum : (ℕ → Bool) → Type 0
-  IsQuorum members = s.qc ≤ count s.n members
-
   -- enough honest nodes have accepted the stamp, and answered nothing behind it to what began after this place
-  pub record Quorum (Enough : (ℕ → Bool) → Type 0) (w : World) (block : ℕ) (stamp : Stamp) (end : ℕ) : Type 0 where
+  pub record Quorum (w : World) (block : ℕ) (stamp : Stamp) (end : ℕ) : Type 0 where
     pub members : ℕ → Bool
-    pub enough : Enough members
+    pub enough : s.qc ≤ count s.n members
     pub are_honest : (i : ℕ) → members i ≡ true → s.lying_node i ≡ false
     pub kept : (i : ℕ) → i < s.n → members i ≡ true → Accepts s w i block stamp
     pub fresh : (m : Message) (reply : Reply) (task : Task) → Contains w.pool m → m.body ≡ Answers reply → m.node < s.n → members m.node ≡ true
-        → s.lying_client m.client ≡ false → AtWork s w m task → task.block ≡ block → end < task.start → IsFresh w block task.start stamp task.stage reply
+        → s.lying_client m.client ≡ false → AtWork w m task → task.block ≡ block → end < task.start → IsFresh w block task.start stamp task.stage reply
 
   -- a completed operation of the block reached the stamp before all that is under way there
   pub record IsPassed (w : World) (block : ℕ) (stamp : Stamp) : Type 0 where
@@ -68,12 +74,16 @@ module _ (s : Setting) where
     pub up_to_it : stamp ≼ reached
     pub before_all : (c : ℕ) (task : Task) → under_way w c ≡ Some task → task.block ≡ block → end < task.start
 
-  -- a kept version stands for the accepted stamp: it has it, or a greater one that was passed
-  pub record IsCovered (w : World) (i block : ℕ) (stamp : Stamp) : Type 0 where
+  -- a kept version stands for the accepted stamp: it has it, or a greater one of which P holds
+  pub record IsCoveredBy (P : Stamp → Type 0) (w : World) (i block : ℕ) (stamp : Stamp) : Type 0 where
     pub version : Version
     pub there : Contains (w.versions i block) version
     pub above : stamp ≼ version.stamp
-    pub how : (version.stamp ≡ stamp) ⊎ IsPassed w block version.stamp
+    pub how : (version.stamp ≡ stamp) ⊎ P version.stamp
+
+  -- a greater one only where it was passed
+  abbrev pub IsCovered : World → ℕ → ℕ → Stamp → Type 0
+  IsCovered w i block stamp = IsCoveredBy (IsPassed w block) w i block stamp
 
   -- what a node keeps of a block
   pub record IsStored (w : World) (i block : ℕ) : Type 0 where
@@ -135,7 +145,7 @@ module _ (s : Setting) where
     pub open_end : r.end ≡ None → r.outcome ≡ None
     pub closed_end : (end : ℕ) → r.end ≡ Some end → (outcome : Outcome) × (r.outcome ≡ Some outcome)
     pub running : (task : Task) → under_way w r.client ≡ Some task → r.start ≡ task.start → r ≡ open_record r.client task
-    pub completed : (end : ℕ) (stamp : Stamp) → r.end ≡ Some end → r.stamp ≡ Some stamp → Quorum IsQuorum w r.block stamp end
+    pub completed : (end : ℕ) (stamp : Stamp) → r.end ≡ Some end → r.stamp ≡ Some stamp → Quorum w r.block stamp end
 
   -- an operation that began after the stamp was completed doesn't fall behind it
   abbrev pub IsAimed : Stamp → Work → Stage → Type 0
@@ -148,6 +158,11 @@ module _ (s : Setting) where
   IsAfter stamp Reads later = stamp ≼ later
   IsAfter stamp (Writes written) later = stamp.time < later.time
 
+  -- what an operation that reads needs of digests; one that writes needs nothing
+  abbrev pub NoClashFor : World → Work → Type 0
+  NoClashFor w Reads = NoClash s w
+  NoClashFor w (Writes value) = Unit {0}
+
   pub record IsSafe (w : World) : Type 0 where
     -- a life has few operations, so that those of the next have greater numbers
     pub lives : (c : ℕ) → w.started c < 2 ^ 32
@@ -155,14 +170,13 @@ module _ (s : Setting) where
     pub formed : (m : Message) → Contains w.pool m → IsFormedBody m.body
     pub stored : (i block : ℕ) → i < s.n → s.lying_node i ≡ false → IsStored w i block
     pub tagged : (m : Message) → Contains w.pool m → IsOwned m.body m → s.lying_client m.client ≡ false → IsTagged w m
-    pub asked : (m : Message) (task : Task) (ask : Ask) → Contains w.pool m → m.body ≡ Asks ask → s.lying_client m.client ≡ false → AtWork s w m task
+    pub asked : (m : Message) (task : Task) (ask : Ask) → Contains w.pool m → m.body ≡ Asks ask → s.lying_client m.client ≡ false → AtWork w m task
         → (ask.block ≡ task.block) × (ask.request ≡ request_of s task.stage m.node)
     pub answered : (m : Message) (task : Task) (reply : Reply) → Contains w.pool m → m.body ≡ Answers reply → s.lying_client m.client ≡ false → m.node < s.n → s.lying_node m.node ≡ false
-        → AtWork s w m task → Fits w m.node task.block task.stage reply
+        → AtWork w m task → Fits w m.node task.block task.stage reply
     pub tasks : (c : ℕ) (task : Task) → under_way w c ≡ Some task → IsTask w c task
     pub records : (r : Record) → Contains w.records r → IsRecord w r
-    -- under NoClash
-    pub aimed : NoClash s w → (x : Record) (end : ℕ) (stamp : Stamp) (c : ℕ) (task : Task) → Contains w.records x → x.end ≡ Some end → x.stamp ≡ Some stamp
+    pub aimed : (c : ℕ) (task : Task) → NoClashFor w task.work → (x : Record) (end : ℕ) (stamp : Stamp) → Contains w.records x → x.end ≡ Some end → x.stamp ≡ Some stamp
         → under_way w c ≡ Some task → task.block ≡ x.block → end < task.start → IsAimed stamp task.work task.stage
-    pub ordered : NoClash s w → (x y : Record) (end : ℕ) (stamp later : Stamp) → Contains w.records x → Contains w.records y → x.end ≡ Some end → x.stamp ≡ Some stamp
+    pub ordered : (x y : Record) → NoClashFor w y.work → (end : ℕ) (stamp later : Stamp) → Contains w.records x → Contains w.records y → x.end ≡ Some end → x.stamp ≡ Some stamp
         → y.stamp ≡ Some later → y.block ≡ x.block → end < y.start → IsAfter stamp y.work later

@@ -15,7 +15,7 @@ use Rattle.protocol.specs.Nodes.{later, greatest_in, greatest_time, keeps, carri
 use Rattle.protocol.specs.Operations.{is_whole}
 use Rattle.protocol.proofs.Order.{≼-refl, ≼-trans, before_false, not_both, same_stamp-≡, same_stamp-refl, not_up_to}
 use Rattle.protocol.proofs.Counting.{cases_bool}
-use Rattle.protocol.proofs.Lists.{Contains-head, Contains-rest, Contains-none, Contains-cons_cases}
+use Rattle.protocol.proofs.Lists.{filter_is, filter_has, Contains-head, Contains-rest, Contains-none, Contains-cons_cases}
 
 pub or_cases : (a c : Bool) → a || c ≡ true → (a ≡ true) ⊎ (c ≡ true)
 or_cases true c h = inl refl
@@ -168,26 +168,6 @@ keeps_is (v ∷ vs) stamp h =
     let rest = keeps_is vs stamp in
     elim (or_cases (same_stamp v.stamp stamp) (keeps vs stamp) h)
     [ inl e ↦ (v, Contains-head v vs, same_stamp-≡ v.stamp stamp e) | inr k ↦ (let r = rest k in (r.0, Contains-rest r.0 v vs r.1, r.2)) ]
-
-filter_is : {X : Type 0} (p : X → Bool) (xs : List X) (x : X) → Contains (filter p xs) x → Contains xs x × (p x ≡ true)
-filter_is p [] x h = absurd (Contains-none x h)
-filter_is p (y ∷ ys) x h = at (p y) refl h (filter_is p ys x)
-  where
-    at : (b : Bool) → p y ≡ b → Contains (cond b (y ∷ filter p ys) (filter p ys)) x → (Contains (filter p ys) x → Contains ys x × (p x ≡ true)) → Contains (y ∷ ys) x × (p x ≡ true)
-    at true e k rest = elim (Contains-cons_cases x y (filter p ys) k) [ inl f ↦ (rw f (Contains-head y ys), rw f e) | inr f ↦ (let r = rest f in (Contains-rest x y ys r.0, r.1)) ]
-    at false e k rest = let r = rest k in (Contains-rest x y ys r.0, r.1)
-
-filter_has : {X : Type 0} (p : X → Bool) (xs : List X) (x : X) → Contains xs x → p x ≡ true → Contains (filter p xs) x
-filter_has p [] x h e = absurd (Contains-none x h)
-filter_has p (y ∷ ys) x h e = elim (Contains-cons_cases x y ys h) [ inl f ↦ here (p y) refl f | inr f ↦ at (p y) (filter_has p ys x f e) ]
-  where
-    here : (b : Bool) → p y ≡ b → x ≡ y → Contains (cond b (y ∷ filter p ys) (filter p ys)) x
-    here true g f = rw f (Contains-head y (filter p ys))
-    here false g f = absurd (let k : p x ≡ false = rw f g in cc)
-
-    at : (b : Bool) → Contains (filter p ys) x → Contains (cond b (y ∷ filter p ys) (filter p ys)) x
-    at true k = Contains-rest x y (filter p ys) k
-    at false k = k
 
 -- what a prune leaves
 module _ (s : Setting) (stamp : Stamp) (vs : List Version) where

@@ -1,31 +1,29 @@
 -- The facts on every run.
-use Rattle.std.proofs.Common.{Option, ◌≡◌, ◌⊎◌, ◌↔◌, ℕ, ◌+◌, ◌<◌, length, map, count_by, Bool, true, false, List, [], ◌∷◌, ◌++◌, refl, inl, inr, arith, eqb}
+use Rattle.std.proofs.Common.{Option, ◌≡◌, ◌⊎◌, ◌↔◌, ℕ, ◌+◌, ◌<◌, length, map, count_by, true, false, List, [], ◌∷◌, ◌++◌, refl, sym, subst, inl, inr, arith}
 use Rattle.std.specs.Prelude.{slice_get}
 use Rattle.std.specs.declared.option.Option.TheVariants.{None, Some}
 use Rattle.std.specs.List.{Contains}
-use Rattle.std.proofs.lemmas.Bool.Decides.{nat_tests}
 use Rattle.stamp_order.specs.declared.Stamp.{Stamp}
 use Rattle.stamp_order.specs.declared.Bound.{Bound}
 use Rattle.stamp_order.specs.Stamps.{has, same_stamp, ◌≼◌}
 use Rattle.protocol.specs.Messages.{Version, Ask, Request, Reply, Message}
 use Rattle.wire_forms.specs.declared.Request.TheVariants.{Write}
-use Rattle.wire_forms.specs.declared.Reply.TheVariants.{TimeIs, Found, Nothing, Ack, Refused}
 use Rattle.wire_forms.specs.declared.Body.TheVariants.{Ask as Asks, Answer as Answers}
 use Rattle.protocol.specs.Setting.{Setting, IsValid, IsBlock, first_stamp}
 use Rattle.protocol.specs.Operations.{Task, Work, Stage, Outcome}
 use Rattle.protocol.specs.Operations.Work.{Reads, Writes}
-use Rattle.protocol.specs.Operations.Stage.{Times, Versions, Storing}
+use Rattle.protocol.specs.Operations.Stage.{Versions}
 use Rattle.protocol.specs.World.{World, Record, start_world, only_place, under_way}
 use Rattle.protocol.specs.Lines.{Line, Run, plays}
-use Rattle.protocol.specs.History.{NoClash}
-use Rattle.protocol.specs.Facts.{IsTold, IsOutcomeOf, IsHonest, HasAccepted, IsHosted, IsKnown, IsComplete, AtWork, IsNotBehind, IsWorking}
+use Rattle.protocol.specs.Facts.{IsTold, IsOutcomeOf, IsHonest, HasAccepted, IsHosted, IsKnown, IsComplete, IsWorking}
+use Rattle.protocol.specs.Laws.{ReadsAskUp, WritesDrawAbove, ReadsGiveUp}
 use Rattle.protocol.proofs.Counting.{cases_bool}
 use Rattle.protocol.proofs.Order.{same_stamp-≡, same_stamp-refl}
-use Rattle.protocol.proofs.Invariant.{IsSafe, IsRecord, IsOutcome, Quorum, IsQuorum, Fits, IsFresh, IsAimed, IsAfter}
+use Rattle.protocol.proofs.Invariant.{IsRecord, IsOutcome, Quorum, IsAimed, IsAfter, NoClashFor}
+use Rattle.protocol.proofs.Strings.{NoClashFor-any}
 use Rattle.protocol.proofs.Origins.{IsKnownRequest}
 use Rattle.protocol.proofs.Plays.{IsRight, start_right, run_right}
 use Rattle.protocol.proofs.Choices.{only_open}
-use Rattle.protocol.proofs.Ahead.{quorum_happens}
 use Rattle.protocol.proofs.Inductions.{run_keeps}
 use Rattle.protocol.specs.History.{Entry, IsHistory, IsEntry}
 use Rattle.run_words.specs.declared.outcome.Outcome.TheVariants.{Wrote, Spent, Gave, Outvoted}
@@ -33,26 +31,13 @@ use Rattle.protocol.proofs.Histories.{entry_stamped}
 use Rattle.protocol.specs.Report.{Ascend, counts_of, spent_writes, is_ended}
 use Rattle.protocol.proofs.Starts.{starts, happens_in_order}
 use Rattle.protocol.proofs.Counts.{done_count, total_count, spent_count, spent_ascend}
-use Rattle.protocol.proofs.Hosts.{AreHosted, happens_hosted, start_hosted}
+use Rattle.protocol.proofs.Hosts.{AreHosted, happens_hosted, start_hosted, unsaid}
 
 module _ (s : Setting) (w : World) where
-  same_answer : (task : Task) (stamp : Stamp) (i : ℕ) (stage : Stage) (reply : Reply) → Fits s w i task.block stage reply → IsFresh s w task.block task.start stamp stage reply → IsNotBehind s w task stamp stage reply
-  same_answer task stamp i Times (TimeIs time) f h = h
-  same_answer task stamp i Times (Found v) f h = tt
-  same_answer task stamp i Times Nothing f h = tt
-  same_answer task stamp i Times Ack f h = tt
-  same_answer task stamp i Times (Refused reason) f h = tt
-  same_answer task stamp i (Versions bound) (Found v) f h = λ a o. (v, refl, h a o)
-  same_answer task stamp i (Versions bound) (TimeIs time) f h = absurd f
-  same_answer task stamp i (Versions bound) Nothing f h = absurd f
-  same_answer task stamp i (Versions bound) Ack f h = absurd f
-  same_answer task stamp i (Versions bound) (Refused reason) f h = absurd f
-  same_answer task stamp i (Storing p value) reply f h = tt
-
   known_request : (block : ℕ) (request : Request) (v : Version) → request ≡ Write v → IsKnownRequest s w block request → IsKnown s w block v.stamp
   known_request block request v e h = let k : IsKnownRequest s w block (Write v) = rw e at h in k
 
-  complete_of : (block end : ℕ) (stamp : Stamp) → Quorum s (IsQuorum s) w block stamp end → (stamp ≡ first_stamp s) ⊎ IsComplete s w block stamp
+  complete_of : (block end : ℕ) (stamp : Stamp) → Quorum s w block stamp end → (stamp ≡ first_stamp s) ⊎ IsComplete s w block stamp
   complete_of block end stamp q = elim (cases_bool (same_stamp stamp (first_stamp s))) [
     | inl e ↦ inl (same_stamp-≡ _ _ e)
     | inr e ↦ inr (record {
@@ -74,36 +59,6 @@ module _ (s : Setting) (w : World) where
 
   read_after : (stamp later : Stamp) (work : Work) → work ≡ Reads → IsAfter s stamp work later → stamp ≼ later
   read_after stamp later work e h = let k : IsAfter s stamp Reads later = rw e at h in k
-
-  -- a node as the one member of a set that needs none
-  alone : IsSafe s w → (i block : ℕ) (stamp : Stamp) → IsHonest s i → HasAccepted s w i block stamp → Quorum s (λ members. members i ≡ true) w block stamp w.place
-  alone safe i block stamp honest a = record {
-    members = λ j. eqb j i;
-    enough = same i;
-    are_honest = λ j e. let q : j ≡ i = is j i e in rw q honest.1;
-    kept = λ j l e. let q : j ≡ i = is j i e in rw q a;
-    fresh = λ m reply task h body l e correct at of_b late. absurd (let t = (safe.tasks m.client task at.client).start in omega (arith, t, late));
-  }
-    where
-      is : (j k : ℕ) → eqb j k ≡ true → j ≡ k
-      is j k h = grind (arith, nat_tests)
-
-      same : (j : ℕ) → eqb j j ≡ true
-      same j = grind (arith, nat_tests)
-
-  only_quorum : (Enough : (ℕ → Bool) → Type 0) (block end place : ℕ) (stamp : Stamp) → Quorum s Enough w block stamp end → Quorum s Enough (only_place s w place) block stamp end
-  only_quorum Enough block end place stamp q = record {
-    members = q.members;
-    enough = q.enough;
-    are_honest = q.are_honest;
-    kept = q.kept;
-    fresh = λ m reply task h body l e correct at of_b late. same task.stage reply task.start (q.fresh m reply task h body l e correct (record { client = at.client; op = at.op; phase = at.phase }) of_b late);
-  }
-    where
-      same : (stage : Stage) (reply : Reply) (start : ℕ) → IsFresh s w block start stamp stage reply → IsFresh s (only_place s w place) block start stamp stage reply
-      same Times (TimeIs time) start h = h
-      same (Versions bound) (Found v) start h = h
-      same _ _ start h = tt
 
 told_outcome : (s : Setting) (work : Work) (stamp : Option Stamp) (o : Option Outcome) → IsOutcome s work stamp o → IsOutcomeOf work stamp o
 told_outcome s Reads stamp None h = h
@@ -133,21 +88,11 @@ module _ (s : Setting) (lines : List (ℕ × Line)) (w : World) (good : IsValid 
   right : IsRight s good w
   right = run_right s good lines (start_world s) w (start_right s good) run
 
-  only_hosted : (v : World) (place : ℕ) → AreHosted s v → AreHosted s (only_place s v place)
-  only_hosted v place h k m told e body honest =
-      let x = h k m told e body honest in
-      record { asked = x.asked; earlier = x.earlier; message = x.message; there = x.there; client = x.client; node = x.node; tag = x.tag; ask = x.ask; asks = x.asks; grounded = same x.ask told x.grounded }
-    where
-      same : (ask : Ask) (reply : Reply) → Rattle.protocol.specs.Facts.IsGrounded s v m.node ask reply → Rattle.protocol.specs.Facts.IsGrounded s (only_place s v place) m.node ask reply
-      same ask (TimeIs time) g = g
-      same ask (Found u) g = g
-      same ask Nothing g = tt
-      same ask Ack g = g
-      same ask (Refused reason) g = tt
-
   pub run_hosted : (k : ℕ) (m : Message) (reply : Reply) → slice_get w.pool k ≡ Some m → m.body ≡ Answers reply → IsHonest s m.node → IsHosted s w k m reply
   run_hosted k m reply e body honest =
-      run_keeps s good (AreHosted s) (λ v safe h place x a. happens_hosted s good v safe h place x a) only_hosted lines (start_world s) w (start_right s good) run (start_hosted s) k m reply e body honest.1
+      let P : ℕ → Ask → Reply → Type 0 = λ i ask told. Unit {0} in
+      let made = run_keeps s good (AreHosted s 0 P) (λ v safe h place x a. happens_hosted s 0 P good v safe h (λ i l up ask. tt) place x a) (λ v place h. unsaid s 0 P v h (only_place s v place) refl refl) lines (start_world s) w (start_right s good) run (start_hosted s 0 P) in
+      (made k m reply (omega arith) e body honest.1).0
 
   pub run_kept : (i block : ℕ) (v : Version) → IsHonest s i → Contains (w.versions i block) v → HasAccepted s w i block v.stamp
   run_kept i block v honest h = (right.safe.stored i block honest.0 honest.1).kept v h
@@ -164,33 +109,17 @@ module _ (s : Setting) (lines : List (ℕ × Line)) (w : World) (good : IsValid 
   pub run_complete : (x : Record) (end : ℕ) (stamp : Stamp) → Contains w.records x → x.end ≡ Some end → x.stamp ≡ Some stamp → (stamp ≡ first_stamp s) ⊎ IsComplete s w x.block stamp
   run_complete x end stamp h e f = complete_of s w x.block end stamp ((right.safe.records x h).completed end stamp e f)
 
-  pub run_fresh : (i block : ℕ) (stamp : Stamp) (more : List (ℕ × Line)) (last : World) → IsHonest s i → HasAccepted s w i block stamp → Run s w more last
-      → (m : Message) (reply : Reply) (task : Task) → Contains last.pool m → m.body ≡ Answers reply → m.node ≡ i → s.lying_client m.client ≡ false → AtWork s last m task → task.block ≡ block → w.place < task.start
-      → IsNotBehind s last task stamp task.stage reply
-  run_fresh i block stamp more last honest a on m reply task h body node correct at of_b late =
-      let q = run_keeps s good (λ v. Quorum s (λ members. members i ≡ true) v block stamp w.place) (λ v safe q place x a. quorum_happens s good v safe (λ members. members i ≡ true) block stamp w.place q place x a)
-      (λ v place q. only_quorum s v (λ members. members i ≡ true) block w.place place stamp q) more w last right on (alone s w right.safe i block stamp honest a) in
-      let end = run_right s good more w last right on in
-      let l : m.node < s.n = omega (arith, node, honest.0) in
-      let upright : s.lying_node m.node ≡ false = rw node honest.1 in
-      let fits = end.safe.answered m task reply h body correct l upright at in
-      same_answer s last task stamp m.node task.stage reply fits
-      (as_task task.block of_b (q.fresh m reply task h body l (rw node q.enough) correct at of_b late))
-    where
-      as_task : (b : ℕ) → b ≡ block → IsFresh s last block task.start stamp task.stage reply → IsFresh s last b task.start stamp task.stage reply
-      as_task b e g = rw e g
+  pub run_aim : ReadsAskUp s w
+  run_aim c task bound stamp apart x busy stage =
+      aimed_at s w stamp task.work task.stage bound stage (right.safe.aimed c task (NoClashFor-any s w task.work apart) x.past x.end stamp x.there x.ended x.stamped busy (sym x.of_block) x.earlier)
 
-  pub run_aim : NoClash s w → (x : Record) (end : ℕ) (stamp : Stamp) (c : ℕ) (task : Task) (bound : Bound) → Contains w.records x → x.end ≡ Some end → x.stamp ≡ Some stamp → under_way w c ≡ Some task → task.block ≡ x.block
-      → end < task.start → task.stage ≡ Versions bound → has bound stamp ≡ true
-  run_aim apart x end stamp c task bound h e f busy b l stage = aimed_at s w stamp task.work task.stage bound stage (right.safe.aimed apart x end stamp c task h e f busy b l)
+  pub run_above : WritesDrawAbove s w
+  run_above y value stamp chosen x there work chose =
+      write_after s w stamp chosen y.work value work (right.safe.ordered x.past y (subst (NoClashFor s w) (sym work) tt) x.end stamp chosen x.there there x.ended x.stamped chose (sym x.of_block) x.earlier)
 
-  pub run_above : NoClash s w → (x y : Record) (end : ℕ) (stamp later : Stamp) (value : List ℕ) → Contains w.records x → Contains w.records y → x.end ≡ Some end → x.stamp ≡ Some stamp → y.work ≡ Writes value → y.stamp ≡ Some later
-      → y.block ≡ x.block → end < y.start → stamp.time < later.time
-  run_above apart x y end stamp later value h k e f work g b l = write_after s w stamp later y.work value work (right.safe.ordered apart x y end stamp later h k e f g b l)
-
-  pub run_up : NoClash s w → (x y : Record) (end : ℕ) (stamp later : Stamp) → Contains w.records x → Contains w.records y → x.end ≡ Some end → x.stamp ≡ Some stamp → y.work ≡ Reads → y.stamp ≡ Some later → y.block ≡ x.block
-      → end < y.start → stamp ≼ later
-  run_up apart x y end stamp later h k e f work g b l = read_after s w stamp later y.work work (right.safe.ordered apart x y end stamp later h k e f g b l)
+  pub run_up : ReadsGiveUp s w
+  run_up y stamp given apart x there work gave =
+      read_after s w stamp given y.work work (right.safe.ordered x.past y (NoClashFor-any s w y.work apart) x.end stamp given x.there there x.ended x.stamped gave (sym x.of_block) x.earlier)
 
 module _ (s : Setting) (lines : List (ℕ × Line)) (w : World) (good : IsValid s) (run : Run s (start_world s) lines w) where
   pub run_in_order : Ascend (starts w.records)

@@ -1,9 +1,7 @@
 -- Entries of a history differ in their keys.
 use Rattle.std.proofs.Common.{◌≡◌, ℕ, ◌≤◌, List, [], ◌∷◌, Option, refl, sym, ◌∙◌, ap, inl, inr, arith}
 use Rattle.std.specs.declared.option.Option.TheVariants.{None, Some}
-use Rattle.std.specs.declared.cmp.Ordering.{Ordering}
-use Rattle.std.specs.declared.cmp.Ordering.TheVariants.{Less, Equal, Greater}
-use Rattle.std.specs.Ordering.{ordering_then}
+use Rattle.std.specs.declared.cmp.Ordering.TheVariants.{Less, Equal}
 use Rattle.std.specs.List.{Contains}
 use Rattle.std.proofs.lemmas.Map.Lookups.{exact_unsigned}
 use Rattle.stamp_order.specs.declared.Stamp.{Stamp}
@@ -14,15 +12,10 @@ use Rattle.run_words.specs.declared.outcome.Outcome.TheVariants.{Gave}
 use Rattle.protocol.specs.World.{World, Record}
 use Rattle.protocol.specs.History.{Entry, Kind, is_read, place_cmp, entry_cmp, IsSorted, IsEntry}
 use Rattle.protocol.specs.History.Kind.{Write, Foreign, Read}
-use Rattle.protocol.proofs.Order.{stamp_exact}
+use Rattle.protocol.proofs.Order.{then_equal, stamp_exact}
 use Rattle.protocol.proofs.Apart.{IsApart}
 use Rattle.protocol.proofs.Lists.{Contains-head, Contains-rest, Contains-none, Contains-cons_cases}
 use Rattle.protocol.proofs.Entries.{not_back, not_self, member_of}
-
-then_equal : (a c : Ordering) → ordering_then a c ≡ Equal → (a ≡ Equal) × (c ≡ Equal)
-then_equal Less c h = absurd (cc)
-then_equal Equal c h = (refl, h)
-then_equal Greater c h = absurd (cc)
 
 place_exact : (x y : Option ℕ) → place_cmp x y ≡ Equal → x ≡ y
 place_exact None None h = refl

@@ -1,10 +1,14 @@
 -- Members of lists.
-use Rattle.std.proofs.Common.{◌≡◌, ◌⊎◌, ℕ, zero, suc, ◌<◌, ◌≤◌, List, [], ◌∷◌, map, length, take, get_or, Option, refl, sym, ap, inl, inr, arith}
+use Rattle.std.proofs.Common.{◌≡◌, ◌⊎◌, ℕ, zero, suc, ◌<◌, ◌≤◌, Bool, true, false, cond, filter, List, [], ◌∷◌, ◌++◌, map, length, take, get_or, Option, refl, sym, ap, inl, inr, arith}
 use Rattle.std.specs.declared.option.Option.TheVariants.{None, Some}
 use Rattle.std.specs.List.{Contains, slice_get}
 use Rattle.std.proofs.lemmas.List.Elements.{Contains-append_cases, Contains-append_left, Contains-push}
 use Rattle.std.proofs.lemmas.Option.{slice_get_cases}
 use Rattle.protocol.specs.Count.{collect, one_more}
+
+pub append_nil : {X : Type 0} (xs : List X) → xs ≡ xs ++ []
+append_nil [] = refl
+append_nil {X} (x ∷ xs) = ap (λ (l : List X). x ∷ l) (append_nil xs)
 
 pub Contains-head : {X : Type 0} (x : X) (xs : List X) → Contains (x ∷ xs) x
 Contains-head x xs = (0, omega arith, refl)
@@ -73,3 +77,24 @@ Contains-collected (suc k) f x i l e =
     let rest = λ (h : i < k). Contains-collected k f x i h e in
     let c : (i < k) ⊎ (i ≡ k) = grind arith in
     elim c [ inl h ↦ one_more_left (collect k f) (f k) x (rest h) | inr h ↦ one_more_new (collect k f) (f k) x (rw h at e) ]
+
+-- what a filter leaves is what passes
+pub filter_is : {X : Type 0} (p : X → Bool) (xs : List X) (x : X) → Contains (filter p xs) x → Contains xs x × (p x ≡ true)
+filter_is p [] x h = absurd (Contains-none x h)
+filter_is p (y ∷ ys) x h = at (p y) refl h (filter_is p ys x)
+  where
+    at : (b : Bool) → p y ≡ b → Contains (cond b (y ∷ filter p ys) (filter p ys)) x → (Contains (filter p ys) x → Contains ys x × (p x ≡ true)) → Contains (y ∷ ys) x × (p x ≡ true)
+    at true e k rest = elim (Contains-cons_cases x y (filter p ys) k) [ inl f ↦ (rw f (Contains-head y ys), rw f e) | inr f ↦ (let r = rest f in (Contains-rest x y ys r.0, r.1)) ]
+    at false e k rest = let r = rest k in (Contains-rest x y ys r.0, r.1)
+
+pub filter_has : {X : Type 0} (p : X → Bool) (xs : List X) (x : X) → Contains xs x → p x ≡ true → Contains (filter p xs) x
+filter_has p [] x h e = absurd (Contains-none x h)
+filter_has p (y ∷ ys) x h e = elim (Contains-cons_cases x y ys h) [ inl f ↦ here (p y) refl f | inr f ↦ at (p y) (filter_has p ys x f e) ]
+  where
+    here : (b : Bool) → p y ≡ b → x ≡ y → Contains (cond b (y ∷ filter p ys) (filter p ys)) x
+    here true g f = rw f (Contains-head y (filter p ys))
+    here false g f = absurd (let k : p x ≡ false = rw f g in cc)
+
+    at : (b : Bool) → Contains (filter p ys) x → Contains (cond b (y ∷ filter p ys) (filter p ys)) x
+    at true k = Contains-rest x y (filter p ys) k
+    at false k = k

@@ -1,7 +1,6 @@
 -- Marks number the verifiers of one block, time and writer.
-use Rattle.std.proofs.Common.{◌≡◌, ◌⊎◌, ℕ, suc, ◌+◌, ◌<◌, ◌≤◌, Bool, true, false, cond, ◌&&◌, ◌||◌, List, [], ◌∷◌, filter, map, refl, sym, ◌∙◌, ap, inl, inr, arith, eqb, ltb}
+use Rattle.std.proofs.Common.{◌≡◌, ◌⊎◌, ℕ, suc, ◌+◌, ◌<◌, ◌≤◌, Bool, true, false, cond, ◌&&◌, ◌||◌, List, [], ◌∷◌, filter, map, refl, sym, ◌∙◌, ap, inl, inr, arith, eqb}
 use Rattle.std.specs.List.{Contains}
-use Rattle.std.proofs.lemmas.Bool.Decides.{nat_tests}
 use Rattle.std.specs.declared.cmp.Ordering.{Ordering}
 use Rattle.std.specs.declared.cmp.Ordering.TheVariants.{Less, Equal, Greater}
 use Rattle.stamp_order.specs.declared.Stamp.{Stamp}
@@ -13,8 +12,10 @@ use Rattle.stamp_order.specs.Stamps.{stamp_cmp, before, same_stamp, up_to, ◌�
 use Rattle.protocol.specs.History.{Entry, entry_cmp}
 use Rattle.protocol.specs.Report.{is_in, different_stamps, is_under, mark, line_cmp, AreRivals}
 use Rattle.protocol.proofs.Counting.{cases_bool, both_true}
+use Rattle.protocol.proofs.Entries.{nat_less}
+use Rattle.protocol.proofs.Tests.{is_eqb, eqb_is, and_true}
 use Rattle.protocol.proofs.Keeping.{or_cases}
-use Rattle.protocol.proofs.Lists.{Contains-none, Contains-head, Contains-rest, Contains-cons_cases, Contains-map, Contains-map_cases}
+use Rattle.protocol.proofs.Lists.{filter_is, filter_has, Contains-none, Contains-head, Contains-rest, Contains-cons_cases, Contains-map, Contains-map_cases}
 use Rattle.protocol.proofs.Order.{stamp_total, stamp_exact, same_stamp-≡, same_stamp-refl, before_false, before-≼, not_both, ≼-refl, ≼-trans, ≼-cases, not_up_to}
 
 is_in-Contains : (t : Stamp) (us : List Stamp) → is_in t us ≡ true → Contains us t
@@ -124,33 +125,6 @@ different-within (u ∷ us) vs h =
 different-same : (us vs : List Stamp) → ((x : Stamp) → Contains us x → Contains vs x) → ((x : Stamp) → Contains vs x → Contains us x) → different_stamps us ≡ different_stamps vs
 different-same us vs h k = omega (arith, different-within us vs h, different-within vs us k)
 
-filter_was : (p : Entry → Bool) (h : List Entry) (e : Entry) → Contains (filter p h) e → Contains h e × (p e ≡ true)
-filter_was p [] e k = absurd (Contains-none e k)
-filter_was p (x ∷ xs) e k = at (p x) refl (filter_was p xs e) k
-  where
-    at : (b : Bool) → p x ≡ b → (Contains (filter p xs) e → Contains xs e × (p e ≡ true)) → Contains (cond b (x ∷ filter p xs) (filter p xs)) e → Contains (x ∷ xs) e × (p e ≡ true)
-    at true t rest k = elim (Contains-cons_cases e x (filter p xs) k) [ inl q ↦ rw q (Contains-head x xs, t) | inr l ↦ (let r = rest l in (Contains-rest e x xs r.0, r.1)) ]
-    at false t rest k = let r = rest k in (Contains-rest e x xs r.0, r.1)
-
-filter_has : (p : Entry → Bool) (h : List Entry) (e : Entry) → Contains h e → p e ≡ true → Contains (filter p h) e
-filter_has p [] e k t = absurd (Contains-none e k)
-filter_has p (x ∷ xs) e k t = at (p x) refl (λ l. filter_has p xs e l t) (Contains-cons_cases e x xs k)
-  where
-    at : (b : Bool) → p x ≡ b → (Contains xs e → Contains (filter p xs) e) → (e ≡ x) ⊎ Contains xs e → Contains (cond b (x ∷ filter p xs) (filter p xs)) e
-    at true u rest (inl q) = rw q (Contains-head x (filter p xs))
-    at true u rest (inr l) = Contains-rest e x (filter p xs) (rest l)
-    at false u rest (inl q) = absurd (let g : p x ≡ true = rw q at t in cc)
-    at false u rest (inr l) = rest l
-
-is_eqb : (x y : ℕ) → eqb x y ≡ true → x ≡ y
-is_eqb x y h = grind (arith, nat_tests)
-
-eqb_is : (x y : ℕ) → x ≡ y → eqb x y ≡ true
-eqb_is x y h = grind (arith, nat_tests)
-
-both : (a c : Bool) → a ≡ true → c ≡ true → a && c ≡ true
-both a c h k = rw (h, k) refl
-
 -- what is under an entry: its rivals of lower verifier
 under_is : (e f : Entry) → is_under e f ≡ true → AreRivals e f × (before f.stamp e.stamp ≡ true)
 under_is e f h =
@@ -160,14 +134,14 @@ under_is e f h =
     (record { block = is_eqb f.block e.block c.0; time = is_eqb f.stamp.time e.stamp.time c.1; writer = is_eqb f.stamp.client e.stamp.client b.1 }, a.1)
 
 is_under_if : (e f : Entry) → AreRivals e f → before f.stamp e.stamp ≡ true → is_under e f ≡ true
-is_under_if e f r b = both _ _ (both _ _ (both _ _ (eqb_is f.block e.block r.block) (eqb_is f.stamp.time e.stamp.time r.time)) (eqb_is f.stamp.client e.stamp.client r.writer)) b
+is_under_if e f r b = and_true _ _ (and_true _ _ (and_true _ _ (eqb_is f.block e.block r.block) (eqb_is f.stamp.time e.stamp.time r.time)) (eqb_is f.stamp.client e.stamp.client r.writer)) b
 
 lower : List Entry → Entry → List Stamp
 lower h e = map (λ f. f.stamp) (filter (is_under e) h)
 
 lower_was : (h : List Entry) (e : Entry) (t : Stamp) → Contains (lower h e) t → (f : Entry) × Contains h f × (t ≡ f.stamp) × (is_under e f ≡ true)
 unfolding lower
-lower_was h e t k = let r = Contains-map_cases (λ (f : Entry). f.stamp) (filter (is_under e) h) t k in let g = filter_was (is_under e) h r.0 r.1 in (r.0, g.0, r.2, g.1)
+lower_was h e t k = let r = Contains-map_cases (λ (f : Entry). f.stamp) (filter (is_under e) h) t k in let g = filter_is (is_under e) h r.0 r.1 in (r.0, g.0, r.2, g.1)
 
 lower_has : (h : List Entry) (e f : Entry) → Contains h f → is_under e f ≡ true → Contains (lower h e) f.stamp
 unfolding lower
@@ -238,7 +212,7 @@ marks_step h e = at (filter (is_under e) h) refl
   where
     next : (f : Entry) → Contains (filter (is_under e) h) f → ((x : Entry) → Contains (filter (is_under e) h) x → x.stamp ≼ f.stamp) → (f : Entry) × Contains h f × AreRivals e f × (mark h f + 1 ≡ mark h e)
     next f k above =
-        let g = filter_was (is_under e) h f k in
+        let g = filter_is (is_under e) h f k in
         let p = under_is e f g.1 in
         let own : Contains (lower h e) f.stamp = lower_has h e f g.0 g.1 in
         let d = different-without f.stamp (lower h e) own in
@@ -278,9 +252,6 @@ through Equal Greater c m v r h = refl
 through Equal Equal Less m v r h = refl
 through Equal Equal Greater m v r h = refl
 through Equal Equal Equal m v r h = rw (h refl refl refl) refl
-
-nat_less : (x y : ℕ) → x < y → nat_cmp x y ≡ Less
-nat_less x y h = let e : ltb x y ≡ true = grind (arith, nat_tests) in rw e refl
 
 nat_greater : (x y : ℕ) → y < x → nat_cmp x y ≡ Greater
 nat_greater x y h = nat_cmp_total.antisymm x y ∙ ap ordering_reverse (nat_less y x h)

@@ -1,8 +1,7 @@
 -- A client's task moves on or ends, when it hears an answer.
-use Rattle.std.proofs.Common.{◌≡◌, ◌⊎◌, ℕ, ◌+◌, ◌<◌, ◌≤◌, Bool, true, false, cond, ◌&&◌, List, Option, refl, sym, ◌∙◌, ap, inl, inr, arith, eqb}
+use Rattle.std.proofs.Common.{◌≡◌, ◌⊎◌, ℕ, ◌+◌, ◌<◌, ◌≤◌, Bool, true, false, cond, ◌&&◌, List, Option, refl, sym, ◌∙◌, ap, subst, inl, inr, arith, eqb}
 use Rattle.std.specs.declared.option.Option.TheVariants.{None, Some}
 use Rattle.std.specs.List.{Contains}
-use Rattle.std.proofs.lemmas.Bool.Decides.{nat_tests}
 use Rattle.std.proofs.lemmas.List.Elements.{Contains-append_cases, Contains-append_left}
 use Rattle.protocol.specs.Count.{count}
 use Rattle.stamp_order.specs.declared.Stamp.{Stamp}
@@ -10,16 +9,18 @@ use Rattle.stamp_order.specs.declared.Bound.{Bound}
 use Rattle.protocol.specs.Messages.{IsFormedBody, Ask, Reply, Message}
 use Rattle.wire_forms.specs.declared.Body.TheVariants.{Ask as Asks, Answer as Answers}
 use Rattle.protocol.specs.Setting.{Setting}
-use Rattle.protocol.specs.Operations.{Task, Stage, Outcome, outstanding, request_of}
+use Rattle.protocol.specs.Operations.{Task, Work, Stage, Outcome, outstanding, request_of}
 use Rattle.protocol.specs.Operations.Work.{Writes}
 use Rattle.protocol.specs.World.{Record, World, chosen_stamp, moved, replaced_by, open_record, unless, under_way, last_op}
 use Rattle.protocol.specs.History.{NoClash, IsValue}
 use Rattle.protocol.specs.History.IsValue.{zeros_value, written, given}
 use Rattle.protocol.proofs.Counting.{update-cases}
-use Rattle.protocol.proofs.Lists.{Contains-map, Contains-map_cases}
+use Rattle.protocol.proofs.Lists.{Contains-map}
 use Rattle.protocol.proofs.Mails.{mail_asks, mail_answers}
-use Rattle.protocol.proofs.Seen.{NoClash-before}
-use Rattle.protocol.proofs.Invariant.{AtWork, IsOwned, IsTagged, Quorum, IsQuorum, IsTask, IsRecord, IsOutcome, IsAimed, IsAfter, IsSafe, Fits, Accepts, IsOpen, IsFresh, IsStored, IsPassed}
+use Rattle.protocol.proofs.Tests.{are_same}
+use Rattle.protocol.proofs.Replacing.{with_cases}
+use Rattle.protocol.proofs.Strings.{NoClash-before, NoClashFor-before}
+use Rattle.protocol.proofs.Invariant.{AtWork, IsOwned, IsTagged, Quorum, IsTask, IsRecord, IsOutcome, IsAimed, IsAfter, NoClashFor, IsSafe, Fits, Accepts, IsOpen, IsFresh, IsStored, IsPassed}
 use Rattle.protocol.proofs.Freshness.{IsFresh-more}
 use Rattle.protocol.proofs.Sending.{working}
 
@@ -46,7 +47,7 @@ module _ (s : Setting) (w : World) (safe : IsSafe s w) (place : ℕ) (later : w.
     pub valid : IsTask s after c z
     pub record_is : r ≡ open_record c z
     -- no read or write falls behind what was completed before it
-    pub aims : NoClash s w → (x : Record) (end : ℕ) (stamp : Stamp) → Contains w.records x → x.end ≡ Some end → x.stamp ≡ Some stamp → task.block ≡ x.block → end < task.start → IsAimed s stamp task.work z.stage
+    pub aims : NoClashFor s w task.work → (x : Record) (end : ℕ) (stamp : Stamp) → Contains w.records x → x.end ≡ Some end → x.stamp ≡ Some stamp → task.block ≡ x.block → end < task.start → IsAimed s stamp task.work z.stage
 
   pub record IsMove : Type 0 where
     pub nexts : (z : Task) → next ≡ Some z → IsNext z
@@ -63,7 +64,7 @@ module _ (s : Setting) (w : World) (safe : IsSafe s w) (place : ℕ) (later : w.
     pub completed : (end : ℕ) (stamp : Stamp) → r.end ≡ Some end → r.stamp ≡ Some stamp → IsHeld s w r.block stamp
     -- a write that chose a stamp keeps it
     pub keeps : (stamp : Stamp) (value : List ℕ) → task.work ≡ Writes value → chosen_stamp task.work task.stage ≡ Some stamp → r.stamp ≡ Some stamp
-    pub orders : NoClash s w → (x : Record) (end : ℕ) (stamp last : Stamp) → Contains w.records x → x.end ≡ Some end → x.stamp ≡ Some stamp → r.stamp ≡ Some last → task.block ≡ x.block → end < task.start → IsAfter s stamp task.work last
+    pub orders : NoClashFor s w task.work → (x : Record) (end : ℕ) (stamp last : Stamp) → Contains w.records x → x.end ≡ Some end → x.stamp ≡ Some stamp → r.stamp ≡ Some last → task.block ≡ x.block → end < task.start → IsAfter s stamp task.work last
 
   module _ (move : IsMove) where
     pub task_cases : (d : ℕ) (z : Task) → under_way after d ≡ Some z → ((d ≡ c) × (next ≡ Some z)) ⊎ ((d ≡ c → ⊥) × (under_way w d ≡ Some z))
@@ -174,21 +175,9 @@ module _ (s : Setting) (w : World) (safe : IsSafe s w) (place : ℕ) (later : w.
     not_ahead : (d : ℕ) (z : Task) → under_way after d ≡ Some z → place < z.start → ⊥
     not_ahead d z e h = let t = (tasks_after d z e).start in omega arith
 
-    apart_by : (a b d e : ℕ) → eqb a b && eqb d e ≡ false → a ≡ b → d ≡ e → ⊥
-    apart_by a b d e h p q = grind (arith, nat_tests)
-
-    alike_by : (a b d e : ℕ) → eqb a b && eqb d e ≡ true → (a ≡ b) × (d ≡ e)
-    alike_by a b d e h = (grind (arith, nat_tests), grind (arith, nat_tests))
-
-    replaced : (x old : Record) (b : Bool) → eqb old.client r.client && eqb old.start r.start ≡ b → Contains w.records old → x ≡ cond b r old → (x ≡ r) ⊎ (Contains w.records x × ((x.client ≡ c → x.start ≡ task.start → ⊥)))
-    replaced x old true t h e = inl e
-    replaced x old false t h e = inr (rw e h, λ p q. apart_by old.client r.client old.start r.start t (sym (ap (λ (y : Record). y.client) e) ∙ p ∙ sym move.client) (sym (ap (λ (y : Record). y.start) e) ∙ q ∙ sym move.start))
-
     -- a record is the new one, or one of before of another operation
     pub record_cases : (x : Record) → Contains after.records x → (x ≡ r) ⊎ (Contains w.records x × ((x.client ≡ c → x.start ≡ task.start → ⊥)))
-    record_cases x h =
-        let q = Contains-map_cases (replaced_by r) w.records x h in
-        replaced x q.0 (eqb q.0.client r.client && eqb q.0.start r.start) refl q.1 q.2
+    record_cases x h = elim (with_cases w.records r x h) [ inl e ↦ inl e | inr k ↦ inr (k.0, λ p q. k.1 (p ∙ sym move.client) (q ∙ sym move.start)) ]
 
     -- a record of before is there still, or it was the one of this operation
     pub record_after : (x : Record) → Contains w.records x → (Contains after.records x) ⊎ (x ≡ open_record c task × Contains after.records r)
@@ -196,7 +185,7 @@ module _ (s : Setting) (w : World) (safe : IsSafe s w) (place : ℕ) (later : w.
       where
         at : (b : Bool) → eqb x.client r.client && eqb x.start r.start ≡ b → Contains after.records (cond (eqb x.client r.client && eqb x.start r.start) r x) → (Contains after.records x) ⊎ (x ≡ open_record c task × Contains after.records r)
         at true t k =
-            let q = alike_by x.client r.client x.start r.start t in
+            let q = are_same x.client r.client x.start r.start t in
             let is_c : x.client ≡ c = q.0 ∙ move.client in
             let run = (safe.records x h).running task (ap (under_way w) is_c ∙ busy) (q.1 ∙ move.start) in
             inr (run ∙ ap (λ (d : ℕ). open_record d task) is_c, (let l : Contains after.records (cond true r x) = rw t at k in l))
@@ -237,8 +226,8 @@ module _ (s : Setting) (w : World) (safe : IsSafe s w) (place : ℕ) (later : w.
           record { version = v.version; there = v.there; above = v.above; how = elim v.how [ inl e ↦ inl e | inr p ↦ inr (passed_after b v.version.stamp p) ] };
     }
 
-    pub quorum_after : (Enough : (ℕ → Bool) → Type 0) (b : ℕ) (stamp : Stamp) (end : ℕ) → Quorum s Enough w b stamp end → Quorum s Enough after b stamp end
-    quorum_after Enough b stamp end q = record {
+    pub quorum_after : (b : ℕ) (stamp : Stamp) (end : ℕ) → Quorum s w b stamp end → Quorum s after b stamp end
+    quorum_after b stamp end q = record {
       members = q.members;
       enough = q.enough;
       are_honest = q.are_honest;
@@ -252,7 +241,7 @@ module _ (s : Setting) (w : World) (safe : IsSafe s w) (place : ℕ) (later : w.
       ];
     }
 
-    quorum_now : (stamp : Stamp) (end : ℕ) → end ≡ place → IsHeld s w r.block stamp → Quorum s (IsQuorum s) after r.block stamp end
+    quorum_now : (stamp : Stamp) (end : ℕ) → end ≡ place → IsHeld s w r.block stamp → Quorum s after r.block stamp end
     quorum_now stamp end e q = record {
       members = q.members;
       enough = q.enough;
@@ -287,7 +276,7 @@ module _ (s : Setting) (w : World) (safe : IsSafe s w) (place : ℕ) (later : w.
                 closed_end = i.closed_end;
                 running = λ z e f. elim (task_cases x.client z e)
                     [ inl q ↦ absurd (k.1 q.0 (f ∙ (move.nexts z q.1).start)) | inr q ↦ i.running z q.1 f ];
-                completed = λ end stamp e f. quorum_after (IsQuorum s) x.block stamp end (i.completed end stamp e f);
+                completed = λ end stamp e f. quorum_after x.block stamp end (i.completed end stamp e f);
               })
         ]
 
@@ -309,25 +298,28 @@ module _ (s : Setting) (w : World) (safe : IsSafe s w) (place : ℕ) (later : w.
     apart_before : NoClash s after → NoClash s w
     apart_before = NoClash-before s w after (λ m h. Contains-append_left w.pool more m h) value_before
 
-    aimed_after : NoClash s after → (x : Record) (end : ℕ) (stamp : Stamp) (d : ℕ) (z : Task) → Contains after.records x → x.end ≡ Some end → x.stamp ≡ Some stamp
+    for_task : (work : Work) → work ≡ task.work → NoClashFor s after work → NoClashFor s w task.work
+    for_task work e apart = NoClashFor-before s w after apart_before task.work (subst (NoClashFor s after) e apart)
+
+    aimed_after : (d : ℕ) (z : Task) → NoClashFor s after z.work → (x : Record) (end : ℕ) (stamp : Stamp) → Contains after.records x → x.end ≡ Some end → x.stamp ≡ Some stamp
         → under_way after d ≡ Some z → z.block ≡ x.block → end < z.start → IsAimed s stamp z.work z.stage
-    aimed_after apart x end stamp d z h e f g of_block late =
+    aimed_after d z apart x end stamp h e f g of_block late =
         elim (record_cases x h) [
           | inl k ↦ absurd (not_ahead d z g (let a : end ≡ place = move.end end (sym (ap (λ (y : Record). y.end) k) ∙ e) in omega arith))
           | inr k ↦ elim (task_cases d z g) [
             | inl q ↦
                 (let n = move.nexts z q.1 in
-                rw n.work (n.aims (apart_before apart) x end stamp k.0 e f (sym n.block ∙ of_block) (omega (arith, late, n.start))))
-            | inr q ↦ safe.aimed (apart_before apart) x end stamp d z k.0 e f q.1 of_block late
+                rw n.work (n.aims (for_task z.work n.work apart) x end stamp k.0 e f (sym n.block ∙ of_block) (omega (arith, late, n.start))))
+            | inr q ↦ safe.aimed d z (NoClashFor-before s w after apart_before z.work apart) x end stamp k.0 e f q.1 of_block late
           ]
         ]
 
     record_start : (y : Record) → Contains after.records y → y.start ≤ place
     record_start y h = (records_after y h).start
 
-    ordered_after : NoClash s after → (x y : Record) (end : ℕ) (stamp last : Stamp) → Contains after.records x → Contains after.records y → x.end ≡ Some end → x.stamp ≡ Some stamp
+    ordered_after : (x y : Record) → NoClashFor s after y.work → (end : ℕ) (stamp last : Stamp) → Contains after.records x → Contains after.records y → x.end ≡ Some end → x.stamp ≡ Some stamp
         → y.stamp ≡ Some last → y.block ≡ x.block → end < y.start → IsAfter s stamp y.work last
-    ordered_after apart x y end stamp last h l e f g of_block late =
+    ordered_after x y apart end stamp last h l e f g of_block late =
         elim (record_cases x h) [
           | inl k ↦ absurd (let a : end ≡ place = move.end end (sym (ap (λ (y : Record). y.end) k) ∙ e) in omega (arith, record_start y l))
           | inr k ↦ elim (record_cases y l) [
@@ -335,8 +327,8 @@ module _ (s : Setting) (w : World) (safe : IsSafe s w) (place : ℕ) (later : w.
                 (let work : y.work ≡ task.work = ap (λ (z : Record). z.work) q ∙ move.work in
                 let start : y.start ≡ task.start = ap (λ (z : Record). z.start) q ∙ move.start in
                 let block : task.block ≡ x.block = sym (ap (λ (z : Record). z.block) q ∙ move.block) ∙ of_block in
-                rw work (move.orders (apart_before apart) x end stamp last k.0 e f (sym (ap (λ (z : Record). z.stamp) q) ∙ g) block (omega arith)))
-            | inr q ↦ safe.ordered (apart_before apart) x y end stamp last k.0 q.0 e f g of_block late
+                rw work (move.orders (for_task y.work work apart) x end stamp last k.0 e f (sym (ap (λ (z : Record). z.stamp) q) ∙ g) block (omega arith)))
+            | inr q ↦ safe.ordered x y (NoClashFor-before s w after apart_before y.work apart) end stamp last k.0 q.0 e f g of_block late
           ]
         ]
 

@@ -16,7 +16,7 @@ pub stamp_total : IsTotalOrder stamp_cmp
 unfolding stamp_cmp
 stamp_total = then_total (on_total (λ (s : Stamp). s.time) nat_cmp_total) (then_total (on_total (λ (s : Stamp). s.client) nat_cmp_total) (on_total (λ (s : Stamp). s.verifier) nat_list_cmp_total))
 
-then_equal : (a c : Ordering) → ordering_then a c ≡ Equal → (a ≡ Equal) × (c ≡ Equal)
+pub then_equal : (a c : Ordering) → ordering_then a c ≡ Equal → (a ≡ Equal) × (c ≡ Equal)
 then_equal Less c h = absurd (cc)
 then_equal Equal c h = (refl, h)
 then_equal Greater c h = absurd (cc)
@@ -97,7 +97,7 @@ then_less Greater c h = absurd (cc)
 less_at : (x y : ℕ) → x < y → is_lt (nat_cmp x y) ≡ true
 less_at x y h = let e : ltb x y ≡ true = grind (arith, nat_tests) in rw e refl
 
-then_le : (a c : Ordering) → is_le (ordering_then a c) ≡ true → is_le a ≡ true
+pub then_le : (a c : Ordering) → is_le (ordering_then a c) ≡ true → is_le a ≡ true
 then_le Less c h = refl
 then_le Equal c h = refl
 then_le Greater c h = absurd (cc)

@@ -1,5 +1,5 @@
 -- A line that isn't refused has events that are allowed one after the other.
-use Rattle.std.proofs.Common.{◌≡◌, ◌⊎◌, ℕ, zero, suc, ◌+◌, ◌-◌, ◌%◌, ◌^◌, ◌<◌, ◌≤◌, Bool, true, false, cond, not, ◌||◌, ◌&&◌, List, [], ◌∷◌, ◌++◌, length, Option, refl, sym, ◌∙◌, ap, inl, inr, arith, eqb, ltb, leb}
+use Rattle.std.proofs.Common.{◌≡◌, ◌⊎◌, ℕ, zero, suc, ◌-◌, ◌%◌, ◌^◌, ◌<◌, ◌≤◌, Bool, true, false, cond, not, ◌&&◌, List, [], ◌∷◌, ◌++◌, length, Option, refl, sym, ◌∙◌, ap, inl, inr, arith, eqb, ltb, leb}
 use Rattle.std.specs.Prelude.{find, slice_get}
 use Rattle.std.specs.declared.option.Option.TheVariants.{None, Some}
 use Rattle.std.specs.List.{Contains, AllByRecursion}
@@ -7,21 +7,18 @@ use Rattle.std.proofs.lemmas.Bool.Decides.{nat_tests}
 use Rattle.std.proofs.lemmas.List.Elements.{Contains-push}
 use Rattle.protocol.specs.Count.{count}
 use Rattle.stamp_order.specs.declared.Stamp.{Stamp}
-use Rattle.stamp_order.specs.Stamps.{has}
-use Rattle.protocol.specs.Messages.{IsBytes, AreDigests, IsFormedReply, Request, Reply, Body, Message}
+use Rattle.protocol.specs.Messages.{IsBytes, AreDigests, Reply, Body, Message}
 use Rattle.wire_forms.specs.declared.Body.TheVariants.{Ask as Asks, Answer as Answers}
-use Rattle.protocol.specs.Setting.{Setting, IsValid, IsBlock, zeros}
-use Rattle.protocol.proofs.Forming.{sum_formed, zeros_block, filled_block, all_collect}
-use Rattle.wire_forms.specs.declared.Request.TheVariants.{Time, Read as AskRead, Write as AskWrite}
-use Rattle.wire_forms.specs.declared.Reply.TheVariants.{Found, Nothing}
-use Rattle.wire_forms.specs.declared.rule.Rule.TheVariants.{Silent, Old, Top, Bad}
+use Rattle.protocol.specs.Setting.{Setting, IsValid, IsBlock}
+use Rattle.protocol.proofs.Forming.{IsFormedWhere, false_formed, sum_formed, all_collect}
 use Rattle.run_words.specs.declared.line.StepFault.TheVariants.{NoSuchMessage, WrongReceiver, Busy, Crashed, Idle, NotQuiet, NoRead, Worn, NotCrashed}
 use Rattle.protocol.specs.Operations.{Task}
 use Rattle.protocol.specs.World.{World, AllAllowed, IsClient, IsQuiet, IsAskTo, IsAnswerTo, IsOfLiar, under_way, greatest_given}
-use Rattle.protocol.specs.Lines.{Line, some_of, sender, takes_part, lies, named, is_ask_to, is_answer_to, misgiven, misheard, does_something, is_at, is_missing, all_faults, called, falsely_told, given_at, heard_at, events, is_actor, is_liar, has_crashed, is_idle, is_busy_at, meets, fault, FitsLine, Names, Rule, flipped, version_of, top_stamp, full_block, false_reply, answer_with, told, mixed, mixed_sum}
+use Rattle.protocol.specs.Lines.{Line, some_of, sender, takes_part, lies, named, is_ask_to, is_answer_to, misgiven, misheard, does_something, is_at, is_missing, all_faults, called, falsely_told, given_at, heard_at, events, is_actor, is_liar, has_crashed, is_idle, is_busy_at, meets, fault, FitsLine, Names, Rule, false_reply, answer_with, told, mixed, mixed_sum}
 use Rattle.run_words.specs.declared.line.Line.TheVariants.{Write, Read, Resend, Call, Give, Hear, Lost, CrashNode, CrashClient, Lie, Tell, Poke, False, Sound, Mix, Prune, Back, Restart}
 use Rattle.protocol.specs.Lines.Actor.{Node, Client}
 use Rattle.protocol.proofs.Counting.{both_true}
+use Rattle.protocol.proofs.Tests.{neither, not_false, not_leb, eqb_is}
 use Rattle.protocol.proofs.Lists.{Contains-slice_get}
 use Rattle.protocol.proofs.Invariant.{IsSafe}
 use Rattle.protocol.proofs.Sending.{is_under_way}
@@ -34,21 +31,9 @@ find_none p (x ∷ xs) h = at (p x) refl h (find_none p xs)
     at true e k rest = absurd (cc)
     at false e k rest = (e, rest k)
 
-pub or_false : (a c : Bool) → a || c ≡ false → (a ≡ false) × (c ≡ false)
-or_false true c h = absurd (cc)
-or_false false c h = (refl, h)
-
-pub not_false : (a : Bool) → not a ≡ false → a ≡ true
-not_false true h = refl
-not_false false h = absurd (cc)
-
-not_true : (a : Bool) → not a ≡ true → a ≡ false
-not_true true h = absurd (cc)
-not_true false h = refl
-
 some_none : {A : Type 0} (test : A → Bool) (xs : List A) → some_of test xs ≡ false → AllByRecursion (λ x. test x ≡ false) xs
 some_none test [] h = tt
-some_none test (x ∷ xs) h = let k = or_false (test x) (some_of test xs) h in (k.0, some_none test xs k.1)
+some_none test (x ∷ xs) h = let k = neither (test x) (some_of test xs) h in (k.0, some_none test xs k.1)
 
 count_none : (n : ℕ) (p : ℕ → Bool) (i : ℕ) → i < n → p i ≡ true → 0 < count n p
 count_none zero p i l e = absurd (omega arith)
@@ -92,11 +77,6 @@ no_fault s w line h =
       fresh = a.1.1.1.1.1.1.1.1.1.1.0;
       down = a.1.1.1.1.1.1.1.1.1.1.1.0;
     }
-
--- the reply is formed, if there is one
-abbrev IsFormedWhere : Option Reply → Type 0
-IsFormedWhere None = Unit {0}
-IsFormedWhere (Some reply) = IsFormedReply reply
 
 module _ (s : Setting) (good : IsValid s) (w : World) (safe : IsSafe s w) (place : ℕ) (later : w.place < place) where
   soon : w.place ≤ place
@@ -145,11 +125,8 @@ module _ (s : Setting) (good : IsValid s) (w : World) (safe : IsSafe s w) (place
   quiet_is : (block : ℕ) → is_busy_at s w block ≡ false → IsQuiet s w block
   quiet_is block h c task e f =
       let n = (safe.tasks c task e).numbered in
-      let t : is_at block (under_way w c) ≡ true = rw e (tests f) in
+      let t : is_at block (under_way w c) ≡ true = rw e (eqb_is task.block block f) in
       none_above (count 1001 (λ c. is_at block (under_way w c))) h (count_none 1001 (λ c. is_at block (under_way w c)) c (omega (arith, n.1)) t)
-    where
-      tests : task.block ≡ block → eqb task.block block ≡ true
-      tests e = grind (arith, nat_tests)
 
   read_is : (o : Option Stamp) → is_missing o ≡ false → (stamp : Stamp) × (o ≡ Some stamp)
   read_is None h = absurd (cc)
@@ -173,33 +150,6 @@ module _ (s : Setting) (good : IsValid s) (w : World) (safe : IsSafe s w) (place
         ((omega arith, number, h, up, Contains-push w.pool _, (refl, Rattle.protocol.specs.Nodes.reply s i (w.versions i task.block) (Rattle.protocol.specs.Operations.ask_of s task i), refl)), tt),
       )
 
-  even_below : (x : ℕ) → x < 256 → x % 2 ≡ 0 → x + 1 < 256
-  even_below x h e = grind arith
-
-  flipped_bytes : (xs : List ℕ) → IsBytes xs → IsBytes (flipped xs)
-  flipped_bytes [] h = tt
-  flipped_bytes (x ∷ xs) h = (at (eqb (x % 2) 0) refl, h.1)
-    where
-      at : (b : Bool) → eqb (x % 2) 0 ≡ b → cond b (x + 1) (x - 1) < 256
-      at true e = even_below x h.0 (grind (arith, nat_tests))
-      at false e = let l = h.0 in omega (arith, l)
-
-  top_formed : (i : ℕ) (b : Bool) → IsFormedReply (cond b (Found (version_of s (top_stamp s i) (full_block s) i)) Nothing)
-  top_formed i true = (sum_formed s good (full_block s) (filled_block s 255 (omega arith)), good.bytes-fragment (full_block s) i (filled_block s 255 (omega arith)))
-  top_formed i false = tt
-
-  false_formed : (rule : Rule) (i : ℕ) (request : Request) → IsFormedWhere (false_reply s rule i request)
-  false_formed Silent i request = tt
-  false_formed Old i Time = tt
-  false_formed Old i (AskRead bound) = (sum_formed s good (zeros s) (zeros_block s), good.bytes-fragment (zeros s) i (zeros_block s))
-  false_formed Old i (AskWrite v) = tt
-  false_formed Top i Time = tt
-  false_formed Top i (AskRead bound) = top_formed i (has bound (top_stamp s i))
-  false_formed Top i (AskWrite v) = tt
-  false_formed Bad i Time = tt
-  false_formed Bad i (AskRead bound) = (sum_formed s good (zeros s) (zeros_block s), flipped_bytes (s.fragment_of (zeros s) i) (good.bytes-fragment (zeros s) i (zeros_block s)))
-  false_formed Bad i (AskWrite v) = tt
-
   mixed_formed : (value other : List ℕ) → IsBlock s value → IsBlock s other → (i : ℕ) → IsBytes (mixed s value other i)
   mixed_formed value other h k i = at (eqb (i % 2) 0)
     where
@@ -217,7 +167,7 @@ module _ (s : Setting) (good : IsValid s) (w : World) (safe : IsSafe s w) (place
   false_allowed : (rule : Rule) (c i : ℕ) → IsClient s c → i < s.n → s.lying_client c ≡ false → s.lying_node i ≡ true → w.client_crashed c ≡ false → (task : Task) → AllAllowed s w place (falsely_told s w rule c i (Some task))
   false_allowed rule c i number l h k up task =
       let request = (Rattle.protocol.specs.Operations.ask_of s task i).request in
-      told_allowed (false_reply s rule i request) (false_formed rule i request) c i number l h k up task
+      told_allowed (false_reply s rule i request) (false_formed s good rule i request) c i number l h k up task
 
   in_pool : (k : ℕ) (m : Message) → slice_get w.pool k ≡ Some m → Contains w.pool m
   in_pool k m e = Contains-slice_get w.pool k m e
@@ -278,16 +228,13 @@ module _ (s : Setting) (good : IsValid s) (w : World) (safe : IsSafe s w) (place
       ((soon, client_is c (fine.actors.0), fine.upright.0, not_false _ fine.down, few (w.life c) fine.fresh), tt)
   allowed (Restart i) fits fine = tt
 
-  below : (k n : ℕ) → leb n k ≡ false → k < n
-  below k n h = grind (arith, nat_tests)
-
   pub named_there : (line : Line) → NoFault s w line → Names s w line
   named_there (Write c block value) fine = tt
   named_there (Read c block) fine = tt
   named_there (Resend c) fine = tt
   named_there (Call c i) fine = task_is c fine.upright.0 fine.working
-  named_there (Give i k) fine = below k (length w.pool) fine.message
-  named_there (Hear c k) fine = below k (length w.pool) fine.message
+  named_there (Give i k) fine = not_leb k (length w.pool) fine.message
+  named_there (Hear c k) fine = not_leb k (length w.pool) fine.message
   named_there (Lost c i) fine = tt
   named_there (CrashNode i) fine = tt
   named_there (CrashClient c) fine = tt

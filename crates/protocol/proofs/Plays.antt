@@ -19,7 +19,7 @@ use Rattle.protocol.specs.Bounds.{IsLow}
 use Rattle.protocol.proofs.RunRounds.{HasRounds, start_rounds, happens_rounds}
 use Rattle.protocol.proofs.RunTimes.{start_low, happens_low, happens_writes, KeepsWrites}
 use Rattle.protocol.proofs.Playing.{no_fault, allowed}
-use Rattle.protocol.proofs.Places.{all_place}
+use Rattle.protocol.proofs.Growing.{all_place}
 
 module _ (s : Setting) (good : IsValid s) where
   pub record IsRight (w : World) : Type 0 where

@@ -1,5 +1,5 @@
 -- A line is refused exactly where it can't be played.
-use Rattle.std.proofs.Common.{◌≡◌, ℕ, ◌-◌, ◌^◌, ◌<◌, ◌≤◌, Bool, true, false, not, ◌||◌, ◌&&◌, List, [], ◌∷◌, length, Option, refl, inl, inr, arith, eqb, ltb, leb}
+use Rattle.std.proofs.Common.{◌≡◌, ℕ, ◌-◌, ◌^◌, ◌<◌, ◌≤◌, Bool, true, false, not, ◌&&◌, List, [], ◌∷◌, length, Option, refl, inl, inr, arith, eqb, ltb, leb}
 use Rattle.std.specs.Prelude.{◌≢◌, find, slice_get}
 use Rattle.std.specs.declared.option.Option.TheVariants.{None, Some}
 use Rattle.std.specs.List.{AllByRecursion}
@@ -18,13 +18,11 @@ use Rattle.protocol.specs.Lines.{Line, sender, is_ask_to, is_answer_to, misgiven
 use Rattle.run_words.specs.declared.line.Line.TheVariants.{Write, Read, Resend, Call, Give, Hear, Lost, CrashNode, CrashClient, Lie, Tell, Poke, False, Sound, Mix, Prune, Back, Restart}
 use Rattle.protocol.specs.Lines.Actor.{Node, Client}
 use Rattle.protocol.proofs.Counting.{cases_bool, some_passes}
+use Rattle.protocol.proofs.Tests.{or_false}
 
 all_none : {A : Type 0} (p : A → Bool) (xs : List A) → AllByRecursion (λ x. p x ≡ false) xs → find p xs ≡ None
 all_none p [] h = refl
 all_none p (x ∷ xs) h = rw (h.0) (all_none p xs h.1)
-
-or_false : (a c : Bool) → a ≡ false → c ≡ false → a || c ≡ false
-or_false a c h k = rw (h, k) refl
 
 module _ (s : Setting) (w : World) where
   client_ok : (c : ℕ) → IsClient s c → not (is_actor s w (Client c)) ≡ false

@@ -2,7 +2,6 @@
 use Rattle.std.proofs.Common.{◌≡◌, ◌⊎◌, ℕ, ◌+◌, ◌*◌, ◌<◌, ◌≤◌, Bool, true, false, not, ◌&&◌, List, [], ◌∷◌, ◌++◌, refl, sym, ◌∙◌, ap, inl, inr, arith, eqb}
 use Rattle.std.specs.declared.option.Option.TheVariants.{None, Some}
 use Rattle.std.specs.List.{Contains}
-use Rattle.std.proofs.lemmas.Bool.Decides.{nat_tests}
 use Rattle.protocol.specs.Count.{one_more}
 use Rattle.stamp_order.specs.declared.Stamp.{Stamp}
 use Rattle.stamp_order.specs.declared.Bound.{Bound}
@@ -10,6 +9,7 @@ use Rattle.stamp_order.specs.Stamps.{has, up_to, before, ◌≼◌}
 use Rattle.stamp_order.specs.declared.Bound.TheVariants.{AtMost, Below}
 use Rattle.protocol.specs.World.{World, Accepted}
 use Rattle.protocol.specs.Bounds.{different, pairs, IsFewAt}
+use Rattle.protocol.proofs.Tests.{eqb_self}
 use Rattle.protocol.proofs.Counting.{cases_bool, both_true}
 use Rattle.protocol.proofs.Lists.{one_more_left}
 use Rattle.protocol.proofs.Order.{≼-refl, ≼-cases, before-≼, not_both}
@@ -40,9 +40,6 @@ module _ (w : World) (block : ℕ) where
 
   out_upto : (old new : Bound) → IsTighter old new → left_out w block old ≤ left_out w block new
   out_upto old new h = different_within (is_out block old) (is_out block new) w.accepted (λ a e. out_more (eqb a.block block) (has old a.stamp) (has new a.stamp) (h a.stamp) e)
-
-  eqb_self : (x : ℕ) → eqb x x ≡ true
-  eqb_self x = grind (arith, nat_tests)
 
   out_less : (old new : Bound) (t : Stamp) → IsTighter old new → WasAccepted t → has old t ≡ true → has new t ≡ false → left_out w block old < left_out w block new
   out_less old new t h k a b =

@@ -1,9 +1,10 @@
 -- What the answers that a task counted say when there are enough of them.
-use Rattle.std.proofs.Common.{◌≡◌, ◌⊎◌, ℕ, suc, ◌+◌, ◌-◌, ◌<◌, ◌≤◌, Bool, true, false, cond, not, ◌||◌, List, [], ◌∷◌, length, map, Option, refl, sym, ◌∙◌, ap, inl, inr, arith, leb, eqb, ltb}
+use Rattle.std.proofs.Common.{◌≡◌, ◌⊎◌, ℕ, ◌+◌, ◌-◌, ◌<◌, ◌≤◌, Bool, true, false, cond, ◌||◌, List, [], ◌∷◌, length, map, Option, refl, sym, ◌∙◌, ap, inl, inr, arith, leb, ltb}
 use Rattle.std.specs.declared.option.Option.TheVariants.{None, Some}
 use Rattle.std.specs.List.{Contains}
 use Rattle.std.specs.Ordering.{nat_cmp, is_eq}
 use Rattle.std.proofs.lemmas.Bool.Decides.{nat_tests}
+use Rattle.std.proofs.lemmas.List.{length-map}
 use Rattle.std.proofs.lemmas.Map.Lookups.{exact_bytes}
 use Rattle.protocol.specs.Count.{count}
 use Rattle.protocol.specs.Reach.{reaches}
@@ -13,6 +14,7 @@ use Rattle.stamp_order.specs.Stamps.{has, up_to, same_stamp, ◌≼◌}
 use Rattle.protocol.specs.Messages.{flat, IsFormed, Version, Reply}
 use Rattle.wire_forms.specs.declared.Reply.TheVariants.{TimeIs, Found, Nothing, Ack, Refused}
 use Rattle.wire_forms.specs.declared.Body.TheVariants.{Answer as Answers}
+use Rattle.protocol.proofs.Tests.{not_true, is_eqb}
 use Rattle.protocol.proofs.Forming.{sum_formed, flat_inj}
 use Rattle.protocol.proofs.Tied.{exact_lists, lists_total}
 use Rattle.protocol.specs.Setting.{Setting, IsValid, IsBlock, IsFragment, same_digests, IsAscending, honest, first_stamp, digest_at, same, Sound}
@@ -26,7 +28,7 @@ use Rattle.std.proofs.lemmas.Cmp.{tied_itself, nat_list_cmp_total}
 use Rattle.protocol.proofs.Counting.{count_not, both_true}
 use Rattle.protocol.proofs.Order.{≼-refl, before-≼, lower_time, same_stamp-≡, stamps_order, times_order}
 use Rattle.protocol.proofs.Highest.{highest_above, highest_is}
-use Rattle.protocol.proofs.Invariant.{Quorum, IsQuorum, IsSafe, IsFresh, IsOpen, Fits, Accepts}
+use Rattle.protocol.proofs.Invariant.{Quorum, IsSafe, IsFresh, IsOpen, Fits, Accepts}
 
 -- the same bytes
 pub same-≡ : (xs ys : List ℕ) → same xs ys ≡ true → xs ≡ ys
@@ -52,10 +54,6 @@ pub same_digests-refl : (xs : List (List ℕ)) → same_digests xs xs ≡ true
 unfolding same_digests
 same_digests-refl xs = rw (tied_itself lists_total xs) refl
 
-length-map : {X Y : Type 0} (f : X → Y) (xs : List X) → length (map f xs) ≡ length xs
-length-map f [] = refl
-length-map f (x ∷ xs) = ap suc (length-map f xs)
-
 pub record WholeFacts (s : Setting) (i : ℕ) (v : Version) : Type 0 where
   pub sum_length : length v.sum ≡ s.n
   pub fragment_length : length v.fragment ≡ s.share
@@ -77,9 +75,6 @@ whole_facts s i v h =
       time = time_or (ltb 0 v.stamp.time) refl (same_stamp v.stamp (first_stamp s)) refl a.1;
     }
   where
-    is_eqb : (x y : ℕ) → eqb x y ≡ true → x ≡ y
-    is_eqb x y h = grind (arith, nat_tests)
-
     time_or : (p : Bool) → ltb 0 v.stamp.time ≡ p → (q : Bool) → same_stamp v.stamp (first_stamp s) ≡ q → p || q ≡ true → (0 < v.stamp.time) ⊎ (v.stamp ≡ first_stamp s)
     time_or true e q f h = inl (grind (arith, nat_tests))
     time_or false e true f h = inr (same_stamp-≡ _ _ f)
@@ -89,7 +84,7 @@ pub first_below : (s : Setting) (i : ℕ) (v : Version) → is_whole s i v ≡ t
 first_below s i v h =
     elim (whole_facts s i v h).time [ inl l ↦ before-≼ _ _ (lower_time (first_stamp s) v.stamp l) | inr e ↦ rw e (≼-refl (first_stamp s)) ]
 
-answered_is : (o : Option Reply) → is_answered o ≡ true → (reply : Reply) × (o ≡ Some reply)
+pub answered_is : (o : Option Reply) → is_answered o ≡ true → (reply : Reply) × (o ≡ Some reply)
 answered_is None h = absurd (cc)
 answered_is (Some reply) h = (reply, refl)
 
@@ -127,11 +122,7 @@ pub honest_many : (s : Setting) → IsValid s → s.n ≤ count s.n (honest s) +
 honest_many s valid = omega (arith, count_not s.n s.lying_node, valid.liars)
 
 pub is_honest : (s : Setting) (i : ℕ) → honest s i ≡ true → s.lying_node i ≡ false
-is_honest s i h = at (s.lying_node i) h
-  where
-    at : (b : Bool) → not b ≡ true → b ≡ false
-    at true h = absurd (cc)
-    at false h = refl
+is_honest s i h = not_true (s.lying_node i) h
 
 fresh_as : (s : Setting) (w : World) (block start : ℕ) (stamp : Stamp) (reply : Reply) (p q : Stage) → p ≡ q → IsFresh s w block start stamp p reply → IsFresh s w block start stamp q reply
 fresh_as s w block start stamp reply p q e h = rw e at h
@@ -143,12 +134,12 @@ module _ (s : Setting) (good : IsValid s) (w : World) (safe : IsSafe s w) (c : �
   fits_at i reply l h e =
       safe.answered _ task reply (heard i reply e).0 refl (safe.tasks c task busy).correct l (is_honest s i h) (record { client = busy; op = refl; phase = refl })
 
-  fresh_at : (stamp : Stamp) (end : ℕ) (q : Quorum s (IsQuorum s) w task.block stamp end) → end < task.start → (i : ℕ) (reply : Reply) → i < s.n → q.members i ≡ true → answers i ≡ Some reply → IsFresh s w task.block task.start stamp task.stage reply
+  fresh_at : (stamp : Stamp) (end : ℕ) (q : Quorum s w task.block stamp end) → end < task.start → (i : ℕ) (reply : Reply) → i < s.n → q.members i ≡ true → answers i ≡ Some reply → IsFresh s w task.block task.start stamp task.stage reply
   fresh_at stamp end q late i reply l m e =
       q.fresh _ reply task (heard i reply e).0 refl l m (safe.tasks c task busy).correct (record { client = busy; op = refl; phase = refl }) refl late
 
   -- the time drawn from isn't below what was completed before the start
-  pub drawn_above : task.stage ≡ Times → (stamp : Stamp) (end : ℕ) → Quorum s (IsQuorum s) w task.block stamp end → end < task.start → stamp.time ≤ drawn_from s answers
+  pub drawn_above : task.stage ≡ Times → (stamp : Stamp) (end : ℕ) → Quorum s w task.block stamp end → end < task.start → stamp.time ≤ drawn_from s answers
   drawn_above stage stamp end q late =
       let top = highest_above leb times_order s.n (s.b + 1) (λ i. time_of (answers i)) stamp.time q.members (λ i. is_answered (answers i)) (omega arith)
       (omega (arith, q.enough, enough, good.quorum_low)) each in
@@ -193,7 +184,7 @@ module _ (s : Setting) (good : IsValid s) (w : World) (safe : IsSafe s w) (c : �
         (omega (arith, good.quorum_low)) (omega (arith, honest_many s good, enough, good.quorum_high, good.liars_few)) first_each
 
     -- the pivot isn't below what was completed before the start
-    pub pivot_above : (p : Stamp) → pivot s answers bound ≡ Some p → (stamp : Stamp) (end : ℕ) → Quorum s (IsQuorum s) w task.block stamp end → end < task.start → has bound stamp ≡ true → IsOpen s w task.block task.start bound → stamp ≼ p
+    pub pivot_above : (p : Stamp) → pivot s answers bound ≡ Some p → (stamp : Stamp) (end : ℕ) → Quorum s w task.block stamp end → end < task.start → has bound stamp ≡ true → IsOpen s w task.block task.start bound → stamp ≼ p
     pivot_above p is stamp end q late inside wide =
         let top = highest_above up_to stamps_order s.n (s.qc - s.t) (stamps s answers bound) stamp q.members (λ i. is_answered (answers i))
         (omega (arith, good.quorum_low)) (omega (arith, q.enough, enough, good.quorum_low)) each in
@@ -259,7 +250,7 @@ module _ (s : Setting) (good : IsValid s) (w : World) (safe : IsSafe s w) (c : �
         (rw e r.0, (ap (λ (x : ℕ × List ℕ). length x.1) k.2 ∙ (whole_facts s k.0.0 k.0.1 r.2).fragment_length, (let f = (found_formed k.0.0 k.0.1 r.1).1 in let g : q.1 ≡ k.0.1.fragment = ap (λ (x : ℕ × List ℕ). x.1) k.2 in rw g f)))
 
     pub candidate_size : (p : Stamp) → length (chosen s answers bound p) ≡ s.m → IsAscending (map part_of (chosen s answers bound p)) → IsBlock s (candidate s answers bound p)
-    candidate_size p long ascending = good.decoded-block (map part_of (chosen s answers bound p)) (length-map part_of (chosen s answers bound p) ∙ long) ascending (part_fits p)
+    candidate_size p long ascending = good.decoded-block (map part_of (chosen s answers bound p)) (length-map (chosen s answers bound p) part_of ∙ long) ascending (part_fits p)
 
     -- where the verdict is that the candidate is sound, it is what the stamp is for
     pub candidate_good : (p : Stamp) → IsBlock s (candidate s answers bound p) → same_digests (s.sum_of (candidate s answers bound p)) (sum_of_first (chosen s answers bound p)) ≡ true → Sound s p (candidate s answers bound p)
@@ -300,7 +291,7 @@ module _ (s : Setting) (good : IsValid s) (w : World) (safe : IsSafe s w) (c : �
           (rw e r.0, ap (λ (x : ℕ × List ℕ). x.1) k.2 ∙ fragment_is k.0.0 k.0.1 r.0 r.1 r.2 r.3 ∙ ap (s.fragment_of value) (sym e))
 
       candidate_is : length (chosen s answers bound p) ≡ s.m → IsAscending (map part_of (chosen s answers bound p)) → candidate s answers bound p ≡ value
-      candidate_is long ascending = good.decodes value (map part_of (chosen s answers bound p)) size (length-map part_of (chosen s answers bound p) ∙ long) ascending part_is
+      candidate_is long ascending = good.decodes value (map part_of (chosen s answers bound p)) size (length-map (chosen s answers bound p) part_of ∙ long) ascending part_is
 
       pub not_poisonous : length (chosen s answers bound p) ≡ s.m → IsAscending (map part_of (chosen s answers bound p)) → same_digests (s.sum_of (candidate s answers bound p)) (sum_of_first (chosen s answers bound p)) ≡ true
       not_poisonous long ascending = at (chosen s answers bound p) refl

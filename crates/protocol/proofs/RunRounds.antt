@@ -33,7 +33,7 @@ use Rattle.protocol.proofs.Invariant.{IsSafe, IsStage}
 use Rattle.protocol.proofs.Sending.{working}
 use Rattle.protocol.proofs.Rounds.{valid_was, honest_many, some_pivot, honest_valid, pivot_given}
 use Rattle.protocol.proofs.Rounding.{IsRounds, WasAccepted, rounds_below, rounds_at_most, few_rounds, IsRounds-more, IsFewAt-more}
-use Rattle.protocol.proofs.Apart.{with_cases}
+use Rattle.protocol.proofs.Replacing.{with_cases}
 use Rattle.protocol.proofs.Heard.{filled, AreSent, heard_case}
 
 -- the rounds of a task

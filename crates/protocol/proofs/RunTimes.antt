@@ -27,7 +27,7 @@ use Rattle.protocol.proofs.Invariant.{IsSafe, IsStage, IsOutcome, Fits}
 use Rattle.protocol.proofs.Rounds.{honest_many, fits_at}
 use Rattle.protocol.proofs.Hearing.{IsDecision, full_decided}
 use Rattle.protocol.proofs.Origins.{HasOrigins, IsKnown}
-use Rattle.protocol.proofs.Apart.{with_cases}
+use Rattle.protocol.proofs.Replacing.{with_cases}
 use Rattle.protocol.proofs.Heard.{filled, AreSent, heard_case}
 use Rattle.protocol.proofs.Choices.{IsNewer, writes_still, choices_still, choices_more, choices_push, only_open, keeps_stamp, lied_push, lie_low}
 

@@ -2,7 +2,6 @@
 use Rattle.std.proofs.Common.{◌≡◌, ℕ, ◌<◌, ◌≤◌, Bool, true, false, cond, List, [], ◌∷◌, length, Option, refl, sym, ◌∙◌, ap, inl, inr, arith, eqb}
 use Rattle.std.specs.declared.option.Option.TheVariants.{None, Some}
 use Rattle.std.specs.List.{Contains}
-use Rattle.std.proofs.lemmas.Bool.Decides.{nat_tests}
 use Rattle.protocol.specs.Count.{update}
 use Rattle.stamp_order.specs.declared.Stamp.{Stamp}
 use Rattle.stamp_order.specs.Stamps.{same_stamp}
@@ -17,6 +16,7 @@ use Rattle.protocol.specs.World.Event.{Start, Resend, Give, Hear, CrashNode, Cra
 use Rattle.protocol.proofs.Counting.{update-cases, both_true}
 use Rattle.protocol.proofs.Lists.{Contains-one, Contains-none, Contains-head}
 use Rattle.protocol.proofs.Order.{same_stamp-refl, ≼-refl}
+use Rattle.protocol.proofs.Tests.{eqb_self, is_eqb}
 use Rattle.protocol.proofs.Rounds.{same-refl}
 use Rattle.protocol.proofs.Invariant.{IsSafe, IsStored}
 use Rattle.protocol.proofs.Starting.{started_safe}
@@ -27,15 +27,12 @@ use Rattle.protocol.proofs.Hearing.{advanced_safe, message_is}
 first_whole : (s : Setting) → IsValid s → (i : ℕ) → i < s.n → is_whole s i (first_version s i) ≡ true
 first_whole s good i l =
     let size = zeros_block s in
-    let a : eqb (length (s.sum_of (zeros s))) s.n ≡ true = rw (good.length-sum (zeros s) size) (is s.n) in
-    let b : eqb (length (s.fragment_of (zeros s) i)) s.share ≡ true = rw (good.length-fragment (zeros s) i size l) (is s.share) in
+    let a : eqb (length (s.sum_of (zeros s))) s.n ≡ true = rw (good.length-sum (zeros s) size) (eqb_self s.n) in
+    let b : eqb (length (s.fragment_of (zeros s) i)) s.share ≡ true = rw (good.length-fragment (zeros s) i size l) (eqb_self s.share) in
     let c : same (s.digest (flat (s.sum_of (zeros s)))) (s.digest (flat (s.sum_of (zeros s)))) ≡ true = same-refl _ in
     let d : same (s.digest (s.fragment_of (zeros s) i)) (digest_at s (s.sum_of (zeros s)) i) ≡ true = rw (good.digests (zeros s) i size l) (same-refl _) in
     let e : same_stamp (first_stamp s) (first_stamp s) ≡ true = same_stamp-refl _ in
     rw (a, b, c, d, e) refl
-  where
-    is : (x : ℕ) → eqb x x ≡ true
-    is x = grind (arith, nat_tests)
 
 start_stored : (s : Setting) → IsValid s → (i block : ℕ) → i < s.n → IsStored s (start_world s) i block
 start_stored s good i block l = record {
@@ -59,16 +56,13 @@ start_safe s good = record {
   answered = λ m task reply h. absurd (Contains-none m h);
   tasks = λ c task e. absurd (cc e);
   records = λ r h. absurd (Contains-none r h);
-  aimed = λ apart x end stamp c task h. absurd (Contains-none x h);
-  ordered = λ apart x y end stamp last h. absurd (Contains-none x h);
+  aimed = λ c task apart x end stamp h. absurd (Contains-none x h);
+  ordered = λ x y apart end stamp last h. absurd (Contains-none x h);
 }
 
 module _ (s : Setting) (good : IsValid s) (w : World) (safe : IsSafe s w) (place : ℕ) (later : w.place ≤ place) where
   given_safe : (i : ℕ) → i < s.n → s.lying_node i ≡ false → (m : Message) → Contains w.pool m → IsAskTo s i m → IsSafe s (given s w place i m m.body)
   given_safe i l h m there asks = rw asks.2 (handled_safe s w safe place later i l h m there asks.0 asks.1 asks.2)
-
-  is_eqb : (x y : ℕ) → eqb x y ≡ true → x ≡ y
-  is_eqb x y h = grind (arith, nat_tests)
 
   kind_as : (stage : Stage) (a r : Reply) → a ≡ r → is_of_kind stage a ≡ true → is_of_kind stage r ≡ true
   kind_as stage a r e h = rw e at h

@@ -3,7 +3,6 @@ use Rattle.std.proofs.Common.{◌≡◌, ◌⊎◌, ◌∷◌, eqb, ℕ, ◌-◌
 use Rattle.std.specs.Prelude.{slice_index_or, slice_set}
 use Rattle.std.specs.declared.option.Option.TheVariants.{None, Some}
 use Rattle.std.proofs.lemmas.Bool.{cases_lt}
-use Rattle.std.proofs.lemmas.Bool.Decides.{nat_tests}
 use Rattle.std.proofs.lemmas.List.{get_or-set_same, get_or-set_other, get_or-replicate, get_or_past, length-replicate, length-set}
 use Rattle.protocol.specs.Count.{update}
 use Rattle.protocol.specs.Messages.{Version, Tag, Reply, Message}
@@ -17,6 +16,7 @@ use Rattle.protocol.specs.Seen.{SeenClient, SeenWorld, client_at, new_client, st
 use Rattle.protocol.specs.Seen.Hearing.{Ignored, Counted}
 pub use Rattle.protocol.specs.Views.{IsFull, after_hearing, task_after}
 use Rattle.protocol.proofs.Counting.{update-cases, both_true}
+use Rattle.protocol.proofs.Tests.{is_ltb}
 
 pub funext : {A B : Type 0} (f g : A → B) → ((x : A) → f x ≡ g x) → f ≡ g
 funext f g h i x = h x i
@@ -87,10 +87,7 @@ module _ (s : Setting) (w : World) (place c start : ℕ) where
   node_below : (t : SeenTask) (m : Message) (given : Reply) → is_counted s t m.node m.tag given ≡ true → m.node < s.n
   node_below t m given h =
       let l : ltb m.node s.n ≡ true = (both_true _ _ (both_true _ _ (both_true _ _ h).0).0).1 in
-      below m.node s.n l
-    where
-      below : (i n : ℕ) → ltb i n ≡ true → i < n
-      below i n l = grind (arith, nat_tests)
+      is_ltb m.node s.n l
 
   -- an answer is heard: the four cases of `hearing`
   pub heard_by-seen : (t : SeenTask) → length t.answers ≡ s.n → (m : Message) (given : Reply) → heard_by s w place c (Some (task_at start t)) m given ≡ after_hearing s w place c start t (hearing s c t m.node m.tag given)

@@ -17,14 +17,14 @@ use Rattle.protocol.specs.World.{World, happens, sent, only_place, IsOfLiar, IsQ
 use Rattle.protocol.specs.World.Event.{Resend, Lie, CrashNode, CrashClient, Back}
 use Rattle.protocol.specs.History.{NoClash, IsValue}
 use Rattle.protocol.specs.History.IsValue.{zeros_value, written, given}
-use Rattle.protocol.proofs.Counting.{cases_bool, update-cases}
+use Rattle.protocol.proofs.Counting.{cases_bool, update-cases, update-same}
 use Rattle.protocol.proofs.Lists.{Contains-one}
 use Rattle.protocol.proofs.Order.{≼-trans, before_false}
 use Rattle.protocol.proofs.Keeping.{pruned_was, pruned_first, pruned_above, pruned_greatest}
 use Rattle.protocol.proofs.Mails.{in_mail, mail_asks, mail_answers}
-use Rattle.protocol.proofs.Seen.{NoClash-before}
+use Rattle.protocol.proofs.Strings.{NoClash-before, NoClashFor-before}
 use Rattle.protocol.proofs.Given.{IsGreatest, greatest_is}
-use Rattle.protocol.proofs.Invariant.{AtWork, IsOwned, IsTagged, Quorum, IsQuorum, IsStored, IsCovered, IsPassed, IsSafe}
+use Rattle.protocol.proofs.Invariant.{AtWork, IsOwned, IsTagged, Quorum, IsStored, IsCoveredBy, IsPassed, IsSafe}
 
 -- what a client does that hasn't crashed
 pub working : (b : Bool) (o : Option Task) (task : Task) → unless b o ≡ Some task → (b ≡ false) × (o ≡ Some task)
@@ -93,8 +93,8 @@ module _ (s : Setting) (w : World) where
       not_now : (m : Message) (reply : Reply) → IsSentNow m → m.body ≡ Answers reply → ⊥
       not_now m reply now body = mail_answers s m.client now.0 m now.1 reply now.3 body
 
-      pub quorum_after : (Enough : (ℕ → Bool) → Type 0) (b : ℕ) (stamp : Stamp) (end : ℕ) → Quorum s Enough w b stamp end → Quorum s Enough changed b stamp end
-      quorum_after Enough b stamp end q = record {
+      pub quorum_after : (b : ℕ) (stamp : Stamp) (end : ℕ) → Quorum s w b stamp end → Quorum s changed b stamp end
+      quorum_after b stamp end q = record {
         members = q.members;
         enough = q.enough;
         are_honest = q.are_honest;
@@ -141,10 +141,10 @@ module _ (s : Setting) (w : World) where
           open_end = k.open_end;
           closed_end = k.closed_end;
           running = λ z e f. k.running z (less.fewer r.client z e) f;
-          completed = λ end stamp e f. quorum_after (IsQuorum s) r.block stamp end (k.completed end stamp e f);
+          completed = λ end stamp e f. quorum_after r.block stamp end (k.completed end stamp e f);
         };
-        aimed = λ apart x end stamp c z h e f g. safe.aimed (apart_before apart) x end stamp c z h e f (less.fewer c z g);
-        ordered = λ apart. safe.ordered (apart_before apart);
+        aimed = λ c z apart x end stamp h e f g. safe.aimed c z (NoClashFor-before s w changed apart_before z.work apart) x end stamp h e f (less.fewer c z g);
+        ordered = λ x y apart. safe.ordered x y (NoClashFor-before s w changed apart_before y.work apart);
       }
 
 module _ (s : Setting) (w : World) (safe : IsSafe s w) (place : ℕ) (later : w.place ≤ place) where
@@ -195,7 +195,7 @@ module _ (s : Setting) (w : World) (safe : IsSafe s w) (place : ℕ) (later : w.
   pub crash_node_safe : (i : ℕ) → IsSafe s (happens s w place (CrashNode i))
   crash_node_safe i = nodes_same w.pool w.task w.life w.started (update w.node_crashed i true) w.client_crashed (place_less w.versions (update w.node_crashed i true))
 
-  crash_fewer : (c d : ℕ) (z : Task) → unless (update w.client_crashed c true d) (w.task d) ≡ Some z → under_way w d ≡ Some z
+  pub crash_fewer : (c d : ℕ) (z : Task) → unless (update w.client_crashed c true d) (w.task d) ≡ Some z → under_way w d ≡ Some z
   crash_fewer c d z h = elim (update-cases w.client_crashed c true d)
       [ inl e ↦ absurd (let k : unless true (w.task d) ≡ Some z = rw e.1 at h in cc) | inr e ↦ rw (← e.1) h ]
 
@@ -206,7 +206,7 @@ module _ (s : Setting) (w : World) (safe : IsSafe s w) (place : ℕ) (later : w.
   crash_client_safe c = nodes_same w.pool w.task w.life w.started w.node_crashed (update w.client_crashed c true) (crash_less c)
 
   -- a client that came back does nothing
-  back_fewer : (c d : ℕ) (z : Task) → unless (update w.client_crashed c false d) (update w.task c None d) ≡ Some z → (d ≡ c → ⊥) × (under_way w d ≡ Some z)
+  pub back_fewer : (c d : ℕ) (z : Task) → unless (update w.client_crashed c false d) (update w.task c None d) ≡ Some z → (d ≡ c → ⊥) × (under_way w d ≡ Some z)
   back_fewer c d z h =
       elim (update-cases w.task c None d) [
         | inl e ↦ absurd (let k : unless (update w.client_crashed c false d) None ≡ Some z = rw e.1 at h in let q = (working (update w.client_crashed c false d) None z k).1 in cc)
@@ -249,10 +249,10 @@ module _ (s : Setting) (w : World) (safe : IsSafe s w) (place : ℕ) (later : w.
 
   -- a node prunes a block on which nothing is under way, by a stamp that a completed read gave
   module _ (i block : ℕ) (quiet : IsQuiet s w block) (stamp : Stamp) (by : greatest_given block w.records ≡ Some stamp) where
-    abbrev less_kept : ℕ → ℕ → List Version
+    abbrev pub less_kept : ℕ → ℕ → List Version
     less_kept = update w.versions i (update (w.versions i) block (pruned s stamp (w.versions i block)))
 
-    abbrev short : World
+    abbrev pub short : World
     short = record w { versions = less_kept; place = place }
 
     read : IsGreatest w.records block stamp
@@ -286,19 +286,32 @@ module _ (s : Setting) (w : World) (safe : IsSafe s w) (place : ℕ) (later : w.
             at None e f = absurd (let z = k e in let g = read.gave in cc)
             at (Some end) e f = (end, e, f)
 
-    covered_pruned : (t : Stamp) → IsCovered s w i block t → (v : Version) × Contains (pruned s stamp (w.versions i block)) v × (t ≼ v.stamp) × ((v.stamp ≡ t) ⊎ IsPassed s short block v.stamp)
-    covered_pruned t c = elim (cases_bool (before stamp c.version.stamp)) [
-      | inl e ↦ (
-        c.version,
-        pruned_above s stamp (w.versions i block) c.version c.there e,
-        c.above,
-        elim c.how [ inl q ↦ inl q | inr p ↦ inr (passed_still s w safe place later w.pool less_kept w.task w.life w.started w.node_crashed w.client_crashed (place_less less_kept w.node_crashed) block c.version.stamp p) ],
-      )
+    less_here : less_kept i block ≡ pruned s stamp (w.versions i block)
+    less_here =
+        let blocks : ℕ → List Version = update (w.versions i) block (pruned s stamp (w.versions i block)) in
+        ap (λ (g : ℕ → List Version). g block) (update-same w.versions i blocks) ∙ update-same (w.versions i) block (pruned s stamp (w.versions i block))
+
+    -- what was covered still is, by itself or by what isn't above the prune's stamp
+    pub covered_pruned : (P Q : Stamp → Type 0) → ((t : Stamp) → P t → Q t) → ((t : Stamp) → t ≼ stamp → Q t) → (t : Stamp) → IsCoveredBy s P w i block t → IsCoveredBy s Q short i block t
+    covered_pruned P Q map now t c = elim (cases_bool (before stamp c.version.stamp)) [
+      | inl e ↦ record {
+        version = c.version;
+        there = rw less_here (pruned_above s stamp (w.versions i block) c.version c.there e);
+        above = c.above;
+        how = elim c.how [ inl q ↦ inl q | inr p ↦ inr (map c.version.stamp p) ];
+      }
       | inr e ↦ (let g = pruned_greatest s stamp (w.versions i block) c.version c.there (before_false c.version.stamp stamp e) in
-          (g.0, g.1, ≼-trans t c.version.stamp g.0.stamp c.above g.2, inr (passed_now g.0.stamp g.3)))
+          record { version = g.0; there = rw less_here g.1; above = ≼-trans t c.version.stamp g.0.stamp c.above g.2; how = inr (now g.0.stamp g.3) })
     ]
 
-    versions_cases : (j b : ℕ) → (less_kept j b ≡ w.versions j b) ⊎ ((j ≡ i) × (b ≡ block) × (less_kept j b ≡ pruned s stamp (w.versions i block)))
+    -- elsewhere what was covered is covered in the same way
+    pub covered_elsewhere : (P Q : Stamp → Type 0) → ((t : Stamp) → P t → Q t) → (j b : ℕ) → less_kept j b ≡ w.versions j b → (t : Stamp) → IsCoveredBy s P w j b t → IsCoveredBy s Q short j b t
+    covered_elsewhere P Q map j b e t c = record { version = c.version; there = rw e c.there; above = c.above; how = elim c.how [ inl q ↦ inl q | inr p ↦ inr (map c.version.stamp p) ] }
+
+    passed_short : (b : ℕ) (t : Stamp) → IsPassed s w b t → IsPassed s short b t
+    passed_short b t p = passed_still s w safe place later w.pool less_kept w.task w.life w.started w.node_crashed w.client_crashed (place_less less_kept w.node_crashed) b t p
+
+    pub versions_cases : (j b : ℕ) → (less_kept j b ≡ w.versions j b) ⊎ ((j ≡ i) × (b ≡ block) × (less_kept j b ≡ pruned s stamp (w.versions i block)))
     versions_cases j b =
         elim (update-cases w.versions i (update (w.versions i) block (pruned s stamp (w.versions i block))) j) [
           | inl e ↦ elim (update-cases (w.versions i) block (pruned s stamp (w.versions i block)) b) [
@@ -314,7 +327,7 @@ module _ (s : Setting) (w : World) (safe : IsSafe s w) (place : ℕ) (later : w.
       whole = λ v k. h.whole v (pruned_was s stamp (w.versions i block) v (rw (f ∙ e) at k));
       formed = λ v k. h.formed v (pruned_was s stamp (w.versions i block) v (rw (f ∙ e) at k));
       kept = λ v k. h.kept v (pruned_was s stamp (w.versions i block) v (rw (f ∙ e) at k));
-      covered = λ t k. let c = covered_pruned t (h.covered t k) in record { version = c.0; there = rw (f ∙ e) c.1; above = c.2; how = c.3 };
+      covered = λ t k. covered_pruned (IsPassed s w block) (IsPassed s short block) (passed_short block) passed_now t (h.covered t k);
     }
 
     still_stored : (j b : ℕ) → less_kept j b ≡ w.versions j b → IsStored s w j b → IsStored s short j b
@@ -323,15 +336,7 @@ module _ (s : Setting) (w : World) (safe : IsSafe s w) (place : ℕ) (later : w.
       whole = λ u k. h.whole u (rw e at k);
       formed = λ u k. h.formed u (rw e at k);
       kept = λ u k. h.kept u (rw e at k);
-      covered = λ t k. let c = h.covered t k in record {
-        version = c.version;
-        there = rw e c.there;
-        above = c.above;
-        how = elim c.how [
-          | inl q ↦ inl q
-          | inr p ↦ inr (passed_still s w safe place later w.pool less_kept w.task w.life w.started w.node_crashed w.client_crashed (place_less less_kept w.node_crashed) b c.version.stamp p)
-        ];
-      };
+      covered = λ t k. covered_elsewhere (IsPassed s w b) (IsPassed s short b) (passed_short b) j b e t (h.covered t k);
     }
 
     pub pruned_safe : IsSafe s short

@@ -1,5 +1,5 @@
 -- A start keeps what holds in every world.
-use Rattle.std.proofs.Common.{◌≡◌, ◌⊎◌, ℕ, Bool, ◌+◌, ◌-◌, ◌^◌, ◌<◌, ◌≤◌, false, List, [], ◌∷◌, refl, sym, ◌∙◌, ap, inl, inr, arith}
+use Rattle.std.proofs.Common.{◌≡◌, ◌⊎◌, ℕ, ◌+◌, ◌-◌, ◌^◌, ◌<◌, ◌≤◌, false, List, [], ◌∷◌, refl, sym, ◌∙◌, ap, inl, inr, arith}
 use Rattle.std.specs.declared.option.Option.TheVariants.{None, Some}
 use Rattle.std.specs.List.{Contains}
 use Rattle.std.proofs.lemmas.List.Elements.{Contains-append_cases, Contains-append_left, Contains-append_right}
@@ -17,8 +17,8 @@ use Rattle.protocol.specs.History.IsValue.{zeros_value, written, given}
 use Rattle.protocol.proofs.Counting.{update-cases}
 use Rattle.protocol.proofs.Lists.{Contains-one, Contains-collected}
 use Rattle.protocol.proofs.Mails.{in_mail, mail_asks, mail_answers}
-use Rattle.protocol.proofs.Seen.{NoClash-before}
-use Rattle.protocol.proofs.Invariant.{AtWork, IsOwned, IsTagged, Quorum, IsQuorum, IsTask, IsStage, IsRecord, IsOutcome, IsAimed, IsAfter, IsSafe, Fits as Fits', IsOpen, IsStored, IsPassed}
+use Rattle.protocol.proofs.Strings.{NoClash-before, NoClashFor-before}
+use Rattle.protocol.proofs.Invariant.{AtWork, IsOwned, IsTagged, Quorum, IsTask, IsStage, IsRecord, IsOutcome, IsAimed, IsAfter, NoClashFor, IsSafe, Fits as Fits', IsOpen, IsStored, IsPassed}
 use Rattle.protocol.proofs.Forming.{first_formed}
 use Rattle.protocol.proofs.Freshness.{IsFresh-more}
 use Rattle.protocol.proofs.Sending.{working}
@@ -179,8 +179,8 @@ module _ (s : Setting) (w : World) (safe : IsSafe s w) (place : ℕ) (later : w.
         record { version = v.version; there = v.there; above = v.above; how = elim v.how [ inl e ↦ inl e | inr p ↦ inr (passed_after b v.version.stamp p) ] };
   }
 
-  pub quorum_after : (Enough : (ℕ → Bool) → Type 0) (b : ℕ) (stamp : Stamp) (end : ℕ) → Quorum s Enough w b stamp end → Quorum s Enough after b stamp end
-  quorum_after Enough b stamp end q = record {
+  pub quorum_after : (b : ℕ) (stamp : Stamp) (end : ℕ) → Quorum s w b stamp end → Quorum s after b stamp end
+  quorum_after b stamp end q = record {
     members = q.members;
     enough = q.enough;
     are_honest = q.are_honest;
@@ -207,7 +207,7 @@ module _ (s : Setting) (w : World) (safe : IsSafe s w) (place : ℕ) (later : w.
                 | inl q ↦ absurd (let o : r.start ≡ place = f ∙ ap (λ (t : Task). t.start) q.1 in omega (arith, o, i.start, later))
                 | inr q ↦ i.running task q.1 f
               ];
-              completed = λ end stamp e f. quorum_after (IsQuorum s) r.block stamp end (i.completed end stamp e f);
+              completed = λ end stamp e f. quorum_after r.block stamp end (i.completed end stamp e f);
             })
         | inr k ↦ rw k (record {
           start = omega arith;
@@ -221,13 +221,13 @@ module _ (s : Setting) (w : World) (safe : IsSafe s w) (place : ℕ) (later : w.
         })
       ]
 
-  aimed_after : NoClash s after → (x : Record) (end : ℕ) (stamp : Stamp) (d : ℕ) (task : Task) → Contains after.records x → x.end ≡ Some end → x.stamp ≡ Some stamp
+  aimed_after : (d : ℕ) (task : Task) → NoClashFor s after task.work → (x : Record) (end : ℕ) (stamp : Stamp) → Contains after.records x → x.end ≡ Some end → x.stamp ≡ Some stamp
       → under_way after d ≡ Some task → task.block ≡ x.block → end < task.start → IsAimed s stamp task.work task.stage
-  aimed_after apart x end stamp d task h e f g of_block late =
+  aimed_after d task apart x end stamp h e f g of_block late =
       elim (task_cases d task g) [
         | inl q ↦ rw q.1 (first_aimed s stamp work)
         | inr q ↦ elim (record_cases x h) [
-          | inl k ↦ safe.aimed (apart_before apart) x end stamp d task k e f q.1 of_block late
+          | inl k ↦ safe.aimed d task (NoClashFor-before s w after apart_before task.work apart) x end stamp k e f q.1 of_block late
           | inr k ↦ absurd (let z : x.end ≡ None = ap (λ (r : Record). r.end) k in cc)
         ]
       ]
@@ -236,12 +236,12 @@ module _ (s : Setting) (w : World) (safe : IsSafe s w) (place : ℕ) (later : w.
   first_none Reads = refl
   first_none (Writes value) = refl
 
-  ordered_after : NoClash s after → (x y : Record) (end : ℕ) (stamp last : Stamp) → Contains after.records x → Contains after.records y → x.end ≡ Some end → x.stamp ≡ Some stamp
+  ordered_after : (x y : Record) → NoClashFor s after y.work → (end : ℕ) (stamp last : Stamp) → Contains after.records x → Contains after.records y → x.end ≡ Some end → x.stamp ≡ Some stamp
       → y.stamp ≡ Some last → y.block ≡ x.block → end < y.start → IsAfter s stamp y.work last
-  ordered_after apart x y end stamp last h k e f g of_block late =
+  ordered_after x y apart end stamp last h k e f g of_block late =
       elim (record_cases x h) [
         | inl m ↦ elim (record_cases y k) [
-          | inl n ↦ safe.ordered (apart_before apart) x y end stamp last m n e f g of_block late
+          | inl n ↦ safe.ordered x y (NoClashFor-before s w after apart_before y.work apart) end stamp last m n e f g of_block late
           | inr n ↦ absurd (let z : y.stamp ≡ None = ap (λ (r : Record). r.stamp) n ∙ first_none work in cc)
         ]
         | inr m ↦ absurd (let z : x.end ≡ None = ap (λ (r : Record). r.end) m in cc)

@@ -1,11 +1,8 @@
 -- Records stand in order of start.
-use Rattle.std.proofs.Common.{◌≡◌, ℕ, ◌+◌, ◌<◌, ◌≤◌, Bool, true, false, cond, ◌&&◌, List, [], ◌∷◌, ◌++◌, map, Option, refl, ap, arith, eqb}
-use Rattle.std.specs.declared.option.Option.TheVariants.{None, Some}
+use Rattle.std.proofs.Common.{◌≡◌, ℕ, ◌+◌, ◌<◌, ◌≤◌, Bool, true, false, cond, ◌&&◌, List, [], ◌∷◌, ◌++◌, map, refl, ap, arith, eqb}
 use Rattle.std.specs.List.{Contains, AllByRecursion}
 use Rattle.std.proofs.lemmas.Bool.Decides.{nat_tests}
-use Rattle.protocol.specs.Messages.{Body, Message}
-use Rattle.wire_forms.specs.declared.Body.TheVariants.{Ask as Asks, Answer as Answers}
-use Rattle.stamp_order.specs.declared.Stamp.{Stamp}
+use Rattle.protocol.specs.Messages.{Message}
 use Rattle.protocol.specs.Setting.{Setting, IsValid}
 use Rattle.protocol.specs.Operations.{Task}
 use Rattle.protocol.specs.World.{World, Record, Event, happens, Allowed, IsAnswerTo, given, resent_by, pruned_at, heard, open_record, closed_record, with_record, replaced_by, only_place}
@@ -13,6 +10,7 @@ use Rattle.protocol.specs.World.Event.{Start, Resend, Give, Hear, CrashNode, Cra
 use Rattle.protocol.specs.Report.{Ascend}
 use Rattle.protocol.proofs.Counting.{both_true}
 use Rattle.protocol.proofs.Lists.{Contains-head, Contains-rest}
+use Rattle.protocol.proofs.Growing.{given_records, resent_records, pruned_records}
 use Rattle.protocol.proofs.Invariant.{IsSafe}
 use Rattle.protocol.proofs.Heard.{heard_case}
 
@@ -48,19 +46,6 @@ ascend_push (m ∷ ns) n h l = (all_push m ns n h.0 l.0, ascend_push ns n h.1 l.
 all_starts : (rs : List Record) (n : ℕ) → ((r : Record) → Contains rs r → r.start < n) → AllByRecursion (λ m. m < n) (starts rs)
 all_starts [] n h = tt
 all_starts (r ∷ rs) n h = (h r (Contains-head r rs), all_starts rs n (λ x k. h x (Contains-rest x r rs k)))
-
-module _ (s : Setting) (w : World) (place : ℕ) where
-  given_records : (i : ℕ) (m : Message) (body : Body) → (given s w place i m body).records ≡ w.records
-  given_records i m (Asks ask) = refl
-  given_records i m (Answers reply) = refl
-
-  resent_records : (c : ℕ) (o : Option Task) → (resent_by s w place c o).records ≡ w.records
-  resent_records c None = refl
-  resent_records c (Some task) = refl
-
-  pruned_records : (i block : ℕ) (o : Option Stamp) → (pruned_at s w place i block o).records ≡ w.records
-  pruned_records i block None = refl
-  pruned_records i block (Some stamp) = refl
 
 module _ (s : Setting) (good : IsValid s) (w : World) (safe : IsSafe s w) (up : Ascend (starts w.records)) (place : ℕ) where
   -- the world's records stand in order of start

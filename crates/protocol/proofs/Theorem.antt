@@ -1,20 +1,16 @@
 -- The safety of every run.
-use Rattle.std.proofs.Common.{◌≡◌, ◌≢◌, ◌↔◌, ◌<◌, ℕ, List, Option, inl, inr}
+use Rattle.std.proofs.Common.{◌≡◌, ◌≢◌, ◌↔◌, ◌<◌, ℕ, List, inl, inr}
 use Rattle.std.specs.declared.option.Option.TheVariants.{None, Some}
 use Rattle.std.specs.declared.cmp.Ordering.TheVariants.{Equal}
 use Rattle.std.specs.List.{Contains}
-use Rattle.stamp_order.specs.declared.Stamp.{Stamp}
 use Rattle.protocol.specs.Setting.{Setting, IsValid, Sound, first_stamp}
-use Rattle.protocol.specs.Operations.{Work, Outcome}
-use Rattle.protocol.specs.Operations.Work.{Reads, Writes}
 use Rattle.run_words.specs.declared.outcome.Outcome.TheVariants.{Outvoted}
 use Rattle.protocol.specs.World.{World, Record, start_world}
 use Rattle.protocol.specs.Lines.{Line, Run, FitsLine, fault, IsPlayable}
 use Rattle.protocol.specs.History.{Entry, IsHistory, IsEntry, Legal, InTime, NoClash, HasRead, HasLie, entry_cmp}
 use Rattle.protocol.specs.History.Kind.{Read, Foreign}
 use Rattle.protocol.specs.Bounds.{IsBounded, IsLow}
-use Rattle.protocol.proofs.Invariant.{IsOutcome}
-use Rattle.protocol.proofs.Histories.{in_time, entry_stamped}
+use Rattle.protocol.proofs.Histories.{outcome_at, not_outvoted, in_time, entry_stamped}
 use Rattle.protocol.proofs.Registers as registers
 use Rattle.protocol.proofs.RunOrigins.{read_known}
 use Rattle.protocol.proofs.Origins.{IsKnown}
@@ -38,12 +34,8 @@ module _ (s : Setting) (lines : List (ℕ × Line)) (w : World) (good : IsValid 
   pub run_sound : (h : List Entry) → IsHistory s w h → (e : Entry) → Contains h e → e.kind ≡ Read → Sound s e.stamp e.value
   run_sound h hist e k kind = (entry_stamped s good w right.safe e ((hist.1 e).0 k)).sound
 
-  not_outvoted : (work : Work) (stamp : Option Stamp) (o : Option Outcome) (nodes : List ℕ) → o ≡ Some (Outvoted nodes) → IsOutcome s work stamp o → ⊥
-  not_outvoted Reads stamp o nodes e h = let k : IsOutcome s Reads stamp (Some (Outvoted nodes)) = rw e at h in k
-  not_outvoted (Writes v) stamp o nodes e h = let k : IsOutcome s (Writes v) stamp (Some (Outvoted nodes)) = rw e at h in k
-
   pub run_never_outvoted : (r : Record) (nodes : List ℕ) → Contains w.records r → r.outcome ≢ Some (Outvoted nodes)
-  run_never_outvoted r nodes h e = not_outvoted r.work r.stamp r.outcome nodes e (right.safe.records r h).outcome
+  run_never_outvoted r nodes h e = not_outvoted s r.work r.stamp nodes (outcome_at s r (Some (Outvoted nodes)) e (right.safe.records r h).outcome)
 
   pub run_keys : (e f : Entry) → IsEntry w.records (first_stamp s) e → IsEntry w.records (first_stamp s) f → entry_cmp e f ≡ Equal → e ≡ f
   run_keys = one_key s w right.apart

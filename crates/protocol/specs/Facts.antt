@@ -6,16 +6,15 @@ use Rattle.stamp_order.specs.declared.Stamp.{Stamp}
 use Rattle.stamp_order.specs.declared.Bound.{Bound}
 use Rattle.stamp_order.specs.Stamps.{has, ◌≼◌}
 use Rattle.protocol.specs.Messages.{Version, Ask, Reply, Message}
-use Rattle.wire_forms.specs.declared.Request.TheVariants.{Write}
-use Rattle.wire_forms.specs.declared.Reply.TheVariants.{TimeIs, Found, Ack}
+use Rattle.wire_forms.specs.declared.Request.TheVariants.{Time, Read, Write}
+use Rattle.wire_forms.specs.declared.Reply.TheVariants.{TimeIs, Found, Nothing, Ack, Refused}
 use Rattle.wire_forms.specs.declared.Body.TheVariants.{Ask as Asks}
 use Rattle.protocol.specs.Count.{count}
 use Rattle.protocol.specs.Setting.{Setting, first_stamp}
-use Rattle.protocol.specs.Operations.{Task, Work, Stage, Outcome, outstanding}
+use Rattle.protocol.specs.Operations.{Task, Work, Outcome, outstanding}
 use Rattle.protocol.specs.Operations.Work.{Reads, Writes}
 use Rattle.run_words.specs.declared.outcome.Outcome.TheVariants.{Wrote, Spent, Gave}
-use Rattle.protocol.specs.Operations.Stage.{Times, Versions}
-use Rattle.protocol.specs.World.{Record, World, under_way, open_record, IsClient, given_of}
+use Rattle.protocol.specs.World.{Record, World, open_record, IsClient, given_of}
 use Rattle.protocol.specs.History.{HasWrite, HasLie}
 
 module _ (s : Setting) where
@@ -27,12 +26,13 @@ module _ (s : Setting) where
   abbrev pub HasAccepted : World → ℕ → ℕ → Stamp → Type 0
   HasAccepted w i block stamp = (stamp ≡ first_stamp s) ⊎ Contains w.accepted (record { node = i; block = block; stamp = stamp })
 
-  -- the time that node i told, the version that it found, or the write that it acknowledged goes back to a stamp that it accepted
+  -- node i's reply is of the kind that was asked, and the time that it told, the version that it found or the write that it acknowledged goes back to a stamp that it accepted
   abbrev pub IsGrounded : World → ℕ → Ask → Reply → Type 0
-  IsGrounded w i ask (TimeIs time) = (stamp : Stamp) × HasAccepted w i ask.block stamp × (time ≡ stamp.time)
-  IsGrounded w i ask (Found v) = HasAccepted w i ask.block v.stamp
+  IsGrounded w i ask (TimeIs time) = (ask.request ≡ Time) × (stamp : Stamp) × HasAccepted w i ask.block stamp × (time ≡ stamp.time)
+  IsGrounded w i ask (Found v) = (bound : Bound) × (ask.request ≡ Read bound) × (has bound v.stamp ≡ true) × HasAccepted w i ask.block v.stamp
+  IsGrounded w i ask Nothing = (bound : Bound) × (ask.request ≡ Read bound)
   IsGrounded w i ask Ack = (v : Version) × (ask.request ≡ Write v) × HasAccepted w i ask.block v.stamp
-  IsGrounded w i ask _ = Unit {0}
+  IsGrounded w i ask (Refused reason) = Unit {0}
 
   -- message k of the pool, a node's answer, was made from an ask that was sent before it, with its client, node and tag
   pub record IsHosted (w : World) (k : ℕ) (m : Message) (reply : Reply) : Type 0 where
@@ -67,25 +67,19 @@ module _ (s : Setting) where
     pub recorded : Contains w.records (open_record client task)
     pub only : (x : Record) → Contains w.records x → x.client ≡ client → x.start ≡ task.start → x ≡ open_record client task
 
-  -- the message is of the phase that its client's operation is in now
-  pub record AtWork (w : World) (m : Message) (task : Task) : Type 0 where
-    pub client : under_way w m.client ≡ Some task
-    pub op : m.tag.op ≡ task.op
-    pub phase : m.tag.phase ≡ task.phase
+-- an operation on the block ended with this stamp before the place start
+pub record HasEnded (w : World) (block : ℕ) (stamp : Stamp) (start : ℕ) : Type 0 where
+  pub past : Record
+  pub there : Contains w.records past
+  pub of_block : past.block ≡ block
+  pub stamped : past.stamp ≡ Some stamp
+  pub end : ℕ
+  pub ended : past.end ≡ Some end
+  pub earlier : end < start
 
-  -- the bound has the stamp of each operation on the block that ended before this place
-  abbrev pub IsOpen : World → ℕ → ℕ → Bound → Type 0
-  IsOpen w block start bound = (x : Record) (end : ℕ) (stamp : Stamp) → Contains w.records x → x.block ≡ block → x.end ≡ Some end → x.stamp ≡ Some stamp → end < start → has bound stamp ≡ true
-
-  -- an answer to what a task asks tells a time of at least the stamp's, or finds a stamp of at least this one where the bound has it and all that was completed before the task began
-  abbrev pub IsNotBehind : World → Task → Stamp → Stage → Reply → Type 0
-  IsNotBehind w task stamp Times (TimeIs time) = stamp.time ≤ time
-  IsNotBehind w task stamp (Versions bound) reply = has bound stamp ≡ true → IsOpen w task.block task.start bound → (v : Version) × (reply ≡ Found v) × (stamp ≼ v.stamp)
-  IsNotBehind w task stamp _ _ = Unit {0}
-
--- the first messages, and then more
-abbrev pub Extends : List Message → List Message → Type 0
-Extends pool longer = (more : List Message) × (longer ≡ pool ++ more)
+-- the first list, and then more
+abbrev pub Extends : {A : Type 0} → List A → List A → Type 0
+Extends {A} xs longer = (more : List A) × (longer ≡ xs ++ more)
 
 -- two records of one operation: one client's, begun at one place
 abbrev pub IsSameOperation : Record → Record → Type 0

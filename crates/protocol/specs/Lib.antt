@@ -12,4 +12,6 @@ pub mod Bounds
 pub mod Report
 pub mod Seen
 pub mod Views
+pub mod Freshness
 pub mod Instance
+pub mod Laws

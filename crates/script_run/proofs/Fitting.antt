@@ -59,6 +59,6 @@ fits_line c nodes clients (Poke m) h = formed_body m.body h.0.body
 fits_line c nodes clients (False client node rule) h = h.2
 fits_line c nodes clients (Sound client node block time value) h = (h.4.whole, bytes_of value h.4.bytes)
 fits_line c nodes clients (Mix client node block time value other) h = ((h.4.whole, bytes_of value h.4.bytes), (h.5.whole, bytes_of other h.5.bytes))
-fits_line c nodes clients (Prune node block) h = absurd h
+fits_line c nodes clients (Prune node block) h = h.1.there
 fits_line c nodes clients (Back client) h = tt
 fits_line c nodes clients (Restart node) h = tt

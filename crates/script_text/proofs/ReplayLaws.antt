@@ -17,9 +17,9 @@ use Rattle.text_lines.specs.Lines.{parts_of, fields_of, line_of_fields, text_of_
 use Rattle.text_lines.proofs.Numbers.{number_of-decimal}
 use Rattle.text_lines.proofs.Joined.{part_before}
 use Rattle.wire_forms.specs.Liars.{Liars, has_number}
-use Rattle.line_forms.specs.Heads.{head_lines, head_text, header, cluster_fields, numbers_in}
+use Rattle.line_forms.specs.Heads.{head_lines, head_text, header, cluster_fields}
 use Rattle.line_forms.specs.Texts.{IsFaultless, ReadsTo}
-use Rattle.line_forms.proofs.Accepted.{head_accepted, numbers_back}
+use Rattle.line_forms.proofs.Accepted.{head_accepted, one_head}
 use Rattle.line_forms.proofs.Tables.{or_none}
 use Rattle.line_forms.proofs.Texts.{reads_on, read_all}
 use Rattle.event_lines.specs.Forms.{fields_cause, event_cause}
@@ -156,7 +156,7 @@ spelled_reads text c l es s r =
     events_accepted text c s.declared [] es es [] r.valid declarable refl r.limited tt r.events (subst (λ (ls : List (List ℕ)). ReadsTo replay_script text ls (events ++ [])) lines declared)
 
 pub replay_accepted : (text : List ℕ) (c : Numbers) (l : Liars) (es : List ReplayLine) → IsReplay c l es → Spells text c l es → IsFaultless replay_script text
-replay_accepted text c l es r s = read_all replay_script text header (line_of_fields (cluster_fields c) ∷ body_lines s.declared es) [] (spelled_reads text c l es s r) refl refl
+replay_accepted text c l es r s = read_all replay_script text (header c.edition) (line_of_fields (cluster_fields c) ∷ body_lines s.declared es) [] (spelled_reads text c l es s r) refl refl
 
 -- ---- one text, one replay
 
@@ -196,8 +196,7 @@ body_one c (d ∷ ds) (g ∷ gs) es fs p q h k e =
 pub one_replay : (text : List ℕ) (c d : Numbers) (l m : Liars) (es fs : List ReplayLine) → IsReplay c l es → IsReplay d m fs → Spells text c l es → Spells text d m fs → (c ≡ d) × (l ≡ m) × (es ≡ fs)
 one_replay text c d l m es fs r q s t =
     let lines : replay_lines c s.declared es ≡ replay_lines d t.declared fs = push_same _ _ [] (sym (spelled_reads text c l es s r).parts ∙ (spelled_reads text d m fs t q).parts) in
-    let second : line_of_fields (cluster_fields c) ≡ line_of_fields (cluster_fields d) = ap (λ (ls : List (List ℕ)). get_or ls 1 []) lines in
-    let config : c ≡ d = sym (numbers_back c r.valid) ∙ ap (λ (l : List ℕ). numbers_in (fields_of l)) second ∙ numbers_back d q.valid in
+    let config : c ≡ d = one_head c d _ _ r.valid q.valid lines in
     let body : body_lines s.declared es ≡ body_lines t.declared fs = ap (λ (ls : List (List ℕ)). drop 2 ls) lines in
     let there = subst (λ (k : Numbers). AllByRecursion (IsEventLine k) fs) (sym config) q.events in
     let both = body_one c s.declared t.declared es fs (all_low c s.declared r.valid (spelled_declarable text c l es s r)) (all_low d t.declared q.valid (spelled_declarable text d m fs t q)) r.events there body in

@@ -170,7 +170,7 @@ cut_end first ls (b ∷ rest) some = refl
 pub event_cut : (text : List ℕ) (c : Numbers) (l : Liars) (es : List ReplayLine) (rest : List ℕ) (number : ℕ) → EventsRead text c l es rest number → rest ≢ [] → parts_of rest ≡ rest ∷ [] → IsFault replay_script text number Cut
 event_cut text c l es rest number h some e =
     let body = line_of_fields (cluster_fields c) ∷ body_lines h.declared es in
-    let here = end_fault replay_script text (replay_lines c h.declared es) rest Cut h.reads e (cut_end header body rest some) in
+    let here = end_fault replay_script text (replay_lines c h.declared es) rest Cut h.reads e (cut_end (header c.edition) body rest some) in
     subst (λ (n : ℕ). IsFault replay_script text n Cut) (number_at text c l es rest number h) here
 
 -- the next event line was read
@@ -223,4 +223,4 @@ replay_spelled text c l es rest number h none = record {
 }
 
 pub replay_faultless : (text : List ℕ) (c : Numbers) (l : Liars) (es : List ReplayLine) (rest : List ℕ) (number : ℕ) → EventsRead text c l es rest number → rest ≡ [] → IsFaultless replay_script text
-replay_faultless text c l es rest number h none = read_all replay_script text header (line_of_fields (cluster_fields c) ∷ body_lines h.declared es) rest h.reads none refl
+replay_faultless text c l es rest number h none = read_all replay_script text (header c.edition) (line_of_fields (cluster_fields c) ∷ body_lines h.declared es) rest h.reads none refl

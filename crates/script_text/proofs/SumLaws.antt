@@ -2,7 +2,7 @@
 use Rattle.std.proofs.Common.{◌≡◌, ℕ, List, [], ◌∷◌, ◌++◌, length, drop, get_or, Some, None, refl, sym, ap, ◌∙◌, arith}
 use Rattle.std.specs.Prelude.{codes}
 use Rattle.std.proofs.lemmas.Bool.{eq-eqb}
-use Rattle.std.proofs.lemmas.List.{append-nil}
+use Rattle.std.proofs.lemmas.List.Concat.{flat_map-append}
 use Rattle.quorum_rules.specs.Limits.{Numbers}
 use Rattle.text_lines.specs.Lines.{parts_of, fields_of, line_of_fields, AllLack}
 use Rattle.text_lines.specs.Fields.{value_of, value_text}
@@ -10,8 +10,8 @@ use Rattle.text_lines.proofs.Values.{value_of-text}
 use Rattle.text_lines.proofs.Joined.{parts-joined, Lacks-value_text}
 use Rattle.line_forms.specs.Kinds.{form_cause}
 use Rattle.line_forms.specs.Texts.{IsFaultless, ReadsTo}
-use Rattle.line_forms.specs.Heads.{head_text, numbers_in, cluster_fields, header}
-use Rattle.line_forms.proofs.Accepted.{head_accepted, line_apart, numbers_back}
+use Rattle.line_forms.specs.Heads.{head_lines, head_text}
+use Rattle.line_forms.proofs.Accepted.{head_accepted, line_apart, one_head}
 use Rattle.script_text.specs.Sum.{IsSum, sum_text, sum_lines, sum_script, sum_body, value_fields, value_form}
 use Rattle.script_text.proofs.Sums.{HeadRead, value_cause, value_line_read, sum_faultless}
 
@@ -24,9 +24,7 @@ value_accepted c v s =
     ∙ rw (value_of-text v s.bytes, eq-eqb (length v) c.size s.size) refl
 
 text_apart : (c : Numbers) (v : List ℕ) → sum_text c v ≡ head_text c ++ ((line_of_fields (value_fields v) ++ 10 ∷ []) ++ [])
-text_apart c v =
-    let line = line_of_fields (cluster_fields c) ++ 10 ∷ [] in
-    ap (λ (t : List ℕ). header ++ 10 ∷ (t ++ ((line_of_fields (value_fields v) ++ 10 ∷ []) ++ []))) (sym (append-nil line))
+text_apart c v = flat_map-append (λ l. l ++ 10 ∷ []) (head_lines c) (line_of_fields (value_fields v) ∷ [])
 
 -- the text was read so far
 sum_reads : (c : Numbers) (v : List ℕ) → IsSum c v → ReadsTo sum_script (sum_text c v) (sum_lines c v) []
@@ -41,20 +39,14 @@ sum_reads c v s =
 pub sum_accepted : (c : Numbers) (v : List ℕ) → IsSum c v → IsFaultless sum_script (sum_text c v)
 sum_accepted c v s = sum_faultless (sum_text c v) c v [] (sum_reads c v s) refl
 
-second_line : (c : Numbers) (v : List ℕ) → IsSum c v → get_or (parts_of (sum_text c v)) 1 [] ≡ line_of_fields (cluster_fields c)
-second_line c v s = ap (λ (ls : List (List ℕ)). get_or ls 1 []) (sum_reads c v s).parts
-
-third_line : (c : Numbers) (v : List ℕ) → IsSum c v → get_or (parts_of (sum_text c v)) 2 [] ≡ line_of_fields (value_fields v)
-third_line c v s = ap (λ (ls : List (List ℕ)). get_or ls 2 []) (sum_reads c v s).parts
-
 some_same : (v w : List ℕ) → Some v ≡ Some w → v ≡ w
 some_same v w e = cc
 
 pub one_sum : (c d : Numbers) (v w : List ℕ) → IsSum c v → IsSum d w → sum_text c v ≡ sum_text d w → (c ≡ d) × (v ≡ w)
 one_sum c d v w s t e =
-    let second : line_of_fields (cluster_fields c) ≡ line_of_fields (cluster_fields d) = sym (second_line c v s) ∙ ap (λ (x : List ℕ). get_or (parts_of x) 1 []) e ∙ second_line d w t in
-    let third : line_of_fields (value_fields v) ≡ line_of_fields (value_fields w) = sym (third_line c v s) ∙ ap (λ (x : List ℕ). get_or (parts_of x) 2 []) e ∙ third_line d w t in
+    let lines : sum_lines c v ++ [] ∷ [] ≡ sum_lines d w ++ [] ∷ [] = sym (sum_reads c v s).parts ∙ ap parts_of e ∙ (sum_reads d w t).parts in
+    let third : line_of_fields (value_fields v) ≡ line_of_fields (value_fields w) = ap (λ (ls : List (List ℕ)). get_or ls 2 []) lines in
     let text : value_text v ≡ value_text w = ap (λ (l : List ℕ). drop 6 l) third in (
-      sym (numbers_back c s.valid) ∙ ap (λ (l : List ℕ). numbers_in (fields_of l)) second ∙ numbers_back d t.valid,
+      one_head c d _ _ s.valid t.valid lines,
       some_same v w (sym (value_of-text v s.bytes) ∙ ap value_of text ∙ value_of-text w t.bytes),
     )

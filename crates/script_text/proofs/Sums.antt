@@ -46,7 +46,7 @@ value_here c line v = ap (λ (k : Numbers). form_cause (value_form k.size) (fiel
 -- there is no value line
 pub no_value_line : (text : List ℕ) (c : Numbers) (at : ℕ) (rest : List ℕ) → HeadRead text c at rest → parts_of rest ≡ rest ∷ [] → IsFault sum_script text 3 (ended MissingLine rest)
 no_value_line text c at rest h e =
-    end_fault sum_script text (head_lines c) rest (ended MissingLine rest) h.reads e (needed sum_script header (line_of_fields (cluster_fields c) ∷ []) rest refl)
+    end_fault sum_script text (head_lines c) rest (ended MissingLine rest) h.reads e (needed sum_script (header c.edition) (line_of_fields (cluster_fields c) ∷ []) rest refl)
 
 -- the value line has a cause
 pub value_fault : (text : List ℕ) (c : Numbers) (at : ℕ) (rest line after : List ℕ) (len : ℕ) (cause : Cause) → HeadRead text c at rest → parts_of rest ≡ line ∷ parts_of after → len ≡ c.size → form_cause (value_form len) (fields_of line) ≡ Some cause → IsFault sum_script text 3 cause
@@ -74,12 +74,12 @@ pub sum_read : (text : List ℕ) (c : Numbers) (v rest : List ℕ) → ReadsTo s
 sum_read text c v rest r none = text_read sum_script text (sum_lines c v) rest r none
 
 pub sum_faultless : (text : List ℕ) (c : Numbers) (v rest : List ℕ) → ReadsTo sum_script text (sum_lines c v) rest → rest ≡ [] → IsFaultless sum_script text
-sum_faultless text c v rest r none = read_all sum_script text header (line_of_fields (cluster_fields c) ∷ line_of_fields (value_fields v) ∷ []) rest r none refl
+sum_faultless text c v rest r none = read_all sum_script text (header c.edition) (line_of_fields (cluster_fields c) ∷ line_of_fields (value_fields v) ∷ []) rest r none refl
 
 -- a further line is cut
 pub further_cut : (text : List ℕ) (c : Numbers) (v rest : List ℕ) → ReadsTo sum_script text (sum_lines c v) rest → rest ≢ [] → parts_of rest ≡ rest ∷ [] → IsFault sum_script text 4 (ended MissingLine rest)
 further_cut text c v rest r some e =
-    end_fault sum_script text (sum_lines c v) rest (ended MissingLine rest) r e (cut_short sum_script header (line_of_fields (cluster_fields c) ∷ line_of_fields (value_fields v) ∷ []) rest MissingLine some)
+    end_fault sum_script text (sum_lines c v) rest (ended MissingLine rest) r e (cut_short sum_script (header c.edition) (line_of_fields (cluster_fields c) ∷ line_of_fields (value_fields v) ∷ []) rest MissingLine some)
 
 -- there is a further line
 pub further_line : (text : List ℕ) (c : Numbers) (v rest line after : List ℕ) → ReadsTo sum_script text (sum_lines c v) rest → parts_of rest ≡ line ∷ parts_of after → IsFault sum_script text 4 UnknownWord

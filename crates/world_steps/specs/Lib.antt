@@ -1,9 +1,10 @@
 pub mod Worlds
-pub mod Seats
+pub mod Slots
+pub mod BlockUses
 pub mod Steps
 pub mod Actors
 pub mod Acceptances
-pub mod Turns
+pub mod AnswerEffects
 pub mod Beginnings
 pub mod Starts
 pub mod Events

@@ -3,7 +3,7 @@ use Rattle.std.specs.Prelude.{◌≡◌, ℕ, List, ◌++◌, Option}
 use Rattle.std.specs.declared.option.Option.TheVariants.{None, Some}
 use Rattle.wire_forms.specs.declared.message.Body.TheVariants.{Ask as Asks, Answer as Answers}
 use Rattle.protocol.specs.Count.{update, one_more}
-use Rattle.protocol.specs.Messages.{Ask, Reply, Message}
+use Rattle.protocol.specs.Messages.{Version, Ask, Reply, Message}
 use Rattle.protocol.specs.Setting.{Setting}
 use Rattle.protocol.specs.Nodes.{after, accepts}
 use Rattle.protocol.specs.World.{World, accepted_at}
@@ -14,15 +14,19 @@ use Rattle.client_core.specs.Clients.{ClientView}
 use Rattle.world_steps.specs.Worlds.{WorldView, setting_in, world_in}
 
 -- the client of a number
-abbrev pub seated : WorldView → ℕ → ClientView
-seated v c = record { config = v.config; id = c; seen = client_at v.seen c }
+abbrev pub client_in : WorldView → ℕ → ClientView
+client_in v c = record { config = v.config; id = c; seen = client_at v.seen c }
+
+-- the version that node i accepts in answer to an ask, if any
+abbrev pub accepts_in : Setting → World → ℕ → Ask → Option Version
+accepts_in s w i ask = accepts s i (w.versions i ask.block) ask
 
 -- node i handles an ask, and these messages are sent
 abbrev pub handles : Setting → World → ℕ → ℕ → Ask → List Message → World
 handles s w place i ask more = record w {
   pool = w.pool ++ more;
   versions = update w.versions i (update (w.versions i) ask.block (after s i (w.versions i ask.block) ask));
-  accepted = one_more w.accepted (accepted_at s i ask.block (accepts s i (w.versions i ask.block) ask));
+  accepted = one_more w.accepted (accepted_at s i ask.block (accepts_in s w i ask));
   place = place;
 }
 

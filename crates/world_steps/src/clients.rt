@@ -1,21 +1,23 @@
 //! What takes place at clients: operations start, answers are heard, clients crash and come back.
 
-ghost use Rattle.std.specs.Prelude.{◌≡◌, ◌<◌, ◌≤◌, ◌^◌, ◌-◌, ◌∷◌, ◌++◌, [], length, Some, IfSome, IfOk, OnOk, OnErr, slice_get, slice_set};
+ghost use Rattle.std.specs.Prelude.{true, false, option_map, ◌≡◌, ◌<◌, ◌≤◌, ◌^◌, ◌-◌, ◌∷◌, ◌++◌, [], length, Some, IfSome, IfOk, OnOk, OnErr, slice_get, slice_set};
 ghost use Rattle.std.specs.declared.option.Option.TheVariants.{None};
 ghost use Rattle.protocol.specs.Messages.{Message as Messages};
-ghost use Rattle.protocol.specs.World.{sent, heard, happens, Fits, chosen_stamp, stamp_of_outcome};
+ghost use Rattle.protocol.specs.World.{sent, heard, happens, Fits, under_way, stamp_of_outcome};
 ghost use Rattle.protocol.specs.World.Event.{Start, Resend as Resends, CrashClient as ClientCrashes, Back as ComesBack};
-ghost use Rattle.protocol.specs.Seen.{client_at, block_of, work_of, phase_of, outstanding_of};
+ghost use Rattle.protocol.specs.Seen.{SeenTask, client_at, block_of, work_of, phase_of, chosen_of, outstanding_of};
 ghost use Rattle.protocol.specs.Count.{collect};
 ghost use Rattle.protocol.specs.Instance.{setting};
 ghost use Rattle.world_steps.specs.Worlds.{setting_in, world_in};
 ghost use Rattle.run_words.specs.declared.record.Record.{Record as Told};
 ghost use Rattle.client_core.specs.Clients.{hears};
-ghost use Rattle.world_steps.specs.Steps.{handles, seated, IsAnswer};
-ghost use Rattle.world_steps.specs.Turns.{IsTurn, next_mail, IsSame, Becomes, MayTake, settled, taken};
+ghost use Rattle.world_steps.specs.Steps.{accepts_in, handles, client_in, IsAnswer};
+ghost use Rattle.world_steps.specs.AnswerEffects.{IsEffect, next_mail, IsSame, Becomes, MayApply, settled, applied};
 
+use crate::answer_effect::AnswerEffect;
+use crate::block_use::{greater, leave, stamp_given};
+use crate::nodes::block_of;
 use crate::state::State;
-use crate::turn::Turn;
 use client_core::{Client, Heard};
 use lists::{Copied, ItemList, NoMemory};
 use quorum_rules::Config;
@@ -23,7 +25,7 @@ use run_words::{Outcome, Record};
 use stamp_order::Stamp;
 use std::alloc::Global;
 use std::mem::replace;
-use wire_forms::{Ask, Mail, Message, Op};
+use wire_forms::{Ask, Mail, Message, Op, Version};
 
 impl State {
     /// A client that does nothing starts an operation.
@@ -31,6 +33,7 @@ impl State {
         requires later { self.now.seen.place < place }
         requires client { client ≤ 1000 }
         requires idle { (client_at self.now.seen client).task ≡ None }
+        requires awake { (world_in self.now).client_crashed client ≡ false }
         requires fresh { (client_at self.now.seen client).started < 2 ^ 32 - 1 }
         requires block { block_of op < self.now.config.blocks }
         requires fits { Fits (setting_in self.now) (work_of op) }
@@ -43,6 +46,7 @@ impl State {
         let mut starter = self.copied(client)?;
         let mail = starter.start(&op)?;
         let index = self.records.len();
+        let block = block_of(&op);
         let record = Record {
             client,
             op,
@@ -52,10 +56,12 @@ impl State {
             outcome: None,
         };
         add(&mut self.pool, mail, &mut self.records, record)?;
-        let seat = &mut self.seats[client as usize];
-        seat.client = starter;
-        seat.start = place;
-        seat.index = index;
+        let slot = &mut self.client_slots[client as usize];
+        slot.client = starter;
+        slot.start = place;
+        slot.index = index;
+        let block_use = &mut self.uses[block as usize];
+        block_use.at_work += 1;
         self.place = place;
         Ok(())
     }
@@ -72,83 +78,96 @@ impl State {
     {
         let mail = outstanding(
             self.alloc,
-            &self.seats[client as usize].client,
+            &self.client_slots[client as usize].client,
             &self.config,
         )?;
         self.send(place, mail)
     }
 
     /// What the message makes of the client, and the messages of the next phase if one begins.
-    fn heard(&self, client: u32, message: &Message) -> Result<(Turn, Mail), NoMemory>
+    fn heard(&self, client: u32, message: &Message) -> Result<(AnswerEffect, Mail), NoMemory>
         requires client { client ≤ 1000 }
         requires room { self.now.seen.place < 2 ^ 64 - 1 }
-        ensures turn { IfOk result (λ r. IsTurn (seated self.now client) (hears (seated self.now client) (client_at self.now.seen client).task message.now) r.0) }
-        ensures mail { IfOk result (λ r. r.1 ≡ next_mail (seated self.now client) (hears (seated self.now client) (client_at self.now.seen client).task message.now)) }
+        ensures effect { IfOk result (λ r. IsEffect (client_in self.now client) (hears (client_in self.now client) (client_at self.now.seen client).task message.now) r.0) }
+        ensures mail { IfOk result (λ r. r.1 ≡ next_mail (client_in self.now client) (hears (client_in self.now client) (client_at self.now.seen client).task message.now)) }
     {
         let hearer = self.copied(client)?;
-        turn_of(self.alloc, hearer, message)
+        effect_of(self.alloc, hearer, message)
     }
 
     /// The client as it is now.
     fn copied(&self, client: u32) -> Result<Client, NoMemory>
         requires { client ≤ 1000 }
-        ensures same { IfOk result (λ c. c ≡ seated self.now client) }
+        ensures same { IfOk result (λ c. c ≡ client_in self.now client) }
         ensures phase { phase_of (client_at self.now.seen client).task ≤ self.now.seen.place }
     {
-        self.seats[client as usize].client.copy()
+        self.client_slots[client as usize].client.copy()
     }
 
-    /// Lets a client take its turn: it becomes the one that heard the message, and its record tells what came of it.
-    fn take(&mut self, client: u32, turn: Turn)
+    /// Does an answer's effect to the client, and tells in its record what came of it.
+    fn apply(&mut self, client: u32, effect: AnswerEffect)
         requires client { client ≤ 1000 }
-        requires turn { MayTake self.now client turn }
-        ensures world { world_in self.new ≡ taken (world_in self.old) client ((world_in self.old).task client) turn }
+        requires awake { (world_in self.now).client_crashed client ≡ false }
+        requires effect { MayApply self.now client effect }
+        ensures world { world_in self.new ≡ applied (world_in self.old) client ((world_in self.old).task client) effect }
         ensures cluster { self.new.config ≡ self.old.config }
         ensures lying_nodes { self.new.lying_nodes ≡ self.old.lying_nodes }
         ensures lying_clients { self.new.lying_clients ≡ self.old.lying_clients }
     {
-        match turn {
-            Turn::Same => {}
-            Turn::Goes(hearer) => {
-                let stamp = hearer.stamp();
-                self.settle(client, hearer, None, stamp, None);
-            }
-            Turn::Ends(hearer, outcome) => {
-                let stamp = stamp_of(&outcome);
-                let end = Some(self.place);
-                self.settle(client, hearer, end, stamp, Some(outcome));
-            }
+        match effect {
+            AnswerEffect::Same => {}
+            AnswerEffect::Goes(hearer) => self.go_on(client, hearer),
+            AnswerEffect::Ends(hearer, outcome) => self.end(client, hearer, outcome),
         }
     }
 
-    /// Puts the client that heard a message in its seat, and tells in its record how its operation stands.
-    fn settle(
-        &mut self,
-        client: u32,
-        hearer: Client,
-        end: Option<u64>,
-        stamp: Option<Stamp>,
-        outcome: Option<Outcome>,
-    )
+    /// A client's operation goes on.
+    fn go_on(&mut self, client: u32, hearer: Client)
         requires client { client ≤ 1000 }
         requires hearer { IsSame self.now client hearer }
+        requires busy { (u : SeenTask) × (hearer.seen.task ≡ Some u) }
         requires task { Becomes self.now.config self.now.seen.place ((world_in self.now).task client) hearer.seen.task }
-        requires told { IfSome hearer.seen.task (λ u. (end ≡ None) × (stamp ≡ chosen_stamp u.work u.stage) × (outcome ≡ None)) }
-        ensures world { IfSome ((world_in self.old).task client) (λ t. world_in self.new ≡ settled (world_in self.old) client t hearer.seen.task end stamp outcome) }
+        ensures world { IfSome ((world_in self.old).task client) (λ t. world_in self.new ≡ settled (world_in self.old) client t hearer.seen.task None (chosen_of hearer.seen.task) None) }
         ensures cluster { self.new.config ≡ self.old.config }
         ensures lying_nodes { self.new.lying_nodes ≡ self.old.lying_nodes }
         ensures lying_clients { self.new.lying_clients ≡ self.old.lying_clients }
     {
-        let seat = &mut self.seats[client as usize];
-        seat.client = hearer;
-        let index = seat.index;
-        tell(&mut self.records, index, end, stamp, outcome);
+        let stamp = hearer.stamp();
+        let slot = &mut self.client_slots[client as usize];
+        slot.client = hearer;
+        let index = slot.index;
+        tell(&mut self.records, index, None, stamp, None);
+    }
+
+    /// A client's operation ends.
+    fn end(&mut self, client: u32, hearer: Client, outcome: Outcome)
+        requires client { client ≤ 1000 }
+        requires awake { (world_in self.now).client_crashed client ≡ false }
+        requires hearer { IsSame self.now client hearer }
+        requires idle { hearer.seen.task ≡ None }
+        requires task { Becomes self.now.config self.now.seen.place ((world_in self.now).task client) None }
+        ensures world { IfSome ((world_in self.old).task client) (λ t. world_in self.new ≡ settled (world_in self.old) client t None (Some self.old.seen.place) (stamp_of_outcome outcome) (Some outcome)) }
+        ensures cluster { self.new.config ≡ self.old.config }
+        ensures lying_nodes { self.new.lying_nodes ≡ self.old.lying_nodes }
+        ensures lying_clients { self.new.lying_clients ≡ self.old.lying_clients }
+    {
+        let slot = &mut self.client_slots[client as usize];
+        slot.client = hearer;
+        let index = slot.index;
+        let block = block_told(&self.records, index);
+        let block_use = &mut self.uses[block as usize];
+        block_use.at_work -= 1;
+        block_use.given = greater(stamp_given(&outcome), block_use.given);
+        let stamp = stamp_of(&outcome);
+        let end = Some(self.place);
+        tell(&mut self.records, index, end, stamp, Some(outcome));
     }
 
     /// A client hears a message of the pool.
     pub(crate) fn hear(&mut self, place: u64, client: u32, message: usize) -> Result<(), NoMemory>
         requires later { self.now.seen.place < place }
         requires client { client ≤ 1000 }
+        requires awake { (world_in self.now).client_crashed client ≡ false }
         requires answer { (m : Messages) × (slice_get self.now.seen.pool message ≡ Some m) × IsAnswer client m }
         ensures ok { (m : Messages) → slice_get self.old.seen.pool message ≡ Some m → OnOk result (world_in self.new ≡ heard (setting_in self.old) (world_in self.old) place client m m.body) }
         ensures cluster { OnOk result (self.new.config ≡ self.old.config) }
@@ -156,9 +175,9 @@ impl State {
         ensures lying_clients { OnOk result (self.new.lying_clients ≡ self.old.lying_clients) }
         ensures err { OnErr result (self.new ≡ self.old) }
     {
-        let (turn, mail) = self.heard(client, &self.pool.as_slice()[message])?;
+        let (effect, mail) = self.heard(client, &self.pool.as_slice()[message])?;
         self.send(place, mail)?;
-        self.take(client, turn);
+        self.apply(client, effect);
         Ok(())
     }
 
@@ -171,6 +190,7 @@ impl State {
     ) -> Result<(), NoMemory>
         requires later { self.now.seen.place < place }
         requires client { client ≤ 1000 }
+        requires awake { (world_in self.now).client_crashed client ≡ false }
         requires answer { IsAnswer client message }
         ensures ok { OnOk result (world_in self.new ≡ heard (setting_in self.old) (sent (setting_in self.old) (world_in self.old) place (message ∷ [])) place client message message.body) }
         ensures cluster { OnOk result (self.new.config ≡ self.old.config) }
@@ -178,25 +198,28 @@ impl State {
         ensures lying_clients { OnOk result (self.new.lying_clients ≡ self.old.lying_clients) }
         ensures err { OnErr result (self.new ≡ self.old) }
     {
-        let (turn, next) = self.heard(client, &message)?;
+        let (effect, next) = self.heard(client, &message)?;
         let mail = ahead(self.alloc, message, next)?;
         self.send(place, mail)?;
-        self.take(client, turn);
+        self.apply(client, effect);
         Ok(())
     }
 
-    /// A node handles an ask, a message is sent, and a client hears it.
+    /// A node adds what it prepared for an ask, a message is sent, and a client hears it.
     pub(crate) fn hear_given(
         &mut self,
         place: u64,
         client: u32,
         node: u8,
         ask: &Ask,
+        added: Option<Version>,
         message: Message,
     ) -> Result<(), NoMemory>
         requires later { self.now.seen.place < place }
         requires client { client ≤ 1000 }
         requires node { node < self.now.config.n }
+        requires added { added ≡ accepts_in (setting_in self.now) (world_in self.now) node ask.now }
+        requires awake { (world_in self.now).client_crashed client ≡ false }
         requires answer { IsAnswer client message }
         ensures ok { OnOk result (world_in self.new ≡ heard (setting_in self.old) (handles (setting_in self.old) (world_in self.old) place node ask.now (message ∷ [])) place client message message.body) }
         ensures cluster { OnOk result (self.new.config ≡ self.old.config) }
@@ -204,10 +227,10 @@ impl State {
         ensures lying_clients { OnOk result (self.new.lying_clients ≡ self.old.lying_clients) }
         ensures err { OnErr result (self.new ≡ self.old) }
     {
-        let (turn, next) = self.heard(client, &message)?;
+        let (effect, next) = self.heard(client, &message)?;
         let mail = ahead(self.alloc, message, next)?;
-        self.give(place, node, ask, mail)?;
-        self.take(client, turn);
+        self.give(place, node, ask, added, mail)?;
+        self.apply(client, effect);
         Ok(())
     }
 
@@ -220,15 +243,30 @@ impl State {
         ensures lying_nodes { self.new.lying_nodes ≡ self.old.lying_nodes }
         ensures lying_clients { self.new.lying_clients ≡ self.old.lying_clients }
     {
-        let seat = &mut self.seats[client as usize];
-        seat.crashed = true;
+        let block = self.works_on(client);
+        leave(&mut self.uses, block);
+        let slot = &mut self.client_slots[client as usize];
+        slot.crashed = true;
         self.place = place;
+    }
+
+    /// The block that a client works on, if it does and hasn't crashed. Its operation's record tells it.
+    fn works_on(&self, client: u32) -> Option<u32>
+        requires { client ≤ 1000 }
+        ensures { result ≡ option_map (λ t. t.block) (under_way (world_in self.now) client) }
+    {
+        let slot = &self.client_slots[client as usize];
+        if slot.crashed || slot.client.is_idle() {
+            return None;
+        }
+        Some(block_of(&self.records.as_slice()[slot.index].op))
     }
 
     /// A client comes back: it does nothing, in its next life.
     pub(crate) fn come_back(&mut self, place: u64, client: u32) -> Result<(), NoMemory>
         requires later { self.now.seen.place < place }
         requires client { client ≤ 1000 }
+        requires crashed { (world_in self.now).client_crashed client ≡ true }
         requires lives { (client_at self.now.seen client).life < 2 ^ 32 - 1 }
         ensures ok { OnOk result (world_in self.new ≡ happens (setting_in self.old) (world_in self.old) place (ComesBack client)) }
         ensures cluster { OnOk result (self.new.config ≡ self.old.config) }
@@ -236,11 +274,11 @@ impl State {
         ensures lying_clients { OnOk result (self.new.lying_clients ≡ self.old.lying_clients) }
         ensures err { OnErr result (self.new ≡ self.old) }
     {
-        let life = self.seats[client as usize].client.life() + 1;
+        let life = self.client_slots[client as usize].client.life() + 1;
         let again = Client::again(self.alloc, &self.config, client, life)?;
-        let seat = &mut self.seats[client as usize];
-        seat.client = again;
-        seat.crashed = false;
+        let slot = &mut self.client_slots[client as usize];
+        slot.client = again;
+        slot.crashed = false;
         self.place = place;
         Ok(())
     }
@@ -261,17 +299,21 @@ fn outstanding(alloc: Global, client: &Client, config: &Config) -> Result<Mail, 
 }
 
 /// What a message makes of a client, and the messages of the next phase if one begins.
-fn turn_of(alloc: Global, mut hearer: Client, message: &Message) -> Result<(Turn, Mail), NoMemory>
+fn effect_of(
+    alloc: Global,
+    mut hearer: Client,
+    message: &Message,
+) -> Result<(AnswerEffect, Mail), NoMemory>
     requires { phase_of hearer.seen.task < 2 ^ 64 - 1 }
-    ensures turn { IfOk result (λ r. IsTurn hearer (hears hearer hearer.seen.task message.now) r.0) }
+    ensures effect { IfOk result (λ r. IsEffect hearer (hears hearer hearer.seen.task message.now) r.0) }
     ensures mail { IfOk result (λ r. r.1 ≡ next_mail hearer (hears hearer hearer.seen.task message.now)) }
 {
     let heard = hearer.hear(message)?;
     match heard {
-        Heard::Unchanged => Ok((Turn::Same, ItemList::new(alloc))),
-        Heard::More => Ok((Turn::Goes(hearer), ItemList::new(alloc))),
-        Heard::Send(mail) => Ok((Turn::Goes(hearer), mail)),
-        Heard::Ended(outcome) => Ok((Turn::Ends(hearer, outcome), ItemList::new(alloc))),
+        Heard::Unchanged => Ok((AnswerEffect::Same, ItemList::new(alloc))),
+        Heard::More => Ok((AnswerEffect::Goes(hearer), ItemList::new(alloc))),
+        Heard::Send(mail) => Ok((AnswerEffect::Goes(hearer), mail)),
+        Heard::Ended(outcome) => Ok((AnswerEffect::Ends(hearer, outcome), ItemList::new(alloc))),
     }
 }
 
@@ -304,6 +346,14 @@ fn add(
         pool.truncate(len);
     }
     told
+}
+
+/// The block that the operation of this record is on.
+fn block_told(records: &ItemList<Record>, index: usize) -> u32
+    requires { index < length records.now }
+    ensures { (r : Told) → slice_get records.now index ≡ Some r → result ≡ block_of r.op }
+{
+    block_of(&records.as_slice()[index].op)
 }
 
 /// Tells in the record of this number how its operation stands.

@@ -1,14 +1,12 @@
 //! Why a line is refused.
 
 ghost use Rattle.std.specs.Prelude.{◌≡◌, ◌++◌, not};
-ghost use Rattle.protocol.specs.Lines.{fault, meets, some_of, is_actor, is_liar, has_crashed, is_idle, does_something, is_busy_at, is_at, is_ask_to, is_answer_to};
-ghost use Rattle.protocol.specs.World.{under_way};
+ghost use Rattle.protocol.specs.Lines.{fault, meets, some_of, is_actor, is_liar, has_crashed, is_idle, does_something, is_ask_to, is_answer_to};
 ghost use Rattle.protocol.specs.Seen.{client_at};
 ghost use Rattle.world_steps.specs.Worlds.{setting_in, world_in};
 ghost use Rattle.world_steps.specs.Actors.{actor_of, listed};
 
 use crate::actors::{Actor, Actors, lies, named, takes_part};
-use crate::nodes::block_of;
 use crate::state::State;
 use run_words::{Line, StepFault};
 use wire_forms::{Body, Message};
@@ -31,9 +29,6 @@ const FAULTS: [StepFault; 12] = [
 
 /// How many operations a life has room for; a client has room for one life more.
 const LAST: u32 = u32::MAX;
-
-/// How many client numbers there are, with the first, which nobody has.
-const CLIENTS: u32 = 1001;
 
 impl State {
     /// Why the line is refused: the first fault that it meets.
@@ -127,12 +122,12 @@ impl State {
         ensures { result ≡ is_liar (setting_in self.now) (world_in self.now) (actor_of actor) }
     {
         match actor {
-            Actor::Node(node) => match self.hosts.get(usize::from(node)) {
-                Some(host) => host.lying,
+            Actor::Node(node) => match self.node_slots.get(usize::from(node)) {
+                Some(slot) => slot.lying,
                 None => false,
             },
-            Actor::Client(client) => match self.seats.get(client as usize) {
-                Some(seat) => seat.lying,
+            Actor::Client(client) => match self.client_slots.get(client as usize) {
+                Some(slot) => slot.lying,
                 None => false,
             },
         }
@@ -143,12 +138,12 @@ impl State {
         ensures { result ≡ has_crashed (setting_in self.now) (world_in self.now) (actor_of actor) }
     {
         match actor {
-            Actor::Node(node) => match self.hosts.get(usize::from(node)) {
-                Some(host) => host.crashed,
+            Actor::Node(node) => match self.node_slots.get(usize::from(node)) {
+                Some(slot) => slot.crashed,
                 None => false,
             },
-            Actor::Client(client) => match self.seats.get(client as usize) {
-                Some(seat) => seat.crashed,
+            Actor::Client(client) => match self.client_slots.get(client as usize) {
+                Some(slot) => slot.crashed,
                 None => false,
             },
         }
@@ -158,8 +153,8 @@ impl State {
     fn has_task(&self, client: u32) -> bool
         ensures { result ≡ does_something ((world_in self.now).task client) }
     {
-        match self.seats.get(client as usize) {
-            Some(seat) => !seat.client.is_idle(),
+        match self.client_slots.get(client as usize) {
+            Some(slot) => !slot.client.is_idle(),
             None => false,
         }
     }
@@ -232,29 +227,7 @@ impl State {
         ensures { result ≡ meets (setting_in self.now) (world_in self.now) line.now StepFault.NotQuiet }
     {
         match line {
-            Line::Prune { block, .. } => self.is_busy_at(*block),
-            _ => false,
-        }
-    }
-
-    /// Whether some client that hasn't crashed works on the block.
-    fn is_busy_at(&self, block: u32) -> bool
-        ensures { result ≡ is_busy_at (setting_in self.now) (world_in self.now) block }
-    {
-        (0..CLIENTS).any(|client| self.works_at(client, block))
-    }
-
-    /// Whether the client hasn't crashed and works on the block, which its operation's record tells.
-    fn works_at(&self, client: u32, block: u32) -> bool
-        ensures { result ≡ is_at block (under_way (world_in self.now) client) }
-    {
-        match self.seats.get(client as usize) {
-            Some(seat) if !seat.crashed && !seat.client.is_idle() => {
-                match self.records.get(seat.index) {
-                    Some(record) => block_of(&record.op) == block,
-                    None => false,
-                }
-            }
+            Line::Prune { block, .. } => 0 < self.block_use(*block).at_work,
             _ => false,
         }
     }
@@ -264,7 +237,7 @@ impl State {
         ensures { result ≡ meets (setting_in self.now) (world_in self.now) line.now StepFault.NoRead }
     {
         match line {
-            Line::Prune { block, .. } => self.greatest_given(*block).is_none(),
+            Line::Prune { block, .. } => self.block_use(*block).given.is_none(),
             _ => false,
         }
     }
@@ -275,13 +248,13 @@ impl State {
     {
         match line {
             Line::Write { client, .. } | Line::Read { client, .. } => {
-                match self.seats.get(*client as usize) {
-                    Some(seat) => LAST <= seat.client.started(),
+                match self.client_slots.get(*client as usize) {
+                    Some(slot) => LAST <= slot.client.started(),
                     None => false,
                 }
             }
-            Line::Back { client } => match self.seats.get(*client as usize) {
-                Some(seat) => LAST <= seat.client.life(),
+            Line::Back { client } => match self.client_slots.get(*client as usize) {
+                Some(slot) => LAST <= slot.client.life(),
                 None => false,
             },
             _ => false,

@@ -3,24 +3,22 @@
 #![tactic(auto)]
 
 mod actors;
+mod answer_effect;
+mod block_use;
+mod client_slot;
 mod clients;
 pub mod event;
 mod fault;
-mod host;
 pub mod laws;
 mod lying;
+mod node_slot;
 mod nodes;
 mod play;
 pub mod refusal;
-mod seat;
 mod state;
-mod turn;
 pub mod world;
 
 pub use event::Event;
 pub use refusal::StepRefusal;
 pub use run_words::{Accepted, How, Line, Nodes, Outcome, Record, StepFault};
 pub use world::World;
-
-#[cfg(test)]
-mod tests;

@@ -18,7 +18,7 @@ impl State {
         requires node { node < self.now.config.n }
         ensures { IfOk result (λ m. m ≡ asked_by (setting_in self.now) client node ((world_in self.now).task client)) }
     {
-        self.seats[client as usize].client.outstanding(node)
+        self.client_slots[client as usize].client.outstanding(node)
     }
 
     /// A lying node's answer to it, by a rule.

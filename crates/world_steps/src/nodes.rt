@@ -1,23 +1,22 @@
 //! What takes place at nodes: messages are sent, asks are handled, nodes crash and prune.
 
-ghost use Rattle.std.specs.Prelude.{◌≡◌, ◌<◌, if◌then◌else◌, Some, IfOk, OnOk, OnErr};
-ghost use Rattle.stamp_order.specs.Stamps.{up_to};
-ghost use Rattle.protocol.specs.World.{sent, answer_of, happens, only_place, greatest_given, given_of, greater_stamp};
-ghost use Rattle.protocol.specs.Seen.{record_of, block_of};
+ghost use Rattle.std.specs.Prelude.{◌≡◌, ◌<◌, nat_lt, IfOk, OnOk, OnErr};
+ghost use Rattle.protocol.specs.World.{sent, answer_of, happens, greatest_given};
+ghost use Rattle.protocol.specs.Lines.{is_busy_at};
+ghost use Rattle.protocol.specs.Seen.{block_of};
 ghost use Rattle.protocol.specs.World.Event.{CrashNode as NodeCrashes, Prune as Prunes};
 ghost use Rattle.world_steps.specs.Worlds.{setting_in, world_in, with_seen};
 ghost use Rattle.protocol.specs.Count.{one_more};
-ghost use Rattle.node_core.specs.Seen.{with_versions, after_of};
-ghost use Rattle.world_steps.specs.Steps.{handles};
-ghost use Rattle.world_steps.specs.Acceptances.{accepts_of, told_of, new_stamp};
+ghost use Rattle.node_core.specs.Seen.{with_versions, after_of, accepts_of};
+ghost use Rattle.world_steps.specs.Steps.{accepts_in, handles};
+ghost use Rattle.world_steps.specs.Acceptances.{told_of};
 
+use crate::block_use::{BlockUse, UNUSED};
 use crate::state::State;
 use lists::{ItemList, NoMemory};
-use node_core::Node;
-use quorum_rules::Config;
-use run_words::{Accepted, Outcome, Record};
-use stamp_order::Stamp;
-use wire_forms::{Ask, Body, Mail, Message, Op, Reply, Request};
+use node_core::{Node, Prepared};
+use run_words::Accepted;
+use wire_forms::{Ask, Body, Mail, Message, Op, Version};
 
 impl State {
     /// Sends messages.
@@ -34,31 +33,40 @@ impl State {
         Ok(())
     }
 
-    /// The node's answer to a message with this ask.
-    pub(crate) fn answer(&self, node: u8, message: &Message, ask: &Ask) -> Result<Message, NoMemory>
+    /// The node's answer to a message with this ask, and the version that the node adds by it, if any.
+    pub(crate) fn answer(
+        &self,
+        node: u8,
+        message: &Message,
+        ask: &Ask,
+    ) -> Result<(Message, Option<Version>), NoMemory>
         requires { node < self.now.config.n }
-        ensures { IfOk result (λ m. m ≡ answer_of (setting_in self.now) (world_in self.now) node message.now ask.now) }
+        ensures answer { IfOk result (λ r. r.0 ≡ answer_of (setting_in self.now) (world_in self.now) node message.now ask.now) }
+        ensures added { IfOk result (λ r. r.1 ≡ accepts_in (setting_in self.now) (world_in self.now) node ask.now) }
     {
-        let host = &self.hosts[usize::from(node)];
-        let reply = host.node.reply_to(ask)?;
-        Ok(Message {
+        let slot = &self.node_slots[usize::from(node)];
+        let Prepared { reply, added } = slot.node.prepare(ask)?;
+        let answer = Message {
             client: message.client,
             node,
             tag: message.tag,
             body: Body::Answer(reply),
-        })
+        };
+        Ok((answer, added))
     }
 
-    /// Lets the node handle the ask, and sends messages.
+    /// Lets the node add what it prepared for the ask, and sends messages.
     pub(crate) fn give(
         &mut self,
         place: u64,
         node: u8,
         ask: &Ask,
+        added: Option<Version>,
         mut mail: Mail,
     ) -> Result<(), NoMemory>
         requires later { self.now.seen.place < place }
         requires node { node < self.now.config.n }
+        requires added { added ≡ accepts_in (setting_in self.now) (world_in self.now) node ask.now }
         ensures ok { OnOk result (world_in self.new ≡ handles (setting_in self.old) (world_in self.old) place node ask.now mail) }
         ensures cluster { OnOk result (self.new.config ≡ self.old.config) }
         ensures lying_nodes { OnOk result (self.new.lying_nodes ≡ self.old.lying_nodes) }
@@ -67,8 +75,8 @@ impl State {
     {
         let sent = self.pool.len();
         self.pool.append(&mut mail)?;
-        let host = &mut self.hosts[usize::from(node)];
-        match handle(&mut host.node, node, &self.config, ask, &mut self.accepted) {
+        let slot = &mut self.node_slots[usize::from(node)];
+        match keep(&mut slot.node, node, ask, added, &mut self.accepted) {
             Ok(()) => {
                 self.place = place;
                 Ok(())
@@ -97,22 +105,20 @@ impl State {
         ensures lying_nodes { self.new.lying_nodes ≡ self.old.lying_nodes }
         ensures lying_clients { self.new.lying_clients ≡ self.old.lying_clients }
     {
-        let host = &mut self.hosts[usize::from(node)];
-        host.crashed = true;
+        let slot = &mut self.node_slots[usize::from(node)];
+        slot.crashed = true;
         self.place = place;
     }
 
-    /// The greatest stamp that a completed read of the block gave.
-    pub(crate) fn greatest_given(&self, block: u32) -> Option<Stamp>
-        ensures { result ≡ greatest_given block self.now.seen.records }
+    /// What a prune of the block goes by.
+    pub(crate) fn block_use(&self, block: u32) -> BlockUse
+        ensures at_work { nat_lt 0 result.at_work ≡ is_busy_at (setting_in self.now) (world_in self.now) block }
+        ensures given { result.given ≡ greatest_given block self.now.seen.records }
     {
-        self.records
-            .as_slice()
-            .iter()
-            .rev()
-            .fold(None, |greatest, record| {
-                greater(given(block, record), greatest)
-            })
+        match self.uses.get(block as usize) {
+            Some(block_use) => *block_use,
+            None => UNUSED,
+        }
     }
 
     /// A node prunes a block by the greatest stamp that a completed read of it gave.
@@ -125,91 +131,43 @@ impl State {
         ensures lying_nodes { self.new.lying_nodes ≡ self.old.lying_nodes }
         ensures lying_clients { self.new.lying_clients ≡ self.old.lying_clients }
     {
-        let Some(stamp) = self.greatest_given(block) else {
+        let Some(stamp) = self.block_use(block).given else {
             self.pass(place);
             return;
         };
-        let host = &mut self.hosts[usize::from(node)];
-        host.node.prune(block, &stamp);
+        let slot = &mut self.node_slots[usize::from(node)];
+        slot.node.prune(block, &stamp);
         self.place = place;
     }
 }
 
-/// Lets the node of this number handle the ask, and tells the version that it accepts, if any.
-fn handle(
+/// Lets the node of this number add what it prepared for the ask, and tells the version, if any.
+fn keep(
     node: &mut Node,
     number: u8,
-    config: &Config,
     ask: &Ask,
+    added: Option<Version>,
     accepted: &mut ItemList<Accepted>,
 ) -> Result<(), NoMemory>
-    requires cluster { node.old.config ≡ config.now }
+    requires { added ≡ accepts_of node.old ask.now }
     ensures node { OnOk result (node.new ≡ with_versions node.old ask.now.block (after_of node.old ask.now)) }
     ensures told { OnOk result (accepted.new ≡ one_more accepted.old (told_of number ask.now.block (accepts_of node.old ask.now))) }
     ensures node_kept { OnErr result (node.new ≡ node.old) }
     ensures told_kept { OnErr result (accepted.new ≡ accepted.old) }
 {
-    let Some(stamp) = new_stamp(node, config, ask) else {
-        node.handle(ask)?;
-        return Ok(());
+    let Some(version) = &added else {
+        return node.commit(ask, added);
     };
     accepted.push(Accepted {
         node: number,
         block: ask.block,
-        stamp,
+        stamp: version.stamp,
     })?;
-    let handled = node.handle(ask);
-    if let Ok(Reply::Ack) = &handled {
-        return Ok(());
+    let kept = node.commit(ask, added);
+    if kept.is_err() {
+        let _ = accepted.pop();
     }
-    let _ = accepted.pop();
-    handled?;
-    Ok(())
-}
-
-/// The stamp of the version that the ask writes, if there is such a block and the node keeps no version of this stamp.
-fn new_stamp(node: &Node, config: &Config, ask: &Ask) -> Option<Stamp>
-    requires { node.now.config ≡ config.now }
-    ensures { result ≡ new_stamp node.now ask.now }
-{
-    match &ask.request {
-        Request::Write(version)
-            if ask.block < config.blocks() && !node.keeps(ask.block, &version.stamp) => {
-            Some(version.stamp)
-        }
-        _ => None,
-    }
-}
-
-/// The stamp that the record's read of the block gave, if it is one.
-fn given(block: u32, told: &Record) -> Option<Stamp>
-    ensures { result ≡ given_of block (record_of told.now) }
-{
-    if block_of(&told.op) != block {
-        return None;
-    }
-    match &told.outcome {
-        Some(Outcome::Gave { stamp, .. }) => Some(*stamp),
-        _ => None,
-    }
-}
-
-/// The greater of the two, where there are two.
-fn greater(x: Option<Stamp>, y: Option<Stamp>) -> Option<Stamp>
-    ensures { result ≡ greater_stamp x y }
-{
-    match (x, y) {
-        (Some(x), Some(y)) => Some(later(x, y)),
-        (x, None) => x,
-        (None, y) => y,
-    }
-}
-
-/// The greater of the two.
-fn later(x: Stamp, y: Stamp) -> Stamp
-    ensures { result ≡ (if up_to x y then y else x) }
-{
-    if x.cmp(&y).is_le() { y } else { x }
+    kept
 }
 
 /// The block that the operation is on.

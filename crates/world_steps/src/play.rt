@@ -1,6 +1,6 @@
 //! What lines make of the world.
 
-ghost use Rattle.std.specs.Prelude.{◌≡◌, ◌≢◌, ◌<◌, ◌≤◌, OnOk, OnErr, IsErrOf, slice_get};
+ghost use Rattle.std.specs.Prelude.{false, ◌≡◌, ◌≢◌, ◌<◌, ◌≤◌, OnOk, OnErr, IsErrOf, slice_get};
 ghost use Rattle.std.specs.declared.option.Option.TheVariants.{None, Some};
 ghost use Rattle.protocol.specs.Messages.{Message as Messages};
 ghost use Rattle.protocol.specs.Setting.{first_stamp};
@@ -114,6 +114,7 @@ impl State {
         requires client { client ≤ 1000 }
         requires node { node < self.now.config.n }
         requires working { IsWorking self.now client }
+        requires awake { (world_in self.now).client_crashed client ≡ false }
         ensures ok { OnOk result (IsPlayedBy self.old self.new place (lines.Call client node)) }
         ensures err { OnErr result (self.new ≡ self.old) }
     {
@@ -123,8 +124,8 @@ impl State {
         let Body::Ask(ask) = &message.body else {
             return Ok(());
         };
-        let answer = self.answer(node, &message, ask)?;
-        self.hear_given(place, client, node, ask, answer)
+        let (answer, added) = self.answer(node, &message, ask)?;
+        self.hear_given(place, client, node, ask, added, answer)
     }
 
     /// The node is given an ask of the pool.
@@ -142,10 +143,10 @@ impl State {
             return Ok(());
         };
         let ask = ask.copy()?;
-        let answer = self.answer(node, message, &ask)?;
+        let (answer, added) = self.answer(node, message, &ask)?;
         let mut mail = Mail::new(self.alloc);
         mail.push(answer)?;
-        self.give(place, node, &ask, mail)
+        self.give(place, node, &ask, added, mail)
     }
 
     /// A message is sent.
@@ -172,11 +173,11 @@ impl State {
         };
         let ask = ask.copy()?;
         let node = message.node;
-        let answer = self.answer(node, &message, &ask)?;
+        let (answer, added) = self.answer(node, &message, &ask)?;
         let mut mail = Mail::new(self.alloc);
         mail.push(message)?;
         mail.push(answer)?;
-        self.give(place, node, &ask, mail)
+        self.give(place, node, &ask, added, mail)
     }
 
     /// A lying node answers what the client asks by a rule, and the client hears it.
@@ -185,6 +186,7 @@ impl State {
         requires client { client ≤ 1000 }
         requires node { node < self.now.config.n }
         requires working { IsWorking self.now client }
+        requires awake { (world_in self.now).client_crashed client ≡ false }
         requires rule { rule ≢ Rule.Silent }
         ensures ok { OnOk result (IsPlayedBy self.old self.new place (lines.False client node rule)) }
         ensures err { OnErr result (self.new ≡ self.old) }

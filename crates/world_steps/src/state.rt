@@ -4,10 +4,11 @@ ghost use Rattle.wire_forms.specs.Liars.{has_number};
 ghost use Rattle.quorum_rules.specs.Limits.{IsValid};
 ghost use Rattle.protocol.specs.World.{start_world};
 ghost use Rattle.world_steps.specs.Worlds.{setting_in, world_in, AreLiars};
-ghost use Rattle.world_steps.specs.Beginnings.{AreNewHosts, AreNewSeats};
+ghost use Rattle.world_steps.specs.Beginnings.{AreNewNodeSlots, AreNewClientSlots};
 
-use crate::host::Host;
-use crate::seat::Seat;
+use crate::block_use::{BlockUse, UNUSED};
+use crate::client_slot::ClientSlot;
+use crate::node_slot::NodeSlot;
 use client_core::Client;
 use lists::{ItemList, NoMemory};
 use node_core::Node;
@@ -19,21 +20,39 @@ use wire_forms::{First, Liars, Message};
 
 /// All that there is at one moment, whether or not a run leads to it. Contracts see the cluster's numbers, who lies, and the
 /// world of the definitions.
-#[derive(Drop)]
 pub struct State {
     pub(crate) alloc: Global,
     pub(crate) config: Config,
     pub(crate) first: First,
     /// Every message that was ever sent.
     pub(crate) pool: ItemList<Message>,
-    pub(crate) hosts: Vec<Host>,
+    pub(crate) node_slots: Vec<NodeSlot>,
     /// By client number, the first of which nobody has.
-    pub(crate) seats: Vec<Seat>,
+    pub(crate) client_slots: Vec<ClientSlot>,
     pub(crate) records: ItemList<Record>,
+    /// By block number, what a prune of the block goes by.
+    pub(crate) uses: Vec<BlockUse>,
     /// The versions that nodes accepted, in order.
     pub(crate) accepted: ItemList<Accepted>,
     /// The place of the last line.
     pub(crate) place: u64,
+}
+
+impl Drop for State {
+    fn drop(self) {
+        let State {
+            alloc: _alloc,
+            config: _config,
+            first: _first,
+            pool: _pool,
+            node_slots: _node_slots,
+            client_slots: _client_slots,
+            records: _records,
+            uses: _uses,
+            accepted: _accepted,
+            place: _place,
+        } = self;
+    }
 }
 
 impl Model for State {
@@ -41,28 +60,32 @@ impl Model for State {
     ghost use Rattle.wire_forms.specs.Firsts.{first_of};
     ghost use Rattle.protocol.specs.Seen.{record_of, accepted_of};
     ghost use Rattle.world_steps.specs.Worlds.{WorldView};
-    ghost use Rattle.world_steps.specs.Seats.{IsWorld};
+    ghost use Rattle.world_steps.specs.Slots.{IsWorld};
+    ghost use Rattle.world_steps.specs.BlockUses.{AreUses};
 
     ghost Value = { WorldView };
 
     ghost view = { λ w. record {
       config = w.config;
-      lying_nodes = map (λ h. h.lying) w.hosts.items;
-      lying_clients = map (λ s. s.lying) w.seats.items;
+      lying_nodes = map (λ h. h.lying) w.node_slots.items;
+      lying_clients = map (λ s. s.lying) w.client_slots.items;
       seen = record {
         pool = w.pool;
-        versions = map (λ h. h.node.blocks) w.hosts.items;
+        versions = map (λ h. h.node.blocks) w.node_slots.items;
         accepted = map accepted_of w.accepted;
-        clients = map (λ s. s.client.seen) w.seats.items;
-        starts = map (λ s. s.start) w.seats.items;
-        client_crashed = map (λ s. s.crashed) w.seats.items;
-        node_crashed = map (λ h. h.crashed) w.hosts.items;
+        clients = map (λ s. s.client.seen) w.client_slots.items;
+        starts = map (λ s. s.start) w.client_slots.items;
+        client_crashed = map (λ s. s.crashed) w.client_slots.items;
+        node_crashed = map (λ h. h.crashed) w.node_slots.items;
         records = map record_of w.records;
         place = w.place;
       };
     } };
 
-    ghost invariant = { λ w. IsWorld w.config w.hosts.items w.seats.items w.records w.place × (w.first ≡ first_of w.config) };
+    ghost invariant = { λ w.
+        IsWorld w.config w.node_slots.items w.client_slots.items w.records w.place
+        × (w.first ≡ first_of w.config)
+        × AreUses w.config w.client_slots.items w.records w.uses.items };
 }
 
 impl State {
@@ -78,9 +101,10 @@ impl State {
             config: *config,
             first: First::of(alloc, config)?,
             pool: ItemList::new(alloc),
-            hosts: new_hosts(alloc, config, liars)?,
-            seats: new_seats(alloc, config, liars)?,
+            node_slots: new_node_slots(alloc, config, liars)?,
+            client_slots: new_client_slots(alloc, config, liars)?,
             records: ItemList::new(alloc),
+            uses: vec![in alloc; UNUSED; config.blocks() as usize]?,
             accepted: ItemList::new(alloc),
             place: 0,
         })
@@ -88,30 +112,34 @@ impl State {
 }
 
 /// The nodes before anything took place.
-fn new_hosts(alloc: Global, config: &Config, liars: &Liars) -> Result<Vec<Host>, NoMemory>
+fn new_node_slots(alloc: Global, config: &Config, liars: &Liars) -> Result<Vec<NodeSlot>, NoMemory>
     ensures valid { IsValid config.now }
-    ensures count { IfOk result (λ hosts. length hosts.items ≡ config.now.n) }
-    ensures hosts { IfOk result (λ hosts. AreNewHosts config.now (has_number liars.now.nodes) hosts.items) }
+    ensures count { IfOk result (λ slots. length slots.items ≡ config.now.n) }
+    ensures new { IfOk result (λ slots. AreNewNodeSlots config.now (has_number liars.now.nodes) slots.items) }
 {
-    let mut hosts = Vec::new(alloc);
+    let mut slots = Vec::new(alloc);
     for number in 0..config.n() as u8 {
-        hosts.push(Host {
+        slots.push(NodeSlot {
             node: Node::new(alloc, config, number)?,
             crashed: false,
             lying: liars.node(number),
         })?;
     }
-    Ok(hosts)
+    Ok(slots)
 }
 
 /// The clients of the numbers from 0 to 1000 before their first operations.
-fn new_seats(alloc: Global, config: &Config, liars: &Liars) -> Result<Vec<Seat>, NoMemory>
-    ensures count { IfOk result (λ seats. length seats.items ≡ 1001) }
-    ensures seats { IfOk result (λ seats. AreNewSeats config.now (has_number liars.now.clients) seats.items) }
+fn new_client_slots(
+    alloc: Global,
+    config: &Config,
+    liars: &Liars,
+) -> Result<Vec<ClientSlot>, NoMemory>
+    ensures count { IfOk result (λ slots. length slots.items ≡ 1001) }
+    ensures new { IfOk result (λ slots. AreNewClientSlots config.now (has_number liars.now.clients) slots.items) }
 {
-    let mut seats = Vec::new(alloc);
+    let mut slots = Vec::new(alloc);
     for id in 0..1001 {
-        seats.push(Seat {
+        slots.push(ClientSlot {
             client: Client::new(alloc, config, id)?,
             start: 0,
             index: 0,
@@ -119,5 +147,5 @@ fn new_seats(alloc: Global, config: &Config, liars: &Liars) -> Result<Vec<Seat>,
             lying: liars.client(id),
         })?;
     }
-    Ok(seats)
+    Ok(slots)
 }

@@ -5,7 +5,7 @@ ghost use Rattle.protocol.specs.Instance.{setting_of};
 ghost use Rattle.protocol.specs.World.{start_world};
 ghost use Rattle.protocol.specs.Setting.{first_stamp};
 ghost use Rattle.protocol.specs.Lines.{fault, plays, FitsLine};
-ghost use Rattle.protocol.specs.Seen.{record_of};
+ghost use Rattle.protocol.specs.Seen.{record_of, accepted_of};
 ghost use Rattle.run_words.specs.declared.line.StepFault.{StepFault as Faults};
 ghost use Rattle.world_steps.specs.Worlds.{setting_in, world_in, AreLiars, IsReached};
 ghost use Rattle.world_steps.specs.Events.{line_of, Happens};
@@ -15,7 +15,7 @@ use crate::refusal::StepRefusal;
 use crate::state::State;
 use lists::NoMemory;
 use quorum_rules::Config;
-use run_words::{Line, Record};
+use run_words::{Accepted, Line, Record};
 use stamp_order::Stamp;
 use std::alloc::Global;
 use std::marker::Model;
@@ -23,9 +23,14 @@ use wire_forms::{Liars, Message};
 
 /// The last world of a run. Contracts see the cluster's numbers, who lies, and the world of the definitions; and that lines of
 /// a run lead to it, so that the laws of every run hold of it.
-#[derive(Drop)]
 pub struct World {
     state: State,
+}
+
+impl Drop for World {
+    fn drop(self) {
+        let World { state: _state } = self;
+    }
 }
 
 impl Model for World {
@@ -95,6 +100,13 @@ impl World {
         ensures { map record_of result.now ≡ self.now.seen.records }
     {
         self.state.records.as_slice()
+    }
+
+    /// The versions that nodes accepted, in order of acceptance, first versions aside.
+    pub fn accepted(&self) -> &[Accepted]
+        ensures { map accepted_of result.now ≡ self.now.seen.accepted }
+    {
+        self.state.accepted.as_slice()
     }
 
     /// The place of the last line that took place, 0 at first.

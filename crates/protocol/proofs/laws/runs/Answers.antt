@@ -3,4 +3,4 @@ use Rattle.protocol.proofs.Kept.{run_parts}
 use Rattle.protocol.proofs.laws.runs.Goals as goal
 
 pub returns : goal.returns
-returns a = λ s w last lines more. run_parts s last more lines w
+returns a = λ s w lines more last. run_parts s last more lines w

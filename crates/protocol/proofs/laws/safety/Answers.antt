@@ -1,4 +1,4 @@
--- The law's clauses are lemmas of `Theorem` and `Kept`, at the setting of a cluster.
+-- The law's clauses are lemmas of `Theorem`, at the setting of a cluster.
 use Rattle.protocol.proofs.Theorem.{run_in_time, run_legal, run_never_outvoted, run_sound}
 use Rattle.protocol.proofs.Cluster.{cluster_valid}
 use Rattle.protocol.specs.Instance.{setting_of}

@@ -1,7 +1,5 @@
 use Rattle.std.proofs.Common.{◌≡◌, ◌∙◌, Bool, true, false, ◌||◌, refl, sym, ap, arith}
 use Rattle.std.specs.Ordering.{is_eq}
-use Rattle.stamp_order.specs.Stamps.{same_stamp}
-use Rattle.protocol.specs.Nodes.{keeps}
 use Rattle.node_core.proofs.Blocks.{block_at, not_so}
 use Rattle.node_core.proofs.Changes.{same_by_fields}
 use Rattle.node_core.proofs.node.Node.keeps.Goals as goal

@@ -1,31 +1,31 @@
 use Rattle.std.proofs.Common.{true, refl, ◌∙◌, ap, arith}
 use Rattle.protocol.specs.Count.{update}
 use Rattle.world_steps.specs.Worlds.{world_in}
-use Rattle.world_steps.proofs.Holding.{raised}
-use Rattle.world_steps.proofs.Hosted.{within, host-there, hosted, lying-host, world-crashed}
+use Rattle.world_steps.proofs.KeptWorlds.{raised}
+use Rattle.world_steps.proofs.NodeSlots.{within, node_slot-there, with_node_slot, slot-lying, world-crashed}
 use Rattle.world_steps.proofs.state.State.crash_node.Goals as goal
 
 pub invariant_of-self : goal.invariant_of-self
 invariant_of-self c =
     let i = c.from.result in
-    let old = c.index_mut-host.result.now in
+    let old = c.index_mut-slot.result.now in
     let inside = within c.self.inside _ i c.args.node c.self.invariant.0 c.self.view_is c.from.ensures c.requires.node in
-    let is = c.self.invariant.0.host i old (host-there c.self.inside i inside old c.index_mut-host.ensures.value) in
-    let new = hosted _ _ _ _ _ c.self.invariant.0 i (record old { crashed = true }) (record { config = is.config; number = is.number; blocks = is.blocks }) in
-    (raised _ _ _ _ _ new c.args.place (let l = c.requires.later in let e = ap (λ v. v.seen.place) c.self.view_is in omega (arith, l, e)), c.self.invariant.1)
+    let is = c.self.invariant.0.node_slot i old (node_slot-there c.self.inside i inside old c.index_mut-slot.ensures.value) in
+    let new = with_node_slot _ _ _ _ _ c.self.invariant.0 i (record old { crashed = true }) (record { config = is.config; number = is.number; blocks = is.blocks }) in
+    (raised _ _ _ _ _ new c.args.place (let l = c.requires.later in let e = ap (λ v. v.seen.place) c.self.view_is in omega (arith, l, e)), c.self.invariant.1, c.self.invariant.2)
 
 pub returns-clause-world : goal.returns-clause-world
 returns-clause-world c =
     let i = c.from.result in
-    let old = c.index_mut-host.result.now in
+    let old = c.index_mut-slot.result.now in
     let inside = within c.self.inside _ i c.args.node c.self.invariant.0 c.self.view_is c.from.ensures c.requires.node in
-    let e = world-crashed c.self.inside i inside old c.index_mut-host.ensures.value (record old { crashed = true }) refl in
+    let e = world-crashed c.self.inside i inside old c.index_mut-slot.ensures.value (record old { crashed = true }) refl in
     (λ j. record (e j) { place = c.args.place })
     ∙ (λ j. record (world_in (c.self.view_is j)) { node_crashed = update (world_in (c.self.view_is j)).node_crashed (c.from.ensures j) true; place = c.args.place })
 
 pub returns-clause-lying_nodes : goal.returns-clause-lying_nodes
 returns-clause-lying_nodes c =
     let i = c.from.result in
-    let old = c.index_mut-host.result.now in
+    let old = c.index_mut-slot.result.now in
     let inside = within c.self.inside _ i c.args.node c.self.invariant.0 c.self.view_is c.from.ensures c.requires.node in
-    lying-host c.self.inside i inside old c.index_mut-host.ensures.value (record old { crashed = true }) refl ∙ ap (λ v. v.lying_nodes) c.self.view_is
+    slot-lying c.self.inside i inside old c.index_mut-slot.ensures.value (record old { crashed = true }) refl ∙ ap (λ v. v.lying_nodes) c.self.view_is

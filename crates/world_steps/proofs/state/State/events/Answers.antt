@@ -6,7 +6,7 @@ use Rattle.world_steps.proofs.state.State.events.Goals as goal
 use Rattle.std.proofs.lemmas.Result.{on_ok_weaker}
 use Rattle.protocol.specs.World.{heard, sent}
 use Rattle.protocol.proofs.Playing.{no_fault}
-use Rattle.world_steps.proofs.Lines.{is_node, is_pooled, heard_plays, told_plays}
+use Rattle.world_steps.proofs.LineEvents.{is_node, is_pooled, heard_plays, told_plays}
 
 -- src/play.rt:78:17
 pub prune-requires-clause-node : goal.prune-requires-clause-node

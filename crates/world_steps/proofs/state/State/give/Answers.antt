@@ -5,38 +5,43 @@ use Rattle.protocol.specs.World.{accepted_at}
 use Rattle.protocol.specs.Seen.{accepted_of}
 use Rattle.node_core.specs.Seen.{after_of}
 use Rattle.world_steps.specs.Worlds.{setting_in, world_in}
-use Rattle.world_steps.specs.Steps.{handles}
+use Rattle.world_steps.specs.Steps.{accepts_in, handles}
 use Rattle.world_steps.specs.contracts.state.State.{the_view}
-use Rattle.world_steps.proofs.Holding.{raised}
-use Rattle.world_steps.proofs.Hosted.{within, host-there, hosts_versions, hosted, lying-host, world-handled, accepts-host, accepted-more}
+use Rattle.world_steps.proofs.KeptWorlds.{raised}
+use Rattle.world_steps.proofs.NodeSlots.{within, node_slot-there, node_slots_versions, with_node_slot, slot-lying, world-handled, accepts-node_slot, accepted-more}
 use Rattle.world_steps.proofs.state.State.give.Goals as goal
 
-pub handle-requires : goal.handle-requires
-handle-requires c =
-    let inside = within c.self.inside _ c.from.result c.args.node c.self.invariant.0 c.self.view_is c.from.ensures c.requires.node in
-    let is = c.self.invariant.0.host c.from.result c.index_mut-host.result.now (host-there c.self.inside c.from.result inside c.index_mut-host.result.now c.index_mut-host.ensures.value) in
-    record { cluster = is.config }
+pub keep-requires : goal.keep-requires
+keep-requires c =
+    let i = c.from.result in
+    let old = c.index_mut-slot.result.now in
+    let there = c.index_mut-slot.ensures.value in
+    let inside = within c.self.inside _ i c.args.node c.self.invariant.0 c.self.view_is c.from.ensures c.requires.node in
+    let is = c.self.invariant.0.node_slot i old (node_slot-there c.self.inside i inside old there) in
+    c.requires.added
+    ∙ sym (λ j. accepts_in (setting_in (c.self.view_is j)) (world_in (c.self.view_is j)) (c.from.ensures j) c.args.ask.now)
+    ∙ sym (accepts-node_slot c.self.inside i inside old there is c.args.ask.now)
 
 pub invariant_of-self-in-Ok : goal.invariant_of-self-in-Ok
 invariant_of-self-in-Ok c =
     let i = c.from.result in
-    let old = c.index_mut-host.result.now in
+    let old = c.index_mut-slot.result.now in
     let inside = within c.self.inside _ i c.args.node c.self.invariant.0 c.self.view_is c.from.ensures c.requires.node in
-    let is = c.self.invariant.0.host i old (host-there c.self.inside i inside old c.index_mut-host.ensures.value) in
-    let new = hosts_versions c.self.inside.config i old is c.handle.new.node c.args.ask.now.block (after_of old.node c.args.ask.now) c.in-Ok.ensures.node in
-    (raised _ _ _ _ _ (hosted _ _ _ _ _ c.self.invariant.0 i (record old { node = c.handle.new.node }) new) c.args.place (let l = c.requires.later in let e = ap (λ v. v.seen.place) c.self.view_is in omega (arith, l, e)), c.self.invariant.1)
+    let is = c.self.invariant.0.node_slot i old (node_slot-there c.self.inside i inside old c.index_mut-slot.ensures.value) in
+    let new = node_slots_versions c.self.inside.config i old is c.keep.new.node c.args.ask.now.block (after_of old.node c.args.ask.now) c.in-Ok.ensures.node in
+    (raised _ _ _ _ _ (with_node_slot _ _ _ _ _ c.self.invariant.0 i (record old { node = c.keep.new.node }) new) c.args.place (let l = c.requires.later in let e = ap (λ v. v.seen.place) c.self.view_is in omega (arith, l, e)), c.self.invariant.1, c.self.invariant.2)
 
 pub returns-in-Ok-clause-ok : goal.returns-in-Ok-clause-ok
 returns-in-Ok-clause-ok c =
     let i = c.from.result in
-    let old = c.index_mut-host.result.now in
-    let there = c.index_mut-host.ensures.value in
+    let old = c.index_mut-slot.result.now in
+    let there = c.index_mut-slot.ensures.value in
     let inside = within c.self.inside _ i c.args.node c.self.invariant.0 c.self.view_is c.from.ensures c.requires.node in
-    let is = c.self.invariant.0.host i old (host-there c.self.inside i inside old there) in
+    let is = c.self.invariant.0.node_slot i old (node_slot-there c.self.inside i inside old there) in
     let s = setting_in (the_view c.self.inside) in
     let block = c.args.ask.now.block in
-    let world = world-handled c.self.inside i inside old there is c.args.ask.now c.handle.new.node c.in-Ok.ensures.node in
-    let accepts = accepts-host c.self.inside i inside old there is c.args.ask.now in
+    let world = world-handled c.self.inside i inside old there is c.args.ask.now c.keep.new.node c.in-Ok.ensures.node in
+    let accepts = accepts-node_slot c.self.inside i inside old there is c.args.ask.now in
     let told = ap (λ (xs : List Accepted). map accepted_of xs) c.in-Ok.ensures.told ∙ accepted-more s c.self.inside.accepted c.args.node block _ in
     (λ j. record (world j) { pool = c.in_ok-append.ensures.ok j; accepted = told j; place = c.args.place })
     ∙ (λ j. record (world_in (the_view c.self.inside)) {
@@ -50,6 +55,6 @@ returns-in-Ok-clause-ok c =
 pub returns-in-Ok-clause-lying_nodes : goal.returns-in-Ok-clause-lying_nodes
 returns-in-Ok-clause-lying_nodes c =
     let i = c.from.result in
-    let old = c.index_mut-host.result.now in
+    let old = c.index_mut-slot.result.now in
     let inside = within c.self.inside _ i c.args.node c.self.invariant.0 c.self.view_is c.from.ensures c.requires.node in
-    lying-host c.self.inside i inside old c.index_mut-host.ensures.value (record old { node = c.handle.new.node }) refl ∙ ap (λ v. v.lying_nodes) c.self.view_is
+    slot-lying c.self.inside i inside old c.index_mut-slot.ensures.value (record old { node = c.keep.new.node }) refl ∙ ap (λ v. v.lying_nodes) c.self.view_is

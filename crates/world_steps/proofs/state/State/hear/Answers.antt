@@ -6,24 +6,27 @@ use Rattle.protocol.specs.World.{World, heard}
 use Rattle.protocol.specs.Seen.{client_at}
 use Rattle.world_steps.specs.Worlds.{setting_in, world_in}
 use Rattle.world_steps.specs.Steps.{IsAnswer}
-use Rattle.world_steps.proofs.Taking.{Fits, fits-seat, may-take, heard-taken}
+use Rattle.world_steps.proofs.HeardEffects.{Fits, slot-fits, may-apply, heard-applied}
 use Rattle.world_steps.proofs.state.State.hear.Goals as goal
 
 -- the message of a place is the one that stands there
 here : (pool lent : List Message) (i : Rattle.std.proofs.Common.ℕ) (x m : Message) → x ≡ get_or lent i x → lent ≡ pool → slice_get pool i ≡ Some m → x ≡ m
 here pool lent i x m e f g = e ∙ ap (λ (l : List Message). get_or l i x) f ∙ get_or_from_slice_get pool i m x g
 
-pub take-requires-clause-turn : goal.take-requires-clause-turn
-take-requires-clause-turn c =
+pub apply-requires-clause-effect : goal.apply-requires-clause-effect
+apply-requires-clause-effect c =
     let v = c.args.self.now in
     let k = c.args.client in
     let x = c.index-as_slice-message.result in
     let known = c.requires.answer in
     let same = here v.seen.pool c.as_slice.result.now c.args.message x known.0 c.index-as_slice-message.is (c.as_slice.ensures ∙ ap (λ y. y.seen.pool) c.self.view_is) known.1 in
     let e = c.in_ok-send.ensures.ok in
-    may-take v k c.args.place x (subst (λ y. IsAnswer k y) (sym same) known.2) c.in_ok-turn.turn c.send.new.self c.in_ok-send.ensures.cluster
+    may-apply v k c.args.place x (subst (λ y. IsAnswer k y) (sym same) known.2) c.in_ok-effect.effect c.send.new.self c.in_ok-send.ensures.cluster
     (ap (λ (w : World). w.place) e) c.requires.later (ap (λ (w : World). w.life k) e) (ap (λ (w : World). w.started k) e) (ap (λ (w : World). w.task k) e)
-    (subst (λ y. Fits y.config.n y.seen.place (client_at y.seen k).task) c.self.view_is (fits-seat c.self.inside c.self.invariant.0 k c.requires.client)) c.in_ok-turn.ensures.turn
+    (subst (λ y. Fits y.config.n y.seen.place (client_at y.seen k).task) c.self.view_is (slot-fits c.self.inside c.self.invariant.0 k c.requires.client)) c.in_ok-effect.ensures.effect
+
+pub apply-requires-clause-awake : goal.apply-requires-clause-awake
+apply-requires-clause-awake c = ap (λ (w : World). w.client_crashed c.args.client) c.in_ok-send.ensures.ok ∙ c.requires.awake
 
 pub returns-clause-ok : goal.returns-clause-ok
 returns-clause-ok c = λ m known.
@@ -33,8 +36,8 @@ returns-clause-ok c = λ m known.
     let same = here v.seen.pool c.as_slice.result.now c.args.message x m c.index-as_slice-message.is (c.as_slice.ensures ∙ ap (λ y. y.seen.pool) c.self.view_is) known in
     let asked = c.requires.answer in
     let same_asked = here v.seen.pool c.as_slice.result.now c.args.message x asked.0 c.index-as_slice-message.is (c.as_slice.ensures ∙ ap (λ y. y.seen.pool) c.self.view_is) asked.1 in
-    c.take.ensures.world
-    ∙ heard-taken v k c.args.place x (subst (λ y. IsAnswer k y) (sym same_asked) asked.2) c.in_ok-turn.turn (world_in v) refl
-    (subst (λ y. Fits y.config.n y.seen.place (client_at y.seen k).task) c.self.view_is (fits-seat c.self.inside c.self.invariant.0 k c.requires.client)) c.in_ok-turn.ensures.turn
-    (world_in c.send.new.self) (c.in_ok-send.ensures.ok ∙ (λ i. record (world_in v) { pool = (world_in v).pool ++ c.in_ok-turn.ensures.mail i; place = c.args.place }))
+    c.apply.ensures.world
+    ∙ heard-applied v k c.args.place x (subst (λ y. IsAnswer k y) (sym same_asked) asked.2) c.in_ok-effect.effect (world_in v) refl
+    (subst (λ y. Fits y.config.n y.seen.place (client_at y.seen k).task) c.self.view_is (slot-fits c.self.inside c.self.invariant.0 k c.requires.client)) c.in_ok-effect.ensures.effect
+    (world_in c.send.new.self) (c.in_ok-send.ensures.ok ∙ (λ i. record (world_in v) { pool = (world_in v).pool ++ c.in_ok-effect.ensures.mail i; place = c.args.place }))
     ∙ ap (λ (y : Message). heard (setting_in v) (world_in v) c.args.place k y y.body) same

@@ -3,17 +3,20 @@ use Rattle.protocol.specs.World.{World}
 use Rattle.protocol.specs.Seen.{client_at}
 use Rattle.world_steps.specs.Worlds.{setting_in, world_in}
 use Rattle.world_steps.specs.Steps.{handles}
-use Rattle.world_steps.proofs.Taking.{Fits, fits-seat, may-take, heard-taken, sent-together}
+use Rattle.world_steps.proofs.HeardEffects.{Fits, slot-fits, may-apply, heard-applied, sent-together}
 use Rattle.world_steps.proofs.state.State.hear_given.Goals as goal
 
-pub take-requires-clause-turn : goal.take-requires-clause-turn
-take-requires-clause-turn c =
+pub apply-requires-clause-effect : goal.apply-requires-clause-effect
+apply-requires-clause-effect c =
     let v = c.args.self.now in
     let k = c.args.client in
     let e = c.in_ok-give.ensures.ok in
-    may-take v k c.args.place c.args.message c.requires.answer c.in_ok-turn.turn c.give.new.self c.in_ok-give.ensures.cluster
+    may-apply v k c.args.place c.args.message c.requires.answer c.in_ok-effect.effect c.give.new.self c.in_ok-give.ensures.cluster
     (ap (λ (w : World). w.place) e) c.requires.later (ap (λ (w : World). w.life k) e) (ap (λ (w : World). w.started k) e) (ap (λ (w : World). w.task k) e)
-    (subst (λ x. Fits x.config.n x.seen.place (client_at x.seen k).task) c.self.view_is (fits-seat c.self.inside c.self.invariant.0 k c.requires.client)) c.in_ok-turn.ensures.turn
+    (subst (λ x. Fits x.config.n x.seen.place (client_at x.seen k).task) c.self.view_is (slot-fits c.self.inside c.self.invariant.0 k c.requires.client)) c.in_ok-effect.ensures.effect
+
+pub apply-requires-clause-awake : goal.apply-requires-clause-awake
+apply-requires-clause-awake c = ap (λ (w : World). w.client_crashed c.args.client) c.in_ok-give.ensures.ok ∙ c.requires.awake
 
 pub returns-clause-ok : goal.returns-clause-ok
 returns-clause-ok c =
@@ -21,8 +24,8 @@ returns-clause-ok c =
     let k = c.args.client in
     let m = c.args.message in
     let one = handles (setting_in v) (world_in v) c.args.place c.args.node c.args.ask.now (m ∷ []) in
-    let pool = sent-together (world_in v).pool c.in_ok-mail.mail c.in_ok-turn.next _ m c.in_ok-mail.ensures c.in_ok-turn.ensures.mail in
-    c.take.ensures.world
-    ∙ heard-taken v k c.args.place m c.requires.answer c.in_ok-turn.turn one refl
-    (subst (λ x. Fits x.config.n x.seen.place (client_at x.seen k).task) c.self.view_is (fits-seat c.self.inside c.self.invariant.0 k c.requires.client)) c.in_ok-turn.ensures.turn
+    let pool = sent-together (world_in v).pool c.in_ok-mail.mail c.in_ok-effect.next _ m c.in_ok-mail.ensures c.in_ok-effect.ensures.mail in
+    c.apply.ensures.world
+    ∙ heard-applied v k c.args.place m c.requires.answer c.in_ok-effect.effect one refl
+    (subst (λ x. Fits x.config.n x.seen.place (client_at x.seen k).task) c.self.view_is (slot-fits c.self.inside c.self.invariant.0 k c.requires.client)) c.in_ok-effect.ensures.effect
     (world_in c.give.new.self) (c.in_ok-give.ensures.ok ∙ (λ i. record one { pool = pool i }))

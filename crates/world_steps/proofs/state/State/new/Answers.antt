@@ -1,6 +1,7 @@
-use Rattle.std.proofs.Common.{refl}
+use Rattle.std.proofs.Common.{replicate, refl, ◌∙◌, ap}
 use Rattle.world_steps.specs.declared.state.State.TheInside.{Inside}
-use Rattle.world_steps.proofs.Beginning.{liars-begin, world-begin, kept-begin}
+use Rattle.world_steps.proofs.FirstWorlds.{liars-begin, world-begin, kept-begin, uses-begin}
+use Rattle.world_steps.specs.BlockUses.{unused}
 use Rattle.world_steps.proofs.state.State.new.Goals as goal
 
 pub invariant_of-result : goal.invariant_of-result
@@ -10,13 +11,14 @@ invariant_of-result c =
       config = c.args.config.now;
       first = c.in_ok-of.field-0;
       pool = c.new.result;
-      hosts = c.in_ok-new_hosts.field-0;
-      seats = c.in_ok-new_seats.field-0;
+      node_slots = c.in_ok-new_node_slots.field-0;
+      client_slots = c.in_ok-new_client_slots.field-0;
       records = c.new-2.result;
+      uses = c.in_ok-vec.field-0;
       accepted = c.new-3.result;
       place = 0;
     } in
-    (kept-begin w c.args.liars.now c.in_ok-new_hosts.ensures.hosts c.in_ok-new_seats.ensures.seats c.in_ok-new_hosts.ensures.count c.in_ok-new_seats.ensures.count c.in_ok-new_hosts.ensures.valid c.new-2.ensures, c.in_ok-of.ensures)
+    (kept-begin w c.args.liars.now c.in_ok-new_node_slots.ensures.new c.in_ok-new_client_slots.ensures.new c.in_ok-new_node_slots.ensures.count c.in_ok-new_client_slots.ensures.count c.in_ok-new_node_slots.ensures.valid c.new-2.ensures, c.in_ok-of.ensures, uses-begin w c.args.liars.now c.in_ok-new_node_slots.ensures.new c.in_ok-new_client_slots.ensures.new c.in_ok-new_node_slots.ensures.count c.in_ok-new_client_slots.ensures.count c.new-2.ensures (c.in_ok-vec.ensures.items_if_clones_equal (λ y e. e) ∙ ap (λ n. replicate n unused) c.blocks-2.ensures.is))
 
 pub returns-clause-liars : goal.returns-clause-liars
 returns-clause-liars c =
@@ -25,13 +27,14 @@ returns-clause-liars c =
       config = c.args.config.now;
       first = c.in_ok-of.field-0;
       pool = c.new.result;
-      hosts = c.in_ok-new_hosts.field-0;
-      seats = c.in_ok-new_seats.field-0;
+      node_slots = c.in_ok-new_node_slots.field-0;
+      client_slots = c.in_ok-new_client_slots.field-0;
       records = c.new-2.result;
+      uses = c.in_ok-vec.field-0;
       accepted = c.new-3.result;
       place = 0;
     } in
-    liars-begin w c.args.liars.now c.in_ok-new_hosts.ensures.hosts c.in_ok-new_seats.ensures.seats c.in_ok-new_hosts.ensures.count c.in_ok-new_seats.ensures.count c.requires
+    liars-begin w c.args.liars.now c.in_ok-new_node_slots.ensures.new c.in_ok-new_client_slots.ensures.new c.in_ok-new_node_slots.ensures.count c.in_ok-new_client_slots.ensures.count c.requires
 
 pub returns-clause-start : goal.returns-clause-start
 returns-clause-start c =
@@ -40,10 +43,11 @@ returns-clause-start c =
       config = c.args.config.now;
       first = c.in_ok-of.field-0;
       pool = c.new.result;
-      hosts = c.in_ok-new_hosts.field-0;
-      seats = c.in_ok-new_seats.field-0;
+      node_slots = c.in_ok-new_node_slots.field-0;
+      client_slots = c.in_ok-new_client_slots.field-0;
       records = c.new-2.result;
+      uses = c.in_ok-vec.field-0;
       accepted = c.new-3.result;
       place = 0;
     } in
-    world-begin w c.args.liars.now c.in_ok-new_hosts.ensures.hosts c.in_ok-new_seats.ensures.seats c.in_ok-new_hosts.ensures.count c.in_ok-new_seats.ensures.count c.new.ensures c.new-3.ensures c.new-2.ensures refl
+    world-begin w c.args.liars.now c.in_ok-new_node_slots.ensures.new c.in_ok-new_client_slots.ensures.new c.in_ok-new_node_slots.ensures.count c.in_ok-new_client_slots.ensures.count c.new.ensures c.new-3.ensures c.new-2.ensures refl

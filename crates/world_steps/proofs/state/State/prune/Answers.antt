@@ -7,16 +7,16 @@ use Rattle.protocol.specs.Instance.{setting}
 use Rattle.node_core.specs.Seen.{SeenNode}
 use Rattle.world_steps.specs.Worlds.{setting_in, world_in}
 use Rattle.world_steps.specs.contracts.state.State.{the_view}
-use Rattle.world_steps.proofs.Holding.{raised}
-use Rattle.world_steps.proofs.Hosted.{within, host-there, hosts_versions, hosted, lying-host, world-versions, versions-there}
+use Rattle.world_steps.proofs.KeptWorlds.{raised}
+use Rattle.world_steps.proofs.NodeSlots.{within, node_slot-there, node_slots_versions, with_node_slot, slot-lying, world-versions, versions-there}
 use Rattle.world_steps.proofs.state.State.prune.Goals as goal
 
 pub prune-requires : goal.prune-requires
 prune-requires c =
     let i = c.from.result in
-    let old = c.index_mut-host.result.now in
+    let old = c.index_mut-slot.result.now in
     let inside = within c.self.inside _ i c.args.node c.self.invariant.0 c.self.view_is c.from.ensures c.requires.node in
-    let is = c.self.invariant.0.host i old (host-there c.self.inside i inside old c.index_mut-host.ensures.value) in
+    let is = c.self.invariant.0.node_slot i old (node_slot-there c.self.inside i inside old c.index_mut-slot.ensures.value) in
     let e = ap (λ v. v.config.blocks) c.self.view_is in
     let f : old.node.config.blocks ≡ c.self.inside.config.blocks = ap (λ n. n.blocks) is.config in
     let l = c.requires.block in
@@ -25,19 +25,19 @@ prune-requires c =
 pub invariant_of-self : goal.invariant_of-self
 invariant_of-self c =
     let i = c.from.result in
-    let old = c.index_mut-host.result.now in
+    let old = c.index_mut-slot.result.now in
     let inside = within c.self.inside _ i c.args.node c.self.invariant.0 c.self.view_is c.from.ensures c.requires.node in
-    let is = c.self.invariant.0.host i old (host-there c.self.inside i inside old c.index_mut-host.ensures.value) in
-    let new = hosts_versions c.self.inside.config i old is c.prune.new.self c.args.block _ c.prune.ensures in
-    (raised _ _ _ _ _ (hosted _ _ _ _ _ c.self.invariant.0 i (record old { node = c.prune.new.self }) new) c.args.place (let l = c.requires.later in let e = ap (λ v. v.seen.place) c.self.view_is in omega (arith, l, e)), c.self.invariant.1)
+    let is = c.self.invariant.0.node_slot i old (node_slot-there c.self.inside i inside old c.index_mut-slot.ensures.value) in
+    let new = node_slots_versions c.self.inside.config i old is c.prune.new.self c.args.block _ c.prune.ensures in
+    (raised _ _ _ _ _ (with_node_slot _ _ _ _ _ c.self.invariant.0 i (record old { node = c.prune.new.self }) new) c.args.place (let l = c.requires.later in let e = ap (λ v. v.seen.place) c.self.view_is in omega (arith, l, e)), c.self.invariant.1, c.self.invariant.2)
 
 pub returns-clause-world : goal.returns-clause-world
 returns-clause-world c =
     let i = c.from.result in
-    let old = c.index_mut-host.result.now in
-    let there = c.index_mut-host.ensures.value in
+    let old = c.index_mut-slot.result.now in
+    let there = c.index_mut-slot.ensures.value in
     let inside = within c.self.inside _ i c.args.node c.self.invariant.0 c.self.view_is c.from.ensures c.requires.node in
-    let is = c.self.invariant.0.host i old (host-there c.self.inside i inside old there) in
+    let is = c.self.invariant.0.node_slot i old (node_slot-there c.self.inside i inside old there) in
     let l : c.args.block < length old.node.blocks = (let e = ap (λ v. v.config.blocks) c.self.view_is in let f = is.blocks in let m = c.requires.block in omega (arith, e, f, m)) in
     let stamp = c.in-Some.stamp in
     let v = the_view c.self.inside in
@@ -49,11 +49,16 @@ returns-clause-world c =
       place = c.args.place;
     })
     ∙ (λ j. pruned_at (setting_in (c.self.view_is j)) (world_in (c.self.view_is j)) c.args.place (c.from.ensures j) c.args.block (Some stamp))
-    ∙ ap (pruned_at (setting_in c.args.self.now) (world_in c.args.self.now) c.args.place c.args.node c.args.block) (sym c.in-Some.is ∙ c.greatest_given.ensures)
+    ∙ ap (pruned_at (setting_in c.args.self.now) (world_in c.args.self.now) c.args.place c.args.node c.args.block) (sym c.in-Some.is ∙ c.block_use.ensures.given)
 
 pub returns-clause-lying_nodes : goal.returns-clause-lying_nodes
 returns-clause-lying_nodes c =
     let i = c.from.result in
-    let old = c.index_mut-host.result.now in
+    let old = c.index_mut-slot.result.now in
     let inside = within c.self.inside _ i c.args.node c.self.invariant.0 c.self.view_is c.from.ensures c.requires.node in
-    lying-host c.self.inside i inside old c.index_mut-host.ensures.value (record old { node = c.prune.new.self }) refl ∙ ap (λ v. v.lying_nodes) c.self.view_is
+    slot-lying c.self.inside i inside old c.index_mut-slot.ensures.value (record old { node = c.prune.new.self }) refl ∙ ap (λ v. v.lying_nodes) c.self.view_is
+
+pub returns-in_default-clause-world : goal.returns-in_default-clause-world
+returns-in_default-clause-world c =
+    let v = c.args.self.now in
+    ap world_in c.pass.ensures ∙ ap (pruned_at (setting_in v) (world_in v) c.args.place c.args.node c.args.block) (sym c.in_default.is ∙ c.block_use.ensures.given)

@@ -2,7 +2,7 @@
 use Rattle.std.proofs.Common.{◌≡◌, subst, OnOk}
 use Rattle.protocol.specs.Lines.{Line, plays}
 use Rattle.world_steps.specs.Worlds.{setting_in, world_in}
-use Rattle.world_steps.proofs.Alone.{happened_on_ok}
+use Rattle.world_steps.proofs.SingleEvents.{happened_on_ok}
 use Rattle.world_steps.proofs.world.World.step.Goals as goal
 
 pub returns-clause-ok : goal.returns-clause-ok

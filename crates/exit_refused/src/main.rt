@@ -1,0 +1,8 @@
+//! The program, on a script that it refuses: nothing is written, and the exit status is 3.
+#![tactic(auto)]
+
+use std::process::ExitCode;
+
+fn main(rt: HostRuntime) -> ExitCode {
+    command_line::run(&rt)
+}

@@ -1,0 +1,62 @@
+use lists::ItemList;
+use stamp_order::Stamp;
+use wire_forms::{Message, Rule};
+
+/// Whether a node lies, and how.
+#[derive(Clone, Copy, Debug, PartialEq, Eq)]
+pub enum Nature {
+    Honest,
+    Lying(Rule),
+}
+
+/// Why a caller hears nothing.
+#[derive(Clone, Copy, Debug, PartialEq, Eq)]
+pub enum Silence {
+    /// The node has crashed, or crashes now.
+    Crashed,
+    /// The ask was dropped on its way.
+    Dropped,
+    /// The ask is held back, and comes later.
+    Held,
+    /// The node lies by silence.
+    Lying,
+}
+
+/// What the caller of a node hears.
+#[derive(Drop)]
+pub enum Answer {
+    Reply(Message),
+    Nothing(Silence),
+}
+
+/// What a node did at one number.
+#[derive(Drop)]
+pub enum NodeAct {
+    /// It handled the ask, and the caller heard the answer.
+    Answered { ask: Message, reply: Message },
+    /// It told the caller a false answer.
+    Lied { ask: Message, reply: Message },
+    /// The caller heard nothing.
+    Silent { ask: Message, why: Silence },
+    /// It crashed when this ask came, or came late.
+    CrashedAt { ask: Message, late: bool },
+    /// It handled an ask that was held back. Nobody hears the answer.
+    Delivered { ask: Message, reply: Message },
+    /// An ask that was held back found the node crashed or lying.
+    LateLost { ask: Message },
+    /// It dropped the versions of the block that no later read can need.
+    Pruned { block: u32, stamp: Stamp },
+}
+
+/// A number and what the node did then.
+#[derive(Drop)]
+pub struct NodeEntry {
+    pub number: u64,
+    pub act: NodeAct,
+}
+
+/// All that a node did, by ascending number.
+pub type NodeJournal = ItemList<NodeEntry>;
+
+/// The journals of the nodes, by node.
+pub type NodeJournals = ItemList<NodeJournal>;

@@ -1,0 +1,163 @@
+//! Cases as they are written down: a line `# NAME` begins one, and these lines follow, in any order. Lines before the first
+//! case are a comment, and empty lines are nothing.
+//!
+//! | Line | Meaning |
+//! |---|---|
+//! | `words WORD..` | the words of the command line |
+//! | `< TEXT` | a line of the input; where the text ends with `A..B`, a line for each of the numbers |
+//! | `<N TEXT` | that line N times |
+//! | `<\| TEXT` | the input's last bytes, with no newline |
+//! | `reads MOST [K]` | the source gives at most so many bytes at once, and its call K fails, counted from 0 |
+//! | `> TEXT`, `>\| TEXT` | what is written, as of the input |
+//! | `writes MOST [K]` | the sink takes at most so many bytes at once, and its call K fails |
+//! | `each call fails` | the case is also run with each call of the source failing in turn, and with each of the sink |
+//! | `! TEXT` | a line on standard error |
+//! | `status N` | the exit status, if it isn't 0 |
+
+use std::alloc::Global;
+use std::io;
+use std::io::Write;
+
+/// How many bytes a call of a source or a sink moves at most, and the number of the call that fails.
+#[derive(Clone, Copy)]
+pub struct Pace {
+    pub most: usize,
+    pub failing: Option<u64>,
+}
+
+/// What the program is given, and what must come of it.
+#[derive(Drop)]
+pub struct Case {
+    pub name: String,
+    pub words: Vec<String>,
+    pub input: Vec<u8>,
+    pub reads: Pace,
+    pub output: Vec<u8>,
+    pub writes: Pace,
+    pub told: Vec<u8>,
+    pub status: u8,
+    /// The calls fail in turn.
+    pub fails_in_turn: bool,
+    /// Each line is one of those that cases have.
+    pub is_readable: bool,
+}
+
+const WIDE: Pace = Pace {
+    most: 4096,
+    failing: None,
+};
+
+impl Case {
+    fn new(alloc: Global, name: &str) -> io::Result<Case> {
+        Ok(Case {
+            name: String::from_str(alloc, name)?,
+            words: Vec::new(alloc),
+            input: Vec::new(alloc),
+            reads: WIDE,
+            output: Vec::new(alloc),
+            writes: WIDE,
+            told: Vec::new(alloc),
+            status: 0,
+            fails_in_turn: false,
+            is_readable: true,
+        })
+    }
+
+    fn add_words(&mut self, alloc: Global, words: &str) -> io::Result<()> {
+        for word in words.split(' ') {
+            self.words.push(String::from_str(alloc, word)?)?;
+        }
+        Ok(())
+    }
+
+    fn add(&mut self, alloc: Global, line: &str) -> io::Result<()> {
+        match line.split_once(' ') {
+            Some(("words", words)) => self.add_words(alloc, words)?,
+            Some(("reads", pace)) => self.reads = pace_of(pace),
+            Some(("writes", pace)) => self.writes = pace_of(pace),
+            Some(("status", number)) => self.status = number.parse().unwrap_or(u8::MAX),
+            Some(("each", "call fails")) => self.fails_in_turn = true,
+            Some(("!", text)) => add_line(&mut self.told, text)?,
+            Some((mark, text)) => self.add_text(mark, text)?,
+            None => self.add_bare(line)?,
+        }
+        Ok(())
+    }
+
+    // A line with a mark alone.
+    fn add_bare(&mut self, line: &str) -> io::Result<()> {
+        match line {
+            "" | "words" => Ok(()),
+            _ => self.add_text(line, ""),
+        }
+    }
+
+    fn add_text(&mut self, mark: &str, text: &str) -> io::Result<()> {
+        if let Some(count) = mark.strip_prefix("<") {
+            add_lines(&mut self.input, count, text)
+        } else if let Some(count) = mark.strip_prefix(">") {
+            add_lines(&mut self.output, count, text)
+        } else {
+            self.is_readable = false;
+            Ok(())
+        }
+    }
+}
+
+fn pace_of(text: &str) -> Pace {
+    let (most, failing) = text.split_once(' ').unwrap_or((text, ""));
+    Pace {
+        most: most.parse().unwrap_or(1),
+        failing: failing.parse().ok(),
+    }
+}
+
+// A line as often as the mark says after its first character.
+fn add_lines(bytes: &mut Vec<u8>, count: &str, line: &str) -> io::Result<()> {
+    match count {
+        "|" => bytes.extend_from_slice(line.as_bytes())?,
+        "" => add_line_or_range(bytes, line)?,
+        _ => {
+            for _ in 0..count.parse().unwrap_or(0u32) {
+                add_line(bytes, line)?;
+            }
+        }
+    }
+    Ok(())
+}
+
+fn add_line(bytes: &mut Vec<u8>, line: &str) -> io::Result<()> {
+    bytes.extend_from_slice(line.as_bytes())?;
+    bytes.push(b'\n')?;
+    Ok(())
+}
+
+// The front of a line and the numbers of the range at its end.
+fn range_of(line: &str) -> Option<(&str, u8, u8)> {
+    let (front, last) = line.split_once("..")?;
+    let (front, first) = front.rsplit_once(' ')?;
+    Some((front, first.parse().ok()?, last.parse().ok()?))
+}
+
+fn add_line_or_range(bytes: &mut Vec<u8>, line: &str) -> io::Result<()> {
+    let Some((front, first, last)) = range_of(line) else {
+        return add_line(bytes, line);
+    };
+    for number in first..=last {
+        writeln!(bytes, "{front} {number}")?;
+    }
+    Ok(())
+}
+
+/// The cases of a file.
+pub fn cases_of(alloc: Global, text: &str) -> io::Result<Vec<Case>> {
+    let mut cases = Vec::new(alloc);
+    for line in text.lines() {
+        if let Some(name) = line.strip_prefix("# ") {
+            cases.push(Case::new(alloc, name)?)?;
+        } else if let Some(case) = cases.last_mut() {
+            case.add(alloc, line)?;
+        }
+    }
+    Ok(cases)
+}
