@@ -1,10 +1,12 @@
 //! The examples in the folder that the program runs in. A script NAME.txt is replayed, its report is compared with NAME.out and
-//! checked; a report NAME.report is checked, and the verdict compared with NAME.verdict. Writes a line for each example.
+//! checked, and its picture is compared with NAME.svg; a report NAME.report is checked, and the verdict compared with
+//! NAME.verdict. Writes a line for each example.
 #![tactic(auto)]
 
 use cross_sum::Bytes;
 use outside_io::{Calls, MemorySink, MemorySource};
 use pasis_shell::{OpenGate, Status};
+use run_pictures::{PictureStatus, draw};
 use std::alloc::Global;
 use std::{fmt, fs, io};
 
@@ -16,6 +18,8 @@ enum Outcome {
     Differs,
     // The report of a script isn't legal.
     Illegal,
+    // The picture that lies beside the script is another than the one that was drawn.
+    OtherPicture,
 }
 
 impl fmt::Display for Outcome {
@@ -24,6 +28,7 @@ impl fmt::Display for Outcome {
             Outcome::Ok => write!(f, "ok"),
             Outcome::Differs => write!(f, "differs"),
             Outcome::Illegal => write!(f, "illegal"),
+            Outcome::OtherPicture => write!(f, "other picture"),
         }
     }
 }
@@ -53,7 +58,21 @@ fn replayed(rt: &HostRuntime, name: &str) -> io::Result<Outcome> {
     if status != Status::Done || verdict.taken() != b"legal\n".as_slice() {
         return Ok(Outcome::Illegal);
     }
+    if !is_pictured(rt, name)? {
+        return Ok(Outcome::OtherPicture);
+    }
     Ok(Outcome::Ok)
+}
+
+// Whether the picture beside a script is the one that is drawn.
+fn is_pictured(rt: &HostRuntime, name: &str) -> io::Result<bool> {
+    let script = Bytes::from_vec(file_of(rt, name, "txt")?);
+    let mut source = MemorySource::new(script, 4096, Calls::new(rt.alloc()));
+    let mut sink = MemorySink::new(rt.alloc(), 4096, Calls::new(rt.alloc()));
+    let status = draw(rt.alloc(), &mut source, &mut sink);
+    let picture = file_of(rt, name, "svg")?;
+    let is_drawn = status == PictureStatus::Replay(Status::Done);
+    Ok(is_drawn && sink.taken() == picture.as_slice())
 }
 
 fn checked(rt: &HostRuntime, name: &str) -> io::Result<Outcome> {

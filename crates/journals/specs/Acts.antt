@@ -21,7 +21,8 @@ pub use Rattle.journals.specs.declared.node.NodeAct.{NodeAct}
 use Rattle.journals.specs.declared.node.NodeAct.TheVariants.{Answered, Lied, Silent, CrashedAt, Delivered, LateLost, Pruned}
 pub use Rattle.journals.specs.declared.node.NodeEntry.{NodeEntry}
 
--- a node at one moment: its versions; the held asks that haven't come again, oldest first; how many asks it still serves before it crashes, if it is to crash; whether it has crashed
+-- a node at one moment: its versions; the held asks that haven't come again, oldest first; how many asks it still serves before
+-- it crashes, if it is to crash; whether it has crashed
 pub record NodeState : Type 0 where
   pub node : SeenNode
   pub late : List Message
@@ -45,6 +46,10 @@ true_answer node m (Answers reply) = m
 abbrev pub served : SeenNode → Body → SeenNode
 served node (Asks ask) = with_versions node ask.block (after_of node ask)
 served node (Answers reply) = node
+
+-- the node after it pruned the block by the stamp
+abbrev pub pruned_node : SeenNode → ℕ → Stamp → SeenNode
+pruned_node node block stamp = with_versions node block (pruned (setting node.config) stamp (versions_in node block))
 
 -- the count is used up
 abbrev pub is_spent : Option ℕ → Bool
@@ -89,20 +94,20 @@ module _ (s : NodeState) where
 
 -- an ask that is held joins the late mail
 abbrev pub held_back : NodeState → Message → Silence → NodeState
-held_back s ask Held = record { node = s.node; late = s.late ++ ask ∷ []; crash_after = s.crash_after; crashed = s.crashed }
+held_back s ask Held = record s { late = s.late ++ ask ∷ [] }
 held_back s ask Crashed = s
 held_back s ask Dropped = s
 held_back s ask Lying = s
 
 -- the node after an act: an answer and a late delivery handle the ask and count, a prune prunes, a crash lasts, and what came late is late no more
 abbrev pub after : NodeState → NodeAct → NodeState
-after s (Answered ask reply) = record { node = served s.node ask.body; late = s.late; crash_after = one_less s.crash_after; crashed = s.crashed }
+after s (Answered ask reply) = record s { node = served s.node ask.body; crash_after = one_less s.crash_after }
 after s (Lied ask reply) = s
 after s (Silent ask why) = held_back s ask why
-after s (CrashedAt ask late) = record { node = s.node; late = if late then drop 1 s.late else s.late; crash_after = s.crash_after; crashed = true }
-after s (Delivered ask reply) = record { node = served s.node ask.body; late = drop 1 s.late; crash_after = one_less s.crash_after; crashed = s.crashed }
-after s (LateLost ask) = record { node = s.node; late = drop 1 s.late; crash_after = s.crash_after; crashed = s.crashed }
-after s (Pruned block stamp) = record { node = with_versions s.node block (pruned (setting s.node.config) stamp (versions_in s.node block)); late = s.late; crash_after = s.crash_after; crashed = s.crashed }
+after s (CrashedAt ask late) = record s { late = if late then drop 1 s.late else s.late; crashed = true }
+after s (Delivered ask reply) = record s { node = served s.node ask.body; late = drop 1 s.late; crash_after = one_less s.crash_after }
+after s (LateLost ask) = record s { late = drop 1 s.late }
+after s (Pruned block stamp) = record s { node = pruned_node s.node block stamp }
 
 -- what the caller of a node hears of an act; late acts and prunes have no caller
 abbrev pub answer_of : NodeAct → Answer

@@ -35,7 +35,15 @@ pub record Agrees (s : Setting) (w : World) (g : Cluster) : Type 0 where
 
 -- the record of an operation that ended
 abbrev pub ended_record : ℕ → Ended → Record
-ended_record c x = record { client = c; block = x.block; work = x.work; start = x.start + 1; end = Some (x.end + 1); stamp = stamp_of_outcome x.outcome; outcome = Some x.outcome }
+ended_record c x = record {
+  client = c;
+  block = x.block;
+  work = x.work;
+  start = x.start + 1;
+  end = Some (x.end + 1);
+  stamp = stamp_of_outcome x.outcome;
+  outcome = Some x.outcome;
+}
 
 -- the record is that of an operation that a correct client ended
 pub record IsEnded (s : Setting) (g : Cluster) (r : Record) : Type 0 where

@@ -50,7 +50,7 @@ ended_by start end _ _ = None
 
 -- the client after it heard what did this, at this number
 abbrev pub desk_heard : DeskState → ℕ → Hearing → DeskState
-desk_heard d n h = record { client = by_hearing d.client h; crashed = d.crashed; began = d.began; ended = one_more d.ended (ended_by d.began n d.client.seen.task h) }
+desk_heard d n h = record d { client = by_hearing d.client h; ended = one_more d.ended (ended_by d.began n d.client.seen.task h) }
 
 -- the client after a reply, if there is one
 abbrev pub desk_told : DeskState → ℕ → Option Message → DeskState
@@ -59,8 +59,8 @@ desk_told d n (Some m) = desk_heard d n (hears d.client d.client.seen.task m)
 
 -- the client after an act: a start begins its next operation, a crash lasts, and the reply of a call is heard
 abbrev pub desk_after : DeskState → ℕ → DeskAct → DeskState
-desk_after d n (Start op) = record { client = with_started d.client (started d.client op); crashed = d.crashed; began = n; ended = d.ended }
-desk_after d n Crash = record { client = d.client; crashed = true; began = d.began; ended = d.ended }
+desk_after d n (Start op) = record d { client = with_started d.client (started d.client op); began = n }
+desk_after d n Crash = record d { crashed = true }
 desk_after d n (Call way ask reply) = desk_told d n reply
 
 -- the block is there, and a value that is written is a block

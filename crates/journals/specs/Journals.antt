@@ -100,7 +100,8 @@ pub record NumbersBelow (j : Journals) (k : ℕ) : Type 0 where
 abbrev pub IsMerge : Journals → List (ℕ × Line) → Type 0
 IsMerge j lines = (es : List (ℕ × Step)) × InOrder j es × Merged (setting_for j) (Some (start_world (setting_for j))) 0 (map (λ p. p.1) es) lines
 
--- journals of a run in threads: of a cluster with few liars, kept, agreeing in pairs and following each other, with each number below some count once
+-- journals of a run in threads: of a cluster with few liars, kept, agreeing in pairs and following each other, with each number
+-- below some count once
 pub record AreOfRun (conduct : Conduct) (j : Journals) : Type 0 where
   pub cluster : IsCluster j.config (has_number j.liars.nodes)
   pub kept : AreKept conduct j

@@ -24,7 +24,8 @@ use Rattle.journals.specs.Journals.{Journals, setting_for, at_desk, cluster_at, 
 abbrev pub OfMerged : (Conduct → Journals → List (ℕ × Line) → Type 0) → Type 0
 OfMerged law = (conduct : Conduct) (j : Journals) (lines : List (ℕ × Line)) → AreOfRun conduct j → IsMerge j lines → law conduct j lines
 
--- no line is refused when its turn comes, and after the first n lines each node that isn't declared lying, and each correct client, is what its journal's entries with numbers below n make of it
+-- no line is refused when its turn comes, and after the first n lines each node that isn't declared lying, and each correct client,
+-- is what its journal's entries with numbers below n make of it
 abbrev pub AllReach : Conduct → Journals → List (ℕ × Line) → Type 0
 AllReach conduct j lines = (n : ℕ) → Reaches (setting_for j) (start_world (setting_for j)) (take n lines) (cluster_at conduct j n)
 

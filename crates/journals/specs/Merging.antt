@@ -61,10 +61,5 @@ module _ (s : Setting) where
   abbrev pub Merged : Option World → ℕ → List Step → List (ℕ × Line) → Type 0
   Merged w place [] lines = lines ≡ []
   Merged w place (e ∷ es) lines =
-      (k : ℕ) × (rest : List (ℕ × Line)) × IsNumber w (late_ask e) k × (lines ≡ (place + 1, line_of k e) ∷ rest) × Merged (next_world w (place + 1) (line_of k e)) (place + 1) es rest
-
-  -- the same, with the world that they lead to, if they are a run
-  abbrev pub MergesTo : Option World → ℕ → List Step → List (ℕ × Line) → Option World → Type 0
-  MergesTo w place [] lines v = (lines ≡ []) × (v ≡ w)
-  MergesTo w place (e ∷ es) lines v =
-      (k : ℕ) × (rest : List (ℕ × Line)) × IsNumber w (late_ask e) k × (lines ≡ (place + 1, line_of k e) ∷ rest) × MergesTo (next_world w (place + 1) (line_of k e)) (place + 1) es rest v
+      (k : ℕ) × (rest : List (ℕ × Line)) × IsNumber w (late_ask e) k × (lines ≡ (place + 1, line_of k e) ∷ rest)
+      × Merged (next_world w (place + 1) (line_of k e)) (place + 1) es rest

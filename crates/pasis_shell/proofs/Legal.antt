@@ -15,7 +15,7 @@ no_flaw : (entries : List Entry) (flaw : Option Flaw) → IsLegal entries × IsI
 no_flaw entries None plain verdict = refl
 no_flaw entries (Some flaw) plain verdict = absurd (verdict.1 plain)
 
-pub replay_is_legal : (input text verdict : List ℕ) (flaw : Option Flaw) (r : Replays input text) → NoClash (cluster_of r.config r.liars) r.desks.world → Judges text verdict flaw → flaw ≡ None
+pub replay_is_legal : (input text verdict : List ℕ) (flaw : Option Flaw) (r : Replays input text) → NoClash (cluster_of r.config r.liars) r.queues.world → Judges text verdict flaw → flaw ≡ None
 replay_is_legal input text verdict flaw r apart judged =
     let same : r.book ≡ judged.book = one_report r.book judged.book r.told judged.told (sym r.shown ∙ judged.spelled) in
     no_flaw judged.book.entries flaw (subst (λ (b : Book). IsLegal b.entries × IsInTime b.entries) same (r.plain apart)) judged.verdict

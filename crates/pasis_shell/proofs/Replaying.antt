@@ -12,7 +12,7 @@ use Rattle.history_book.specs.Tellings.{Tells}
 use Rattle.history_book.specs.Judging.{IsLegal, IsInTime}
 use Rattle.world_steps.specs.Worlds.{WorldView, setting_in, world_in}
 use Rattle.run_reports.specs.Registers.{AreRegisters}
-use Rattle.script_run.specs.Performing.{Desks, Performs, StopsAt}
+use Rattle.script_run.specs.Performing.{CommandQueues, Performs, StopsAt}
 use Rattle.line_forms.specs.declared.refusal.ScriptRefusal.{ScriptRefusal}
 use Rattle.line_forms.specs.declared.refusal.ScriptRefusal.TheVariants as scripts
 use Rattle.pasis_shell.specs.declared.words.Command.TheVariants.{Replay}
@@ -23,7 +23,7 @@ use Rattle.pasis_shell.specs.Replays.{cluster_of, IsReportOf, IsScript, Replays,
 module _ (input : List ℕ) (c : Numbers) (liars : Liars) (lines : List ReplayLine) (script : IsScript input c liars lines) where
   -- the report of the world to which the script's run leads
   pub replays : (text : List ℕ) (w : WorldView) → w.config ≡ c → setting_in w ≡ cluster_of c liars
-      → (d : Desks) × Performs (setting_in w) w.config lines d × (d.world ≡ world_in w) → IsReportOf w text → Replays input text
+      → (d : CommandQueues) × Performs (setting_in w) w.config lines d × (d.world ≡ world_in w) → IsReportOf w text → Replays input text
   replays text w same cluster run report =
       let s = cluster_of c liars in
       let d = run.0 in
@@ -32,7 +32,7 @@ module _ (input : List ℕ) (c : Numbers) (liars : Liars) (lines : List ReplayLi
         liars = liars;
         lines = lines;
         script = script;
-        desks = d;
+        queues = d;
         run = subst (λ (z : Setting). Performs z c lines d) cluster (subst (λ (k : Numbers). Performs (setting_in w) k lines d) same run.1);
         history = report.history;
         book = report.book;

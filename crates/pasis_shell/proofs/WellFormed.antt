@@ -13,7 +13,7 @@ use Rattle.script_text.specs.Replays.{IsReplay, Spells, replay_script}
 use Rattle.script_text.specs.Sum.{IsSum, sum_text, sum_script}
 use Rattle.script_text.proofs.ReplayLaws.{replay_accepted, one_replay}
 use Rattle.script_text.proofs.SumLaws.{sum_accepted}
-use Rattle.script_run.specs.Performing.{Desks, Performs, LeadsTo, StopsAt, cause_of, after_line, start_desks}
+use Rattle.script_run.specs.Performing.{CommandQueues, Performs, LeadsTo, StopsAt, cause_of, after_line, start_queues}
 use Rattle.history_book.specs.Books.{Book}
 use Rattle.history_book.specs.Reports.{report_text}
 use Rattle.history_book.specs.ReportTexts.{IsReport, report}
@@ -86,26 +86,26 @@ no_fault g text line cause calm fault =
 
 module _ (s : Setting) (c : Numbers) where
   -- the line after these took place, so nothing was against it
-  took_place : (d e last : Desks) (place : ℕ) (front : List ReplayLine) (line : ReplayLine) (rest : List ReplayLine) → LeadsTo s c d place front e → LeadsTo s c d place (front ++ line ∷ rest) last → cause_of s c e line ≡ None
-  took_place d e last place [] line rest h whole = subst (λ (z : Desks). cause_of s c z line ≡ None) (sym h) whole.0
+  took_place : (d e last : CommandQueues) (place : ℕ) (front : List ReplayLine) (line : ReplayLine) (rest : List ReplayLine) → LeadsTo s c d place front e → LeadsTo s c d place (front ++ line ∷ rest) last → cause_of s c e line ≡ None
+  took_place d e last place [] line rest h whole = subst (λ (z : CommandQueues). cause_of s c z line ≡ None) (sym h) whole.0
   took_place d e last place (x ∷ front) line rest h whole = took_place (after_line s c d place x) e last (place + 1) front line rest h.1 whole.1
 
   -- a run that goes to its end stops at no line
-  no_stop : (lines : List ReplayLine) (done : ℕ) (cause : Cause) (last : Desks) → Performs s c lines last → StopsAt s c lines done cause → ⊥
+  no_stop : (lines : List ReplayLine) (done : ℕ) (cause : Cause) (last : CommandQueues) → Performs s c lines last → StopsAt s c lines done cause → ⊥
   no_stop lines done cause last run stop =
-      let none : cause_of s c stop.desks stop.line ≡ None = took_place (start_desks s) stop.desks last 1 stop.front stop.line stop.rest stop.performed (subst (λ (ls : List ReplayLine). Performs s c ls last) stop.parts run) in
-      let here : cause_of s c stop.desks stop.line ≡ Some cause = stop.stopped in
+      let none : cause_of s c stop.queues stop.line ≡ None = took_place (start_queues s) stop.queues last 1 stop.front stop.line stop.rest stop.performed (subst (λ (ls : List ReplayLine). Performs s c ls last) stop.parts run) in
+      let here : cause_of s c stop.queues stop.line ≡ Some cause = stop.stopped in
       cc
 
-module _ (input : List ℕ) (c : Numbers) (liars : Liars) (lines : List ReplayLine) (desks : Desks) (good : IsReplay c liars lines) (spelled : Spells input c liars lines) (run : Performs (cluster_of c liars) c lines desks) where
+module _ (input : List ℕ) (c : Numbers) (liars : Liars) (lines : List ReplayLine) (queues : CommandQueues) (good : IsReplay c liars lines) (spelled : Spells input c liars lines) (run : Performs (cluster_of c liars) c lines queues) where
   runs_to_its_end : (fault : ScriptFault) → Stops input fault → ⊥
   runs_to_its_end fault stop =
       let same = one_replay input c stop.config liars stop.liars lines stop.lines good stop.script.replay spelled stop.script.spelled in
-      let run_of_these : Performs (cluster_of stop.config stop.liars) stop.config stop.lines desks =
-      subst (λ (k : Numbers). Performs (cluster_of k stop.liars) k stop.lines desks) same.0
-      (subst (λ (l : Liars). Performs (cluster_of c l) c stop.lines desks) same.1
-      (subst (λ (ls : List ReplayLine). Performs (cluster_of c liars) c ls desks) same.2 run)) in
-      no_stop (cluster_of stop.config stop.liars) stop.config stop.lines stop.done fault.cause desks run_of_these stop.stopped
+      let run_of_these : Performs (cluster_of stop.config stop.liars) stop.config stop.lines queues =
+      subst (λ (k : Numbers). Performs (cluster_of k stop.liars) k stop.lines queues) same.0
+      (subst (λ (l : Liars). Performs (cluster_of c l) c stop.lines queues) same.1
+      (subst (λ (ls : List ReplayLine). Performs (cluster_of c liars) c ls queues) same.2 run)) in
+      no_stop (cluster_of stop.config stop.liars) stop.config stop.lines stop.done fault.cause queues run_of_these stop.stopped
 
   replay_faultless : (fault : ScriptFault) → HasFault Replay input fault → ⊥
   replay_faultless fault h =

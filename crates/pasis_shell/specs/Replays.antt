@@ -16,7 +16,7 @@ use Rattle.history_book.specs.ReportTexts.{IsReport}
 use Rattle.history_book.specs.Judging.{IsLegal, IsInTime}
 use Rattle.world_steps.specs.Worlds.{WorldView, setting_in, world_in}
 use Rattle.run_reports.specs.Registers.{AreRegisters}
-use Rattle.script_run.specs.Performing.{Desks, Performs, StopsAt}
+use Rattle.script_run.specs.Performing.{CommandQueues, Performs, StopsAt}
 
 -- the setting of a cluster in which these lie
 abbrev pub cluster_of : Numbers → Liars → Setting
@@ -45,18 +45,18 @@ pub record Replays (input text : List ℕ) : Type 0 where
   pub lines : List ReplayLine
   pub script : IsScript input config liars lines
   -- the run of the lines leads to this world
-  pub desks : Desks
-  pub run : Performs (cluster_of config liars) config lines desks
+  pub queues : CommandQueues
+  pub run : Performs (cluster_of config liars) config lines queues
   -- the history of that run, and its report
   pub history : List Entry
   pub book : Book
-  pub tells : Tells desks.world.records (first_stamp (cluster_of config liars)) history book
+  pub tells : Tells queues.world.records (first_stamp (cluster_of config liars)) history book
   pub shown : text ≡ report_text book
   -- whatever starts, deliveries, losses, repeats, crashes, returns, prunes and lies the lines make: it is a legal history of one register per block, and in time
-  pub registers : AreRegisters (cluster_of config liars) desks.world history
+  pub registers : AreRegisters (cluster_of config liars) queues.world history
   -- it is a history that a report tells, and for the judge too it is legal and in time
   pub told : IsReport book
-  pub plain : NoClash (cluster_of config liars) desks.world → IsLegal book.entries × IsInTime book.entries
+  pub plain : NoClash (cluster_of config liars) queues.world → IsLegal book.entries × IsInTime book.entries
 
 -- the input is a script, and this is why a line of it can't take place when its turn comes
 pub record Stops (input : List ℕ) (fault : ScriptFault) : Type 0 where

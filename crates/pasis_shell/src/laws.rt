@@ -5,7 +5,7 @@ ghost use Rattle.wire_forms.specs.Liars.{Liars};
 ghost use Rattle.event_lines.specs.declared.line.ReplayLine.{ReplayLine};
 ghost use Rattle.script_text.specs.Replays.{IsReplay, Spells};
 ghost use Rattle.script_text.specs.Sum.{IsSum, sum_text};
-ghost use Rattle.script_run.specs.Performing.{Desks, Performs};
+ghost use Rattle.script_run.specs.Performing.{CommandQueues, Performs};
 ghost use Rattle.history_book.specs.Books.{Book};
 ghost use Rattle.history_book.specs.Reports.{report_text};
 ghost use Rattle.history_book.specs.ReportTexts.{IsReport};
@@ -26,8 +26,8 @@ use crate::words::Command;
 /// script whose lines can take place one after the other, a configuration with a value of its blocks' length, and the report of
 /// a history.
 pub fn well_formed_inputs_are_accepted()
-    ensures replays { (input : List ℕ) (c : Numbers) (liars : Liars) (lines : List ReplayLine) (desks : Desks)
-        → IsReplay c liars lines → Spells input c liars lines → Performs (cluster_of c liars) c lines desks
+    ensures replays { (input : List ℕ) (c : Numbers) (liars : Liars) (lines : List ReplayLine) (queues : CommandQueues)
+        → IsReplay c liars lines → Spells input c liars lines → Performs (cluster_of c liars) c lines queues
         → IsAccepted (words_of Command.Replay) input }
     ensures sums { (c : Numbers) (v : List ℕ) → IsSum c v → IsAccepted (words_of Command.Sum) (sum_text c v) }
     ensures reports { (book : Book) → IsReport book → IsAccepted (words_of Command.Check) (report_text book) }
@@ -42,5 +42,5 @@ pub fn plans_are_no_bad_scripts()
 /// What `replay` writes is a report that `check` finds legal, where no two different strings that were seen share a digest.
 pub fn replays_are_legal()
     ensures { (input text verdict : List ℕ) (flaw : Option Flaw) → (r : Replays input text)
-        → NoClash (cluster_of r.config r.liars) r.desks.world → Judges text verdict flaw → flaw ≡ None }
+        → NoClash (cluster_of r.config r.liars) r.queues.world → Judges text verdict flaw → flaw ≡ None }
 {}

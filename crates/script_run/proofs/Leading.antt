@@ -13,19 +13,19 @@ use Rattle.line_forms.specs.declared.refusal.ScriptFault.{ScriptFault}
 use Rattle.line_forms.specs.declared.refusal.ScriptRefusal.TheVariants as scripts
 use Rattle.event_lines.specs.declared.line.ReplayLine.{ReplayLine}
 use Rattle.event_lines.specs.declared.line.ReplayLine.TheVariants.{Plain, Put, Get, Next}
-use Rattle.script_run.specs.Performing.{Desks, cause_of, next_cause, after_line, stepped, start_desks, LeadsTo, StopsAt}
+use Rattle.script_run.specs.Performing.{CommandQueues, cause_of, next_cause, after_line, stepped, start_queues, LeadsTo, StopsAt}
 
 module _ (s : Setting) (c : Numbers) where
   -- one line more
-  pub leads_more : (d e last : Desks) (place at : ℕ) (xs : List ReplayLine) (line : ReplayLine) → LeadsTo s c d place xs e → at ≡ place + length xs
+  pub leads_more : (d e last : CommandQueues) (place at : ℕ) (xs : List ReplayLine) (line : ReplayLine) → LeadsTo s c d place xs e → at ≡ place + length xs
       → cause_of s c e line ≡ None → last ≡ after_line s c e at line → LeadsTo s c d place (xs ++ line ∷ []) last
   leads_more d e last place at [] line h p none f =
       let same : at ≡ place = omega arith in
-      (subst (λ (z : Desks). cause_of s c z line ≡ None) h none, f ∙ ap (λ (z : Desks). after_line s c z at line) h ∙ ap (λ (p : ℕ). after_line s c d p line) same)
+      (subst (λ (z : CommandQueues). cause_of s c z line ≡ None) h none, f ∙ ap (λ (z : CommandQueues). after_line s c z at line) h ∙ ap (λ (p : ℕ). after_line s c d p line) same)
   leads_more d e last place at (x ∷ xs) line h p none f = (h.0, leads_more (after_line s c d place x) e last (place + 1) at xs line h.1 (omega arith) none f)
 
   -- the next line of these
-  pub leads_next : (d e last : Desks) (at : ℕ) (xs : List ReplayLine) (i : ℕ) (line : ReplayLine) → i < length xs → line ≡ get_or xs i line → LeadsTo s c d 1 (take i xs) e → at ≡ i + 1
+  pub leads_next : (d e last : CommandQueues) (at : ℕ) (xs : List ReplayLine) (i : ℕ) (line : ReplayLine) → i < length xs → line ≡ get_or xs i line → LeadsTo s c d 1 (take i xs) e → at ≡ i + 1
       → cause_of s c e line ≡ None → last ≡ after_line s c e at line → LeadsTo s c d 1 (take (i + 1) xs) last
   leads_next d e last at xs i line l is h p none f =
       let long : length (take i xs) ≡ i = length-take-le i xs (omega arith) in
@@ -33,7 +33,7 @@ module _ (s : Setting) (c : Numbers) where
       (leads_more d e last 1 at (take i xs) line h (omega (arith, long)) none f)
 
   -- the next line of these can't take place
-  pub stops_here : (e : Desks) (xs : List ReplayLine) (i : ℕ) (line : ReplayLine) (cause : Cause) → i < length xs → line ≡ get_or xs i line → LeadsTo s c (start_desks s) 1 (take i xs) e
+  pub stops_here : (e : CommandQueues) (xs : List ReplayLine) (i : ℕ) (line : ReplayLine) (cause : Cause) → i < length xs → line ≡ get_or xs i line → LeadsTo s c (start_queues s) 1 (take i xs) e
       → cause_of s c e line ≡ Some cause → StopsAt s c xs i cause
   stops_here e xs i line cause l is h f = record {
     front = take i xs;
@@ -41,17 +41,17 @@ module _ (s : Setting) (c : Numbers) where
     rest = drop (i + 1) xs;
     parts = sym (take-append-drop i xs) ∙ ap (λ (zs : List ReplayLine). take i xs ++ zs) (drop_more xs i line l ∙ ap (λ (z : ReplayLine). z ∷ drop (i + 1) xs) (sym is));
     counted = length-take-le i xs (omega arith);
-    desks = e;
+    queues = e;
     performed = h;
     stopped = f;
   }
 
-  stepped-place : (d : Desks) (place client : ℕ) (left : List BlockStep) → next_cause s d.world client left ≡ None → (stepped s d place client left).world.place ≡ place
+  stepped-place : (d : CommandQueues) (place client : ℕ) (left : List BlockStep) → next_cause s d.world client left ≡ None → (stepped s d place client left).world.place ≡ place
   stepped-place d place client [] e = absurd cc
   stepped-place d place client (step ∷ more) e = refl
 
   -- a line that takes place leaves the world at its place
-  pub after-place : (d : Desks) (place : ℕ) (line : ReplayLine) → cause_of s c d line ≡ None → (after_line s c d place line).world.place ≡ place
+  pub after-place : (d : CommandQueues) (place : ℕ) (line : ReplayLine) → cause_of s c d line ≡ None → (after_line s c d place line).world.place ≡ place
   after-place d place (Plain line) e = refl
   after-place d place (Put client offset bytes) e = refl
   after-place d place (Get client offset len) e = refl

@@ -5,7 +5,7 @@ use Rattle.quorum_rules.specs.Limits.{Numbers}
 use Rattle.wire_forms.specs.declared.device.DeviceOp.{DeviceOp}
 use Rattle.wire_forms.specs.declared.device.DeviceOp.TheVariants.{Put as Puts, Get as Gets}
 use Rattle.run_words.specs.declared.line.Line.{Line}
-use Rattle.run_words.specs.declared.line.Line.TheVariants.{Write, Read}
+use Rattle.run_words.specs.declared.line.Line.TheVariants.{Write, Read, Back}
 use Rattle.run_words.specs.declared.outcome.Outcome.TheVariants.{Gave}
 use Rattle.line_forms.specs.declared.cause.Cause.{Cause}
 use Rattle.line_forms.specs.declared.cause.Cause.TheVariants.{Device, QueueBusy, NoCommand, Step}
@@ -24,7 +24,7 @@ use Rattle.protocol.specs.World.{World, Record, start_world, only_place}
 use Rattle.protocol.specs.Lines.{fault, plays}
 
 -- a world, and of each client the steps that are left of its last command
-pub record Desks : Type 0 where
+pub record CommandQueues : Type 0 where
   pub world : World
   pub left : ℕ → List BlockStep
 
@@ -53,6 +53,16 @@ command_cause (Some f) left = Some (Device f)
 command_cause None [] = None
 command_cause None (step ∷ more) = Some QueueBusy
 
+-- who comes back at a line
+abbrev pub returning : Line → Option ℕ
+returning (Back client) = Some client
+returning line = None
+
+-- the steps that are left when this client, if there is one, drops its own
+abbrev pub without : (ℕ → List BlockStep) → Option ℕ → ℕ → List BlockStep
+without left None = left
+without left (Some client) = update left client []
+
 module _ (s : Setting) where
   -- the operation that a step starts: a read, a write of the whole block, or a write of the client's latest read of it with the step's bytes in their place
   abbrev pub started_by : World → ℕ → BlockStep → Line
@@ -66,41 +76,41 @@ module _ (s : Setting) where
   next_cause w client (step ∷ more) = option_map Step (fault s w (started_by w client step))
 
   -- the first step that is left starts
-  abbrev pub stepped : Desks → ℕ → ℕ → List BlockStep → Desks
+  abbrev pub stepped : CommandQueues → ℕ → ℕ → List BlockStep → CommandQueues
   stepped d place client [] = d
   stepped d place client (step ∷ more) = record { world = plays s d.world place (started_by d.world client step); left = update d.left client more }
 
   -- before anything took place
-  abbrev pub start_desks : Desks
-  start_desks = record { world = start_world s; left = λ client. [] }
+  abbrev pub start_queues : CommandQueues
+  start_queues = record { world = start_world s; left = λ client. [] }
 
 module _ (s : Setting) (c : Numbers) where
   -- why a line can't take place
-  abbrev pub cause_of : Desks → ReplayLine → Option Cause
+  abbrev pub cause_of : CommandQueues → ReplayLine → Option Cause
   cause_of d (Plain line) = option_map Step (fault s d.world line)
   cause_of d (Put client offset bytes) = command_cause (fault_of c (Puts offset bytes)) (d.left client)
   cause_of d (Get client offset len) = command_cause (fault_of c (Gets offset len)) (d.left client)
   cause_of d (Next client) = next_cause s d.world client (d.left client)
 
   -- a command begins, and nothing else takes place
-  abbrev pub begun : Desks → ℕ → ℕ → DeviceOp → Desks
+  abbrev pub begun : CommandQueues → ℕ → ℕ → DeviceOp → CommandQueues
   begun d place client op = record { world = only_place s d.world place; left = update d.left client (steps_of c op) }
 
-  -- what there is after a line
-  abbrev pub after_line : Desks → ℕ → ReplayLine → Desks
-  after_line d place (Plain line) = record { world = plays s d.world place line; left = d.left }
+  -- what there is after a line: who comes back has no steps left
+  abbrev pub after_line : CommandQueues → ℕ → ReplayLine → CommandQueues
+  after_line d place (Plain line) = record { world = plays s d.world place line; left = without d.left (returning line) }
   after_line d place (Put client offset bytes) = begun d place client (Puts offset bytes)
   after_line d place (Get client offset len) = begun d place client (Gets offset len)
   after_line d place (Next client) = stepped s d place client (d.left client)
 
-  -- the lines take place one after the other, the first at this place, and lead to the last desks
-  abbrev pub LeadsTo : Desks → ℕ → List ReplayLine → Desks → Type 0
+  -- the lines take place one after the other, the first at this place, and lead to the last queues
+  abbrev pub LeadsTo : CommandQueues → ℕ → List ReplayLine → CommandQueues → Type 0
   LeadsTo d place [] last = last ≡ d
   LeadsTo d place (line ∷ lines) last = (cause_of d line ≡ None) × LeadsTo (after_line d place line) (place + 1) lines last
 
   -- the run of a replay's lines: places count its lines from 1
-  abbrev pub Performs : List ReplayLine → Desks → Type 0
-  Performs lines last = LeadsTo (start_desks s) 1 lines last
+  abbrev pub Performs : List ReplayLine → CommandQueues → Type 0
+  Performs lines last = LeadsTo (start_queues s) 1 lines last
 
   -- after so many lines have taken place, the next one can't, and this is why
   pub record StopsAt (lines : List ReplayLine) (done : ℕ) (cause : Cause) : Type 0 where
@@ -109,6 +119,6 @@ module _ (s : Setting) (c : Numbers) where
     pub rest : List ReplayLine
     pub parts : lines ≡ front ++ line ∷ rest
     pub counted : length front ≡ done
-    pub desks : Desks
-    pub performed : Performs front desks
-    pub stopped : cause_of desks line ≡ Some cause
+    pub queues : CommandQueues
+    pub performed : Performs front queues
+    pub stopped : cause_of queues line ≡ Some cause

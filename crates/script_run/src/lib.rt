@@ -1,7 +1,7 @@
 //! The run of a replay script: its plain lines, and its device commands step by step.
 #![tactic(auto)]
 
-mod desks;
+mod command_queues;
 mod latest;
 mod run;
 

@@ -5,9 +5,9 @@ ghost use Rattle.protocol.specs.Instance.{setting_of};
 ghost use Rattle.line_forms.specs.declared.cause.Cause.{Cause as Causes};
 ghost use Rattle.script_text.specs.Replays.{IsReplay};
 ghost use Rattle.world_steps.specs.Worlds.{setting_in, world_in};
-ghost use Rattle.script_run.specs.Performing.{Desks as TheDesks, Performs, StopsAt};
+ghost use Rattle.script_run.specs.Performing.{CommandQueues as TheQueues, Performs, StopsAt};
 
-use crate::desks::Desks;
+use crate::command_queues::CommandQueues;
 use line_forms::{ScriptRefusal, refused};
 use script_text::Replay;
 use std::alloc::Global;
@@ -20,22 +20,22 @@ pub fn perform(alloc: Global, replay: &Replay) -> Result<World, ScriptRefusal>
     requires { IsReplay replay.now.config replay.now.liars replay.now.lines }
     ensures cluster { IfOk result (λ w. w.config ≡ replay.now.config) }
     ensures liars { IfOk result (λ w. setting_in w ≡ setting_of replay.now.config (has_number replay.now.liars.nodes) (has_number replay.now.liars.clients)) }
-    ensures run { IfOk result (λ w. (d : TheDesks) × Performs (setting_in w) w.config replay.now.lines d × (d.world ≡ world_in w)) }
+    ensures run { IfOk result (λ w. (d : TheQueues) × Performs (setting_in w) w.config replay.now.lines d × (d.world ≡ world_in w)) }
     ensures placed { IfOk result (λ w. w.seen.place ≡ length replay.now.lines) }
     // The lines of a script are two head lines, one for each liar, and the event lines.
     ensures stop { (line : ℕ) (cause : Causes) → IsErrOf result (ScriptRefusal.Fault (record { line = line; cause = cause }))
         → (done : ℕ) × StopsAt (setting_of replay.now.config (has_number replay.now.liars.nodes) (has_number replay.now.liars.clients)) replay.now.config replay.now.lines done cause
         × (line ≡ 2 + length replay.now.liars.nodes + length replay.now.liars.clients + done + 1) }
 {
-    let mut desks = Desks::new(alloc, &replay.config, &replay.liars)?;
+    let mut queues = CommandQueues::new(alloc, &replay.config, &replay.liars)?;
     let mut place = 0;
     for line in replay.lines.as_slice() {
         place += 1;
-        if let Err(refusal) = desks.perform(place, line) {
+        if let Err(refusal) = queues.perform(place, line) {
             return Err(refused(lines_before(&replay.liars) + place, refusal));
         }
     }
-    Ok(desks.into_world())
+    Ok(queues.into_world())
 }
 
 /// How many lines of a script stand before its event lines: two head lines, and one for each liar.

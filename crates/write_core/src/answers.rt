@@ -11,7 +11,7 @@ use wire_forms::Reply;
 pub(crate) fn no_answers(alloc: Global, count: u32) -> Result<Vec<Option<Reply>>, NoMemory>
     ensures { IfOk result (λ answers. answers.items ≡ replicate count None) }
 {
-    let mut answers = Vec::new(alloc);
+    let mut answers = Vec::with_capacity(alloc, count as usize)?;
     for _ in 0..count {
         answers.push(None)?;
     }
@@ -22,7 +22,7 @@ pub(crate) fn no_answers(alloc: Global, count: u32) -> Result<Vec<Option<Reply>>
 pub(crate) fn copied(answers: &Vec<Option<Reply>>) -> Result<Vec<Option<Reply>>, NoMemory>
     ensures { IfOk result (λ copy. copy.items ≡ answers.now.items) }
 {
-    let mut copy = Vec::new(*answers.allocator());
+    let mut copy = Vec::with_capacity(*answers.allocator(), answers.len())?;
     for answer in answers {
         let one = match answer {
             Some(reply) => Some(reply.copy()?),

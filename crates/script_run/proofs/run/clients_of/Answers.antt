@@ -1,4 +1,4 @@
-use Rattle.std.proofs.Common.{◌≡◌, ◌+◌, ◌≤◌, ap, sym, ◌∙◌, length, arith, true, false}
+use Rattle.std.proofs.Common.{◌≡◌, ap, sym, ◌∙◌, arith, true, false}
 use Rattle.script_run.proofs.Counting.{counted_below, counted_next, counted_none, counted_all}
 use Rattle.script_run.proofs.run.clients_of.Goals as goal
 use Rattle.script_run.proofs.run.clients_of.Goals.{then-client, else-client}

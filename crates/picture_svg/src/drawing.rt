@@ -1,0 +1,145 @@
+//! A picture as SVG.
+use crate::arrows::draw_arrow;
+use crate::bars::draw_stretch;
+use crate::layout::{LABEL_GAP, LINE, Layout, MARGIN, ROW, width_of_text};
+use crate::legend::Legend;
+use crate::marks::{draw_lifelines, draw_mark};
+use crate::picture::{Actor, Label, Picture, Row};
+use crate::px::{Px, at, width_of};
+use crate::svg::{Anchor, Svg};
+use lists::NoMemory;
+use std::alloc::Global;
+
+/// What a reader must know of stamps.
+const STAMPS: &str =
+    "a stamp is TIME.CLIENT.MARK as in the report, or ends with its verifier's first digits where the report hasn't it";
+
+/// The text of a picture.
+pub fn svg_of(alloc: Global, picture: &Picture) -> Result<String, NoMemory> {
+    let layout = Layout::of(alloc, picture)?;
+    let width = width_of_picture(picture, &layout);
+    let report = layout.end + LINE * 2;
+    let stamps = report + LINE.times(picture.report.len()) + LINE * 2;
+    let legend = Legend::of(alloc, picture, at(MARGIN, stamps + LINE), width, LINE)?;
+    let mut svg = Svg::new(alloc, width, legend.end() + MARGIN)?;
+    draw_caption(&mut svg, picture)?;
+    draw_rows(&mut svg, &layout, picture, width)?;
+    draw_heads(&mut svg, &layout, picture)?;
+    draw_lifelines(&mut svg, alloc, &layout, picture)?;
+    draw_between(&mut svg, &layout, picture)?;
+    draw_report(&mut svg, picture, report)?;
+    svg.text("", Anchor::Start, at(MARGIN, stamps), STAMPS)?;
+    legend.draw(&mut svg)?;
+    svg.into_text()
+}
+
+/// How wide a picture is: as wide as the widest of its parts.
+fn width_of_picture(picture: &Picture, layout: &Layout) -> Px {
+    let mut width = layout.width.max(width_of(STAMPS.len()) + MARGIN * 2);
+    for line in &picture.caption {
+        width = width.max(width_of_text(line) + MARGIN * 2);
+    }
+    for line in &picture.report {
+        width = width.max(width_of_text(line) + MARGIN * 2);
+    }
+    width
+}
+
+fn draw_caption(svg: &mut Svg, picture: &Picture) -> Result<(), NoMemory> {
+    let mut y = MARGIN + LINE.half();
+    for line in &picture.caption {
+        svg.text("", Anchor::Start, at(MARGIN, y), line.as_str())?;
+        y = y + LINE;
+    }
+    Ok(())
+}
+
+/// Draws the texts of the rows.
+fn draw_rows(svg: &mut Svg, layout: &Layout, picture: &Picture, width: Px) -> Result<(), NoMemory> {
+    for (number, row) in picture.rows.iter().enumerate() {
+        let y = layout.y(number);
+        if number % 2 == 0 {
+            svg.rect("stripe", at(Px(0), y - ROW.half()), width, ROW)?;
+        }
+        draw_row(svg, layout, row, number, y + Px(4))?;
+    }
+    Ok(())
+}
+
+fn draw_row(
+    svg: &mut Svg,
+    layout: &Layout,
+    row: &Row,
+    number: usize,
+    y: Px,
+) -> Result<(), NoMemory> {
+    svg.number(at(layout.place, y), number.saturating_add(1))?;
+    svg.text("", Anchor::Start, at(layout.line, y), row.line.as_str())?;
+    if let Some(label) = &row.label {
+        draw_label(svg, layout, label, y)?;
+    }
+    svg.text("", Anchor::Start, at(layout.note, y), row.note.as_str())
+}
+
+/// Draws a label beside its client's bar, its two lines above and below the row's text.
+fn draw_label(svg: &mut Svg, layout: &Layout, label: &Label, y: Px) -> Result<(), NoMemory> {
+    let x = layout.x(Actor::Client(label.client)) - LABEL_GAP;
+    if label.second.is_empty() {
+        return svg.text("strong", Anchor::End, at(x, y), label.first.as_str());
+    }
+    svg.text(
+        "strong",
+        Anchor::End,
+        at(x, y - Px(7)),
+        label.first.as_str(),
+    )?;
+    svg.text(
+        "strong",
+        Anchor::End,
+        at(x, y + Px(7)),
+        label.second.as_str(),
+    )
+}
+
+/// Draws the names of those who take part.
+fn draw_heads(svg: &mut Svg, layout: &Layout, picture: &Picture) -> Result<(), NoMemory> {
+    for lifeline in &picture.lifelines {
+        let x = layout.x(lifeline.actor);
+        let y = layout.top - Px(6);
+        svg.name(at(x, y), lifeline.actor)?;
+        if lifeline.is_liar {
+            svg.text(
+                "lying",
+                Anchor::Middle,
+                at(x, y - LINE.half() - Px(4)),
+                "lies",
+            )?;
+        }
+    }
+    Ok(())
+}
+
+/// Draws what takes place between those who take part.
+fn draw_between(svg: &mut Svg, layout: &Layout, picture: &Picture) -> Result<(), NoMemory> {
+    for stretch in &picture.stretches {
+        draw_stretch(svg, layout, stretch, picture.rows.len())?;
+    }
+    for arrow in &picture.arrows {
+        draw_arrow(svg, layout, arrow)?;
+    }
+    for mark in &picture.marks {
+        draw_mark(svg, layout, mark)?;
+    }
+    Ok(())
+}
+
+/// Draws the report of the run.
+fn draw_report(svg: &mut Svg, picture: &Picture, top: Px) -> Result<(), NoMemory> {
+    svg.text("strong", Anchor::Start, at(MARGIN, top), "report")?;
+    let mut y = top;
+    for line in &picture.report {
+        y = y + LINE;
+        svg.text("", Anchor::Start, at(MARGIN, y), line.as_str())?;
+    }
+    Ok(())
+}

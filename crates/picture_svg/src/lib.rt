@@ -1,0 +1,15 @@
+//! Pictures of runs as data, and as SVG: who takes part, the places, what goes between them, and where it all stands.
+#![tactic(auto)]
+
+mod arrows;
+mod bars;
+mod drawing;
+mod layout;
+mod legend;
+mod marks;
+pub mod picture;
+mod px;
+mod svg;
+
+pub use drawing::svg_of;
+pub use picture::{Actor, Arrow, Fate, Label, Lifeline, Mark, Picture, Row, Sign, Stretch, Work};

@@ -1,0 +1,10 @@
+-- Before which answers of the program nothing is written.
+use Rattle.std.specs.Prelude.{⊤}
+use Rattle.run_pictures.specs.declared.status.PictureStatus.{PictureStatus}
+use Rattle.run_pictures.specs.declared.status.PictureStatus.TheVariants.{Replay, TooManyLines}
+use Rattle.pasis_shell.specs.Statuses.{CanStopBefore}
+
+-- the status can come before anything was written
+abbrev pub CanStop : PictureStatus → Type 0
+CanStop (Replay status) = CanStopBefore status
+CanStop (TooManyLines lines) = ⊤

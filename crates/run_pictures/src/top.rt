@@ -1,0 +1,98 @@
+//! From a script to its picture.
+ghost use Rattle.std.specs.Prelude.{◌≡◌, ◌≢◌, ◌<◌, ◌≤◌, ℕ, length, IfOk, IfErr, IsErrOf};
+ghost use Rattle.line_forms.specs.declared.cause.Cause.{Cause};
+ghost use Rattle.outside_io.specs.Causes.{Rose};
+ghost use Rattle.pasis_shell.specs.Texts.{Refuses, IsRefusedFor};
+ghost use Rattle.pasis_shell.specs.declared.text.Refusal.{Refusal as Refusals};
+ghost use Rattle.pasis_shell.specs.declared.words.Command.TheVariants.{Replay as TheReplay};
+ghost use Rattle.run_pictures.specs.Stops.{CanStop};
+ghost use Rattle.world_steps.specs.Worlds.{AreLiars};
+
+use crate::status::{MOST_LINES, PictureRefusal, PictureStatus};
+use crate::telling::told;
+use cross_sum::Bytes;
+use outside_io::{Sink, Source, read_all, write_all};
+use pasis_shell::{Refusal, Status};
+use picture_svg::{Picture, svg_of};
+use run_reports::history_of;
+use script_run::{World, perform};
+use script_text::{Replay, read_replay};
+use std::alloc::Global;
+
+/// The replay that a script spells, and the world to which its lines lead.
+fn performed(alloc: Global, input: &Bytes) -> Result<(Replay, World), Refusal>
+    ensures placed { IfOk result (λ r. r.1.seen.place ≡ length r.0.lines) }
+    ensures liars { IfOk result (λ r. AreLiars r.0.config r.0.liars) }
+    ensures refused { IfErr result (λ refusal. Refuses TheReplay input.now refusal) }
+{
+    let replay = read_replay(alloc, input.as_slice())?;
+    match perform(alloc, &replay) {
+        Ok(world) => Ok((replay, world)),
+        Err(refusal) => Err(Refusal::from(refusal)),
+    }
+}
+
+/// The picture of the run of a script's lines. A script that `replay` refuses is refused as by it; one that it takes is refused
+/// where it has more than 400 event lines.
+pub fn picture_of(alloc: Global, input: &Bytes) -> Result<Picture, PictureRefusal>
+    ensures refused { (r : Refusals) → IsErrOf result (PictureRefusal.Replay r) → Refuses TheReplay input.now r }
+    ensures too_many { (lines : ℕ) → IsErrOf result (PictureRefusal.TooManyLines lines) → MOST_LINES < lines }
+{
+    let (replay, world) = performed(alloc, input)?;
+    let lines = replay.lines.len();
+    if lines > MOST_LINES {
+        return Err(PictureRefusal::TooManyLines(lines));
+    }
+    let history = history_of(alloc, &world)?;
+    Ok(told(alloc, &replay, &world, &history, input.as_slice())?)
+}
+
+/// The text of the picture of what a source gives.
+fn text_of<S: Source>(alloc: Global, source: &mut S) -> Result<String, PictureStatus>
+    ensures bad_script { (line : ℕ) (cause : Cause) → IsErrOf result (PictureStatus.Replay (Status.BadScript line cause))
+        → IsRefusedFor TheReplay (S.left source.old) (S.left source.new) (Refusals.BadScript (record { line = line; cause = cause })) }
+    ensures too_many { (lines : ℕ) → IsErrOf result (PictureStatus.TooManyLines lines) → MOST_LINES < lines }
+    ensures read_fault { IsErrOf result (PictureStatus.Replay Status.ReadFault) → Rose S.last (S.faults source.old) (S.faults source.new) }
+    ensures causes { IfErr result CanStop }
+{
+    let input = match read_all(alloc, source) {
+        Ok(input) => input,
+        Err(refusal) => return Err(PictureStatus::Replay(Status::of_read(refusal))),
+    };
+    match drawn(alloc, &input) {
+        Ok(text) => Ok(text),
+        Err(PictureRefusal::Replay(refusal)) => {
+            let status = Status::of_refusal(refusal);
+            Err(PictureStatus::Replay(status))
+        }
+        Err(PictureRefusal::TooManyLines(lines)) => Err(PictureStatus::TooManyLines(lines)),
+    }
+}
+
+/// The text of a script's picture.
+fn drawn(alloc: Global, input: &Bytes) -> Result<String, PictureRefusal>
+    ensures refused { (r : Refusals) → IsErrOf result (PictureRefusal.Replay r) → Refuses TheReplay input.now r }
+    ensures too_many { (lines : ℕ) → IsErrOf result (PictureRefusal.TooManyLines lines) → MOST_LINES < lines }
+{
+    let picture = picture_of(alloc, input)?;
+    Ok(svg_of(alloc, &picture)?)
+}
+
+/// Reads a script to its end, makes its whole picture, and only then writes and flushes it.
+pub fn draw<S: Source, K: Sink>(alloc: Global, source: &mut S, sink: &mut K) -> PictureStatus
+    ensures bad_script { (line : ℕ) (cause : Cause) → result ≡ PictureStatus.Replay (Status.BadScript line cause)
+        → IsRefusedFor TheReplay (S.left source.old) (S.left source.new) (Refusals.BadScript (record { line = line; cause = cause })) }
+    ensures too_many { (lines : ℕ) → result ≡ PictureStatus.TooManyLines lines → MOST_LINES < lines }
+    ensures read_fault { result ≡ PictureStatus.Replay Status.ReadFault → Rose S.last (S.faults source.old) (S.faults source.new) }
+    ensures write_fault { result ≡ PictureStatus.Replay Status.WriteFault → Rose K.last (K.faults sink.old) (K.faults sink.new) }
+    ensures unwritten { result ≢ PictureStatus.Replay Status.Done → result ≢ PictureStatus.Replay Status.WriteFault → sink.new ≡ sink.old }
+{
+    let text = match text_of(alloc, source) {
+        Ok(text) => text,
+        Err(status) => return status,
+    };
+    match write_all(sink, text.as_bytes()) {
+        Ok(()) => PictureStatus::Replay(Status::Done),
+        Err(_) => PictureStatus::Replay(Status::WriteFault),
+    }
+}
