@@ -18,6 +18,10 @@ use Rattle.history_book.specs.Books.{Book}
 use Rattle.history_book.specs.Reports.{report_text}
 use Rattle.history_book.specs.ReportTexts.{IsReport, report}
 use Rattle.history_book.proofs.PrintedReports.{report_accepted}
+use Rattle.plan_words.specs.declared.plan.Plan.{Plan}
+use Rattle.plan_words.specs.Plans.{Fits}
+use Rattle.plan_text.specs.Plans.{Spells as PlanSpells, plan_script}
+use Rattle.plan_text.proofs.PlanLaws.{plan_accepted}
 use Rattle.pasis_shell.specs.Words.{words_of}
 use Rattle.pasis_shell.specs.Replays.{cluster_of, Stops}
 use Rattle.pasis_shell.specs.Texts.{HasFault, IsAccepted, IsUnbuilt, Refuses}
@@ -118,3 +122,6 @@ sum_is_accepted c v good = accepts Sum (sum_text c v) sum_alone (λ no. no) (λ 
 
 pub report_is_accepted : (book : Book) → IsReport book → IsAccepted (words_of Check) (report_text book)
 report_is_accepted book good = accepts Check (report_text book) check_alone (λ no. no) (λ fault h. no_fault report (report_text book) fault.line fault.cause (report_accepted book good) h)
+
+pub plan_is_no_bad_script : (input : List ℕ) (plan : Plan) (fault : ScriptFault) → Fits plan → PlanSpells input plan → IsFault plan_script input fault.line fault.cause → ⊥
+plan_is_no_bad_script input plan fault fits spelled bad = no_fault plan_script input fault.line fault.cause (plan_accepted input plan fits spelled) bad

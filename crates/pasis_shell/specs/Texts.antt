@@ -18,6 +18,9 @@ use Rattle.line_forms.specs.Texts.{IsFault, IsFaultless}
 use Rattle.script_text.specs.Replays.{replay_script}
 use Rattle.script_text.specs.Sum.{IsSum, sum_text, sum_script}
 use Rattle.sum_text.specs.Shown.{shown_text}
+use Rattle.plan_words.specs.declared.plan.Plan.{Plan}
+use Rattle.plan_words.specs.Plans.{Fits}
+use Rattle.plan_text.specs.Plans.{Spells, plan_script}
 
 -- the input spells a configuration and a value, and the text shows the value's fragments, their digests and its verifier
 pub record Shows (input text : List ℕ) : Type 0 where
@@ -37,11 +40,18 @@ Writes Check input text flaw = Judges input text flaw
 Writes Sum input text flaw = Shows input text × (flaw ≡ None)
 Writes (Soak number) input text flaw = ⊥
 
--- the command isn't built yet
+-- the input spells a plan that can be run
+pub record IsPlan (input : List ℕ) : Type 0 where
+  pub plan : Plan
+  pub fits : Fits plan
+  pub spelled : Spells input plan
+  pub faultless : IsFaultless plan_script input
+
+-- what the command would do with the input isn't built yet
 abbrev pub IsUnbuilt : Command → List ℕ → Type 0
 IsUnbuilt Replay input = ⊥
-IsUnbuilt Run input = ⊤
-IsUnbuilt Trace input = ⊤
+IsUnbuilt Run input = IsPlan input
+IsUnbuilt Trace input = IsPlan input
 IsUnbuilt Check input = ⊥
 IsUnbuilt Sum input = ⊥
 IsUnbuilt (Soak number) input = ⊤
@@ -49,8 +59,8 @@ IsUnbuilt (Soak number) input = ⊤
 -- the fault is the input's: its first line that has a cause, and that line's first cause; or, where no line has one, the first line of a script that can't take place
 abbrev pub HasFault : Command → List ℕ → ScriptFault → Type 0
 HasFault Replay input fault = IsFault replay_script input fault.line fault.cause ⊎ Stops input fault
-HasFault Run input fault = ⊥
-HasFault Trace input fault = ⊥
+HasFault Run input fault = IsFault plan_script input fault.line fault.cause
+HasFault Trace input fault = IsFault plan_script input fault.line fault.cause
 HasFault Check input fault = IsFault report input fault.line fault.cause
 HasFault Sum input fault = IsFault sum_script input fault.line fault.cause
 HasFault (Soak number) input fault = ⊥

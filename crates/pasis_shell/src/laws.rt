@@ -13,7 +13,11 @@ ghost use Rattle.history_book.specs.declared.judging.Flaw.{Flaw};
 ghost use Rattle.protocol.specs.History.{NoClash};
 ghost use Rattle.pasis_shell.specs.Replays.{cluster_of, Replays};
 ghost use Rattle.pasis_shell.specs.Verdicts.{Judges};
-ghost use Rattle.pasis_shell.specs.Texts.{IsAccepted};
+ghost use Rattle.line_forms.specs.declared.refusal.ScriptFault.{ScriptFault};
+ghost use Rattle.plan_words.specs.declared.plan.Plan.{Plan};
+ghost use Rattle.plan_words.specs.Plans.{Fits};
+ghost use Rattle.plan_text.specs.Plans.{Spells as SpellsPlan};
+ghost use Rattle.pasis_shell.specs.Texts.{HasFault, IsAccepted};
 ghost use Rattle.pasis_shell.specs.Words.{words_of};
 
 use crate::words::Command;
@@ -27,6 +31,12 @@ pub fn well_formed_inputs_are_accepted()
         → IsAccepted (words_of Command.Replay) input }
     ensures sums { (c : Numbers) (v : List ℕ) → IsSum c v → IsAccepted (words_of Command.Sum) (sum_text c v) }
     ensures reports { (book : Book) → IsReport book → IsAccepted (words_of Command.Check) (report_text book) }
+{}
+
+/// A text that spells a plan that can be run is no bad script for `run` and `trace`.
+pub fn plans_are_no_bad_scripts()
+    ensures run { (input : List ℕ) (plan : Plan) (fault : ScriptFault) → Fits plan → SpellsPlan input plan → HasFault Command.Run input fault → ⊥ }
+    ensures trace { (input : List ℕ) (plan : Plan) (fault : ScriptFault) → Fits plan → SpellsPlan input plan → HasFault Command.Trace input fault → ⊥ }
 {}
 
 /// What `replay` writes is a report that `check` finds legal, where no two different strings that were seen share a digest.

@@ -10,6 +10,7 @@ use cross_sum::Bytes;
 use history_book::Flaw;
 use line_forms::{ScriptFault, ScriptRefusal};
 use lists::NoMemory;
+use plan_text::read_plan;
 use script_text::read_sum;
 use std::alloc::Global;
 use sum_text::print_sum;
@@ -19,7 +20,7 @@ use sum_text::print_sum;
 pub enum Refusal {
     /// No memory was found.
     NoMemory,
-    /// The command isn't built yet.
+    /// What the command would do with the input isn't built yet.
     NotBuilt { line: u64 },
     /// The input is refused at the line and for the cause that the fault has.
     BadScript(ScriptFault),
@@ -71,6 +72,16 @@ fn sum_of(alloc: Global, input: &Bytes) -> Result<Answer, Refusal>
     Ok(Answer::of(print_sum(alloc, &config, &value)?))
 }
 
+// What is to be done with a plan that fits isn't built yet.
+fn run_of(alloc: Global, input: &Bytes) -> Result<Answer, Refusal>
+    ensures none { IfOk result (λ _. ⊥) }
+    ensures run { IfErr result (λ refusal. Refuses Command.Run input.now refusal) }
+    ensures trace { IfErr result (λ refusal. Refuses Command.Trace input.now refusal) }
+{
+    let _plan = read_plan(alloc, input.as_slice())?;
+    Err(Refusal::NotBuilt { line: 1 })
+}
+
 /// What a command writes for an input, and the flaw that it finds.
 pub fn text_of(alloc: Global, command: Command, input: &Bytes) -> Result<Answer, Refusal>
     requires { length input.now < 2 ^ 32 }
@@ -81,6 +92,7 @@ pub fn text_of(alloc: Global, command: Command, input: &Bytes) -> Result<Answer,
         Command::Replay => report_of(alloc, input),
         Command::Check => verdict_of(alloc, input),
         Command::Sum => sum_of(alloc, input),
-        _ => Err(Refusal::NotBuilt { line: 1 }),
+        Command::Run | Command::Trace => run_of(alloc, input),
+        Command::Soak(_) => Err(Refusal::NotBuilt { line: 1 }),
     }
 }

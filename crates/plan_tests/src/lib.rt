@@ -1,7 +1,5 @@
-//! Plans as texts: which are read, and with which fault others are refused. Tests alone.
+//! Plans as texts: what is read of a plan. Tests alone; which texts are refused, and why, is told by cases of the program.
 #![tactic(auto)]
 
 #[cfg(test)]
-mod limits;
-#[cfg(test)]
-mod refusals;
+mod order;

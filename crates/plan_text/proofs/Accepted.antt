@@ -1,5 +1,5 @@
 -- The text of a plan's line has nothing wrong by itself.
-use Rattle.std.proofs.Common.{◌≡◌, lit≤, ℕ, suc, ◌+◌, ◌^◌, ◌<◌, ◌≤◌, Bool, true, false, not, ◌&&◌, min, eqb, ltb, leb, List, [], ◌∷◌, length, Some, None, unwrap_or, refl, ap, ◌∙◌, arith}
+use Rattle.std.proofs.Common.{◌≡◌, lit≤, ℕ, suc, ◌+◌, ◌^◌, ◌<◌, ◌≤◌, Bool, true, false, not, ◌&&◌, min, eqb, ltb, leb, List, [], ◌∷◌, length, None, unwrap_or, refl, ap, ◌∙◌, arith}
 use Rattle.std.specs.Prelude.{codes, decimal}
 use Rattle.std.specs.Str.{bytes_eq}
 use Rattle.std.proofs.lemmas.Fmt.{decimal_nonempty}
@@ -14,7 +14,7 @@ use Rattle.wire_forms.specs.declared.rule.Rule.TheVariants.{Silent, Old, Top, Ba
 use Rattle.wire_forms.specs.declared.op.Op.TheVariants as ops
 use Rattle.wire_forms.specs.declared.device.DeviceOp.TheVariants as commands
 use Rattle.line_forms.specs.Kinds.{Kind, client, node, block, any_u64, count_to, is_other_word, is_bad_number, is_outside, is_bad_value, some_field, has_empty_field, form_cause}
-use Rattle.line_forms.specs.Kinds.Kind.{word, number, value, bytes}
+use Rattle.line_forms.specs.Kinds.Kind.{number, value, bytes}
 use Rattle.event_lines.specs.Lines.{IsClient, IsNode, IsBlock, IsValue, rule_text}
 use Rattle.plan_words.specs.declared.fault.Fault.{Fault}
 use Rattle.plan_words.specs.declared.fault.Fault.TheVariants.{LiarNode, LiarSound, LiarMix, LiarFlood, CrashNode, CrashClient, Drop, Hold}

@@ -63,13 +63,13 @@ clients_split c (l ∷ ls) q =
     let ms = map (line_marks c) ls in
     split_cons m.lying_client m.asking_client (one_sided c l) (filter_map client_of ms) (filter_map (λ e. e.lying_client) ms) (filter_map (λ e. e.asking_client) ms) q (clients_split c ls q)
 
-lying_is : (c : Numbers) (ls : List PlanLine) → filter_map (λ m. m.lying_client) (map (line_marks c) ls) ≡ lying_clients (rules_in ls)
+pub lying_is : (c : Numbers) (ls : List PlanLine) → filter_map (λ m. m.lying_client) (map (line_marks c) ls) ≡ lying_clients (rules_in ls)
 lying_is c ls = named_by_rules c (λ m. m.lying_client) lying_client (λ f. refl) (λ j. refl) ls
 
-asking_is : (c : Numbers) (ls : List PlanLine) (q : ℕ) → is_member nat_eq (filter_map (λ m. m.asking_client) (map (line_marks c) ls)) q ≡ is_member nat_eq (asking_clients (rules_in ls) (work_in ls)) q
+pub asking_is : (c : Numbers) (ls : List PlanLine) (q : ℕ) → is_member nat_eq (filter_map (λ m. m.asking_client) (map (line_marks c) ls)) q ≡ is_member nat_eq (asking_clients (rules_in ls) (work_in ls)) q
 asking_is c ls q = named_by_both c (λ m. m.asking_client) troubled_client job_client (λ f. refl) (λ j. refl) ls q
 
-clients_are : (c : Numbers) (ls : List PlanLine) (q : ℕ) → is_member nat_eq (filter_map client_of (map (line_marks c) ls)) q ≡ is_member nat_eq (clients (rules_in ls) (work_in ls)) q
+pub clients_are : (c : Numbers) (ls : List PlanLine) (q : ℕ) → is_member nat_eq (filter_map client_of (map (line_marks c) ls)) q ≡ is_member nat_eq (clients (rules_in ls) (work_in ls)) q
 clients_are c ls q =
     clients_split c ls q ∙ ap (λ ks. is_member nat_eq ks q || is_member nat_eq (filter_map (λ m. m.asking_client) (map (line_marks c) ls)) q) (lying_is c ls)
     ∙ ap (λ b. is_member nat_eq (lying_clients (rules_in ls)) q || b) (asking_is c ls q)

@@ -8,3 +8,6 @@ pub mod Steps
 pub mod Bodies
 pub mod Fitting
 pub mod Accepted
+pub mod Unique
+pub mod Standing
+pub mod PlanLaws

@@ -4,6 +4,7 @@
 #![tactic(auto)]
 
 mod forms;
+pub mod laws;
 mod liars;
 mod line;
 mod marks;
