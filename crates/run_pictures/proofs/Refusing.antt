@@ -1,7 +1,14 @@
 -- A script's fault is told as it is.
-use Rattle.std.proofs.Common.{◌≡◌, ℕ, List, subst}
+use Rattle.std.proofs.Common.{◌≡◌, ℕ, ◌+◌, List, length, refl, inr, subst}
+use Rattle.quorum_rules.specs.Limits.{Numbers}
+use Rattle.wire_forms.specs.Liars.{Liars}
+use Rattle.event_lines.specs.declared.line.ReplayLine.{ReplayLine}
 use Rattle.line_forms.specs.declared.cause.Cause.{Cause}
-use Rattle.pasis_shell.specs.Statuses.{status_of_refusal}
+use Rattle.line_forms.specs.declared.refusal.ScriptRefusal.{ScriptRefusal}
+use Rattle.line_forms.specs.declared.refusal.ScriptRefusal.TheVariants as scripts
+use Rattle.script_run.specs.Performing.{StopsAt}
+use Rattle.pasis_shell.specs.Replays.{cluster_of, IsScript}
+use Rattle.pasis_shell.specs.Statuses.{refusal_of, status_of_refusal}
 use Rattle.pasis_shell.specs.Texts.{Refuses}
 use Rattle.pasis_shell.specs.declared.status.Status.{Status}
 use Rattle.pasis_shell.specs.declared.status.Status.TheVariants.{BadScript}
@@ -19,3 +26,12 @@ told input (refusals.BadScript fault) line cause e h =
     let same_cause : fault.cause ≡ cause = cc in
     subst (λ l. Refuses Replay input (refusals.BadScript (record { line = l; cause = cause }))) same_line
     (subst (λ k. Refuses Replay input (refusals.BadScript (record { line = fault.line; cause = k }))) same_cause h)
+
+-- why a script is refused whose lines can't all take place
+pub refuses : (input : List ℕ) (c : Numbers) (liars : Liars) (lines : List ReplayLine) (script : IsScript input c liars lines) (r : ScriptRefusal)
+    → ((line : ℕ) (cause : Cause) → r ≡ scripts.Fault (record { line = line; cause = cause }) → (done : ℕ) × StopsAt (cluster_of c liars) c lines done cause × (line ≡ 2 + length liars.nodes + length liars.clients + done + 1))
+    → Refuses Replay input (refusal_of r)
+refuses input c liars lines script scripts.NoMemory h = tt
+refuses input c liars lines script (scripts.Fault fault) h =
+    let at = h fault.line fault.cause refl in
+    inr (record { config = c; liars = liars; lines = lines; script = script; done = at.0; stopped = at.1; line = at.2 })

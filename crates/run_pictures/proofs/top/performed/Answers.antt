@@ -5,7 +5,7 @@ use Rattle.line_forms.specs.Texts.{IsFaultless}
 use Rattle.script_text.specs.Replays.{Spells, replay_script}
 use Rattle.pasis_shell.specs.declared.words.Command.TheVariants.{Replay}
 use Rattle.pasis_shell.specs.Replays.{IsScript}
-use Rattle.pasis_shell.proofs.Replaying.{refuses}
+use Rattle.run_pictures.proofs.Refusing.{refuses}
 use Rattle.run_pictures.proofs.top.performed.Goals as goal
 
 pub returns-in-Err-clause-refused : goal.returns-in-Err-clause-refused
