@@ -1,0 +1,43 @@
+//! Plans that are made up, read by `plan_text` and by a plain reading that goes by the tables of lines and causes alone. The
+//! two agree on each text: the plan's counts, or the first line that has a fault and its cause. Writes how many texts came to
+//! what, and a line for each text on which they differ.
+#![tactic(auto)]
+
+mod compared;
+mod draws;
+mod forms;
+mod made;
+mod mutated;
+mod plain;
+mod verdict;
+
+use compared::verdicts;
+use lists::NoMemory;
+use std::io;
+use verdict::Tally;
+
+const TEXTS: u64 = 2000;
+
+// The causes that the texts are to meet.
+const CAUSES: [u8; 12] = [2, 4, 5, 6, 7, 8, 11, 12, 13, 14, 15, 16];
+
+fn main(rt: HostRuntime) -> io::Result<()> {
+    let mut tally = Tally::new();
+    for seed in 0..TEXTS {
+        match verdicts(rt.alloc(), seed) {
+            Ok((plain, read)) => {
+                if plain != read {
+                    println!(rt; "text {seed}: {plain:?} by the tables, {read:?} by plan_text")?;
+                }
+                tally.add(&plain);
+            }
+            Err(NoMemory) => println!(rt; "text {seed}: not made")?,
+        }
+    }
+    println!(rt; "texts: {TEXTS}")?;
+    println!(rt; "plans: {}", tally.plans())?;
+    for cause in &CAUSES {
+        println!(rt; "cause {cause}: {}", tally.of_cause(*cause))?;
+    }
+    Ok(())
+}
