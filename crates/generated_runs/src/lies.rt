@@ -1,5 +1,5 @@
-//! Long scripts with lies: four clients, as many lying nodes as there may be and two lying clients act at random. Their reports
-//! are legal.
+//! Long scripts with lies: four clients, as many lying nodes as there may be and two lying clients act at random; in edition 2
+//! nodes prune, and clients crash and come back. Their reports are legal.
 
 ghost use Rattle.std.specs.Prelude.{IsTrue};
 ghost use Rattle.wire_forms.specs.Texts.{HasLimits, HasShort};
@@ -28,6 +28,8 @@ pub struct Cluster {
     lines: u64,
     // At least so many operations end in it.
     done: u64,
+    // Whether nodes prune, and clients crash and come back.
+    lives: bool,
 }
 
 const FIVE_NODES: Cluster = Cluster {
@@ -46,6 +48,7 @@ liar client 9
     seeds: [59, 83],
     lines: 300,
     done: 20,
+    lives: false,
 };
 
 const NINE_NODES: Cluster = Cluster {
@@ -64,6 +67,7 @@ liar client 9
     seeds: [59, 83],
     lines: 450,
     done: 20,
+    lives: false,
 };
 
 const SIXTEEN_NODES: Cluster = Cluster {
@@ -84,6 +88,26 @@ liar client 9
     seeds: [5, 101],
     lines: 600,
     done: 14,
+    lives: false,
+};
+
+const MANY_LIVES: Cluster = Cluster {
+    name: "five nodes with lies, prunes and returns",
+    head: "pasis 2
+cluster 5 1 1 3 2 2 5
+liar node 4
+liar client 8
+liar client 9
+",
+    nodes: 5,
+    liars: 1,
+    crashes: 0,
+    size: 2,
+    blocks: 5,
+    seeds: [59, 83],
+    lines: 600,
+    done: 20,
+    lives: true,
 };
 
 // The same numbers are drawn for a seed each time.
@@ -176,14 +200,34 @@ impl Drawn {
     }
 
     fn line(&mut self, cluster: &Cluster) -> Result<String, Unmade> {
-        match self.draws.below(40) {
+        let kinds = if cluster.lives { 48 } else { 40 };
+        match self.draws.below(kinds) {
             0..=27 => Ok(self.turn(cluster)?),
             28 => Ok(self.resend()?),
             29 => Ok(self.lost(cluster)?),
             30..=32 => Ok(self.late()?),
             33..=36 => Ok(self.foisted(cluster)?),
-            _ => self.forged(cluster),
+            37..=39 => self.forged(cluster),
+            40..=45 => Ok(self.prune(cluster)?),
+            _ => Ok(self.life()?),
         }
+    }
+
+    fn prune(&mut self, cluster: &Cluster) -> Result<String, NoMemory> {
+        let node = self.draws.below(cluster.nodes);
+        let block = self.draws.below(cluster.blocks);
+        Ok(format!(in self.alloc; "prune {node} {block}")?)
+    }
+
+    // A client crashes or comes back.
+    fn life(&mut self) -> Result<String, NoMemory> {
+        let client = self.draws.below(4).wrapping_add(1);
+        let word = if self.draws.below(4) == 0 {
+            "crash"
+        } else {
+            "back"
+        };
+        Ok(format!(in self.alloc; "{word} client {client}")?)
     }
 
     // A client that does nothing starts an operation, another one calls its next node.
@@ -191,7 +235,10 @@ impl Drawn {
         let client = self.draws.below(4).wrapping_add(1);
         let records = self.run.records().iter();
         let mut own = records.filter(|record| u64::from(record.client) == client);
-        if own.any(|record| record.outcome.is_none()) {
+        let is_open = own.any(|record| record.outcome.is_none());
+        // What an earlier life left open stays so.
+        let tries = cluster.lives && self.draws.below(4) == 0;
+        if is_open && !tries {
             self.call(cluster, client)
         } else {
             self.start(cluster, client)
@@ -384,13 +431,18 @@ fn count_of(report: &str, name: &str) -> Option<u64> {
 }
 
 /// The clusters of the runs.
-pub const CLUSTERS: [Cluster; 3] = [FIVE_NODES, NINE_NODES, SIXTEEN_NODES];
+pub const CLUSTERS: [Cluster; 4] = [FIVE_NODES, NINE_NODES, SIXTEEN_NODES, MANY_LIVES];
 
 // Whether a report has as many operations that ended as it must, and a repair.
 fn is_full(cluster: &Cluster, report: &str) -> bool {
     let done = count_of(report, "done=").unwrap_or(0);
     let repaired = count_of(report, "repaired=").unwrap_or(0);
     cluster.done <= done && 1 <= repaired
+}
+
+// Whether nodes pruned and clients came back, several times each.
+fn has_lives(script: &str) -> bool {
+    5 < script.split("\nprune ").count() && 5 < script.split("\nback client ").count()
 }
 
 // How many foreign writes there are in the report of a run, which is found legal. The run has all its lines, and a repair.
@@ -401,7 +453,8 @@ fn foreign_writes(alloc: Global, cluster: &Cluster, seed: u64) -> Result<Option<
     let (check, verdict) = answered(alloc, "check", report.taken())?;
     let report = str::from_utf8(report.taken())?;
     let is_legal = check == Status::Done && verdict.taken() == b"legal\n".as_slice();
-    if !is_whole || replay != Status::Done || !is_full(cluster, report) || !is_legal {
+    let is_lively = !cluster.lives || has_lives(str::from_utf8(run.script())?);
+    if !is_whole || replay != Status::Done || !is_full(cluster, report) || !is_legal || !is_lively {
         return Ok(None);
     }
     Ok(Some(report.split(" foreign ").count().saturating_sub(1)))
