@@ -2,6 +2,7 @@ ghost use Rattle.std.specs.Prelude.{◌≡◌, IfOk};
 
 use crate::{Rule, false_answer, mix_ask, sound_ask};
 use cross_sum::{Bytes, sha};
+use lists::Copied;
 use quorum_rules::Config;
 use stamp_order::Bound;
 use std::alloc::Global;
@@ -33,8 +34,8 @@ fn reply_of(alloc: Global, rule: Rule, request: Request) -> Result<Option<Reply>
     let Some(answer) = false_answer(alloc, &config, &first, rule, &ask)? else {
         return Ok(None);
     };
-    match answer.body {
-        Body::Answer(reply) => Ok(Some(reply)),
+    match &answer.body {
+        Body::Answer(reply) => Ok(Some(reply.copy()?)),
         Body::Ask(_) => Err(Fail::from("an answer is no ask")),
     }
 }
@@ -82,13 +83,13 @@ fn old_and_bad_tell_the_first_version(rt: HostRuntime) -> Result<(), Fail> {
 }
 
 fn written(message: Message) -> Result<Version, Fail> {
-    match message.body {
+    match &message.body {
         Body::Ask(
             Ask {
                 block: 1,
                 request: Request::Write(version),
             },
-        ) => Ok(version),
+        ) => Ok(version.copy()?),
         _ => Err(Fail::from("a version of block 1 is written")),
     }
 }
