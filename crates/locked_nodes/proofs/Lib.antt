@@ -1,0 +1,6 @@
+pub mod Acting
+pub mod Causes
+pub mod Keeping
+pub mod Growing
+pub mod Sharding
+pub mod Joining

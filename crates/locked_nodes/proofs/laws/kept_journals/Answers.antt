@@ -1,0 +1,6 @@
+-- Lemmas of `Joining`.
+use Rattle.locked_nodes.proofs.Joining.{one_cell, several_cells}
+use Rattle.locked_nodes.proofs.laws.kept_journals.Goals as goal
+
+pub returns : goal.returns
+returns c = record { one = one_cell; several = several_cells }

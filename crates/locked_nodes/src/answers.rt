@@ -1,0 +1,60 @@
+//! What a cell answers.
+ghost use Rattle.std.specs.Prelude.{◌≡◌};
+ghost use Rattle.locked_nodes.specs.declared.answers.CellRefusal.TheVariants as refusals;
+
+use journals::Silence;
+use lists::NoMemory;
+use std::alloc::AllocError;
+use wire_forms::Message;
+
+/// What the caller of a node hears, with the number of the node's entry.
+#[derive(Drop)]
+pub enum Told {
+    Answered { number: u64, reply: Message },
+    Silent { number: u64, why: Silence },
+}
+
+/// What became of the oldest ask that is held back, with the number of the node's entry.
+#[derive(Clone, Copy, Debug, PartialEq, Eq)]
+pub enum Late {
+    /// No ask is held back.
+    NoMail,
+    /// The node handled it.
+    Delivered { number: u64 },
+    /// It found the node crashed or lying, or crashed it.
+    Lost { number: u64 },
+}
+
+/// What became of a prune.
+#[derive(Clone, Copy, Debug, PartialEq, Eq)]
+pub enum Pruning {
+    /// The node lies or has crashed.
+    Skipped,
+    /// It has dropped versions, if there were any to drop, and this is the number of its entry.
+    Pruned { number: u64 },
+}
+
+/// Why a cell did nothing.
+#[derive(Clone, Copy, Debug, PartialEq, Eq)]
+pub enum CellRefusal {
+    /// No memory was found.
+    NoMemory,
+    /// The cell's pass has drawn all its numbers.
+    ClockFull,
+}
+
+impl From<NoMemory> for CellRefusal {
+    ghost from_gives = { λ _ e. e ≡ refusals.NoMemory };
+
+    fn from(_: NoMemory) -> CellRefusal {
+        CellRefusal::NoMemory
+    }
+}
+
+impl From<AllocError> for CellRefusal {
+    ghost from_gives = { λ _ e. e ≡ refusals.NoMemory };
+
+    fn from(_: AllocError) -> CellRefusal {
+        CellRefusal::NoMemory
+    }
+}
