@@ -1,0 +1,13 @@
+pub mod Accepting
+pub mod Adding
+pub mod Bodies
+pub mod Closing
+pub mod Codec
+pub mod Deeds
+pub mod Keeping
+pub mod Lives
+pub mod Moments
+pub mod Opening
+pub mod Order
+pub mod Playing
+pub mod Torn

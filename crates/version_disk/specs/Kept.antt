@@ -1,0 +1,26 @@
+-- A node and the disk that holds its state.
+use Rattle.std.specs.Prelude.{◌≡◌, ◌⊎◌, ℕ, false, List, ◌++◌, None}
+use Rattle.quorum_rules.specs.Limits.{Numbers}
+use Rattle.node_core.specs.Seen.{SeenNode}
+use Rattle.disk_model.specs.Crash.{Pending, settled}
+use Rattle.version_disk.specs.Bodies.{IsClosedAt}
+use Rattle.version_disk.specs.Slots.{Slot, body_len, Fits}
+use Rattle.version_disk.specs.Held.{held, slots_of, is_bad, first_bad}
+
+-- all of the disk is safe, it holds the node's state in so many good slots, and the gate behind them is closed
+pub record IsKept {D : Type 0} (pending : D → Pending) (seen : D → List ℕ) (c : Numbers) (number : ℕ) (node : SeenNode) (count : ℕ) (disk : D) : Type 0 where
+  pub durable : pending disk ≡ settled (seen disk)
+  pub closed : IsClosedAt (body_len c) (seen disk) count
+  pub state : node ≡ held c number (seen disk)
+  pub good : first_bad c number (seen disk) ≡ None
+
+-- the slot fits this cluster, and it isn't bad
+pub record IsGoodIn (c : Numbers) (number : ℕ) (s : Slot) : Type 0 where
+  pub fits : Fits c s
+  pub fine : is_bad c number s ≡ false
+
+-- These bytes hold one of two states, begin with the slots, and have no bad slot.
+pub record HoldsOneOf (c : Numbers) (number : ℕ) (slots : List Slot) (before after : SeenNode) (bytes : List ℕ) : Type 0 where
+  pub state : (held c number bytes ≡ before) ⊎ (held c number bytes ≡ after)
+  pub begins : (more : List Slot) × (slots_of c bytes ≡ slots ++ more)
+  pub good : first_bad c number bytes ≡ None

@@ -1,0 +1,11 @@
+pub mod Bodies
+pub mod Deeds
+pub mod Faults
+pub mod Held
+pub mod Kept
+pub mod Lives
+pub mod Opened
+pub mod Refusals
+pub mod Reopened
+pub mod Slots
+pub mod Stored

@@ -1,0 +1,66 @@
+//! A node on a disk that never fails. Its room is made as it is needed, so want of memory is all that refuses.
+
+ghost use Rattle.std.specs.Prelude.{◌≡◌, ◌<◌, true, OnOk, OnErr};
+ghost use Rattle.protocol.specs.Nodes.{pruned};
+ghost use Rattle.protocol.specs.Instance.{setting};
+ghost use Rattle.node_core.specs.Seen.{versions_in, with_versions, after_of, accepts_of};
+ghost use Rattle.version_disk.specs.Held.{held};
+ghost use Rattle.version_disk.specs.Stored.{has_place};
+
+use crate::body::body_size;
+use crate::stored::StoredNode;
+use disk_model::CalmDisk;
+use lists::NoMemory;
+use stamp_order::Stamp;
+use wire_forms::{Ask, Version};
+
+impl StoredNode<CalmDisk> {
+    /// Makes room for one more slot and the byte after it.
+    pub fn make_room(&mut self) -> Result<(), NoMemory>
+        ensures place { OnOk result (has_place self.new.node self.new.disk.bytes self.new.disk.room ≡ true) }
+        ensures node { self.new.node ≡ self.old.node }
+        ensures bytes { self.new.disk.bytes ≡ self.old.disk.bytes }
+    {
+        let bytes = self.disk.bytes().len();
+        let slot = body_size(self.node.config()) as usize + 1;
+        self.disk.grow(bytes + (slot + 1))
+    }
+
+    /// The bytes of the disk, which hold the node's state.
+    pub fn bytes(&self) -> &[u8]
+        ensures bytes { result.now ≡ self.now.disk.bytes }
+        ensures held { held self.now.node.config self.now.node.number result.now ≡ self.now.node }
+    {
+        self.disk.bytes()
+    }
+
+    /// Adds what was prepared for the ask, and makes the room that its slot needs.
+    pub fn keep(&mut self, ask: &Ask, added: Option<Version>) -> Result<(), NoMemory>
+        requires { added ≡ accepts_of self.old.node ask.now }
+        ensures ok { OnOk result (self.new.node ≡ with_versions self.old.node ask.now.block (after_of self.old.node ask.now)) }
+        ensures err { OnErr result (self.new.node ≡ self.old.node) }
+        ensures bytes { OnErr result (self.new.disk.bytes ≡ self.old.disk.bytes) }
+    {
+        if added.is_some() {
+            self.make_room()?;
+        }
+        match self.commit(ask, added) {
+            Ok(()) => Ok(()),
+            Err(_) => Err(NoMemory),
+        }
+    }
+
+    /// Prunes a block by a stamp, and makes the room that the slot needs.
+    pub fn keep_prune(&mut self, block: u32, stamp: &Stamp) -> Result<(), NoMemory>
+        requires { block < self.old.node.config.blocks }
+        ensures ok { OnOk result (self.new.node ≡ with_versions self.old.node block (pruned (setting self.old.node.config) stamp.now (versions_in self.old.node block))) }
+        ensures err { OnErr result (self.new.node ≡ self.old.node) }
+        ensures bytes { OnErr result (self.new.disk.bytes ≡ self.old.disk.bytes) }
+    {
+        self.make_room()?;
+        match self.prune(block, stamp) {
+            Ok(()) => Ok(()),
+            Err(_) => Err(NoMemory),
+        }
+    }
+}
