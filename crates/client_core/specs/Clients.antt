@@ -1,5 +1,5 @@
 -- A correct client as contracts see it, and what a message does to it.
-use Rattle.std.specs.Prelude.{◌≡◌, ℕ, ◌+◌, if◌then◌else◌, ◌==◌, List, Option}
+use Rattle.std.specs.Prelude.{◌≡◌, ℕ, ◌+◌, if◌then◌else◌, ◌==◌, Bool, true, false, List, Option}
 use Rattle.std.specs.declared.option.Option.TheVariants.{None, Some}
 use Rattle.quorum_rules.specs.Limits.{Numbers}
 use Rattle.wire_forms.specs.declared.message.Message.{Message}
@@ -44,6 +44,20 @@ told c t m (Answers reply) = if m.client == c.id then hearing (setting c.config)
 abbrev pub hears : ClientView → Option SeenTask → Message → Hearing
 hears c None m = Ignored
 hears c (Some t) m = told c t m m.body
+
+-- the operation under way after an answer was counted
+abbrev pub goes_to : Hearing → Option SeenTask
+goes_to Ignored = None
+goes_to (Counted t) = Some t
+goes_to (Begins t) = Some t
+goes_to (Ended outcome) = None
+
+-- the phase counts the answer, and goes on
+abbrev pub is_only_counted : Hearing → Bool
+is_only_counted Ignored = false
+is_only_counted (Counted t) = true
+is_only_counted (Begins t) = false
+is_only_counted (Ended outcome) = false
 
 -- the answer says what the message did, and the client did it
 abbrev pub IsHeard : ClientView → ClientView → Message → Heard → Type 0

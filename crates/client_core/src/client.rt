@@ -1,11 +1,11 @@
-ghost use Rattle.std.specs.Prelude.{◌≡◌, ◌↔◌, ◌<◌, ◌-◌, ◌^◌, IsTrue, IsSome, IfOk, OnOk, OnErr, Some, None};
+ghost use Rattle.std.specs.Prelude.{◌≡◌, ◌↔◌, ◌<◌, ◌-◌, ◌^◌, IsTrue, IsSome, IfOk, OnOk, OnErr, Some, None, true};
 ghost use Rattle.std.specs.Option.{ForSome};
 ghost use Rattle.protocol.specs.Seen.{new_client, ops_of, block_of, work_of, seen_begun, task_at, hears, outstanding_of, has_answered, phase_of, chosen_of};
 ghost use Rattle.protocol.specs.World.{Fits};
 ghost use Rattle.protocol.specs.Operations.{mail as all_mail};
 ghost use Rattle.protocol.specs.Instance.{setting};
 ghost use Rattle.client_core.specs.Works.{HasBegun, IsTold};
-ghost use Rattle.client_core.specs.Clients.{with_started, started, mail_of, IsHeard};
+ghost use Rattle.client_core.specs.Clients.{with_task, with_started, started, mail_of, is_only_counted, goes_to, IsHeard};
 
 use crate::heard::Heard;
 use lists::{Copied, NoMemory};
@@ -127,6 +127,34 @@ impl Client {
             self.work = Work::Idle;
         }
         Ok(heard)
+    }
+
+    /// Whether an answer to this client is one that the phase under way counts, and then waits for more: `count` hears it
+    /// without memory.
+    pub fn only_counts(&self, node: u8, tag: Tag, reply: &Reply) -> bool
+        ensures { result ≡ is_only_counted (hears (setting self.now.config) self.now.id self.now.seen.task node tag reply.now) }
+    {
+        match &self.work {
+            Work::Idle => false,
+            Work::Writing(writer) => {
+                writer.counts(node, tag, reply) && !writer.ends_phase(node, tag, reply)
+            }
+            Work::Reading(reader) => {
+                reader.counts(node, tag, reply) && !reader.ends_phase(node, tag, reply)
+            }
+        }
+    }
+
+    /// Hears an answer that is only counted.
+    pub fn count(&mut self, node: u8, tag: Tag, reply: Reply)
+        requires { is_only_counted (hears (setting self.old.config) self.old.id self.old.seen.task node tag reply) ≡ true }
+        ensures { self.new ≡ with_task self.old (goes_to (hears (setting self.old.config) self.old.id self.old.seen.task node tag reply)) }
+    {
+        match &mut self.work {
+            Work::Idle => {}
+            Work::Writing(writer) => writer.count(node, tag, reply),
+            Work::Reading(reader) => reader.count(node, tag, reply),
+        }
     }
 
     /// The present phase's message to the node; None exactly where the client is idle or there is no such node.

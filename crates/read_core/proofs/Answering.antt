@@ -45,6 +45,12 @@ module _ (c : Numbers) (first : Stamp) (bound : Bound) where
     pub few_heard : heard ≤ c.n
     few_heard = omega (arith, h.count, count_most c.n (λ i. is_answered (answer_at answers i)))
 
+    -- with one more answer one more has answered
+    pub counted_once : answer_at answers node ≡ None → (reply : Reply) → heard + 1 ≡ answered (setting c) (answer_at (with_reply answers node reply))
+    counted_once new reply =
+        let more = count_one_more c.n node (λ i. is_answered (answer_at answers i)) (λ i. is_answered (answer_at (with_reply answers node reply) i)) there (ap is_answered new) (ap is_answered (get_or-set_same answers node (Some reply) None inside)) (others (Some reply)) in
+        ap (λ k. k + 1) h.count ∙ sym more
+
     module _ (new : answer_at answers node ≡ None) (reply : Reply) (stamp : Option Stamp) (is : stamp ≡ stamp_of (valid (setting c) node bound (Some reply))) where
       pub counted_is_round : IsRound c first bound (with_reply answers node reply) (slice_set stamps node stamp) (heard + 1)
       counted_is_round = record {
@@ -58,9 +64,7 @@ module _ (c : Numbers) (first : Stamp) (bound : Bound) where
             ∙ ap (λ o. update (stamps_of (setting c) (answer_at answers) bound) node o i) is
             ∙ sym (stamps-update (setting c) (answer_at answers) bound node reply i)
             ∙ ap (λ o. stamp_of (valid (setting c) i bound o)) (sym (at_answers (Some reply) i)));
-        count =
-            (let more = count_one_more c.n node (λ i. is_answered (answer_at answers i)) (λ i. is_answered (answer_at (with_reply answers node reply) i)) there (ap is_answered new) (ap is_answered (get_or-set_same answers node (Some reply) None inside)) (others (Some reply)) in
-            ap (λ k. k + 1) h.count ∙ sym more);
+        count = counted_once new reply;
       }
 
     module _ (was : is_answered (answer_at answers node) ≡ true) where

@@ -1,17 +1,19 @@
 -- Which answers a stage counts.
-use Rattle.std.proofs.Common.{◌≡◌, ℕ, ◌<◌, Bool, true, false, ◌&&◌, not, List, map, Option, refl, sym, ◌∙◌, ap, arith, ltb}
+use Rattle.std.proofs.Common.{◌≡◌, ℕ, ◌<◌, ◌≤◌, Bool, true, false, ◌&&◌, not, List, map, Option, refl, sym, ◌∙◌, ap, arith, ltb}
 use Rattle.std.specs.declared.option.Option.TheVariants.{None, Some}
 use Rattle.std.proofs.lemmas.Bool.Decides.{nat_tests}
-use Rattle.quorum_rules.specs.Limits.{Numbers}
+use Rattle.std.specs.Prelude.{leb}
+use Rattle.quorum_rules.specs.Limits.{Numbers, wait_of}
+use Rattle.protocol.specs.Instance.{setting}
 use Rattle.stamp_order.specs.declared.Stamp.{Stamp}
 use Rattle.wire_forms.specs.declared.message.Reply.{Reply}
 use Rattle.wire_forms.specs.declared.message.Reply.TheVariants.{TimeIs, Found, Nothing, Ack, Refused}
-use Rattle.protocol.specs.Operations.{Stage, is_of_kind, is_answered}
+use Rattle.protocol.specs.Operations.{Stage, is_of_kind, is_answered, answered}
 use Rattle.protocol.specs.Operations.Stage.{Storing}
 use Rattle.protocol.proofs.Counting.{both_true}
 use Rattle.read_core.specs.Rounds.{answer_at}
 use Rattle.read_core.specs.Repairs.{has_acked, ack_of}
-use Rattle.read_core.specs.Stages.{counts_in}
+use Rattle.read_core.specs.Stages.{counts_in, is_full}
 use Rattle.read_core.proofs.Acking.{ack_at, answered_ack}
 
 pub and_true : (a b : Bool) → ((a && true) && b) ≡ (a && b)
@@ -21,6 +23,25 @@ and_true false b = refl
 pub and_false : (a b : Bool) → ((a && false) && b) ≡ false
 and_false true b = refl
 and_false false b = refl
+
+-- a stage is full where as many have answered as it waits for
+pub full_where : (c : Numbers) (answers : List (Option Reply)) (sum : ℕ) → answered (setting c) (answer_at answers) ≡ sum → leb (wait_of c) sum ≡ is_full c answers
+full_where c answers sum all = rw all (turned sum (wait_of c))
+  where
+    turned : (a b : ℕ) → leb b a ≡ not (ltb a b)
+    turned a b = grind (arith, nat_tests)
+
+pub not_full : (c : Numbers) (answers : List (Option Reply)) → is_full c answers ≡ false → answered (setting c) (answer_at answers) < wait_of c
+not_full c answers e = below (answered (setting c) (answer_at answers)) (wait_of c) e
+  where
+    below : (a b : ℕ) → not (ltb a b) ≡ false → a < b
+    below a b f = grind (arith, nat_tests)
+
+pub full : (c : Numbers) (answers : List (Option Reply)) → is_full c answers ≡ true → wait_of c ≤ answered (setting c) (answer_at answers)
+full c answers e = reached (answered (setting c) (answer_at answers)) (wait_of c) e
+  where
+    reached : (a b : ℕ) → not (ltb a b) ≡ true → b ≤ a
+    reached a b f = grind (arith, nat_tests)
 
 not_answered : (o : Option Reply) → not (is_answered o) ≡ true → o ≡ None
 not_answered None h = refl

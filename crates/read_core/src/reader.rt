@@ -1,7 +1,7 @@
-ghost use Rattle.std.specs.Prelude.{◌≡◌, ◌<◌, ◌-◌, ◌^◌, ◌↔◌, ℕ, List, IsTrue, true, IfOk, OnOk, OnErr, IsSome, IfSome, Some, None};
+ghost use Rattle.std.specs.Prelude.{◌≡◌, ◌<◌, ◌-◌, ◌^◌, ◌↔◌, ℕ, List, IsTrue, true, false, IfOk, OnOk, OnErr, IsSome, IfSome, Some, None};
 ghost use Rattle.std.specs.Option.{ForSome};
 ghost use Rattle.protocol.specs.Operations.{mail as mail_of};
-ghost use Rattle.protocol.specs.Seen.{SeenOperation, task_at, with_task, counts_of, hears, outstanding_of, has_answered};
+ghost use Rattle.protocol.specs.Seen.{SeenOperation, task_at, with_task, counts_of, ends_phase, hears, outstanding_of, has_answered};
 ghost use Rattle.quorum_rules.specs.Limits.{IsValid};
 ghost use Rattle.protocol.specs.Instance.{setting};
 ghost use Rattle.read_core.specs.Stages.{stage_of, IsNew};
@@ -87,7 +87,7 @@ impl Reader {
         if !self.counts(node, tag, reply) {
             return Ok(Reading::More);
         }
-        match self.count(node, reply)? {
+        match self.weigh(node, reply)? {
             None => Ok(Reading::More),
             Some(PhaseEnd::Outvoted(nodes)) => {
                 self.stage = None;
@@ -102,7 +102,7 @@ impl Reader {
     }
 
     // Counts an answer, or tells what the phase comes to by it.
-    fn count(&mut self, node: u8, reply: &Reply) -> Result<Option<PhaseEnd>, NoMemory>
+    fn weigh(&mut self, node: u8, reply: &Reply) -> Result<Option<PhaseEnd>, NoMemory>
         requires { counts_in_task self.old.config self.old.task node reply.now ≡ true }
         ensures valid { IsValid self.old.config }
         ensures ok { IfOk result (IsCounted self.old self.new node reply.now) }
@@ -150,6 +150,29 @@ impl Reader {
                 tag.op == self.op && tag.phase == self.phase && stage.counts(node, reply)
             }
             None => false,
+        }
+    }
+
+    /// Whether a node's answer with this tag ends the present phase: the phase counts it, and then waits for no other.
+    pub fn ends_phase(&self, node: u8, tag: Tag, reply: &Reply) -> bool
+        ensures { result ≡ ends_phase (setting self.now.config) self.now.task node tag reply.now }
+    {
+        match &self.stage {
+            Some(stage) => {
+                tag.op == self.op && tag.phase == self.phase && stage.ends_with(node, reply)
+            }
+            None => false,
+        }
+    }
+
+    /// Counts an answer that doesn't end the present phase. It takes no memory.
+    pub fn count(&mut self, node: u8, tag: Tag, reply: Reply)
+        requires counts { counts_of (setting self.old.config) self.old.task node tag reply ≡ true }
+        requires goes_on { ends_phase (setting self.old.config) self.old.task node tag reply ≡ false }
+        ensures { self.new ≡ with_task self.old (task_after self.old.task (hears (setting self.old.config) self.old.client self.old.task node tag reply)) }
+    {
+        if let Some(stage) = &mut self.stage {
+            stage.count(node, reply);
         }
     }
 

@@ -1,8 +1,10 @@
-ghost use Rattle.std.specs.Prelude.{◌≡◌, ◌<◌, ◌&&◌, nat_lt, not, true, map, IfOk, OnErr};
+ghost use Rattle.std.specs.Prelude.{◌≡◌, ◌<◌, ◌&&◌, nat_lt, not, true, map, slice_set, IfOk, OnErr};
 ghost use Rattle.gf_field.specs.Fragments.{fragments_of};
 ghost use Rattle.block_rows.specs.Sums.{sum_of};
 ghost use Rattle.protocol.specs.Operations.Stage.{Storing};
 ghost use Rattle.read_core.specs.Repairs.{has_acked, ack_of, new_repair, version_for};
+ghost use Rattle.read_core.specs.Rounds.{with_reply};
+ghost use Rattle.read_core.specs.Stages.{is_full};
 ghost use Rattle.read_core.specs.Ends.{IsHeard};
 ghost use Rattle.wire_forms.specs.declared.message.Reply.TheVariants.{Ack};
 
@@ -83,6 +85,23 @@ impl Repair {
         u32::from(node) < self.config.n() && !self.has_answered(node)
     }
 
+    /// Whether the repair waits for no other node once this one has acknowledged.
+    pub(crate) fn is_last(&self, node: u8) -> bool
+        requires { (nat_lt node self.now.config.n && not (has_acked self.now.acks node)) ≡ true }
+        ensures { result ≡ is_full self.now.config (with_reply (map ack_of self.now.acks) node Ack) }
+    {
+        self.heard + 1 >= self.config.wait()
+    }
+
+    /// Counts a node's acknowledgement.
+    pub(crate) fn count(&mut self, node: u8)
+        requires { (nat_lt node self.old.config.n && not (has_acked self.old.acks node)) ≡ true }
+        ensures { self.new ≡ record self.old { acks = slice_set self.old.acks node true } }
+    {
+        self.acks[usize::from(node)] = true;
+        self.heard += 1;
+    }
+
     /// Counts a node's acknowledgement, unless it's the last one that the repair waits for.
     pub(crate) fn hear(&mut self, node: u8) -> Result<Option<PhaseEnd>, NoMemory>
         requires { (nat_lt node self.old.config.n && not (has_acked self.old.acks node)) ≡ true }
@@ -90,9 +109,8 @@ impl Repair {
         ensures same { self.new ≡ record self.old { acks = self.new.acks } }
         ensures err { OnErr result (self.new ≡ self.old) }
     {
-        if self.heard + 1 < self.config.wait() {
-            self.acks[usize::from(node)] = true;
-            self.heard += 1;
+        if !self.is_last(node) {
+            self.count(node);
             return Ok(None);
         }
         Ok(Some(PhaseEnd::Gives {

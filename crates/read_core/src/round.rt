@@ -5,7 +5,8 @@ ghost use Rattle.protocol.specs.Instance.{setting};
 ghost use Rattle.protocol.specs.Operations.{is_answered, support};
 ghost use Rattle.protocol.specs.Operations.Stage.{Versions};
 ghost use Rattle.read_core.specs.Rounds.{answer_at, with_reply, new_round, HasPivot};
-ghost use Rattle.read_core.specs.Stages.{counts_in};
+ghost use Rattle.read_core.specs.Stages.{counts_in, is_full};
+ghost use Rattle.wire_forms.specs.declared.message.Reply.{Reply as Replies};
 ghost use Rattle.read_core.specs.Ends.{IsHeard, IsEnd};
 
 use crate::candidate::{checked, invalid_nodes, least_sum, parts_of, replies_copy};
@@ -114,7 +115,17 @@ impl Round {
         Ok(Some(end?))
     }
 
-    fn count(&mut self, node: u8, reply: Reply)
+    /// Whether the round waits for no other node once this one has answered.
+    pub(crate) fn is_last(&self, node: u8) -> bool
+        requires there { node < self.now.config.n }
+        requires new { answer_at self.now.answers node ≡ None }
+        ensures { (reply : Replies) → result ≡ is_full self.now.config (with_reply self.now.answers node reply) }
+    {
+        self.heard + 1 >= self.config.wait()
+    }
+
+    /// Counts a node's answer.
+    pub(crate) fn count(&mut self, node: u8, reply: Reply)
         requires there { node < self.old.config.n }
         requires new { answer_at self.old.answers node ≡ None }
         ensures { self.new ≡ record self.old { answers = with_reply self.old.answers node reply } }

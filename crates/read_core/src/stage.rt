@@ -17,8 +17,8 @@ impl Stage {
     ghost use Rattle.std.specs.Prelude.{◌≡◌, ◌<◌, ◌-◌, ◌^◌, true, IfOk, OnErr};
     ghost use Rattle.protocol.specs.Operations.{is_answered, request_of, rounds_after};
     ghost use Rattle.protocol.specs.Instance.{setting};
-    ghost use Rattle.read_core.specs.Stages.{stage_of, answers_in, config_of, counts_in, IsSameBut};
-    ghost use Rattle.read_core.specs.Rounds.{answer_at};
+    ghost use Rattle.read_core.specs.Stages.{stage_of, answers_in, config_of, counts_in, ends_in, IsSameBut};
+    ghost use Rattle.read_core.specs.Rounds.{answer_at, with_reply};
     ghost use Rattle.read_core.specs.Ends.{IsHeard};
 
     /// Whether a node's reply is one that the phase counts.
@@ -29,6 +29,31 @@ impl Stage {
             (Stage::Asking(round), Reply::Found(_) | Reply::Nothing) => round.awaits(node),
             (Stage::Storing(repair), Reply::Ack) => repair.awaits(node),
             _ => false,
+        }
+    }
+
+    /// Whether a node's reply is one that the phase counts, and the last that it waits for.
+    pub(crate) fn ends_with(&self, node: u8, reply: &Reply) -> bool
+        ensures { result ≡ ends_in (config_of self.now) (stage_of self.now) (answers_in self.now) node reply.now }
+    {
+        if !self.counts(node, reply) {
+            return false;
+        }
+        match self {
+            Stage::Asking(round) => round.is_last(node),
+            Stage::Storing(repair) => repair.is_last(node),
+        }
+    }
+
+    /// Counts a node's answer.
+    pub(crate) fn count(&mut self, node: u8, reply: Reply)
+        requires { counts_in (config_of self.old) (stage_of self.old) (answers_in self.old) node reply ≡ true }
+        ensures answers { answers_in self.new ≡ with_reply (answers_in self.old) node reply }
+        ensures same { IsSameBut self.old self.new }
+    {
+        match self {
+            Stage::Asking(round) => round.count(node, reply),
+            Stage::Storing(repair) => repair.count(node),
         }
     }
 

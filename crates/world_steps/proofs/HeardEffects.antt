@@ -3,7 +3,6 @@ use Rattle.std.proofs.Common.{◌≡◌, ◌⊎◌, ℕ, ◌+◌, ◌-◌, ◌<�
 use Rattle.std.specs.Prelude.{IfSome, slice_get, slice_index_or}
 use Rattle.std.specs.declared.option.Option.TheVariants.{None, Some}
 use Rattle.std.proofs.lemmas.List.{append-nil, append_assoc}
-use Rattle.std.proofs.lemmas.Bool.Decides.{eqb_tells}
 use Rattle.std.proofs.lemmas.Option.{slice_get_cases}
 use Rattle.quorum_rules.specs.Limits.{Numbers}
 use Rattle.protocol.specs.Count.{update}
@@ -13,20 +12,21 @@ use Rattle.protocol.specs.Instance.{setting}
 use Rattle.protocol.specs.Operations.{Task, Outcome, Decision, answered, decide}
 use Rattle.protocol.specs.Operations.Decision.{GoesOn, Ends as EndsWith}
 use Rattle.protocol.specs.World.{World, heard, heard_by, with_record, chosen_stamp}
-use Rattle.protocol.specs.Seen.{SeenTask, record_of, phase_of, chosen_of, Hearing, client_at, task_at, started_task, seen_goes_on, seen_counted, is_counted, answers_of, by_decision, after_counting, hearing}
+use Rattle.protocol.specs.Seen.{SeenTask, record_of, phase_of, chosen_of, Hearing, new_client, client_at, task_at, started_task, seen_goes_on, seen_counted, is_counted, answers_of, by_decision, after_counting, hearing}
 use Rattle.protocol.specs.Seen.Hearing.{Ignored, Counted, Begins, Ended}
 use Rattle.protocol.proofs.Seeing.{length-goes_on, length-counted, after_hearing, heard_by-seen}
-use Rattle.client_core.specs.Clients.{ClientView, with_task, hears, told}
+use Rattle.client_core.specs.Clients.{ClientView, with_task, hears, told, goes_to, is_only_counted}
 use Rattle.world_steps.specs.declared.answer_effect.AnswerEffect.{AnswerEffect}
-use Rattle.world_steps.specs.declared.answer_effect.AnswerEffect.TheVariants.{Same, Goes, Ends}
+use Rattle.world_steps.specs.declared.answer_effect.AnswerEffect.TheVariants.{Same, Counts, Goes, Ends}
 use Rattle.world_steps.specs.declared.client_slot.ClientSlot.{ClientSlot}
 use Rattle.world_steps.specs.declared.state.State.TheInside.{Inside}
 use Rattle.world_steps.specs.contracts.state.State.{the_view}
 use Rattle.world_steps.specs.Worlds.{WorldView, setting_in, world_in}
 use Rattle.world_steps.specs.Slots.{IsWorld, IsTaskOf}
 use Rattle.world_steps.specs.Steps.{client_in, IsAnswer}
-use Rattle.world_steps.specs.AnswerEffects.{IsEffect, next_mail, goes_to, IsSame, Becomes, MayApply, settled, applied}
+use Rattle.world_steps.specs.AnswerEffects.{IsEffect, next_mail, answer_does, IsSame, Becomes, MayApply, goes_on, applied}
 use Rattle.world_steps.proofs.ClientSlots.{slot-client}
+use Rattle.world_steps.proofs.CountedAnswers.{told-is}
 
 -- the operation u follows t
 record IsNext (n : ℕ) (t u : SeenTask) : Type 0 where
@@ -88,29 +88,28 @@ slot-fits w good k l = at (slice_get_cases w.client_slots.items k).1
     at (inr h) = absurd (let e = good.clients in let q = h.0 in omega (arith, e, q, l))
 
 module _ (v : WorldView) (k place : ℕ) (m : Message) (answer : IsAnswer k m) (effect : AnswerEffect) where
-  -- an answer to the client is heard by its operation
-  told-is : (t : SeenTask) → hears (client_in v k) (Some t) m ≡ hearing (setting_in v) k t m.node m.tag answer.1
-  told-is t = ap (told (client_in v k) t m) answer.2 ∙ at (eqb m.client k) (eqb_tells m.client k)
-    where
-      at : (b : Bool) → ((eqb m.client k ≡ true) × (m.client ≡ k)) ⊎ ((eqb m.client k ≡ false) × (m.client ≡ k → ⊥)) → cond (eqb m.client k) (hearing (setting v.config) k t m.node m.tag answer.1) Ignored ≡ hearing (setting_in v) k t m.node m.tag answer.1
-      at b (inl h) = rw h.0 refl
-      at b (inr h) = absurd (h.1 answer.0)
+  heard-as : (t : SeenTask) → hears (client_in v k) (Some t) m ≡ hearing (setting_in v) k t m.node m.tag answer.1
+  heard-as t = told-is (client_in v k) m answer t
 
   -- ---- the effect may be done to the client
-  module _ (now : WorldView) (config : now.config ≡ v.config) (at_place : now.seen.place ≡ place) (later : v.seen.place < place) (life : (client_at now.seen k).life ≡ (client_at v.seen k).life) (started : (client_at now.seen k).started ≡ (client_at v.seen k).started)
+  module _ (now : WorldView) (config : now.config ≡ v.config) (at_place : now.seen.place ≡ place) (later : v.seen.place < place) (clients : now.seen.clients ≡ v.seen.clients)
       (task : (world_in now).task k ≡ (world_in v).task k) where
+    -- the client is as it was
+    pub client-kept : client_in now k ≡ client_in v k
+    client-kept = λ i. record { config = config i; id = k; seen = slice_index_or (clients i) k new_client }
+
     same-client : (new : ClientView) (o : Option SeenTask) → new ≡ with_task (client_in v k) o → IsSame now k new
     same-client new o e = record {
       config = ap (λ (x : ClientView). x.config) e ∙ sym config;
       id = ap (λ (x : ClientView). x.id) e;
-      life = ap (λ (x : ClientView). x.seen.life) e ∙ sym life;
-      started = ap (λ (x : ClientView). x.seen.started) e ∙ sym started;
+      life = ap (λ (x : ClientView). x.seen.life) e ∙ ap (λ (x : ClientView). x.seen.life) (sym client-kept);
+      started = ap (λ (x : ClientView). x.seen.started) e ∙ ap (λ (x : ClientView). x.seen.started) (sym client-kept);
     }
 
     goes-on : (o : Option SeenTask) → Fits v.config.n v.seen.place o → (u : SeenTask) → goes_to (hears (client_in v k) o m) ≡ Some u → (n : ℕ) → Becomes now.config now.seen.place (started_task n o) (Some u)
     goes-on None fit u e n = absurd (cc)
     goes-on (Some t) fit u e n =
-        let next = hearing_next (setting_in v) k t u m answer.1 fit.0 (ap goes_to (sym (told-is t)) ∙ e) in
+        let next = hearing_next (setting_in v) k t u m answer.1 fit.0 (ap goes_to (sym (heard-as t)) ∙ e) in
         record {
           block = next.block;
           work = next.work;
@@ -127,6 +126,9 @@ module _ (v : WorldView) (k place : ℕ) (m : Message) (answer : IsAnswer k m) (
       where
         at : (x : AnswerEffect) → IsEffect (client_in v k) (hearing_of v k m) x → MayApply now k x
         at Same h = tt
+        at (Counts node tag reply) h =
+            let counted : answer_does (client_in now k) node tag reply ≡ Counted h.0 = ap (λ (x : ClientView). answer_does x node tag reply) client-kept ∙ h.2 in
+            (ap is_only_counted counted, rw (task, counted) (goes-on (client_at v.seen k).task fit h.0 (ap goes_to h.1) (slice_index_or v.seen.starts k 0)))
         at (Goes new) h =
             let e : new.seen.task ≡ Some h.0 = ap (λ (x : ClientView). x.seen.task) h.2 in
             (same-client new (Some h.0) h.2, (h.0, e), rw (task, e) (goes-on (client_at v.seen k).task fit h.0 h.1 (slice_index_or v.seen.starts k 0)))
@@ -139,62 +141,71 @@ module _ (v : WorldView) (k place : ℕ) (m : Message) (answer : IsAnswer k m) (
     abbrev pub mailed : Hearing → World
     mailed h = record w { pool = w.pool ++ next_mail (client_in v k) h; place = place }
 
-    takes : (t : SeenTask) (h : Hearing) (x : AnswerEffect) → ((u : SeenTask) → goes_to h ≡ Some u → IsNext v.config.n t u) → IsEffect (client_in v k) h x → applied (mailed h) k (Some (task_at start t)) x ≡ after_hearing (setting_in v) w place k start t h
+    -- it goes on in its phase, or in the next one
+    stays : (t u : SeenTask) → IsNext v.config.n t u → goes_on (mailed (Counted u)) k (task_at start t) (Some u) ≡ after_hearing (setting_in v) w place k start t (Counted u)
+    stays t u n = λ i. record w {
+      pool = w.pool ++ [];
+      task = update w.task k (Some (task_at start u));
+      records = with_record w.records (record {
+        client = k;
+        block = sym n.block i;
+        work = sym n.work i;
+        start = start;
+        end = None;
+        stamp = chosen_stamp u.work u.stage;
+        outcome = None;
+      });
+      place = place;
+    }
+
+    begins : (t u : SeenTask) → IsNext v.config.n t u → goes_on (mailed (Begins u)) k (task_at start t) (Some u) ≡ after_hearing (setting_in v) w place k start t (Begins u)
+    begins t u n = λ i. record w {
+      pool = (mailed (Begins u)).pool;
+      task = update w.task k (Some (task_at start u));
+      records = with_record w.records (record {
+        client = k;
+        block = sym n.block i;
+        work = sym n.work i;
+        start = start;
+        end = None;
+        stamp = chosen_stamp u.work u.stage;
+        outcome = None;
+      });
+      place = place;
+    }
+
+    takes : (t : SeenTask) (h : Hearing) (x : AnswerEffect) → ((u : SeenTask) → goes_to h ≡ Some u → IsNext v.config.n t u) → IsEffect (client_in v k) h x
+        → applied (mailed h) (client_in v k) (Some (task_at start t)) x ≡ after_hearing (setting_in v) w place k start t h
     takes t h Same next is = rw is (λ i. record w { pool = append-nil w.pool i; place = place })
+    takes t Ignored (Counts node tag reply) next is = absurd (let e = is.1 in cc)
+    takes t (Begins u) (Counts node tag reply) next is = absurd (let e = is.1 in cc)
+    takes t (Ended outcome) (Counts node tag reply) next is = absurd (let e = is.1 in cc)
+    takes t (Counted u) (Counts node tag reply) next is =
+        let q : u ≡ is.0 = (let e = is.1 in cc) in
+        ap (λ (o : Option SeenTask). goes_on (mailed (Counted u)) k (task_at start t) o) (ap goes_to is.2 ∙ ap Some (sym q)) ∙ stays t u (next u refl)
     takes t Ignored (Goes new) next is = absurd (let e = is.1 in cc)
     takes t (Ended outcome) (Goes new) next is = absurd (let e = is.1 in cc)
     takes t (Counted u) (Goes new) next is =
         let q : u ≡ is.0 = (let e = is.1 in cc) in
-        let e : new.seen.task ≡ Some u = ap (λ (x : ClientView). x.seen.task) is.2 ∙ ap Some (sym q) in
-        let n = next u refl in
-        ap (λ (o : Option SeenTask). settled (mailed (Counted u)) k (task_at start t) o None (chosen_of o) None) e
-        ∙ (λ i. record w {
-          pool = w.pool ++ [];
-          task = update w.task k (Some (task_at start u));
-          records = with_record w.records (record {
-            client = k;
-            block = sym n.block i;
-            work = sym n.work i;
-            start = start;
-            end = None;
-            stamp = chosen_stamp u.work u.stage;
-            outcome = None;
-          });
-          place = place;
-        })
+        ap (λ (o : Option SeenTask). goes_on (mailed (Counted u)) k (task_at start t) o) (ap (λ (x : ClientView). x.seen.task) is.2 ∙ ap Some (sym q)) ∙ stays t u (next u refl)
     takes t (Begins u) (Goes new) next is =
         let q : u ≡ is.0 = (let e = is.1 in cc) in
-        let e : new.seen.task ≡ Some u = ap (λ (x : ClientView). x.seen.task) is.2 ∙ ap Some (sym q) in
-        let n = next u refl in
-        ap (λ (o : Option SeenTask). settled (mailed (Begins u)) k (task_at start t) o None (chosen_of o) None) e
-        ∙ (λ i. record w {
-          pool = (mailed (Begins u)).pool;
-          task = update w.task k (Some (task_at start u));
-          records = with_record w.records (record {
-            client = k;
-            block = sym n.block i;
-            work = sym n.work i;
-            start = start;
-            end = None;
-            stamp = chosen_stamp u.work u.stage;
-            outcome = None;
-          });
-          place = place;
-        })
+        ap (λ (o : Option SeenTask). goes_on (mailed (Begins u)) k (task_at start t) o) (ap (λ (x : ClientView). x.seen.task) is.2 ∙ ap Some (sym q)) ∙ begins t u (next u refl)
     takes t h (Ends new outcome) next is = rw (is.0) refl
 
   pub heard-applied : (w : World) → w.task k ≡ (world_in v).task k → Fits v.config.n v.seen.place (client_at v.seen k).task → IsEffect (client_in v k) (hearing_of v k m) effect
-      → (now : World) → now ≡ record w { pool = w.pool ++ next_mail (client_in v k) (hearing_of v k m); place = place } → applied now k (now.task k) effect ≡ heard (setting_in v) w place k m m.body
-  heard-applied w task fit is now e =
-      ap (λ (x : World). applied x k (x.task k) effect) e ∙ ap (λ (o : Option Task). applied (record w { pool = w.pool ++ next_mail (client_in v k) (hearing_of v k m); place = place }) k o effect) task
+      → (c : ClientView) → c ≡ client_in v k → (now : World) → now ≡ record w { pool = w.pool ++ next_mail (client_in v k) (hearing_of v k m); place = place } → applied now c (now.task k) effect ≡ heard (setting_in v) w place k m m.body
+  heard-applied w task fit is c same now e =
+      ap (λ (x : ClientView). applied now x (now.task k) effect) same
+      ∙ ap (λ (x : World). applied x (client_in v k) (x.task k) effect) e ∙ ap (λ (o : Option Task). applied (record w { pool = w.pool ++ next_mail (client_in v k) (hearing_of v k m); place = place }) (client_in v k) o effect) task
       ∙ at (client_at v.seen k).task fit is
       ∙ ap (λ (o : Option Task). heard_by (setting_in v) w place k o m answer.1) (sym task)
       ∙ ap (heard (setting_in v) w place k m) (sym answer.2)
     where
       at : (o : Option SeenTask) → Fits v.config.n v.seen.place o → IsEffect (client_in v k) (hears (client_in v k) o m) effect
-          → applied (record w { pool = w.pool ++ next_mail (client_in v k) (hears (client_in v k) o m); place = place }) k (started_task (slice_index_or v.seen.starts k 0) o) effect ≡ heard_by (setting_in v) w place k (started_task (slice_index_or v.seen.starts k 0) o) m answer.1
+          → applied (record w { pool = w.pool ++ next_mail (client_in v k) (hears (client_in v k) o m); place = place }) (client_in v k) (started_task (slice_index_or v.seen.starts k 0) o) effect ≡ heard_by (setting_in v) w place k (started_task (slice_index_or v.seen.starts k 0) o) m answer.1
       at None f h = λ i. record w { pool = append-nil w.pool i; place = place }
       at (Some t) f h =
-          takes w (slice_index_or v.seen.starts k 0) t (hears (client_in v k) (Some t) m) effect (λ u g. hearing_next (setting_in v) k t u m answer.1 f.0 (ap goes_to (sym (told-is t)) ∙ g)) h
-          ∙ ap (after_hearing (setting_in v) w place k (slice_index_or v.seen.starts k 0) t) (told-is t)
+          takes w (slice_index_or v.seen.starts k 0) t (hears (client_in v k) (Some t) m) effect (λ u g. hearing_next (setting_in v) k t u m answer.1 f.0 (ap goes_to (sym (heard-as t)) ∙ g)) h
+          ∙ ap (after_hearing (setting_in v) w place k (slice_index_or v.seen.starts k 0) t) (heard-as t)
           ∙ sym (heard_by-seen (setting_in v) w place k (slice_index_or v.seen.starts k 0) t f.0 m answer.1)

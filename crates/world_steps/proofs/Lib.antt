@@ -8,6 +8,7 @@ pub mod BlockUses
 pub mod NodeSlots
 pub mod SettledRecords
 pub mod SettledUses
+pub mod CountedAnswers
 pub mod HeardEffects
 pub mod StartedOperations
 pub mod ReturnedClients

@@ -1,32 +1,33 @@
 -- What a message makes of a client, and of the world that it stands in.
-use Rattle.std.specs.Prelude.{◌≡◌, ℕ, ◌≤◌, List, [], length, Option}
+use Rattle.std.specs.Prelude.{◌≡◌, ℕ, ◌≤◌, true, List, [], length, Option}
 use Rattle.std.specs.declared.option.Option.TheVariants.{None, Some}
 use Rattle.quorum_rules.specs.Limits.{Numbers}
 use Rattle.protocol.specs.Count.{update}
-use Rattle.protocol.specs.Messages.{Message, Stamp}
+use Rattle.protocol.specs.Messages.{Message, Stamp, Tag, Reply}
+use Rattle.protocol.specs.Instance.{setting}
 use Rattle.protocol.specs.Operations.{Task, Outcome}
 use Rattle.protocol.specs.World.{World, stamp_of_outcome, with_record}
-use Rattle.protocol.specs.Seen.{SeenTask, Hearing, client_at, started_task, chosen_of}
+use Rattle.protocol.specs.Seen.{SeenTask, Hearing, client_at, started_task, chosen_of, hears as hears_answer}
 use Rattle.protocol.specs.Seen.Hearing.{Ignored, Counted, Begins, Ended}
-use Rattle.client_core.specs.Clients.{ClientView, with_task, mail_of}
+use Rattle.client_core.specs.Clients.{ClientView, with_task, mail_of, goes_to, is_only_counted}
 use Rattle.world_steps.specs.declared.answer_effect.AnswerEffect.{AnswerEffect}
-use Rattle.world_steps.specs.declared.answer_effect.AnswerEffect.TheVariants.{Same, Goes, Ends}
+use Rattle.world_steps.specs.declared.answer_effect.AnswerEffect.TheVariants.{Same, Counts, Goes, Ends}
 use Rattle.world_steps.specs.Worlds.{WorldView, world_in}
+use Rattle.world_steps.specs.Steps.{client_in}
 
 -- the messages of the next phase, if one begins
 abbrev pub next_mail : ClientView → Hearing → List Message
 next_mail c (Begins u) = mail_of c u
 next_mail c _ = []
 
--- the operation under way after an answer was counted
-abbrev pub goes_to : Hearing → Option SeenTask
-goes_to (Counted u) = Some u
-goes_to (Begins u) = Some u
-goes_to _ = None
+-- what a node's answer with this tag does to the client
+abbrev pub answer_does : ClientView → ℕ → Tag → Reply → Hearing
+answer_does c node tag reply = hears_answer (setting c.config) c.id c.seen.task node tag reply
 
 -- the effect is what the message does to the client
 abbrev pub IsEffect : ClientView → Hearing → AnswerEffect → Type 0
 IsEffect c h Same = h ≡ Ignored
+IsEffect c h (Counts node tag reply) = (u : SeenTask) × (h ≡ Counted u) × (answer_does c node tag reply ≡ Counted u)
 IsEffect c h (Goes new) = (u : SeenTask) × (goes_to h ≡ Some u) × (new ≡ with_task c (Some u))
 IsEffect c h (Ends new outcome) = (h ≡ Ended outcome) × (new ≡ with_task c None)
 
@@ -53,6 +54,7 @@ Becomes c place (Some t) (Some u) = MayGoOn c place t u
 -- the effect may be done to the client
 abbrev pub MayApply : WorldView → ℕ → AnswerEffect → Type 0
 MayApply v k Same = Unit {0}
+MayApply v k (Counts node tag reply) = (is_only_counted (answer_does (client_in v k) node tag reply) ≡ true) × Becomes v.config v.seen.place ((world_in v).task k) (goes_to (answer_does (client_in v k) node tag reply))
 MayApply v k (Goes new) = IsSame v k new × ((u : SeenTask) × (new.seen.task ≡ Some u)) × Becomes v.config v.seen.place ((world_in v).task k) new.seen.task
 MayApply v k (Ends new outcome) = IsSame v k new × (new.seen.task ≡ None) × Becomes v.config v.seen.place ((world_in v).task k) None
 
@@ -63,9 +65,14 @@ settled w k t next end stamp outcome = record w {
   records = with_record w.records (record { client = k; block = t.block; work = t.work; start = t.start; end = end; stamp = stamp; outcome = outcome });
 }
 
+-- the world when it has become this one, which goes on
+abbrev pub goes_on : World → ℕ → Task → Option SeenTask → World
+goes_on w k t next = settled w k t next None (chosen_of next) None
+
 -- the world when the effect is done to the client
-abbrev pub applied : World → ℕ → Option Task → AnswerEffect → World
-applied w k None effect = w
-applied w k (Some t) Same = w
-applied w k (Some t) (Goes new) = settled w k t new.seen.task None (chosen_of new.seen.task) None
-applied w k (Some t) (Ends new outcome) = settled w k t None (Some w.place) (stamp_of_outcome outcome) (Some outcome)
+abbrev pub applied : World → ClientView → Option Task → AnswerEffect → World
+applied w c None effect = w
+applied w c (Some t) Same = w
+applied w c (Some t) (Counts node tag reply) = goes_on w c.id t (goes_to (answer_does c node tag reply))
+applied w c (Some t) (Goes new) = goes_on w c.id t new.seen.task
+applied w c (Some t) (Ends new outcome) = settled w c.id t None (Some w.place) (stamp_of_outcome outcome) (Some outcome)

@@ -1,12 +1,15 @@
 use client_core::Client;
 use run_words::Outcome;
+use wire_forms::{Reply, Tag};
 
 /// What a heard answer does to a client.
 #[derive(Drop)]
 pub(crate) enum AnswerEffect {
     /// Nothing changes.
     Same,
-    /// Its operation goes on, in the present phase or in a next one.
+    /// Its operation counts an answer, and goes on in the present phase.
+    Counts { node: u8, tag: Tag, reply: Reply },
+    /// Its operation goes on as this client does it.
     Goes(Client),
     /// Its operation has ended.
     Ends(Client, Outcome),

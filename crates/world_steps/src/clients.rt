@@ -5,14 +5,15 @@ ghost use Rattle.std.specs.declared.option.Option.TheVariants.{None};
 ghost use Rattle.protocol.specs.Messages.{Message as Messages};
 ghost use Rattle.protocol.specs.World.{sent, heard, happens, Fits, under_way, stamp_of_outcome};
 ghost use Rattle.protocol.specs.World.Event.{Start, Resend as Resends, CrashClient as ClientCrashes, Back as ComesBack};
-ghost use Rattle.protocol.specs.Seen.{SeenTask, client_at, block_of, work_of, phase_of, chosen_of, outstanding_of};
+ghost use Rattle.protocol.specs.Seen.{SeenTask, client_at, block_of, work_of, phase_of, outstanding_of};
 ghost use Rattle.protocol.specs.Count.{collect};
 ghost use Rattle.protocol.specs.Instance.{setting};
 ghost use Rattle.world_steps.specs.Worlds.{setting_in, world_in};
 ghost use Rattle.run_words.specs.declared.record.Record.{Record as Told};
-ghost use Rattle.client_core.specs.Clients.{hears};
+ghost use Rattle.client_core.specs.Clients.{hears, goes_to, is_only_counted};
+ghost use Rattle.protocol.specs.Seen.Hearing.{Counted};
 ghost use Rattle.world_steps.specs.Steps.{accepts_in, handles, client_in, IsAnswer};
-ghost use Rattle.world_steps.specs.AnswerEffects.{IsEffect, next_mail, IsSame, Becomes, MayApply, settled, applied};
+ghost use Rattle.world_steps.specs.AnswerEffects.{IsEffect, next_mail, answer_does, IsSame, Becomes, MayApply, goes_on, settled, applied};
 
 use crate::answer_effect::AnswerEffect;
 use crate::block_use::{greater, leave, stamp_given};
@@ -25,7 +26,7 @@ use run_words::{Outcome, Record};
 use stamp_order::Stamp;
 use std::alloc::Global;
 use std::mem::replace;
-use wire_forms::{Ask, Mail, Message, Op, Version};
+use wire_forms::{Ask, Body, Mail, Message, Op, Reply, Tag, Version};
 
 impl State {
     /// A client that does nothing starts an operation.
@@ -43,7 +44,7 @@ impl State {
         ensures lying_clients { OnOk result (self.new.lying_clients ≡ self.old.lying_clients) }
         ensures err { OnErr result (self.new ≡ self.old) }
     {
-        let mut starter = self.copied(client)?;
+        let mut starter = self.client_of(client).copy()?;
         let mail = starter.start(&op)?;
         let index = self.records.len();
         let block = block_of(&op);
@@ -87,21 +88,21 @@ impl State {
     /// What the message makes of the client, and the messages of the next phase if one begins.
     fn heard(&self, client: u32, message: &Message) -> Result<(AnswerEffect, Mail), NoMemory>
         requires client { client ≤ 1000 }
+        requires answer { IsAnswer client message.now }
         requires room { self.now.seen.place < 2 ^ 64 - 1 }
         ensures effect { IfOk result (λ r. IsEffect (client_in self.now client) (hears (client_in self.now client) (client_at self.now.seen client).task message.now) r.0) }
         ensures mail { IfOk result (λ r. r.1 ≡ next_mail (client_in self.now client) (hears (client_in self.now client) (client_at self.now.seen client).task message.now)) }
     {
-        let hearer = self.copied(client)?;
-        effect_of(self.alloc, hearer, message)
+        effect_of(self.alloc, self.client_of(client), message)
     }
 
-    /// The client as it is now.
-    fn copied(&self, client: u32) -> Result<Client, NoMemory>
+    /// The client of this number.
+    fn client_of(&self, client: u32) -> &Client
         requires { client ≤ 1000 }
-        ensures same { IfOk result (λ c. c ≡ client_in self.now client) }
+        ensures same { result.now ≡ client_in self.now client }
         ensures phase { phase_of (client_at self.now.seen client).task ≤ self.now.seen.place }
     {
-        self.client_slots[client as usize].client.copy()
+        &self.client_slots[client as usize].client
     }
 
     /// Does an answer's effect to the client, and tells in its record what came of it.
@@ -109,16 +110,34 @@ impl State {
         requires client { client ≤ 1000 }
         requires awake { (world_in self.now).client_crashed client ≡ false }
         requires effect { MayApply self.now client effect }
-        ensures world { world_in self.new ≡ applied (world_in self.old) client ((world_in self.old).task client) effect }
+        ensures world { world_in self.new ≡ applied (world_in self.old) (client_in self.old client) ((world_in self.old).task client) effect }
         ensures cluster { self.new.config ≡ self.old.config }
         ensures lying_nodes { self.new.lying_nodes ≡ self.old.lying_nodes }
         ensures lying_clients { self.new.lying_clients ≡ self.old.lying_clients }
     {
         match effect {
             AnswerEffect::Same => {}
+            AnswerEffect::Counts { node, tag, reply } => self.count(client, node, tag, reply),
             AnswerEffect::Goes(hearer) => self.go_on(client, hearer),
             AnswerEffect::Ends(hearer, outcome) => self.end(client, hearer, outcome),
         }
+    }
+
+    /// A client's operation counts an answer, and its phase goes on.
+    fn count(&mut self, client: u32, node: u8, tag: Tag, reply: Reply)
+        requires client { client ≤ 1000 }
+        requires counts { is_only_counted (answer_does (client_in self.now client) node tag reply) ≡ true }
+        requires task { Becomes self.now.config self.now.seen.place ((world_in self.now).task client) (goes_to (answer_does (client_in self.now client) node tag reply)) }
+        ensures world { IfSome ((world_in self.old).task client) (λ t. world_in self.new ≡ goes_on (world_in self.old) client t (goes_to (answer_does (client_in self.old client) node tag reply))) }
+        ensures cluster { self.new.config ≡ self.old.config }
+        ensures lying_nodes { self.new.lying_nodes ≡ self.old.lying_nodes }
+        ensures lying_clients { self.new.lying_clients ≡ self.old.lying_clients }
+    {
+        let slot = &mut self.client_slots[client as usize];
+        slot.client.count(node, tag, reply);
+        let stamp = slot.client.stamp();
+        let index = slot.index;
+        tell(&mut self.records, index, None, stamp, None);
     }
 
     /// A client's operation goes on.
@@ -127,7 +146,7 @@ impl State {
         requires hearer { IsSame self.now client hearer }
         requires busy { (u : SeenTask) × (hearer.seen.task ≡ Some u) }
         requires task { Becomes self.now.config self.now.seen.place ((world_in self.now).task client) hearer.seen.task }
-        ensures world { IfSome ((world_in self.old).task client) (λ t. world_in self.new ≡ settled (world_in self.old) client t hearer.seen.task None (chosen_of hearer.seen.task) None) }
+        ensures world { IfSome ((world_in self.old).task client) (λ t. world_in self.new ≡ goes_on (world_in self.old) client t hearer.seen.task) }
         ensures cluster { self.new.config ≡ self.old.config }
         ensures lying_nodes { self.new.lying_nodes ≡ self.old.lying_nodes }
         ensures lying_clients { self.new.lying_clients ≡ self.old.lying_clients }
@@ -301,13 +320,18 @@ fn outstanding(alloc: Global, client: &Client, config: &Config) -> Result<Mail, 
 /// What a message makes of a client, and the messages of the next phase if one begins.
 fn effect_of(
     alloc: Global,
-    mut hearer: Client,
+    client: &Client,
     message: &Message,
 ) -> Result<(AnswerEffect, Mail), NoMemory>
-    requires { phase_of hearer.seen.task < 2 ^ 64 - 1 }
-    ensures effect { IfOk result (λ r. IsEffect hearer (hears hearer hearer.seen.task message.now) r.0) }
-    ensures mail { IfOk result (λ r. r.1 ≡ next_mail hearer (hears hearer hearer.seen.task message.now)) }
+    requires answer { IsAnswer client.now.id message.now }
+    requires room { phase_of client.now.seen.task < 2 ^ 64 - 1 }
+    ensures effect { IfOk result (λ r. IsEffect client.now (hears client.now client.now.seen.task message.now) r.0) }
+    ensures mail { IfOk result (λ r. r.1 ≡ next_mail client.now (hears client.now client.now.seen.task message.now)) }
 {
+    if let Some(counted) = counted_by(client, message)? {
+        return Ok((counted, ItemList::new(alloc)));
+    }
+    let mut hearer = client.copy()?;
     let heard = hearer.hear(message)?;
     match heard {
         Heard::Unchanged => Ok((AnswerEffect::Same, ItemList::new(alloc))),
@@ -315,6 +339,26 @@ fn effect_of(
         Heard::Send(mail) => Ok((AnswerEffect::Goes(hearer), mail)),
         Heard::Ended(outcome) => Ok((AnswerEffect::Ends(hearer, outcome), ItemList::new(alloc))),
     }
+}
+
+/// That the client counts the answer and its phase goes on, if it does so.
+fn counted_by(client: &Client, message: &Message) -> Result<Option<AnswerEffect>, NoMemory>
+    requires { IsAnswer client.now.id message.now }
+    ensures effect { IfOk result (λ r. IfSome r (λ e. (t : SeenTask) × (hears client.now client.now.seen.task message.now ≡ Counted t) × IsEffect client.now (Counted t) e)) }
+{
+    let Body::Answer(reply) = &message.body else {
+        return Ok(None);
+    };
+    let Message { node, tag, .. } = message;
+    if !client.only_counts(*node, *tag, reply) {
+        return Ok(None);
+    }
+    let reply = reply.copy()?;
+    Ok(Some(AnswerEffect::Counts {
+        node: *node,
+        tag: *tag,
+        reply,
+    }))
 }
 
 /// The message, and the others behind it.

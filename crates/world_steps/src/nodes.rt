@@ -23,6 +23,7 @@ impl State {
     pub(crate) fn send(&mut self, place: u64, mut mail: Mail) -> Result<(), NoMemory>
         requires { self.now.seen.place < place }
         ensures ok { OnOk result (world_in self.new ≡ sent (setting_in self.old) (world_in self.old) place mail) }
+        ensures clients { OnOk result (self.new.seen.clients ≡ self.old.seen.clients) }
         ensures cluster { OnOk result (self.new.config ≡ self.old.config) }
         ensures lying_nodes { OnOk result (self.new.lying_nodes ≡ self.old.lying_nodes) }
         ensures lying_clients { OnOk result (self.new.lying_clients ≡ self.old.lying_clients) }
@@ -68,6 +69,7 @@ impl State {
         requires node { node < self.now.config.n }
         requires added { added ≡ accepts_in (setting_in self.now) (world_in self.now) node ask.now }
         ensures ok { OnOk result (world_in self.new ≡ handles (setting_in self.old) (world_in self.old) place node ask.now mail) }
+        ensures clients { OnOk result (self.new.seen.clients ≡ self.old.seen.clients) }
         ensures cluster { OnOk result (self.new.config ≡ self.old.config) }
         ensures lying_nodes { OnOk result (self.new.lying_nodes ≡ self.old.lying_nodes) }
         ensures lying_clients { OnOk result (self.new.lying_clients ≡ self.old.lying_clients) }

@@ -1,3 +1,4 @@
+pub mod Ending
 pub mod Drawing
 pub mod Hearing
 pub mod Saying

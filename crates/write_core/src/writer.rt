@@ -124,6 +124,23 @@ impl Writer {
             && matches!(self.answers.get(usize::from(node)), Some(None))
     }
 
+    /// Whether a node's answer with this tag ends the present phase: the phase counts it, and then waits for no other.
+    pub fn ends_phase(&self, node: u8, tag: Tag, reply: &Reply) -> bool
+        ensures { result ≡ ends_phase (setting self.now.config) self.now.task node tag reply.now }
+    {
+        self.counts(node, tag, reply)
+            && answered(self.answers.as_slice()) + 1 >= self.config.wait() as usize
+    }
+
+    /// Counts an answer that doesn't end the present phase. It takes no memory.
+    pub fn count(&mut self, node: u8, tag: Tag, reply: Reply)
+        requires counts { counts_of (setting self.old.config) self.old.task node tag reply ≡ true }
+        requires goes_on { ends_phase (setting self.old.config) self.old.task node tag reply ≡ false }
+        ensures { self.new ≡ after_hearing self.old (hears (setting self.old.config) self.old.client self.old.task node tag reply) }
+    {
+        self.answers[usize::from(node)] = Some(reply);
+    }
+
     /// Whether the write is over.
     pub fn is_over(&self) -> bool
         ensures { IsTrue result ↔ (self.now.task ≡ None) }

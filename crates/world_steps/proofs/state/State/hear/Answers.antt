@@ -1,11 +1,11 @@
 use Rattle.std.proofs.Common.{◌≡◌, List, ◌++◌, get_or, Some, refl, sym, ◌∙◌, ap, subst}
-use Rattle.std.specs.Prelude.{slice_get}
 use Rattle.std.proofs.lemmas.Option.{get_or_from_slice_get}
 use Rattle.protocol.specs.Messages.{Message}
 use Rattle.protocol.specs.World.{World, heard}
-use Rattle.protocol.specs.Seen.{client_at}
+use Rattle.std.specs.Prelude.{slice_get, slice_index_or}
+use Rattle.protocol.specs.Seen.{client_at, new_client}
 use Rattle.world_steps.specs.Worlds.{setting_in, world_in}
-use Rattle.world_steps.specs.Steps.{IsAnswer}
+use Rattle.world_steps.specs.Steps.{client_in, IsAnswer}
 use Rattle.world_steps.proofs.HeardEffects.{Fits, slot-fits, may-apply, heard-applied}
 use Rattle.world_steps.proofs.state.State.hear.Goals as goal
 
@@ -22,7 +22,7 @@ apply-requires-clause-effect c =
     let same = here v.seen.pool c.as_slice.result.now c.args.message x known.0 c.index-as_slice-message.is (c.as_slice.ensures ∙ ap (λ y. y.seen.pool) c.self.view_is) known.1 in
     let e = c.in_ok-send.ensures.ok in
     may-apply v k c.args.place x (subst (λ y. IsAnswer k y) (sym same) known.2) c.in_ok-effect.effect c.send.new.self c.in_ok-send.ensures.cluster
-    (ap (λ (w : World). w.place) e) c.requires.later (ap (λ (w : World). w.life k) e) (ap (λ (w : World). w.started k) e) (ap (λ (w : World). w.task k) e)
+    (ap (λ (w : World). w.place) e) c.requires.later c.in_ok-send.ensures.clients (ap (λ (w : World). w.task k) e)
     (subst (λ y. Fits y.config.n y.seen.place (client_at y.seen k).task) c.self.view_is (slot-fits c.self.inside c.self.invariant.0 k c.requires.client)) c.in_ok-effect.ensures.effect
 
 pub apply-requires-clause-awake : goal.apply-requires-clause-awake
@@ -39,5 +39,6 @@ returns-clause-ok c = λ m known.
     c.apply.ensures.world
     ∙ heard-applied v k c.args.place x (subst (λ y. IsAnswer k y) (sym same_asked) asked.2) c.in_ok-effect.effect (world_in v) refl
     (subst (λ y. Fits y.config.n y.seen.place (client_at y.seen k).task) c.self.view_is (slot-fits c.self.inside c.self.invariant.0 k c.requires.client)) c.in_ok-effect.ensures.effect
+    (client_in c.send.new.self k) (λ i. record { config = c.in_ok-send.ensures.cluster i; id = k; seen = slice_index_or (c.in_ok-send.ensures.clients i) k new_client })
     (world_in c.send.new.self) (c.in_ok-send.ensures.ok ∙ (λ i. record (world_in v) { pool = (world_in v).pool ++ c.in_ok-effect.ensures.mail i; place = c.args.place }))
     ∙ ap (λ (y : Message). heard (setting_in v) (world_in v) c.args.place k y y.body) same

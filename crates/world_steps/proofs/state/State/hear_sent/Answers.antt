@@ -1,7 +1,9 @@
 use Rattle.std.proofs.Common.{◌∷◌, [], refl, ◌∙◌, ap, subst}
 use Rattle.protocol.specs.World.{World, sent}
-use Rattle.protocol.specs.Seen.{client_at}
+use Rattle.std.specs.Prelude.{slice_index_or}
+use Rattle.protocol.specs.Seen.{client_at, new_client}
 use Rattle.world_steps.specs.Worlds.{setting_in, world_in}
+use Rattle.world_steps.specs.Steps.{client_in}
 use Rattle.world_steps.proofs.HeardEffects.{Fits, slot-fits, may-apply, heard-applied, sent-together}
 use Rattle.world_steps.proofs.state.State.hear_sent.Goals as goal
 
@@ -11,7 +13,7 @@ apply-requires-clause-effect c =
     let k = c.args.client in
     let e = c.in_ok-send.ensures.ok in
     may-apply v k c.args.place c.args.message c.requires.answer c.in_ok-effect.effect c.send.new.self c.in_ok-send.ensures.cluster
-    (ap (λ (w : World). w.place) e) c.requires.later (ap (λ (w : World). w.life k) e) (ap (λ (w : World). w.started k) e) (ap (λ (w : World). w.task k) e)
+    (ap (λ (w : World). w.place) e) c.requires.later c.in_ok-send.ensures.clients (ap (λ (w : World). w.task k) e)
     (subst (λ x. Fits x.config.n x.seen.place (client_at x.seen k).task) c.self.view_is (slot-fits c.self.inside c.self.invariant.0 k c.requires.client)) c.in_ok-effect.ensures.effect
 
 pub apply-requires-clause-awake : goal.apply-requires-clause-awake
@@ -27,4 +29,5 @@ returns-clause-ok c =
     c.apply.ensures.world
     ∙ heard-applied v k c.args.place m c.requires.answer c.in_ok-effect.effect one refl
     (subst (λ x. Fits x.config.n x.seen.place (client_at x.seen k).task) c.self.view_is (slot-fits c.self.inside c.self.invariant.0 k c.requires.client)) c.in_ok-effect.ensures.effect
+    (client_in c.send.new.self k) (λ i. record { config = c.in_ok-send.ensures.cluster i; id = k; seen = slice_index_or (c.in_ok-send.ensures.clients i) k new_client })
     (world_in c.send.new.self) (c.in_ok-send.ensures.ok ∙ (λ i. record one { pool = pool i }))

@@ -19,7 +19,7 @@ overflow_add-block_use c =
 
 pub invariant_of-self-2 : goal.invariant_of-self-2
 invariant_of-self-2 c =
-    let is = c.in_ok-starter.ensures.same ∙ ap (λ v. client_in v c.args.client) (sym c.self.view_is) in
+    let is = c.in_ok-starter.ensures ∙ c.client_of.ensures.same ∙ ap (λ v. client_in v c.args.client) (sym c.self.view_is) in
     rw (c.len-index.ensures, c.block_of-block.ensures) (
       begun-kept c.self.inside c.args.client (client_slot-within _ _ _ _ _ c.self.invariant.0 c.args.client c.requires.client) c.index_mut-slot.result.now c.index_mut-slot.ensures.value c.self.invariant.0
           c.args.op c.args.place (let l = c.requires.later in let e = ap (λ v. v.seen.place) c.self.view_is in omega (arith, l, e)) c.start.new.self
@@ -37,7 +37,7 @@ invariant_of-self-2 c =
 
 pub returns-clause-ok : goal.returns-clause-ok
 returns-clause-ok c =
-    let is = c.in_ok-starter.ensures.same ∙ ap (λ v. client_in v c.args.client) (sym c.self.view_is) in
+    let is = c.in_ok-starter.ensures ∙ c.client_of.ensures.same ∙ ap (λ v. client_in v c.args.client) (sym c.self.view_is) in
     rw c.len-index.ensures
     (begun-world c.self.inside c.args.client (client_slot-within _ _ _ _ _ c.self.invariant.0 c.args.client c.requires.client) c.index_mut-slot.result.now c.index_mut-slot.ensures.value c.self.invariant.0
     c.args.op c.args.place (let l = c.requires.later in let e = ap (λ v. v.seen.place) c.self.view_is in omega (arith, l, e)) c.start.new.self
