@@ -4,3 +4,4 @@ pub mod Keeping
 pub mod Growing
 pub mod Sharding
 pub mod Joining
+pub mod Conducting

@@ -22,12 +22,22 @@ use wire_forms::Message;
 /// A node with the journal of what it did, and the pass that draws the journal's numbers. Contracts see its charter, its
 /// journal and its pass; the node's versions, the asks that are held back and whether it has crashed are what the journal
 /// leaves.
-#[derive(Drop)]
 pub struct NodeCell {
     terms: Terms,
     state: State,
     journal: Vec<NodeEntry>,
     pass: Pass,
+}
+
+impl Drop for NodeCell {
+    fn drop(self) {
+        let NodeCell {
+            terms: _terms,
+            state: _state,
+            journal: _journal,
+            pass: _pass,
+        } = self;
+    }
 }
 
 impl Model for NodeCell {
