@@ -1,0 +1,4 @@
+pub mod Plans
+pub mod Phases
+pub mod Entries
+mod Example

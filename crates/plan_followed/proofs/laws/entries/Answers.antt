@@ -1,0 +1,6 @@
+-- The lemma of `Entries`.
+use Rattle.plan_followed.proofs.Entries.{one_more}
+use Rattle.plan_followed.proofs.laws.entries.Goals as goal
+
+pub returns : goal.returns
+returns c = one_more

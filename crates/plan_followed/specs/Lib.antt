@@ -1,0 +1,5 @@
+pub mod Asked
+pub mod Clients
+pub mod Nodes
+pub mod Followed
+pub mod Laws

@@ -1,0 +1,26 @@
+//! Laws of plans and of journals that follow them, each the contract of a function that does nothing.
+
+ghost use Rattle.plan_followed.specs.Laws.{OfPlans, HasConduct, HasLiars, HasCluster, PlansPhase, PlansRun, OneMore};
+
+/// A plan that fits is one of a cluster: who lies is who its rules declare lying, at most `b` nodes do, and no liar crashes.
+pub fn plans()
+    ensures conduct { OfPlans HasConduct }
+    ensures liars { OfPlans HasLiars }
+    ensures cluster { OfPlans HasCluster }
+{}
+
+/// Kept journals that agree in pairs, have each number below a count once, and follow a plan are those of a run in threads: their
+/// prunes stand in phases, and go by what clients had read. So their lines are a run, and every law of runs holds of them.
+pub fn followed_plans()
+    ensures phased { PlansPhase }
+    ensures of_run { PlansRun }
+{
+    plans();
+    journals::laws::phases();
+}
+
+/// A client's journal that goes by the plan does so with one entry more, where that one does. So whoever runs a client need only know
+/// what comes next.
+pub fn entries()
+    ensures { OneMore }
+{}
