@@ -49,6 +49,7 @@ module _ (nodes : List SeenNode) (client : ClientView) (ready : IsReady client.c
       rw e (record {
         ready = record { valid = ready.valid; config = refl; id = ready.id; idle = refl; held = rw same is };
         holds = same;
+        life = refl;
         started = refl;
       })
 

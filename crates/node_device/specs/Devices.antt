@@ -9,10 +9,11 @@ use Rattle.node_core.specs.Seen.{SeenNode, versions_in, with_versions}
 use Rattle.client_core.specs.Clients.{ClientView}
 use Rattle.node_device.specs.Held.{Held, IsHeld, held_of, the_client}
 
--- a device: the cluster's numbers, its blocks, how many operations the client's life has, and whether no operation was cut off
+-- a device: the cluster's numbers, its blocks, the client's life and how many operations it has, and whether none was cut off
 pub record SeenDevice : Type 0 where
   pub config : Numbers
   pub held : List Held
+  pub life : ℕ
   pub started : ℕ
   pub whole : Bool
 
@@ -32,6 +33,7 @@ IsDevice c nodes client whole = whole ≡ true → IsReady c nodes client
 pub record HasDone (old new : ClientView) (nodes : List SeenNode) (held : List Held) : Type 0 where
   pub ready : IsReady old.config nodes new
   pub holds : held_of old.config nodes ≡ held
+  pub life : new.seen.life ≡ old.seen.life
   pub started : new.seen.started ≡ old.seen.started + 1
 
 -- the node after a prune of the block by the stamp

@@ -21,8 +21,8 @@ use wire_forms::{Ask, Op, Reply, Request, Version};
 const CLIENT: u32 = 1;
 
 /// Blocks that are kept by nodes in the same process, and read and written by one client, one operation after the other.
-/// Contracts see the cluster's numbers, each block with the time of its latest write, how many operations the client's life
-/// has, and whether no operation was cut off for want of memory. A device on which one was cut off is of no use any more.
+/// Contracts see the cluster's numbers, each block with the time of its latest write, the client's life and how many
+/// operations it has, and whether no operation was cut off for want of memory. A device on which one was cut off is of no use any more.
 #[derive(Drop)]
 pub struct NodeDevice {
     config: Config,
@@ -37,7 +37,7 @@ impl Model for NodeDevice {
 
     ghost Value = { SeenDevice };
 
-    ghost view = { λ d. record { config = d.config; held = held_of d.config d.nodes.items; started = d.client.seen.started; whole = d.whole } };
+    ghost view = { λ d. record { config = d.config; held = held_of d.config d.nodes.items; life = d.client.seen.life; started = d.client.seen.started; whole = d.whole } };
 
     ghost invariant = { λ d. IsDevice d.config d.nodes.items d.client d.whole };
 }
@@ -45,7 +45,7 @@ impl Model for NodeDevice {
 impl NodeDevice {
     /// A device whose blocks were never written.
     pub fn new(alloc: Global, config: &Config) -> Result<NodeDevice, NoMemory>
-        ensures { IfOk result (λ d. d ≡ record { config = config.now; held = replicate config.now.blocks (unwritten config.now); started = 0; whole = true }) }
+        ensures { IfOk result (λ d. d ≡ record { config = config.now; held = replicate config.now.blocks (unwritten config.now); life = 0; started = 0; whole = true }) }
     {
         let mut nodes = Vec::new(alloc);
         for number in 0..config.n() as u8 {
@@ -99,7 +99,7 @@ impl NodeDevice {
 
     /// Puts a client of a later life in the place of the present one.
     pub fn renew(&mut self, alloc: Global, life: u32) -> Result<(), NoMemory>
-        ensures ok { OnOk result (self.new ≡ record self.old { started = 0 }) }
+        ensures ok { OnOk result (self.new ≡ record self.old { life = life; started = 0 }) }
         ensures err { OnErr result (self.new ≡ self.old) }
     {
         self.client = Client::again(alloc, &self.config, CLIENT, life)?;
