@@ -1,0 +1,6 @@
+mod Below
+mod Keeping
+mod Phases
+mod Deciding
+mod Holding
+mod Operations
