@@ -1,0 +1,157 @@
+-- A client's desk: what it is, and what its calls add to it and to a cell.
+use Rattle.std.specs.Prelude.{◌≡◌, ◌⊎◌, ℕ, ◌+◌, ◌-◌, ◌^◌, ◌<◌, ◌≤◌, Bool, false, List, [], ◌∷◌, ◌++◌, map, Option, IsSome}
+use Rattle.std.specs.declared.option.Option.TheVariants.{None, Some}
+use Rattle.protocol.specs.Messages.{Message}
+use Rattle.protocol.specs.Operations.{Outcome}
+use Rattle.protocol.specs.Instance.{setting}
+use Rattle.protocol.specs.Seen.{SeenTask, Hearing, outstanding_of, has_answered, phase_of}
+use Rattle.protocol.specs.Seen.Hearing.{Ignored, Counted, Begins, Ended}
+use Rattle.quorum_rules.specs.Limits.{Numbers}
+use Rattle.client_core.specs.Clients.{ClientView, hears}
+use Rattle.event_clock.specs.Passes.{Holder, drew}
+use Rattle.journals.specs.declared.node.NodeAct.{NodeAct}
+use Rattle.journals.specs.declared.desk.Way.{Way}
+use Rattle.journals.specs.declared.desk.DeskAct.{DeskAct}
+use Rattle.journals.specs.declared.desk.DeskEntry.{DeskEntry}
+use Rattle.journals.specs.Acts.{act, answer_of, reply_in}
+use Rattle.journals.specs.Desks.{DeskState, new_desk, by_hearing, DeskKept, desk_after_all}
+use Rattle.journals.specs.declared.desk.DeskAct.TheVariants.{Start, Crash, Call}
+use Rattle.journals.specs.Steps.{side}
+use Rattle.locked_nodes.specs.declared.answers.Told.{Told}
+use Rattle.locked_nodes.specs.declared.answers.Told.TheVariants.{Answered, Silent}
+use Rattle.locked_nodes.specs.Cells.{CellView, Rises, state_of, with_seen, with_entry}
+
+-- a desk: its cluster, the number of its client and whether that lies, its journal, and its pass
+pub record DeskView : Type 0 where
+  pub config : Numbers
+  pub id : ℕ
+  pub lying : Bool
+  pub entries : List DeskEntry
+  pub pass : Holder
+
+-- the desk of a client that has done nothing
+abbrev pub first_desk : Numbers → ℕ → Bool → Holder → DeskView
+first_desk config id lying pass = record { config = config; id = id; lying = lying; entries = []; pass = pass }
+
+-- what the client is, as its journal tells
+abbrev pub state_at : DeskView → DeskState
+state_at d = desk_after_all (new_desk d.config d.id) d.entries
+
+-- the operation under way at the desk, if there is one
+abbrev pub task_at : DeskView → Option SeenTask
+task_at d = (state_at d).client.seen.task
+
+-- what the client's phase asks of a node, if it asks anything
+abbrev pub asks_of : DeskView → ℕ → Option Message
+asks_of d node = outstanding_of (setting d.config) d.id (task_at d) node
+
+-- the numbers of starts and crashes, which the desk's own pass draws
+abbrev pub own_of : ℕ → DeskAct → List ℕ
+own_of n (Start op) = n ∷ []
+own_of n Crash = n ∷ []
+own_of n (Call way ask reply) = []
+
+abbrev pub own_numbers : List DeskEntry → List ℕ
+own_numbers [] = []
+own_numbers (e ∷ es) = own_of e.number e.act ++ own_numbers es
+
+abbrev pub numbers_of : List DeskEntry → List ℕ
+numbers_of entries = map (λ e. e.number) entries
+
+-- what a desk's type keeps: its journal is kept, the client is what the journal leaves, and the pass drew the numbers of starts
+-- and crashes; all numbers ascend, below what the pass has seen
+pub record IsDesk (config : Numbers) (id : ℕ) (lying : Bool) (client : ClientView) (crashed : Bool) (entries : List DeskEntry) (pass : Holder) : Type 0 where
+  pub kept : DeskKept lying (new_desk config id) entries
+  pub left : client ≡ (desk_after_all (new_desk config id) entries).client
+  pub fell : crashed ≡ (desk_after_all (new_desk config id) entries).crashed
+  pub drawn : pass.drawn ≡ own_numbers entries
+  pub rises : Rises 0 (numbers_of entries) pass.seen
+
+-- the same, of what contracts see
+abbrev pub KeptDesk : DeskView → Type 0
+KeptDesk d = IsDesk d.config d.id d.lying (state_at d).client (state_at d).crashed d.entries d.pass
+
+-- a correct client that hasn't crashed
+pub record IsUp (d : DeskView) : Type 0 where
+  pub correct : d.lying ≡ false
+  pub up : (state_at d).crashed ≡ false
+
+-- it can start an operation: none is under way, and it has operations left
+pub record CanStart (d : DeskView) : Type 0 where
+  pub up : IsUp d
+  pub idle : task_at d ≡ None
+  pub fresh : (state_at d).client.seen.started < 2 ^ 32 - 1
+
+-- it can call a node: its phase asks something of the node, which hasn't answered, and it has phases left
+pub record CanCall (d : DeskView) (node : ℕ) : Type 0 where
+  pub up : IsUp d
+  pub asks : IsSome (asks_of d node)
+  pub unanswered : has_answered (task_at d) node ≡ false
+  pub phase : phase_of (task_at d) < 2 ^ 64 - 1
+
+abbrev pub desk_entry : ℕ → DeskAct → DeskEntry
+desk_entry n a = record { number = n; act = a }
+
+-- the desk with a start or crash of this number more, which its pass drew
+abbrev pub with_own : DeskView → ℕ → DeskAct → DeskView
+with_own d n a = record d { entries = d.entries ++ desk_entry n a ∷ []; pass = drew d.pass n }
+
+-- the desk with a call of this number more, which its pass has seen
+abbrev pub with_call : DeskView → ℕ → DeskAct → DeskView
+with_call d n a = record d { entries = d.entries ++ desk_entry n a ∷ []; pass = with_seen d.pass (n + 1) }
+
+-- what a cell's node does with an ask that comes this way, what is replied, and the call that this is for the client
+abbrev pub done_by : CellView → Way → Message → NodeAct
+done_by cell way ask = act (state_of cell) cell.charter.nature way ask
+
+abbrev pub reply_by : CellView → Way → Message → Option Message
+reply_by cell way ask = reply_in (answer_of (done_by cell way ask))
+
+abbrev pub call_by : CellView → Way → Message → DeskAct
+call_by cell way ask = Call way ask (reply_by cell way ask)
+
+-- the desk and the cell have one entry more each, of one number not below any that the desk had seen: the cell what its node does
+-- with the ask, the desk the call with what is replied; the two are a pair that agrees
+pub record AddPair (old : DeskView) (was : CellView) (way : Way) (ask : Message) (new : DeskView) (now : CellView) : Type 0 where
+  pub number : ℕ
+  pub later : old.pass.seen ≤ number
+  pub cell : now ≡ with_entry was number (done_by was way ask)
+  pub desk : new ≡ with_call old number (call_by was way ask)
+  pub agree : side (done_by was way ask) ≡ Some (old.id, call_by was way ask)
+
+-- such a pair was added for what the client asks of the cell's node
+pub record Calls (old : DeskView) (was : CellView) (way : Way) (new : DeskView) (now : CellView) : Type 0 where
+  pub ask : Message
+  pub asked : asks_of old was.charter.number ≡ Some ask
+  pub pair : AddPair old was way ask new now
+
+-- but for what its pass has seen, the desk is as it was
+pub record KeepsDesk (old new : DeskView) : Type 0 where
+  pub same : new ≡ record old { pass = new.pass }
+  pub pass : new.pass ≡ with_seen old.pass new.pass.seen
+
+-- the cell is as it was, or has one entry more, of which no client has a side
+abbrev pub Delivers : CellView → CellView → Type 0
+Delivers old new = (new ≡ old) ⊎ ((n : ℕ) × (done : NodeAct) × (new ≡ with_entry old n done) × (side done ≡ None))
+
+-- the reply that is told, if there is one
+abbrev pub reply_told : Told → Option Message
+reply_told (Answered n reply) = Some reply
+reply_told (Silent n why) = None
+
+-- the client after a reply, if there is one
+abbrev pub heard : ClientView → Option Message → ClientView
+heard c None = c
+heard c (Some reply) = by_hearing c (hears c c.seen.task reply)
+
+-- the outcome of an operation that ends
+abbrev pub outcome_in : Hearing → Option Outcome
+outcome_in Ignored = None
+outcome_in (Counted t) = None
+outcome_in (Begins t) = None
+outcome_in (Ended outcome) = Some outcome
+
+-- the outcome of the operation that a reply ends, if it ends one
+abbrev pub ending : ClientView → Option Message → Option Outcome
+ending c None = None
+ending c (Some reply) = outcome_in (hears c c.seen.task reply)

@@ -1,0 +1,351 @@
+ghost use Rattle.std.specs.Prelude.{◌≡◌, ◌↔◌, IsTrue, ℕ, ◌<◌, ◌≤◌, ◌+◌, ◌-◌, ◌^◌, [], None, Some, Ok, Err, true, false, IfOk, OnOk, IfErr, OnErr, Option};
+ghost use Rattle.protocol.specs.Messages.{IsFormedBody, Message as AnyMessage};
+ghost use Rattle.protocol.specs.Seen.{ops_of, phase_of};
+ghost use Rattle.event_clock.specs.Passes.{left_of};
+ghost use Rattle.receipt_lock.specs.Turns.{Begins};
+ghost use Rattle.journals.specs.Desks.{FitsOp, ActsAs};
+ghost use Rattle.journals.specs.Phases.{IsAtRest};
+ghost use Rattle.locked_nodes.specs.Cells.{Serves, HoldsWhole, HasNoLateMail, items, number_of};
+ghost use Rattle.client_threads.specs.Desks.{DeskView, first_desk, state_at, task_at, asks_of, IsUp, CanStart, CanCall, with_own, desk_entry, KeptDesk, AddPair, Calls, KeepsDesk, Delivers, reply_told, reply_by, heard, ending};
+
+use client_core::{Client, Heard};
+use event_clock::{Clock, Pass};
+use journals::{DeskAct, DeskEntry, DeskJournal, Way};
+use lists::{Copied, ItemList, NoMemory};
+use locked_nodes::{CellRefusal, Late, NodeCell, Told};
+use quorum_rules::Config;
+use run_words::Outcome;
+use std::alloc::Global;
+use std::marker::Model;
+use wire_forms::{Message, Op};
+
+/// One client's journal and its pass, which one thread owns. A correct client's desk also has the client, which is what its
+/// journal leaves. Contracts see the cluster, the client's number and whether it lies, the journal and the pass.
+#[derive(Drop)]
+pub struct Desk {
+    config: Config,
+    id: u32,
+    lying: bool,
+    /// A lying client's stays idle.
+    client: Client,
+    crashed: bool,
+    entries: Vec<DeskEntry>,
+    pass: Pass,
+}
+
+impl Model for Desk {
+    ghost use Rattle.client_threads.specs.Desks.{DeskView, IsDesk};
+
+    ghost Value = { DeskView };
+
+    ghost view = { λ d. record { config = d.config; id = d.id; lying = d.lying; entries = d.entries.items; pass = d.pass } };
+
+    ghost invariant = { λ d. IsDesk d.config d.id d.lying d.client d.crashed d.entries.items d.pass };
+}
+
+impl Desk {
+    /// The desk of a correct client that has done nothing.
+    pub fn new(alloc: Global, config: &Config, id: u32, pass: Pass) -> Result<Desk, NoMemory>
+        requires unused { pass.drawn ≡ [] }
+        ensures { IfOk result (λ d. d ≡ first_desk config.now id false pass) }
+    {
+        Desk::open(alloc, config, id, false, pass)
+    }
+
+    /// The desk of a lying client that has done nothing.
+    pub fn lying(alloc: Global, config: &Config, id: u32, pass: Pass) -> Result<Desk, NoMemory>
+        requires unused { pass.drawn ≡ [] }
+        ensures { IfOk result (λ d. d ≡ first_desk config.now id true pass) }
+    {
+        Desk::open(alloc, config, id, true, pass)
+    }
+
+    fn open(
+        alloc: Global,
+        config: &Config,
+        id: u32,
+        lying: bool,
+        pass: Pass,
+    ) -> Result<Desk, NoMemory>
+        requires unused { pass.drawn ≡ [] }
+        ensures { IfOk result (λ d. d ≡ first_desk config.now id lying pass) }
+    {
+        Ok(Desk {
+            config: *config,
+            id,
+            lying,
+            client: Client::new(alloc, config, id)?,
+            crashed: false,
+            entries: Vec::new(alloc),
+            pass,
+        })
+    }
+
+    /// Whether an operation can start: the client is correct, hasn't crashed, is idle, and has operations left.
+    pub fn can_start(&self) -> bool
+        ensures { IsTrue result ↔ CanStart self.now }
+    {
+        !self.lying && !self.crashed && self.client.is_idle() && self.client.started() < u32::MAX
+    }
+
+    /// Whether a node can be called: the client is correct, hasn't crashed, is busy, and has phases left, and the node hasn't
+    /// answered the phase.
+    pub fn can_call(&self, node: u8) -> bool
+        requires { node < self.now.config.n }
+        ensures { IsTrue result ↔ CanCall self.now node }
+    {
+        !self.lying
+            && !self.crashed
+            && !self.client.is_idle()
+            && !self.client.answered(node)
+            && self.client.phase() < u64::MAX
+    }
+
+    /// Whether the client does nothing any more, or not until it starts its next operation: it has crashed, or none is under
+    /// way.
+    pub fn is_at_rest(&self) -> bool
+        ensures { IsTrue result ↔ IsAtRest (state_at self.now) }
+    {
+        self.crashed || self.client.is_idle()
+    }
+
+    /// The client's number.
+    pub fn id(&self) -> u32
+        ensures { result ≡ self.now.id }
+    {
+        self.id
+    }
+
+    /// How many nodes the cluster has.
+    pub fn nodes(&self) -> u8
+        ensures { result ≡ self.now.config.n }
+    {
+        self.config.n() as u8
+    }
+
+    /// The number of the last operation that the client started, counted from 1.
+    pub fn ops(&self) -> u64
+        ensures { result ≡ ops_of (state_at self.now).client.seen }
+    {
+        self.client.ops()
+    }
+
+    /// The phase of the operation under way, 0 where there is none.
+    pub fn phase(&self) -> u64
+        ensures { result ≡ phase_of (task_at self.now) }
+    {
+        self.client.phase()
+    }
+
+    /// What the client did so far, by ascending number.
+    pub fn journal(&self) -> &[DeskEntry]
+        ensures { result.now ≡ self.now.entries }
+    {
+        self.entries.as_slice()
+    }
+
+    /// The journal, and the pass, which drew the numbers of its starts and crashes.
+    pub fn finish(self) -> (DeskJournal, Pass)
+        ensures client { result.0.client ≡ self.id }
+        ensures entries { result.0.entries ≡ self.entries }
+        ensures pass { result.1 ≡ self.pass }
+        ensures kept { KeptDesk self }
+    {
+        let Desk {
+            config: _,
+            id,
+            lying: _,
+            client: _,
+            crashed: _,
+            entries,
+            pass,
+        } = self;
+        let journal = DeskJournal {
+            client: id,
+            entries: ItemList::from_vec(entries),
+        };
+        (journal, pass)
+    }
+
+    /// Starts an operation. `ClockFull` comes exactly where the pass can't draw.
+    pub fn start(&mut self, clock: &Clock, op: &Op) -> Result<(), CellRefusal>
+        requires clock { self.old.pass.clock ≡ clock.now }
+        requires can { CanStart self.old }
+        requires fits { FitsOp self.old.config op.now }
+        ensures ok { OnOk result ((n : ℕ) × (self.old.pass.seen ≤ n) × (self.new ≡ with_own self.old n (DeskAct.Start op.now))) }
+        ensures full { (result ≡ Err CellRefusal.ClockFull) ↔ (left_of self.old.pass ≡ 0) }
+        ensures err { OnErr result (self.new ≡ self.old) }
+    {
+        if self.pass.left() == 0 {
+            return Err(CellRefusal::ClockFull);
+        }
+        self.entries.reserve(1)?;
+        let noted = op.copy()?;
+        let _mail = self.client.start(op)?;
+        let number = clock.draw(&mut self.pass);
+        self.entries.push_reserved(DeskEntry {
+            number,
+            act: DeskAct::Start { op: noted },
+        });
+        Ok(())
+    }
+
+    /// The client crashes. `ClockFull` comes exactly where the pass can't draw.
+    pub fn crash(&mut self, clock: &Clock) -> Result<(), CellRefusal>
+        requires clock { self.old.pass.clock ≡ clock.now }
+        requires up { IsUp self.old }
+        ensures ok { OnOk result ((n : ℕ) × (self.old.pass.seen ≤ n) × (self.new ≡ with_own self.old n DeskAct.Crash)) }
+        ensures full { (result ≡ Err CellRefusal.ClockFull) ↔ (left_of self.old.pass ≡ 0) }
+        ensures err { OnErr result (self.new ≡ self.old) }
+    {
+        if self.pass.left() == 0 {
+            return Err(CellRefusal::ClockFull);
+        }
+        self.entries.reserve(1)?;
+        let number = clock.draw(&mut self.pass);
+        self.entries.push_reserved(DeskEntry {
+            number,
+            act: DeskAct::Crash,
+        });
+        self.crashed = true;
+        Ok(())
+    }
+
+    /// Asks the cell's node what the client's phase asks of it, and hears the reply, if there is one. It answers the outcome
+    /// exactly where the reply ends the operation. `ClockFull` comes exactly where the cell's pass can't draw. After
+    /// `NoMemory` the cell may have the entry of the ask, whose reply wasn't heard.
+    pub fn call(
+        &mut self,
+        clock: &Clock,
+        cell: &mut NodeCell,
+        way: Way,
+    ) -> Result<Option<Outcome>, CellRefusal>
+        requires clock { (self.old.pass.clock ≡ clock.now) × (cell.old.charter.pass.clock ≡ clock.now) }
+        requires can { CanCall self.old cell.old.charter.number }
+        requires serves { (ask : AnyMessage) → asks_of self.old cell.old.charter.number ≡ Some ask → Serves cell.old.charter ask }
+        requires whole { HoldsWhole cell.old.charter way }
+        ensures calls { OnOk result (Calls self.old cell.old way self.new cell.new) }
+        ensures ended { IfOk result (λ outcome. (ask : AnyMessage) → asks_of self.old cell.old.charter.number ≡ Some ask → outcome ≡ ending (state_at self.old).client (reply_by cell.old way ask)) }
+        ensures full { (result ≡ Err CellRefusal.ClockFull) ↔ (left_of cell.old.pass ≡ 0) }
+        ensures same { result ≡ Err CellRefusal.ClockFull → (self.new ≡ self.old) × (cell.new ≡ cell.old) }
+        ensures kept { OnErr result (KeepsDesk self.old self.new) }
+        ensures grew { Begins (items cell.old) (items cell.new) }
+    {
+        if cell.left() == 0 {
+            return Err(CellRefusal::ClockFull);
+        }
+        let node = cell.number();
+        let asked = self.client.outstanding(node)?;
+        let Some(ask) = asked else { unreachable!() };
+        self.ask(clock, cell, way, ask)
+    }
+
+    /// Sends a lying client's ask to the cell's node. `ClockFull` comes exactly where the cell's pass can't draw. After
+    /// `NoMemory` the cell may have the entry of the ask.
+    pub fn send(
+        &mut self,
+        clock: &Clock,
+        cell: &mut NodeCell,
+        ask: &Message,
+    ) -> Result<(), CellRefusal>
+        requires clock { (self.old.pass.clock ≡ clock.now) × (cell.old.charter.pass.clock ≡ clock.now) }
+        requires lying { self.old.lying ≡ true }
+        requires own { ask.now.client ≡ self.old.id }
+        requires formed { IsFormedBody ask.now.body }
+        requires serves { Serves cell.old.charter ask.now }
+        ensures pair { OnOk result (AddPair self.old cell.old Way.Call ask.now self.new cell.new) }
+        ensures full { (result ≡ Err CellRefusal.ClockFull) ↔ (left_of cell.old.pass ≡ 0) }
+        ensures same { result ≡ Err CellRefusal.ClockFull → (self.new ≡ self.old) × (cell.new ≡ cell.old) }
+        ensures kept { OnErr result (KeepsDesk self.old self.new) }
+        ensures grew { Begins (items cell.old) (items cell.new) }
+    {
+        if cell.left() == 0 {
+            return Err(CellRefusal::ClockFull);
+        }
+        let _idle = &self.client;
+        let ask = ask.copy()?;
+        let _outcome = self.ask(clock, cell, Way::Call, ask)?;
+        Ok(())
+    }
+
+    /// Lets the oldest ask that the cell holds back come late. The desk has no entry of it; its pass has seen the number.
+    /// `ClockFull` comes exactly where an ask is held back and the cell's pass can't draw.
+    pub fn deliver(&mut self, clock: &Clock, cell: &mut NodeCell) -> Result<Late, CellRefusal>
+        requires clock { (self.old.pass.clock ≡ clock.now) × (cell.old.charter.pass.clock ≡ clock.now) }
+        ensures kept { KeepsDesk self.old self.new }
+        ensures cell { Delivers cell.old cell.new }
+        ensures none { (result ≡ Ok Late.NoMail) ↔ HasNoLateMail cell.old }
+        ensures full { (result ≡ Err CellRefusal.ClockFull) ↔ ((HasNoLateMail cell.old → ⊥) × (left_of cell.old.pass ≡ 0)) }
+        ensures err { OnErr result ((self.new ≡ self.old) × (cell.new ≡ cell.old)) }
+    {
+        cell.late(clock, &mut self.pass)
+    }
+
+    // Lets the cell's node meet an ask that the client may make, and hears the reply, if there is one.
+    fn ask(
+        &mut self,
+        clock: &Clock,
+        cell: &mut NodeCell,
+        way: Way,
+        ask: Message,
+    ) -> Result<Option<Outcome>, CellRefusal>
+        requires clock { (self.old.pass.clock ≡ clock.now) × (cell.old.charter.pass.clock ≡ clock.now) }
+        requires may { (reply : Option AnyMessage) → ActsAs self.old.lying (state_at self.old) (DeskAct.Call way ask reply) }
+        requires own { ask.client ≡ self.old.id }
+        requires serves { Serves cell.old.charter ask }
+        requires whole { HoldsWhole cell.old.charter way }
+        requires phase { phase_of (task_at self.old) < 2 ^ 64 - 1 }
+        requires left { 0 < left_of cell.old.pass }
+        ensures pair { OnOk result (AddPair self.old cell.old way ask self.new cell.new) }
+        ensures ended { IfOk result (λ outcome. outcome ≡ ending (state_at self.old).client (reply_by cell.old way ask)) }
+        ensures memory { IfErr result (λ e. e ≡ CellRefusal.NoMemory) }
+        ensures kept { OnErr result (KeepsDesk self.old self.new) }
+        ensures grew { Begins (items cell.old) (items cell.new) }
+    {
+        self.entries.reserve(1)?;
+        let told = cell.step(clock, &mut self.pass, way, &ask)?;
+        let outcome = listen(&mut self.client, &told)?;
+        self.entries.push_reserved(entry_of(way, ask, told));
+        Ok(outcome)
+    }
+}
+
+// Hears the reply that is told, if there is one.
+fn listen(client: &mut Client, told: &Told) -> Result<Option<Outcome>, NoMemory>
+    requires { phase_of client.old.seen.task < 2 ^ 64 - 1 }
+    ensures outcome { IfOk result (λ outcome. outcome ≡ ending client.old (reply_told told.now)) }
+    ensures ok { OnOk result (client.new ≡ heard client.old (reply_told told.now)) }
+    ensures err { OnErr result (client.new ≡ client.old) }
+{
+    let Told::Answered { number: _, reply } = told else {
+        return Ok(None);
+    };
+    match client.hear(reply)? {
+        Heard::Unchanged | Heard::More | Heard::Send(_) => Ok(None),
+        Heard::Ended(outcome) => Ok(Some(outcome)),
+    }
+}
+
+// The entry of a call that was told this.
+fn entry_of(way: Way, ask: Message, told: Told) -> DeskEntry
+    ensures { result ≡ desk_entry (number_of told) (DeskAct.Call way ask (reply_told told)) }
+{
+    match told {
+        Told::Answered { number, reply } => DeskEntry {
+            number,
+            act: DeskAct::Call {
+                way,
+                ask,
+                reply: Some(reply),
+            },
+        },
+        Told::Silent { number, why: _ } => DeskEntry {
+            number,
+            act: DeskAct::Call {
+                way,
+                ask,
+                reply: None,
+            },
+        },
+    }
+}

@@ -1,0 +1,6 @@
+//! Clients of a run in threads: each has a desk, and calls nodes in their cells.
+#![tactic(auto)]
+
+pub mod desk;
+
+pub use desk::Desk;
