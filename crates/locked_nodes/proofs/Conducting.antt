@@ -1,8 +1,8 @@
 -- A kept journal goes by the node's nature and its count, and the asks that it holds back come late in order.
-use Rattle.std.proofs.Common.{◌≡◌, ◌⊎◌, ℕ, zero, suc, ◌+◌, ◌-◌, ◌<◌, ◌≤◌, ◌==◌, Bool, true, false, cond, List, [], ◌∷◌, ◌++◌, Option, refl, sym, ap, subst, ◌∙◌, inl, inr, arith, append_assoc}
+use Rattle.std.proofs.Common.{◌≡◌, ◌⊎◌, ℕ, zero, suc, ◌+◌, ◌-◌, ◌<◌, ◌≤◌, Bool, true, false, cond, List, [], ◌∷◌, ◌++◌, Option, refl, sym, ap, subst, ◌∙◌, inl, inr, arith, append_assoc}
 use Rattle.std.specs.Prelude.{not, ◌||◌, drop}
 use Rattle.std.specs.declared.option.Option.TheVariants.{None, Some}
-use Rattle.std.specs.List.{list_any, count_by, flat_map}
+use Rattle.std.specs.List.{flat_map}
 use Rattle.std.proofs.lemmas.Bool.Decides.{eqb_tells}
 use Rattle.std.proofs.lemmas.List.{append-nil}
 use Rattle.std.proofs.lemmas.List.Sums.{sum_by-cons}
@@ -19,7 +19,7 @@ use Rattle.journals.specs.declared.node.NodeAct.{NodeAct}
 use Rattle.journals.specs.declared.node.NodeAct.TheVariants.{Answered, Lied, Silent, CrashedAt, Delivered, LateLost, Pruned}
 use Rattle.journals.specs.declared.node.NodeEntry.{NodeEntry}
 use Rattle.journals.specs.Steps.{is_lying}
-use Rattle.journals.specs.Acts.{NodeState, Cause, new_state, act, late_act, answers, handles, lied, can_prune, after, after_all, held_back, cause_of, act_by, MayCome, IsAct, NodeKept, is_spent, one_less, IsOldest}
+use Rattle.journals.specs.Acts.{NodeState, Cause, new_state, act, late_act, answers, handles, lied, can_prune, after, after_all, held_back, cause_of, act_by, MayCome, IsAct, NodeKept, is_spent, one_less}
 use Rattle.journals.specs.Acts.Cause.{Comes, ComesLate, Prunes}
 use Rattle.locked_nodes.specs.Conduct.{serves, served_in, crashes, has_crashed, held_by, held, came_late, IsUp, TellsByRule, IsSilence, GoesByConduct, EntriesGo, HeldComeAgain}
 use Rattle.locked_nodes.proofs.Keeping.{after_all_keeps}

@@ -1,6 +1,6 @@
 -- What the journals of cells are.
-use Rattle.std.proofs.Common.{◌≡◌, ◌⊎◌, ℕ, ◌+◌, ◌≤◌, ◌<◌, List, [], ◌∷◌, length, refl, sym, ap, subst, ◌∙◌, inl, inr, arith}
-use Rattle.std.specs.Prelude.{All, Option, filter, slice_get}
+use Rattle.std.proofs.Common.{◌≡◌, ℕ, ◌+◌, ◌<◌, List, [], ◌∷◌, refl, sym, ap, subst, ◌∙◌, inl, inr, arith}
+use Rattle.std.specs.Prelude.{All, filter, slice_get}
 use Rattle.std.specs.declared.option.Option.TheVariants.{None, Some}
 use Rattle.std.specs.List.{AllByRecursion}
 use Rattle.std.proofs.lemmas.Option.{slice_get_cases}
@@ -10,8 +10,8 @@ use Rattle.journals.specs.declared.node.Nature.{Nature}
 use Rattle.journals.specs.declared.node.NodeEntry.{NodeEntry}
 use Rattle.journals.specs.Acts.{NodeState, new_state, NodeKept}
 use Rattle.locked_nodes.specs.declared.charter.Charter.{Charter}
-use Rattle.locked_nodes.specs.Cells.{CellView, KeptCell, Rises, numbers, first_state, state_of, IsOfShard}
-use Rattle.locked_nodes.specs.Shards.{is_of_shard, IsJournal, IsShardOf, AreShards, AreJoined, OneCell, SeveralCells}
+use Rattle.locked_nodes.specs.Cells.{CellView, Rises, numbers, first_state, state_of, IsOfShard}
+use Rattle.locked_nodes.specs.Shards.{is_of_shard, AreShards, AreJoined, OneCell, SeveralCells}
 use Rattle.locked_nodes.proofs.Growing.{cell_rises}
 use Rattle.locked_nodes.proofs.Sharding.{IsPart, AreAlike, IsCalm, parts_kept}
 

@@ -1,5 +1,5 @@
 -- Asks on different blocks don't touch each other's versions: so the entries by number of the cells of a node are what a node with one cell does.
-use Rattle.std.proofs.Common.{◌≡◌, ◌≢◌, ◌⊎◌, ℕ, zero, suc, ◌<◌, ◌%◌, Bool, true, false, cond, List, [], ◌∷◌, length, Option, refl, sym, ap, subst, ◌∙◌, inl, inr, arith}
+use Rattle.std.proofs.Common.{◌≡◌, ◌≢◌, ℕ, zero, suc, ◌<◌, ◌%◌, Bool, true, false, List, [], ◌∷◌, length, Option, refl, sym, ap, subst, ◌∙◌, inl, inr, arith}
 use Rattle.std.specs.Prelude.{All, filter, slice_index_or, slice_set}
 use Rattle.std.specs.declared.option.Option.TheVariants.{None, Some}
 use Rattle.std.proofs.Math.Nat.{mod-lt}
@@ -24,10 +24,10 @@ use Rattle.journals.specs.declared.node.Silence.TheVariants.{Crashed, Dropped, H
 use Rattle.journals.specs.declared.node.NodeAct.{NodeAct}
 use Rattle.journals.specs.declared.node.NodeAct.TheVariants.{Answered, Lied, Silent, CrashedAt, Delivered, LateLost, Pruned}
 use Rattle.journals.specs.declared.node.NodeEntry.{NodeEntry}
-use Rattle.journals.specs.Acts.{NodeState, Cause, act, late_act, answers, lied, true_answer, with_reply, is_spent, one_less, can_prune, after, held_back, served, pruned_node, cause_of, way_of, act_by, MayCome, IsAct, NodeKept}
+use Rattle.journals.specs.Acts.{NodeState, Cause, act, answers, lied, true_answer, with_reply, is_spent, one_less, can_prune, after, held_back, served, cause_of, way_of, act_by, MayCome, IsAct, NodeKept}
 use Rattle.journals.specs.Acts.Cause.{Comes, ComesLate, Prunes}
 use Rattle.locked_nodes.specs.Cells.{IsShare, IsWhole, IsOfShard, ComesTo}
-use Rattle.locked_nodes.specs.Shards.{block_in, block_for, is_of_shard}
+use Rattle.locked_nodes.specs.Shards.{block_for, is_of_shard}
 use Rattle.locked_nodes.proofs.Acting.{call_answers}
 
 -- a node that isn't to crash, with no ask held back

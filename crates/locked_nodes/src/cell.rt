@@ -1,5 +1,5 @@
 //! A node in a cell.
-ghost use Rattle.std.specs.Prelude.{◌≡◌, ◌↔◌, ◌+◌, ◌<◌, ◌≤◌, ◌%◌, [], ◌∷◌, ◌++◌, length, ℕ, Ok, Err, true, false, if◌then◌else◌, IfOk, OnOk, OnErr, vec_len, vec_capacity};
+ghost use Rattle.std.specs.Prelude.{◌≡◌, ◌↔◌, ◌+◌, ◌<◌, ◌≤◌, ◌%◌, [], ◌∷◌, ◌++◌, length, ℕ, Ok, Err, true, false, if◌then◌else◌, IfOk, OnErr, vec_len, vec_capacity};
 ghost use Rattle.event_clock.specs.Passes.{left_of, drew, met};
 ghost use Rattle.journals.specs.Acts.{act, answer_of, can_prune};
 ghost use Rattle.locked_nodes.specs.Cells.{Serves, HoldsWhole, KeptCell, HasNoLateMail, CameLate, state_of, loses, told_as, number_of, entry, with_entry, with_seen, rechartered, new_cell, met_cell, items};
@@ -125,6 +125,7 @@ impl NodeCell {
     pub fn known(&self)
         ensures { KeptCell self.now }
     {
+        // Whoever reads a field knows what the type keeps.
         let _pass = &self.pass;
     }
 

@@ -1,6 +1,5 @@
 //! What is fixed about a cell, as the head of its list.
 ghost use Rattle.std.specs.Prelude.{◌≡◌};
-ghost use Rattle.event_clock.specs.Passes.{Holder};
 ghost use Rattle.locked_nodes.specs.Cells.{next_terms};
 
 use event_clock::Pass;

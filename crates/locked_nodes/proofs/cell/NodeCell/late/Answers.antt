@@ -1,6 +1,6 @@
-use Rattle.std.proofs.Common.{◌≡◌, List, [], ◌∷◌, sym, subst, ap, ◌∙◌, rules}
+use Rattle.std.proofs.Common.{◌≡◌, [], subst, ◌∙◌, rules}
 use Rattle.locked_nodes.specs.declared.answers.Late.TheVariants.{Delivered, Lost}
-use Rattle.locked_nodes.specs.Cells.{CellView, CameLate}
+use Rattle.locked_nodes.specs.Cells.{CameLate}
 use Rattle.locked_nodes.proofs.Keeping.{late_asks}
 use Rattle.locked_nodes.proofs.Growing.{cell_late, cell_lates, oldest_of, late_came, told_delivered, told_lost}
 use Rattle.locked_nodes.proofs.cell.NodeCell.late.Goals as goal

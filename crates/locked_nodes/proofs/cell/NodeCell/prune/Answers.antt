@@ -1,4 +1,4 @@
-use Rattle.std.proofs.Common.{◌≡◌, ◌<◌, ◌%◌, true, false, sym, subst, ap, ◌∙◌, rules}
+use Rattle.std.proofs.Common.{◌≡◌, ◌<◌, ◌%◌, true, sym, subst, ap, ◌∙◌, rules}
 use Rattle.journals.specs.declared.node.NodeAct.TheVariants.{Pruned}
 use Rattle.journals.specs.Acts.{can_prune}
 use Rattle.locked_nodes.specs.Cells.{CellView}

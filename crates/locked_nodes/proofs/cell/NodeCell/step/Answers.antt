@@ -1,4 +1,4 @@
-use Rattle.std.proofs.Common.{◌≡◌, sym, subst, ap, ◌∙◌}
+use Rattle.std.proofs.Common.{sym, subst, ap, ◌∙◌}
 use Rattle.locked_nodes.specs.Cells.{CellView, Serves, HoldsWhole}
 use Rattle.locked_nodes.proofs.Growing.{cell_steps, node_is}
 use Rattle.locked_nodes.proofs.cell.NodeCell.step.Goals as goal
