@@ -1,0 +1,9 @@
+//! Nodes on disks that fail and crash: what their bytes are, and what is left when they are opened again.
+#![tactic(auto)]
+
+#[cfg(test)]
+mod crashes;
+#[cfg(test)]
+mod nodes;
+#[cfg(test)]
+mod slots;
