@@ -1,10 +1,10 @@
--- The world of the trace is one of the journals' cluster.
-use Rattle.merge_trace.proofs.Tracing.{cluster_is, few_nodes}
+-- Kept journals have few nodes, and entries that fit.
+use Rattle.merge_trace.proofs.Tracing.{few_nodes, all_fitting}
 use Rattle.merge_trace.proofs.trace.merge.Goals as goal
 
-pub turns_of-requires-clause-nodes : goal.turns_of-requires-clause-nodes
-turns_of-requires-clause-nodes c =
-    few_nodes c.args.journals.now (cluster_is _ c.args.journals.now c.is_reached.ensures c.in_ok-trace.ensures.cluster c.in_ok-trace.ensures.ready.setting) c.requires.kept
+pub merge_any-requires-clause-nodes : goal.merge_any-requires-clause-nodes
+merge_any-requires-clause-nodes c = few_nodes c.args.journals.now c.n-valid.ensures.valid c.requires.kept
 
-pub take_all-requires-clause-cluster : goal.take_all-requires-clause-cluster
-take_all-requires-clause-cluster c = cluster_is _ c.args.journals.now c.is_reached.ensures c.in_ok-trace.ensures.cluster c.in_ok-trace.ensures.ready.setting
+pub merge_any-requires-clause-fits : goal.merge_any-requires-clause-fits
+merge_any-requires-clause-fits c =
+    all_fitting c.fitting_lines.ensures c.args.journals.now c.n-valid.ensures.valid c.requires.liars c.requires.kept c.requires.pairs
