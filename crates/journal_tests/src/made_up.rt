@@ -1,6 +1,8 @@
 //! Journals of made-up runs. Nodes and clients do what comes, one thing after another and in no order that a script knows, and
 //! put it down; the lines of what they put down are a run in which as many operations end as the clients saw end.
 
+ghost use Rattle.std.specs.Prelude.{◌<◌};
+
 use crate::asker::Asker;
 use crate::sheet::{Sheet, reply_in};
 use crate::told::lines_of;
@@ -66,10 +68,13 @@ struct Draws {
 
 impl Draws {
     // A number below a limit.
-    fn below(&mut self, limit: u64) -> u64 {
+    fn below(&mut self, limit: u64) -> u64
+        requires { 0 < limit }
+        ensures { result < limit }
+    {
         let random = self.random.wrapping_mul(6_364_136_223_846_793_005);
         self.random = random.wrapping_add(1_442_695_040_888_963_407);
-        (self.random >> 33).checked_rem(limit).unwrap_or(0)
+        (self.random >> 33) % limit
     }
 }
 
@@ -248,7 +253,7 @@ impl Cluster {
     fn turn(&mut self, starts: bool) -> Result<(), NoMemory> {
         match self.draws.below(12) {
             0 => {
-                let node = self.draws.below(5) as usize;
+                let node = self.draws.below(5) as u8;
                 self.deliver(node)
             }
             1 => self.lie(),
@@ -259,15 +264,15 @@ impl Cluster {
         }
     }
 
-    fn deliver(&mut self, node: usize) -> Result<(), NoMemory> {
-        let Some(place) = self.places.get_mut(node) else {
+    fn deliver(&mut self, node: u8) -> Result<(), NoMemory> {
+        let Some(place) = self.places.get_mut(usize::from(node)) else {
             return Ok(());
         };
         let Some(act) = place.late()? else {
             return Ok(());
         };
         let number = self.draw_number();
-        self.sheet.node(node as u8, number, act)
+        self.sheet.node(node, number, act)
     }
 
     // Client 9 repeats what another client asks, as its own.
@@ -305,7 +310,9 @@ impl Cluster {
     }
 
     // A client that does nothing starts an operation, another one asks its next node.
-    fn go_on(&mut self, at: usize, starts: bool) -> Result<(), NoMemory> {
+    fn go_on(&mut self, at: usize, starts: bool) -> Result<(), NoMemory>
+        requires { at < 3 }
+    {
         let op = self.draw_op()?;
         let way = match self.draws.below(8) {
             0 => Way::Drop,
@@ -380,7 +387,7 @@ impl Cluster {
             }
             self.turn(false)?;
         }
-        for node in 0..5 {
+        for node in 0..5u8 {
             for _ in 0..1000u64 {
                 self.deliver(node)?;
             }
