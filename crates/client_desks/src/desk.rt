@@ -6,7 +6,7 @@ ghost use Rattle.receipt_lock.specs.Turns.{Begins};
 ghost use Rattle.journals.specs.Desks.{FitsOp, ActsAs};
 ghost use Rattle.journals.specs.Phases.{IsAtRest};
 ghost use Rattle.locked_nodes.specs.Cells.{Serves, HoldsWhole, HasNoLateMail, items, number_of};
-ghost use Rattle.client_threads.specs.Desks.{DeskView, first_desk, state_at, task_at, asks_of, IsUp, CanStart, CanCall, with_own, desk_entry, KeptDesk, AddPair, Calls, KeepsDesk, Delivers, reply_told, reply_by, heard, ending};
+ghost use Rattle.client_desks.specs.Desks.{DeskView, first_desk, state_at, task_at, asks_of, IsUp, CanStart, CanCall, with_own, desk_entry, KeptDesk, AddPair, Calls, KeepsDesk, Delivers, reply_told, reply_by, heard, ending};
 
 use client_core::{Client, Heard};
 use event_clock::{Clock, Pass};
@@ -34,7 +34,7 @@ pub struct Desk {
 }
 
 impl Model for Desk {
-    ghost use Rattle.client_threads.specs.Desks.{DeskView, IsDesk};
+    ghost use Rattle.client_desks.specs.Desks.{DeskView, IsDesk};
 
     ghost Value = { DeskView };
 

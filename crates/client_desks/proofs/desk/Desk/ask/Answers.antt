@@ -6,9 +6,9 @@ use Rattle.journals.specs.Acts.{answer_of}
 use Rattle.journals.specs.Desks.{DeskState, new_desk, desk_after_all, ActsAs}
 use Rattle.client_core.specs.Clients.{ClientView}
 use Rattle.locked_nodes.specs.Cells.{state_of, number_of}
-use Rattle.client_threads.specs.Desks.{DeskView, state_at, reply_told, reply_by, call_by, done_by, heard, ending, desk_entry, with_call}
-use Rattle.client_threads.proofs.Desking.{desk_grows, desk_stays, told_client, told_crashed, told_reply, act_side, items_grew}
-use Rattle.client_threads.proofs.desk.Desk.ask.Goals as goal
+use Rattle.client_desks.specs.Desks.{DeskView, state_at, reply_told, reply_by, call_by, done_by, heard, ending, desk_entry, with_call}
+use Rattle.client_desks.proofs.Desking.{desk_grows, desk_stays, told_client, told_crashed, told_reply, act_side, items_grew}
+use Rattle.client_desks.proofs.desk.Desk.ask.Goals as goal
 
 pub invariant_of-self-in_err-outcome : goal.invariant_of-self-in_err-outcome
 invariant_of-self-in_err-outcome c =

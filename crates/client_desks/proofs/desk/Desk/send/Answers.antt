@@ -5,9 +5,9 @@ use Rattle.protocol.specs.Messages.{Message, IsFormedBody}
 use Rattle.journals.specs.declared.desk.Way.TheVariants.{Call as ByCall}
 use Rattle.journals.specs.declared.desk.DeskAct.TheVariants.{Call}
 use Rattle.journals.specs.Desks.{ActsAs, LiarCalls, DeskKept, new_desk}
-use Rattle.client_threads.specs.Desks.{DeskView, state_at, task_at}
-use Rattle.client_threads.proofs.Desking.{id_at, liar_idle}
-use Rattle.client_threads.proofs.desk.Desk.send.Goals as goal
+use Rattle.client_desks.specs.Desks.{DeskView, state_at, task_at}
+use Rattle.client_desks.proofs.Desking.{id_at, liar_idle}
+use Rattle.client_desks.proofs.desk.Desk.send.Goals as goal
 
 pub ask-requires-clause-may : goal.ask-requires-clause-may
 ask-requires-clause-may c reply =

@@ -1,8 +1,8 @@
 use Rattle.std.proofs.Common.{◌≡◌, sym, ap, ◌∙◌}
 use Rattle.protocol.specs.Instance.{setting}
-use Rattle.client_threads.specs.Desks.{DeskView, asks_of, task_at}
-use Rattle.client_threads.proofs.Desking.{asks_at, asks_client, some_in, on_ok_calls, if_ok_ended}
-use Rattle.client_threads.proofs.desk.Desk.call.Goals as goal
+use Rattle.client_desks.specs.Desks.{DeskView, asks_of, task_at}
+use Rattle.client_desks.proofs.Desking.{asks_at, asks_client, some_in, on_ok_calls, if_ok_ended}
+use Rattle.client_desks.proofs.desk.Desk.call.Goals as goal
 
 pub unreachable-requires : goal.unreachable-requires
 unreachable-requires c =
