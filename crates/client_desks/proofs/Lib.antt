@@ -1,1 +1,2 @@
 pub mod Desking
+mod Lasting

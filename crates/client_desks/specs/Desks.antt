@@ -129,10 +129,11 @@ pub record Calls (old : DeskView) (was : CellView) (way : Way) (new : DeskView) 
   pub asked : asks_of old was.charter.number ≡ Some ask
   pub pair : AddPair old was way ask new now
 
--- but for what its pass has seen, the desk is as it was
+-- but for what its pass has seen, which is no less, the desk is as it was
 pub record KeepsDesk (old new : DeskView) : Type 0 where
   pub same : new ≡ record old { pass = new.pass }
   pub pass : new.pass ≡ with_seen old.pass new.pass.seen
+  pub later : old.pass.seen ≤ new.pass.seen
 
 -- the cell is as it was, or has one entry more, of which no client has a side
 abbrev pub Delivers : CellView → CellView → Type 0

@@ -2,5 +2,6 @@
 #![tactic(auto)]
 
 pub mod desk;
+pub mod laws;
 
 pub use desk::Desk;

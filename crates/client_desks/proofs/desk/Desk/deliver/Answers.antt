@@ -15,7 +15,7 @@ returns-clause-kept c =
     let does = late_does c.late.result c.args.cell.now c.late.new.self was.pass c.late.new.caller c.late.ensures.delivered c.late.ensures.lost c.late.ensures.same c.late.ensures.err in
     let new : DeskView = record { config = was.config; id = was.id; lying = was.lying; entries = was.entries.items; pass = c.late.new.caller } in
     let old : DeskView = record { config = was.config; id = was.id; lying = was.lying; entries = was.entries.items; pass = was.pass } in
-    let kept : KeepsDesk old new = record { same = refl; pass = does.1 } in
+    let kept : KeepsDesk old new = record { same = refl; pass = does.1; later = does.2 } in
     subst (λ (d : DeskView). KeepsDesk d new) c.self.view_is kept
 
 pub returns-clause-cell : goal.returns-clause-cell
