@@ -95,7 +95,9 @@ mod tests {
     use super::*;
     use std::test::Fail;
 
-    fn read(block: u32, time: u64) -> BlockStamp {
+    fn read(block: u32, time: u64) -> BlockStamp
+        ensures { result.block ≡ block }
+    {
         let stamp = Stamp {
             time,
             client: 1,
