@@ -1,0 +1,4 @@
+pub mod Steps
+pub mod Folding
+pub mod OncePaired
+pub mod Mails
