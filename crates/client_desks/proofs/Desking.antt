@@ -17,7 +17,7 @@ use Rattle.quorum_rules.specs.Limits.{Numbers}
 use Rattle.protocol.specs.Seen.{Hearing}
 use Rattle.protocol.specs.Seen.Hearing.{Ignored, Counted, Begins as BeginsPhase, Ended}
 use Rattle.client_core.specs.Clients.{ClientView, hears}
-use Rattle.event_clock.specs.Passes.{Holder}
+use Rattle.event_clock.specs.Passes.{Holder, met}
 use Rattle.liar_rules.specs.Answers.{answer_to}
 use Rattle.journals.specs.declared.desk.Way.{Way}
 use Rattle.journals.specs.declared.desk.Way.TheVariants.{Call as ByCall, Drop, Hold}
@@ -253,3 +253,9 @@ liar_act d n (Call way ask reply) calls idle = told_idle d n reply idle
 pub liar_idle : (d : DeskState) (es : List DeskEntry) → DeskKept true d es → d.client.seen.task ≡ None → (desk_after_all d es).client.seen.task ≡ None
 liar_idle d [] kept idle = idle
 liar_idle d (e ∷ es) kept idle = liar_idle (desk_after d e.number e.act) es kept.1 (liar_act d e.number e.act kept.0 idle)
+
+-- a desk whose pass meets another one
+pub desk_meets : (config : Numbers) (id : ℕ) (lying : Bool) (client : ClientView) (crashed : Bool) (es : List DeskEntry) (pass other : Holder)
+    → IsDesk config id lying client crashed es pass → IsDesk config id lying client crashed es (met pass other)
+desk_meets config id lying client crashed es pass other h =
+    record { kept = h.kept; left = h.left; fell = h.fell; drawn = h.drawn; rises = rises_more 0 (numbers_of es) pass.seen (met pass other).seen h.rises (omega arith) }

@@ -8,7 +8,7 @@ use Rattle.protocol.specs.Seen.{SeenTask, Hearing, outstanding_of, has_answered,
 use Rattle.protocol.specs.Seen.Hearing.{Ignored, Counted, Begins, Ended}
 use Rattle.quorum_rules.specs.Limits.{Numbers}
 use Rattle.client_core.specs.Clients.{ClientView, hears}
-use Rattle.event_clock.specs.Passes.{Holder, drew}
+use Rattle.event_clock.specs.Passes.{Holder, drew, met}
 use Rattle.journals.specs.declared.node.NodeAct.{NodeAct}
 use Rattle.journals.specs.declared.desk.Way.{Way}
 use Rattle.journals.specs.declared.desk.DeskAct.{DeskAct}
@@ -32,6 +32,10 @@ pub record DeskView : Type 0 where
 -- the desk of a client that has done nothing
 abbrev pub first_desk : Numbers → ℕ → Bool → Holder → DeskView
 first_desk config id lying pass = record { config = config; id = id; lying = lying; entries = []; pass = pass }
+
+-- the desk after its pass met another one
+abbrev pub met_desk : DeskView → Holder → DeskView
+met_desk d other = record d { pass = met d.pass other }
 
 -- what the client is, as its journal tells
 abbrev pub state_at : DeskView → DeskState

@@ -1,12 +1,12 @@
 ghost use Rattle.std.specs.Prelude.{◌≡◌, ◌↔◌, IsTrue, ℕ, ◌<◌, ◌≤◌, ◌+◌, ◌-◌, ◌^◌, [], None, Some, Ok, Err, true, false, IfOk, OnOk, IfErr, OnErr, Option};
 ghost use Rattle.protocol.specs.Messages.{IsFormedBody, Message as AnyMessage};
 ghost use Rattle.protocol.specs.Seen.{ops_of, phase_of};
-ghost use Rattle.event_clock.specs.Passes.{left_of};
+ghost use Rattle.event_clock.specs.Passes.{left_of, met};
 ghost use Rattle.receipt_lock.specs.Turns.{Begins};
 ghost use Rattle.journals.specs.Desks.{FitsOp, ActsAs};
 ghost use Rattle.journals.specs.Phases.{IsAtRest};
 ghost use Rattle.locked_nodes.specs.Cells.{Serves, HoldsWhole, HasNoLateMail, items, number_of};
-ghost use Rattle.client_desks.specs.Desks.{DeskView, first_desk, state_at, task_at, asks_of, IsUp, CanStart, CanCall, with_own, desk_entry, KeptDesk, AddPair, Calls, KeepsDesk, Delivers, reply_told, reply_by, heard, ending};
+ghost use Rattle.client_desks.specs.Desks.{DeskView, first_desk, met_desk, state_at, task_at, asks_of, IsUp, CanStart, CanCall, with_own, desk_entry, KeptDesk, AddPair, Calls, KeepsDesk, Delivers, reply_told, reply_by, heard, ending};
 
 use client_core::{Client, Heard};
 use event_clock::{Clock, Pass};
@@ -142,6 +142,24 @@ impl Desk {
         ensures { result.now ≡ self.now.entries }
     {
         self.entries.as_slice()
+    }
+
+    /// What each desk keeps, whatever was done with it.
+    pub fn known(&self)
+        ensures { KeptDesk self.now }
+    {
+        // Whoever reads a field knows what the type keeps.
+        let _pass = &self.pass;
+    }
+
+    /// Lets the desk's pass and another one see what either has seen.
+    pub fn meet(&mut self, clock: &Clock, other: &mut Pass)
+        requires clock { self.old.pass.clock ≡ clock.now }
+        requires other { other.old.clock ≡ clock.now }
+        ensures desk { self.new ≡ met_desk self.old other.old }
+        ensures other { other.new ≡ met other.old self.old.pass }
+    {
+        clock.meet(&mut self.pass, other);
     }
 
     /// The journal, and the pass, which drew the numbers of its starts and crashes.

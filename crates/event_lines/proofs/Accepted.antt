@@ -23,7 +23,7 @@ use Rattle.line_forms.specs.declared.cause.Cause.TheVariants.{UnknownWord}
 use Rattle.event_lines.specs.declared.line.ReplayLine.{ReplayLine}
 use Rattle.event_lines.specs.declared.line.ReplayLine.TheVariants.{Plain, Put, Get, Next}
 use Rattle.event_lines.specs.Lines.{IsClient, IsNode, IsBlock, IsValue, IsEventLine, event_fields, event_text, rule_text}
-use Rattle.event_lines.specs.Forms.{rule, back_forms, fields_cause, message_cause, line_cause, event_cause}
+use Rattle.event_lines.specs.Forms.{rule, in_two, fields_cause, message_cause, line_cause, event_cause}
 use Rattle.event_lines.specs.Messages.{Part, are_of}
 use Rattle.event_lines.proofs.Lacking.{event_lacks}
 use Rattle.event_lines.proofs.Messages.{any_fits, ask_fits, answer_fits}
@@ -163,9 +163,12 @@ plain_fine c (Mix k i b t v w) h =
 plain_fine c (Prune i b) h = only_form (node c.n ∷ block c.blocks ∷ []) (decimal i ∷ decimal b ∷ []) (a_node c i h.0, (a_block c b h.1, tt))
 plain_fine c (Back k) h =
     let fields = codes "client" ∷ decimal k ∷ [] in
-    ap (λ (e : Edition). fields_cause (back_forms e) fields) h.0
-    ∙ only_form (word (codes "client" ∷ []) ∷ client ∷ []) fields (a_word (codes "client") refl refl, (a_client k h.1, tt))
-plain_fine c (Restart i) h = absurd h
+    let form = word (codes "client" ∷ []) ∷ client ∷ [] in
+    ap (λ (e : Edition). fields_cause (in_two e form) fields) h.0 ∙ only_form form fields (a_word (codes "client") refl refl, (a_client k h.1, tt))
+plain_fine c (Restart i) h =
+    let fields = codes "node" ∷ decimal i ∷ [] in
+    let form = word (codes "node" ∷ []) ∷ node c.n ∷ [] in
+    ap (λ (e : Edition). fields_cause (in_two e form) fields) h.0 ∙ only_form form fields (a_word (codes "node") refl refl, (a_node c i h.1, tt))
 
 pub line_fine : (c : Numbers) (l : ReplayLine) → IsEventLine c l → line_cause c (event_fields l) ≡ None
 line_fine c (Plain l) h = plain_fine c l h

@@ -145,7 +145,7 @@ module _ (mark : ℕ) (some : 0 < mark) (low : mark < 46) where
       (high_lacks mark (codes "mix") low refl, (client_lacks client h.0, (node_lacks c node h.1, (block_lacks c block h.2, (number_lacks time h.3, (value_lacks v, (value_lacks w, tt)))))))
   line_lacks c (Prune node block) h = (high_lacks mark (codes "prune") low refl, (node_lacks c node h.0, (block_lacks c block h.1, tt)))
   line_lacks c (Back client) h = (high_lacks mark (codes "back") low refl, (high_lacks mark (codes "client") low refl, (client_lacks client h.1, tt)))
-  line_lacks c (Restart node) h = absurd h
+  line_lacks c (Restart node) h = (high_lacks mark (codes "restart") low refl, (high_lacks mark (codes "node") low refl, (node_lacks c node h.1, tt)))
 
   pub event_lacks : (c : Numbers) (l : ReplayLine) → IsEventLine c l → AllLack mark (event_fields l)
   event_lacks c (Plain l) h = line_lacks c l h

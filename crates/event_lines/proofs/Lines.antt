@@ -10,7 +10,7 @@ use Rattle.wire_forms.specs.declared.message.Body.{Body}
 use Rattle.wire_forms.specs.declared.message.Body.TheVariants.{Ask as Asks, Answer as Answers}
 use Rattle.wire_forms.specs.Texts.{IsRequest, IsBody, HasShortRequest, HasLimits}
 use Rattle.run_words.specs.declared.line.Line.{Line}
-use Rattle.run_words.specs.declared.line.Line.TheVariants.{Lie, Tell, Poke, Restart}
+use Rattle.run_words.specs.declared.line.Line.TheVariants.{Lie, Tell, Poke}
 use Rattle.line_forms.specs.declared.cause.Cause.TheVariants.{UnknownWord}
 use Rattle.event_lines.specs.declared.line.ReplayLine.{ReplayLine}
 use Rattle.event_lines.specs.declared.line.ReplayLine.TheVariants.{Plain, Put, Get, Next}
@@ -43,7 +43,6 @@ line_printed : (c : Numbers) (l : Line) → IsEventLine c (Plain l) → HasText 
 line_printed c (Lie m) h = body_short m.body h.body
 line_printed c (Tell m) h = body_short m.body h.0.body
 line_printed c (Poke m) h = body_short m.body h.0.body
-line_printed c (Restart node) h = absurd h
 line_printed c _ h = tt
 
 pub event_printed : (c : Numbers) (l : ReplayLine) → IsEventLine c l → HasText l

@@ -20,7 +20,7 @@ use Rattle.event_lines.specs.declared.line.ReplayLine.{ReplayLine}
 use Rattle.event_lines.specs.declared.line.ReplayLine.TheVariants as replay
 use Rattle.event_lines.specs.Lines.{IsClient, IsNode, IsBlock, IsEventLine, event_fields, event_text, rule_text}
 use Rattle.event_lines.specs.Words.{Form, Speech, Word, word_of}
-use Rattle.event_lines.specs.declared.word.Form.TheVariants.{Write, Read, Resend, Call, Give, Hear, Lost, Crash, False, Sound, Mix, Prune, Back, Put, Get, Next}
+use Rattle.event_lines.specs.declared.word.Form.TheVariants.{Write, Read, Resend, Call, Give, Hear, Lost, Crash, False, Sound, Mix, Prune, Back, Restart, Put, Get, Next}
 use Rattle.event_lines.specs.declared.word.Speech.TheVariants.{Lie, Tell, Poke}
 use Rattle.event_lines.specs.declared.word.Word.TheVariants.{Form as Fields, Speech as Spoken}
 use Rattle.event_lines.proofs.Accepted.{event_apart}
@@ -53,6 +53,7 @@ form_in Sound fs = replay.Plain (lines.Sound (number_at (2 ^ 32) 0 fs) (number_a
 form_in Mix fs = replay.Plain (lines.Mix (number_at (2 ^ 32) 0 fs) (number_at (2 ^ 8) 1 fs) (number_at (2 ^ 32) 2 fs) (number_at (2 ^ 64) 3 fs) (value_at 4 fs) (value_at 5 fs))
 form_in Prune fs = replay.Plain (lines.Prune (number_at (2 ^ 8) 0 fs) (number_at (2 ^ 32) 1 fs))
 form_in Back fs = replay.Plain (lines.Back (number_at (2 ^ 32) 1 fs))
+form_in Restart fs = replay.Plain (lines.Restart (number_at (2 ^ 8) 1 fs))
 form_in Put fs = replay.Put (number_at (2 ^ 32) 0 fs) (number_at (2 ^ 64) 1 fs) (value_at 2 fs)
 form_in Get fs = replay.Get (number_at (2 ^ 32) 0 fs) (number_at (2 ^ 64) 1 fs) (number_at (2 ^ 64) 2 fs)
 form_in Next fs = replay.Next (number_at (2 ^ 32) 0 fs)
@@ -127,7 +128,7 @@ plain_back c (lines.Sound k i b t v) m h e = rw (client_back k h.0, node_back c 
 plain_back c (lines.Mix k i b t v w) m h e = rw (client_back k h.0, node_back c i h.1, block_back c b h.2, u64_back t h.3, value_back v h.4.bytes, value_back w h.5.bytes) refl
 plain_back c (lines.Prune i b) m h e = rw (node_back c i h.0, block_back c b h.1) refl
 plain_back c (lines.Back k) m h e = rw (client_back k h.1) refl
-plain_back c (lines.Restart i) m h e = absurd h
+plain_back c (lines.Restart i) m h e = rw (node_back c i h.1) refl
 
 line_back : (c : Numbers) (l : ReplayLine) (m : Message) → IsEventLine c l → Carries l m → line_in m (event_fields l) ≡ l
 line_back c (replay.Plain l) m h e = plain_back c l m h e

@@ -12,7 +12,7 @@ use Rattle.line_forms.specs.declared.cause.Cause.{Cause}
 use Rattle.line_forms.specs.declared.cause.Cause.TheVariants.{UnknownWord, WrongCount, BadMessage}
 use Rattle.event_lines.specs.Messages.{Part, ask_forms, answer_forms, are_of}
 use Rattle.event_lines.specs.Words.{Form, Speech, Word, word_of}
-use Rattle.event_lines.specs.declared.word.Form.TheVariants.{Write, Read, Resend, Call, Give, Hear, Lost, Crash, False, Sound, Mix, Prune, Back, Put, Get, Next}
+use Rattle.event_lines.specs.declared.word.Form.TheVariants.{Write, Read, Resend, Call, Give, Hear, Lost, Crash, False, Sound, Mix, Prune, Back, Restart, Put, Get, Next}
 use Rattle.event_lines.specs.declared.word.Speech.TheVariants.{Lie, Tell, Poke}
 use Rattle.event_lines.specs.declared.word.Word.TheVariants.{Form as Fields, Speech as Message}
 
@@ -22,10 +22,10 @@ use Rattle.event_lines.specs.declared.word.Word.TheVariants.{Form as Fields, Spe
 abbrev pub rule : Kind
 rule = word (codes "old" ∷ codes "top" ∷ codes "bad" ∷ [])
 
--- a client comes back in edition 2 alone
-abbrev pub back_forms : Edition → List (List Kind)
-back_forms One = []
-back_forms Two = (word (codes "client" ∷ []) ∷ client ∷ []) ∷ []
+-- a form of edition 2 alone
+abbrev pub in_two : Edition → List Kind → List (List Kind)
+in_two One form = []
+in_two Two form = form ∷ []
 
 -- the fields: those of one of these forms, which their fixed words tell apart
 abbrev pub forms_of : Numbers → Form → List (List Kind)
@@ -41,7 +41,8 @@ forms_of c False = (client ∷ node c.n ∷ rule ∷ []) ∷ []
 forms_of c Sound = (client ∷ node c.n ∷ block c.blocks ∷ any_u64 ∷ value c.size ∷ []) ∷ []
 forms_of c Mix = (client ∷ node c.n ∷ block c.blocks ∷ any_u64 ∷ value c.size ∷ value c.size ∷ []) ∷ []
 forms_of c Prune = (node c.n ∷ block c.blocks ∷ []) ∷ []
-forms_of c Back = back_forms c.edition
+forms_of c Back = in_two c.edition (word (codes "client" ∷ []) ∷ client ∷ [])
+forms_of c Restart = in_two c.edition (word (codes "node" ∷ []) ∷ node c.n ∷ [])
 forms_of c Put = (client ∷ any_u64 ∷ bytes ∷ []) ∷ []
 forms_of c Get = (client ∷ any_u64 ∷ any_u64 ∷ []) ∷ []
 forms_of c Next = (client ∷ []) ∷ []

@@ -50,7 +50,7 @@ IsLine c (Sound client node block time value) = IsClient client × IsNode c node
 IsLine c (Mix client node block time value other) = IsClient client × IsNode c node × IsBlock c block × (time < 2 ^ 64) × IsValue c value × IsValue c other
 IsLine c (Prune node block) = IsNode c node × IsBlock c block
 IsLine c (Back client) = (c.edition ≡ Two) × IsClient client
-IsLine c (Restart node) = ⊥
+IsLine c (Restart node) = (c.edition ≡ Two) × IsNode c node
 
 -- an event line of a replay script for a cluster of these numbers
 abbrev pub IsEventLine : Numbers → ReplayLine → Type 0
@@ -67,7 +67,7 @@ rule_text Old = codes "old"
 rule_text Top = codes "top"
 rule_text Bad = codes "bad"
 
--- the fields of a line; none of one that has no text
+-- the fields of a line
 abbrev pub line_fields : Line → List (List ℕ)
 line_fields (Write client block value) = codes "write" ∷ decimal client ∷ decimal block ∷ value_text value ∷ []
 line_fields (Read client block) = codes "read" ∷ decimal client ∷ decimal block ∷ []
@@ -86,7 +86,7 @@ line_fields (Sound client node block time value) = codes "sound" ∷ decimal cli
 line_fields (Mix client node block time value other) = codes "mix" ∷ decimal client ∷ decimal node ∷ decimal block ∷ decimal time ∷ value_text value ∷ value_text other ∷ []
 line_fields (Prune node block) = codes "prune" ∷ decimal node ∷ decimal block ∷ []
 line_fields (Back client) = codes "back" ∷ codes "client" ∷ decimal client ∷ []
-line_fields (Restart node) = []
+line_fields (Restart node) = codes "restart" ∷ codes "node" ∷ decimal node ∷ []
 
 abbrev pub event_fields : ReplayLine → List (List ℕ)
 event_fields (Plain line) = line_fields line
@@ -107,5 +107,4 @@ abbrev pub HasText : ReplayLine → Type 0
 HasText (Plain (Lie message)) = HasLimits message.body
 HasText (Plain (Tell message)) = HasLimits message.body
 HasText (Plain (Poke message)) = HasLimits message.body
-HasText (Plain (Restart node)) = ⊥
 HasText _ = Unit {0}

@@ -3,7 +3,7 @@ use Rattle.std.specs.Prelude.{ℕ, List, [], Option, Some, None}
 use Rattle.std.specs.Borrow.{Bor}
 use Rattle.text_lines.specs.Lines.{fields_of}
 use Rattle.event_lines.specs.Words.{Form}
-use Rattle.event_lines.specs.declared.word.Form.TheVariants.{Write, Read, Resend, Call, Give, Hear, Lost, Crash, False, Sound, Mix, Prune, Back, Put, Get, Next}
+use Rattle.event_lines.specs.declared.word.Form.TheVariants.{Write, Read, Resend, Call, Give, Hear, Lost, Crash, False, Sound, Mix, Prune, Back, Restart, Put, Get, Next}
 
 -- the fields of what follows the first space; none where there is no space
 abbrev pub fields_after : Option (Bor (List ℕ)) → List (List ℕ)
@@ -25,6 +25,7 @@ field_count Sound = 5
 field_count Mix = 6
 field_count Prune = 2
 field_count Back = 2
+field_count Restart = 2
 field_count Put = 3
 field_count Get = 3
 field_count Next = 1

@@ -2,7 +2,7 @@
 use Rattle.std.specs.Prelude.{ℕ, List, [], ◌∷◌, codes, find, Option}
 use Rattle.std.specs.Str.{bytes_eq}
 pub use Rattle.event_lines.specs.declared.word.Form.{Form}
-use Rattle.event_lines.specs.declared.word.Form.TheVariants.{Write, Read, Resend, Call, Give, Hear, Lost, Crash, False, Sound, Mix, Prune, Back, Put, Get, Next}
+use Rattle.event_lines.specs.declared.word.Form.TheVariants.{Write, Read, Resend, Call, Give, Hear, Lost, Crash, False, Sound, Mix, Prune, Back, Restart, Put, Get, Next}
 pub use Rattle.event_lines.specs.declared.word.Speech.{Speech}
 use Rattle.event_lines.specs.declared.word.Speech.TheVariants.{Lie, Tell, Poke}
 pub use Rattle.event_lines.specs.declared.word.Word.{Word}
@@ -23,6 +23,7 @@ form_text Sound = codes "sound"
 form_text Mix = codes "mix"
 form_text Prune = codes "prune"
 form_text Back = codes "back"
+form_text Restart = codes "restart"
 form_text Put = codes "put"
 form_text Get = codes "get"
 form_text Next = codes "next"
@@ -51,6 +52,7 @@ words =
     ∷ Fields Mix
     ∷ Fields Prune
     ∷ Fields Back
+    ∷ Fields Restart
     ∷ Fields Put
     ∷ Fields Get
     ∷ Fields Next

@@ -240,6 +240,18 @@ pub fn back(config: &Config, what: &[u8], client: &[u8]) -> Result<ReplayLine, L
     Ok(ReplayLine::Plain(Line::Back { client }))
 }
 
+pub fn restart(config: &Config, what: &[u8], node: &[u8]) -> Result<ReplayLine, LineRefusal>
+    requires { has_empty_field (what.now ∷ node.now ∷ []) ≡ false }
+    ensures { Gives (IsSpelled config.now (codes "restart" ∷ what.now ∷ node.now ∷ []))
+        (fields_cause (forms_of config.now Form.Restart) (what.now ∷ node.now ∷ [])) result }
+{
+    if config.edition() == 1 || what != b"node".as_slice() {
+        return Err(LineRefusal::Cause(Cause::UnknownWord));
+    }
+    let node = numbers::node(config, node)?;
+    Ok(ReplayLine::Plain(Line::Restart { node }))
+}
+
 /// The value of any length that a field spells.
 fn any_value(alloc: Global, field: &[u8]) -> Result<Bytes, LineRefusal>
     requires { has_empty_field (field.now ∷ []) ≡ false }

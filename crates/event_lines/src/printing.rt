@@ -17,8 +17,8 @@ use wire_forms::{Message, Rule, print};
 
 /// Adds the text of an event line, its newline aside.
 ///
-/// The line isn't `Restart`, which has no text, and the strings of its message, if it has one, are within the
-/// limits of messages' texts. After `NoMemory` the text may end within the line.
+/// The strings of the line's message, if it has one, are within the limits of messages' texts. After
+/// `NoMemory` the text may end within the line.
 pub fn add_event(alloc: Global, text: &mut Text, line: &ReplayLine) -> Result<(), NoMemory>
     requires { HasText line.now }
     ensures { OnOk result (text.new ≡ text.old ++ event_text line.now) }
@@ -92,7 +92,7 @@ fn add_line(alloc: Global, text: &mut Text, line: &Line) -> Result<(), NoMemory>
         }
         Line::Prune { node, block } => add_two(text, b"prune", u64::from(*node), u64::from(*block)),
         Line::Back { client } => add_one(text, b"back client", u64::from(*client)),
-        Line::Restart { .. } => Ok(()),
+        Line::Restart { node } => add_one(text, b"restart node", u64::from(*node)),
     }
 }
 

@@ -27,6 +27,8 @@ pub enum Form {
     Prune,
     /// `client` and a client.
     Back,
+    /// `node` and a node.
+    Restart,
     /// A client, a place and a value of any length.
     Put,
     /// A client, a place and a length.
@@ -46,7 +48,7 @@ impl Form {
         match self {
             Form::Resend | Form::Next => 1,
             Form::Read | Form::Call | Form::Give | Form::Hear => 2,
-            Form::Lost | Form::Crash | Form::Prune | Form::Back => 2,
+            Form::Lost | Form::Crash | Form::Prune | Form::Back | Form::Restart => 2,
             Form::Write | Form::False | Form::Put | Form::Get => 3,
             Form::Sound => 5,
             Form::Mix => 6,
@@ -94,6 +96,7 @@ impl Word {
             b"mix" => Some(Word::Form(Form::Mix)),
             b"prune" => Some(Word::Form(Form::Prune)),
             b"back" => Some(Word::Form(Form::Back)),
+            b"restart" => Some(Word::Form(Form::Restart)),
             b"put" => Some(Word::Form(Form::Put)),
             b"get" => Some(Word::Form(Form::Get)),
             b"next" => Some(Word::Form(Form::Next)),

@@ -1,6 +1,6 @@
 -- Journals that follow a plan are those of a run in phases.
-use Rattle.std.proofs.Common.{◌≡◌, ℕ, ◌+◌, Bool, true, false, ◌&&◌, cond, List, [], ◌∷◌, ◌++◌, map, refl, sym, ap, subst, ◌∙◌, arith, inl, inr}
-use Rattle.std.specs.Prelude.{Option, None, Some, nat_lt, nat_le, slice_get}
+use Rattle.std.proofs.Common.{◌≡◌, ℕ, zero, suc, ◌+◌, ◌<◌, length, Bool, true, false, ◌&&◌, cond, List, [], ◌∷◌, ◌++◌, map, refl, sym, ap, subst, ◌∙◌, arith, inl, inr}
+use Rattle.std.specs.Prelude.{Option, None, Some, nat_lt, nat_le, slice_get, slice_index_or}
 use Rattle.std.specs.List.{Contains, AllByRecursion, filter_map, cons_option}
 use Rattle.std.proofs.lemmas.Bool.Decides.{nat_tests, eqb_tells}
 use Rattle.std.proofs.lemmas.List.Elements.{Contains-append_cases}
@@ -90,9 +90,16 @@ desk_of (d ∷ ds) c e there = elim (eqb_tells d.client c) [
 clients_there : (plan : Plan) (j : Journals) (drawn : ℕ) → AreOfPlan plan j drawn → AreClients j
 clients_there plan j drawn h c e there = let q = desk_of j.desks c e there in subst IsNumber q.2 (named_there plan h.fits q.0.client (h.follows.are_for.named q.0 q.1))
 
+-- who has a node's entry is a node
+node_there : (journals : List (List NodeEntry)) (i : ℕ) (e : NodeEntry) → Contains (slice_index_or journals i []) e → i < length journals
+node_there [] zero e there = absurd (Contains-none e there)
+node_there [] (suc i) e there = absurd (Contains-none e there)
+node_there (es ∷ journals) zero e there = omega arith
+node_there (es ∷ journals) (suc i) e there = (let l = node_there journals i e there in omega (arith, l))
+
 -- ---- phases
 
-module _ (plan : Plan) (j : Journals) (h : Follows plan j) where
+module _ (plan : Plan) (j : Journals) (all : length j.nodes ≡ j.config.n) (h : Follows plan j) where
   client_is : (c : ℕ) → (setting_for j).lying_client c ≡ false → ClientFollows plan c h.phases (at_desk j c)
   client_is c right =
       let true_one : has_number plan.liars.clients c ≡ false = ap (λ l. has_number l.clients c) (sym h.are_for.liars) ∙ right in
@@ -127,15 +134,16 @@ module _ (plan : Plan) (j : Journals) (h : Follows plan j) where
 
   prune_is : (i n block : ℕ) (stamp : Stamp) → Contains (at_node j i) (record { number = n; act = Pruned block stamp }) → (p : Phase) × Contains h.phases p × IsWithin p n × IsGreatest (conduct_of plan.rules) j p.close block stamp
   prune_is i n block stamp there =
-      let q = (h.nodes i).only n block stamp there in
+      let is_node : i < plan.config.n = (let l = node_there j.nodes i (record { number = n; act = Pruned block stamp }) there in let c = ap (λ (x : Numbers). x.n) h.are_for.config in omega (arith, l, all, c)) in
+      let q = (h.nodes i is_node).only n block stamp there in
       let k = number_of h.phases q.0 q.1 in
       let within = filter_has (λ e. nat_le q.0.close e.number && nat_lt e.number q.0.end) (at_node j i) (record { number = n; act = Pruned block stamp }) there (passes q.0 n q.2) in
       let act = Contains-map (λ (e : NodeEntry). e.act) (nodes_within q.0 (at_node j i)) (record { number = n; act = Pruned block stamp }) within in
-      let x = listed _ (h.prunes k.0) (Pruned block stamp) (subst (λ (acts : List NodeAct). Contains acts (Pruned block stamp)) ((h.nodes i).closed k.0 q.0 k.1).acts act) in
+      let x = listed _ (h.prunes k.0) (Pruned block stamp) (subst (λ (acts : List NodeAct). Contains acts (Pruned block stamp)) ((h.nodes i is_node).closed k.0 q.0 k.1).acts act) in
       (q.0, q.1, q.2, greatest_at q.0 x.0 block stamp x.2 ((h.pruned k.0 q.0 k.1).greatest x.0 x.1))
 
 pub plans_phase : PlansPhase
-plans_phase plan j drawn h = record { phase = is_phase plan j h.follows; prunes = prune_is plan j h.follows }
+plans_phase plan j drawn h = record { phase = is_phase plan j h.kept.count h.follows; prunes = prune_is plan j h.kept.count h.follows }
 
 -- ---- the whole
 

@@ -1,5 +1,5 @@
 -- When journals are those of a run of a plan.
-use Rattle.std.specs.Prelude.{◌≡◌, ℕ, zero, suc, ◌≤◌, Bool, true, false, List, [], ◌∷◌, length, map, count_by, Option, slice_get}
+use Rattle.std.specs.Prelude.{◌≡◌, ℕ, zero, suc, ◌<◌, ◌≤◌, Bool, true, false, List, [], ◌∷◌, length, map, count_by, Option, slice_get}
 use Rattle.std.specs.declared.option.Option.TheVariants.{None, Some}
 use Rattle.std.specs.List.{Contains}
 use Rattle.stamp_order.specs.declared.Stamp.{Stamp}
@@ -79,7 +79,7 @@ pub record Follows (plan : Plan) (j : Journals) : Type 0 where
   pub cut : AreCut plan j phases
   pub clients : (c : ℕ) → FollowsAs (has_number plan.liars.clients c) plan phases c (at_desk j c)
   pub prunes : ℕ → List Pruning
-  pub nodes : (i : ℕ) → NodeFollows plan i phases prunes (at_node j i)
+  pub nodes : (i : ℕ) → i < plan.config.n → NodeFollows plan i phases prunes (at_node j i)
   pub pruned : (k : ℕ) (p : Phase) → slice_get phases k ≡ Some p → ArePrunes plan j (begin_of phases k) p (prunes k)
 
 -- the journals are those of a run of the plan: kept, where nodes behave as the plan says; they agree in pairs, have each number below

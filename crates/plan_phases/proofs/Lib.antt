@@ -1,0 +1,3 @@
+pub mod Later
+pub mod Turns
+pub mod Closing

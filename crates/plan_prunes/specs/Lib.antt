@@ -1,0 +1,2 @@
+pub mod Prunings
+pub mod Tops

@@ -1,0 +1,25 @@
+//! Laws of a run's cells and desks, each the contract of a function that does nothing.
+
+ghost use Rattle.run_journals.specs.Standing.{PhasesWork, JournalsBelow, CellsPrune};
+ghost use Rattle.run_journals.specs.Ended.{RunsEnd};
+
+use locked_nodes::laws::kept_journals;
+use plan_followed::laws::plans;
+use plan_phases::laws::phases_close;
+
+/// After a phase what was closed is closed in the journals that cells and desks then make; what their passes have seen bounds the
+/// numbers in these; and the prunes that cells did are those of the phase.
+pub fn phases_work()
+    ensures work { PhasesWork }
+    ensures below { JournalsBelow }
+    ensures prunes { CellsPrune }
+{}
+
+/// When a run has ended its journals are those of a run of the plan.
+pub fn runs_end()
+    ensures { RunsEnd }
+{
+    kept_journals();
+    plans();
+    phases_close();
+}
