@@ -1,0 +1,29 @@
+-- What stands in a list of which one item was replaced.
+use Rattle.std.proofs.Common.{◌≡◌, ◌≢◌, ℕ, zero, suc, List, [], ◌∷◌, refl, ap, arith, inl, inr}
+use Rattle.std.specs.declared.option.Option.TheVariants.{Some}
+use Rattle.std.specs.Prelude.{◌⊎◌, slice_get, slice_set}
+
+moved_up : {A : Type 0} (xs : List A) (k i : ℕ) (x y : A) → ((i ≡ k) × (x ≡ y)) ⊎ ((i ≢ k) × (slice_get xs i ≡ Some x)) → ((suc i ≡ suc k) × (x ≡ y)) ⊎ ((suc i ≢ suc k) × (slice_get xs i ≡ Some x))
+moved_up xs k i x y (inl h) = inl (ap suc h.0, h.1)
+moved_up xs k i x y (inr h) = inr ((λ e. h.0 (omega arith)), h.1)
+
+pub get_set : {A : Type 0} (xs : List A) (k i : ℕ) (x y : A) → slice_get (slice_set xs k y) i ≡ Some x → ((i ≡ k) × (x ≡ y)) ⊎ ((i ≢ k) × (slice_get xs i ≡ Some x))
+get_set [] k i x y is = inr (absurd cc)
+get_set (z ∷ xs) zero zero x y is = inl (refl, cc)
+get_set (z ∷ xs) zero (suc i) x y is = inr ((λ e. omega arith), is)
+get_set (z ∷ xs) (suc k) zero x y is = inr ((λ e. omega arith), is)
+get_set (z ∷ xs) (suc k) (suc i) x y is = moved_up xs k i x y (get_set xs k i x y is)
+
+-- the new item stands where it was put
+pub set_at : {A : Type 0} (xs : List A) (k : ℕ) (x y : A) → slice_get xs k ≡ Some x → slice_get (slice_set xs k y) k ≡ Some y
+set_at [] k x y at = absurd cc
+set_at (z ∷ xs) zero x y at = refl
+set_at (z ∷ xs) (suc k) x y at = set_at xs k x y at
+
+-- an item stands there still, or it was the one that was replaced
+pub still_there : {A : Type 0} (xs : List A) (k i : ℕ) (x y w : A) → slice_get xs k ≡ Some x → slice_get xs i ≡ Some w → ((w ≡ x) × (slice_get (slice_set xs k y) i ≡ Some y)) ⊎ (slice_get (slice_set xs k y) i ≡ Some w)
+still_there [] k i x y w at there = absurd cc
+still_there (z ∷ xs) zero zero x y w at there = let e : w ≡ x = cc in inl (e, refl)
+still_there (z ∷ xs) zero (suc i) x y w at there = inr there
+still_there (z ∷ xs) (suc k) zero x y w at there = inr there
+still_there (z ∷ xs) (suc k) (suc i) x y w at there = still_there xs k i x y w at there

@@ -1,0 +1,139 @@
+-- What a turn at a cell leaves in a chit and at a desk.
+use Rattle.std.proofs.Common.{◌≡◌, ℕ, Bool, true, false, List, [], ◌∷◌, ◌++◌, length, map, Option, Result, Ok, Err, refl, sym, ap, subst, ◌∙◌, arith, inl, inr, append-nil}
+use Rattle.std.specs.declared.option.Option.TheVariants.{None, Some}
+use Rattle.std.specs.Prelude.{IfOk, OnOk, drop, if◌then◌else◌, nat_lt}
+use Rattle.std.proofs.lemmas.List.{map-append}
+use Rattle.quorum_rules.specs.Limits.{Numbers}
+use Rattle.protocol.specs.Setting.{Setting}
+use Rattle.protocol.specs.Operations.{Outcome, outstanding}
+use Rattle.protocol.specs.Messages.{Message, Body}
+use Rattle.protocol.specs.Seen.{SeenTask, task_at, outstanding_of}
+use Rattle.wire_forms.specs.declared.message.Body.TheVariants.{Ask as Asks, Answer as Answers}
+use Rattle.event_clock.specs.Passes.{ClockId}
+use Rattle.receipt_lock.specs.Turns.{Begins, new_entries, placed_from}
+use Rattle.receipt_lock.specs.Chits.{Holder as Chit, took, gave, found_list}
+use Rattle.journals.specs.declared.desk.Way.{Way}
+use Rattle.journals.specs.declared.desk.Way.TheVariants.{Call as ByCall, Drop, Hold}
+use Rattle.journals.specs.declared.node.NodeAct.{NodeAct}
+use Rattle.journals.specs.declared.node.NodeEntry.{NodeEntry}
+use Rattle.locked_nodes.specs.declared.answers.CellRefusal.{CellRefusal}
+use Rattle.locked_nodes.specs.declared.charter.Charter.{Charter}
+use Rattle.locked_nodes.specs.declared.charter.Item.{Item}
+use Rattle.locked_nodes.specs.declared.charter.Item.TheVariants.{Head, Entry}
+use Rattle.locked_nodes.specs.Cells.{CellView, Serves, HoldsWhole, IsShare, IsWhole, entry, items, with_entry}
+use Rattle.client_desks.specs.Desks.{DeskView, state_at, asks_of, done_by, reply_by, ending, AddPair, Calls, Delivers}
+use Rattle.desk_keys.specs.Keys.{IsHead, IsAsk, HasLeft, AddSides, AddCall, AddSent, LeavesNoSide}
+
+-- whoever takes a cell knows its charter
+pub charter_of : (config : Numbers) (clock : ClockId) (i : ℕ) (begun : List Item) (cell : CellView) (head : IsHead config clock i begun) → Begins begun (items cell) → cell.charter ≡ head.charter
+charter_of config clock i begun cell head begins =
+    let same : Head cell.charter ∷ map (λ e. Entry e) cell.journal ≡ Head head.charter ∷ (head.rest ++ begins.0) = begins.1 ∙ ap (λ l. l ++ begins.0) head.begins in
+    cc
+
+pub number_is : (config : Numbers) (clock : ClockId) (i : ℕ) (begun : List Item) (cell : CellView) → IsHead config clock i begun → Begins begun (items cell) → cell.charter.number ≡ i
+number_is config clock i begun cell head begins = ap (λ (c : Charter). c.number) (charter_of config clock i begun cell head begins) ∙ head.number
+
+pub ticks_is : (config : Numbers) (clock : ClockId) (i : ℕ) (begun : List Item) (cell : CellView) → IsHead config clock i begun → Begins begun (items cell) → cell.charter.pass.clock ≡ clock
+ticks_is config clock i begun cell head begins = ap (λ (c : Charter). c.pass.clock) (charter_of config clock i begun cell head begins) ∙ head.ticks
+
+-- a node's only cell serves each ask to the node, in each way
+share_one : (body : Body) → IsAsk body → IsShare 0 1 body
+share_one (Asks ask) is = omega arith
+share_one (Answers reply) is = absurd is
+
+whole_one : (way : Way) → IsWhole 1 way
+whole_one ByCall = tt
+whole_one Drop = tt
+whole_one Hold = refl
+
+pub serves_all : (config : Numbers) (clock : ClockId) (i : ℕ) (begun : List Item) (cell : CellView) → IsHead config clock i begun → Begins begun (items cell) → (ask : Message) → ask.node ≡ i → IsAsk ask.body → Serves cell.charter ask
+serves_all config clock i begun cell head begins ask node is =
+    let charter = charter_of config clock i begun cell head begins in
+    let shard : cell.charter.shard ≡ 0 = ap (λ (c : Charter). c.shard) charter ∙ head.whole.0 in
+    let shards : cell.charter.shards ≡ 1 = ap (λ (c : Charter). c.shards) charter ∙ head.whole.1 in
+    let one : IsShare 0 1 ask.body = share_one ask.body is in
+    let some : IsShare cell.charter.shard 1 ask.body = subst (λ k. IsShare k 1 ask.body) (sym shard) one in
+    (node ∙ sym (number_is config clock i begun cell head begins), subst (λ k. IsShare cell.charter.shard k ask.body) (sym shards) some)
+
+pub holds_all : (config : Numbers) (clock : ClockId) (i : ℕ) (begun : List Item) (cell : CellView) → IsHead config clock i begun → Begins begun (items cell) → (way : Way) → HoldsWhole cell.charter way
+holds_all config clock i begun cell head begins way = subst (λ k. IsWhole k way) (sym (ap (λ (c : Charter). c.shards) (charter_of config clock i begun cell head begins) ∙ head.whole.1)) (whole_one way)
+
+-- what a phase asks of a node is an ask to it
+picked : {A : Type 0} (b : Bool) (m ask : A) → (if b then Some m else None) ≡ Some ask → m ≡ ask
+picked true m ask is = cc
+picked false m ask is = absurd cc
+
+pub asks_node : (s : Setting) (id : ℕ) (task : Option SeenTask) (node : ℕ) (ask : Message) → outstanding_of s id task node ≡ Some ask → ask.node ≡ node
+asks_node s id None node ask is = cc
+asks_node s id (Some t) node ask is = ap (λ (m : Message). m.node) (sym (picked (nat_lt node s.n) (outstanding s id (task_at 0 t) node) ask is))
+
+pub asks_ask : (s : Setting) (id : ℕ) (task : Option SeenTask) (node : ℕ) (ask : Message) → outstanding_of s id task node ≡ Some ask → IsAsk ask.body
+asks_ask s id None node ask is = absurd cc
+asks_ask s id (Some t) node ask is = subst (λ (m : Message). IsAsk m.body) (picked (nat_lt node s.n) (outstanding s id (task_at 0 t) node) ask is) tt
+
+-- the chit gets the entry that the cell got
+items_snoc : (cell : CellView) (n : ℕ) (a : NodeAct) → items (with_entry cell n a) ≡ items cell ++ Entry (entry n a) ∷ []
+items_snoc cell n a = ap (λ l. Head cell.charter ∷ l) (map-append (λ (e : NodeEntry). Entry e) cell.journal (entry n a ∷ []))
+
+drop_front : {X : Type 0} (xs ys : List X) → drop (length xs) (xs ++ ys) ≡ ys
+drop_front [] ys = refl
+drop_front (x ∷ xs) ys = drop_front xs ys
+
+pub one_left : (cell now : CellView) (n : ℕ) (a : NodeAct) (was held after : Chit Item) → held ≡ took was (items cell) → after ≡ gave held (items now) → now ≡ with_entry cell n a → HasLeft was n a after
+one_left cell now n a was held after take give grew =
+    let list : items now ≡ items cell ++ Entry (entry n a) ∷ [] = ap items grew ∙ items_snoc cell n a in
+    let more : new_entries (items cell) (items now) ≡ (length (items cell), Entry (entry n a)) ∷ [] =
+    ap (new_entries (items cell)) list ∙ ap (placed_from (length (items cell))) (drop_front (items cell) (Entry (entry n a) ∷ [])) in
+    record {
+      place = length (items cell);
+      mine = ap (λ (h : Chit Item). h.mine) give ∙ ap (λ (h : Chit Item). h.mine ++ new_entries (found_list h.holds) (items now)) take ∙ ap (λ l. was.mine ++ l) more;
+    }
+
+none_left : (cell now : CellView) (was held after : Chit Item) → held ≡ took was (items cell) → after ≡ gave held (items now) → now ≡ cell → after.mine ≡ was.mine
+none_left cell now was held after take give same =
+    let list : items now ≡ items cell ++ [] = ap items same ∙ sym (append-nil (items cell)) in
+    let more : new_entries (items cell) (items now) ≡ [] = ap (new_entries (items cell)) list ∙ ap (placed_from (length (items cell))) (drop_front (items cell) []) in
+    ap (λ (h : Chit Item). h.mine) give ∙ ap (λ (h : Chit Item). h.mine ++ new_entries (found_list h.holds) (items now)) take ∙ ap (λ l. was.mine ++ l) more ∙ append-nil was.mine
+
+-- the two sides of a pair
+add_sides : (old new : DeskView) (cell now : CellView) (way : Way) (ask : Message) (was held after : Chit Item) → held ≡ took was (items cell) → after ≡ gave held (items now) → AddPair old cell way ask new now
+    → AddSides old was way ask (reply_by cell way ask) new after
+add_sides old new cell now way ask was held after take give pair = record {
+  call = record { number = pair.number; later = pair.later; desk = pair.desk };
+  act = done_by cell way ask;
+  left = one_left cell now pair.number (done_by cell way ask) was held after take give pair.cell;
+  agree = pair.agree;
+}
+
+pub on_ok_called : (answer : Result (Option Outcome) CellRefusal) (node : ℕ) (way : Way) (old new : DeskView) (cell now : CellView) (was held after : Chit Item) → held ≡ took was (items cell) → after ≡ gave held (items now) → cell.charter.number ≡ node
+    → OnOk answer (Calls old cell way new now)
+    → IfOk answer (λ o. (m : Message) → asks_of old cell.charter.number ≡ Some m → o ≡ ending (state_at old).client (reply_by cell way m))
+    → IfOk answer (λ o. AddCall old was node way o new after)
+on_ok_called (Ok o) node way old new cell now was held after take give number calls ended = record {
+  ask = calls.ask;
+  asked = sym (ap (asks_of old) number) ∙ calls.asked;
+  reply = reply_by cell way calls.ask;
+  sides = add_sides old new cell now way calls.ask was held after take give calls.pair;
+  ended = ended calls.ask calls.asked;
+}
+on_ok_called (Err e) node way old new cell now was held after take give number calls ended = tt
+
+pub on_ok_sent : {A : Type 0} (answer : Result A CellRefusal) (ask : Message) (old new : DeskView) (cell now : CellView) (was held after : Chit Item) → held ≡ took was (items cell) → after ≡ gave held (items now)
+    → OnOk answer (AddPair old cell ByCall ask new now) → OnOk answer (AddSent old was ask new after)
+on_ok_sent (Ok x) ask old new cell now was held after take give pair = (reply_by cell ByCall ask, add_sides old new cell now ByCall ask was held after take give pair)
+on_ok_sent (Err e) ask old new cell now was held after take give pair = tt
+
+pub leaves_no_side : (cell now : CellView) (was held after : Chit Item) → held ≡ took was (items cell) → after ≡ gave held (items now) → Delivers cell now → LeavesNoSide was after
+leaves_no_side cell now was held after take give (inl same) = inl (none_left cell now was held after take give same)
+leaves_no_side cell now was held after take give (inr d) = inr (d.0, d.1, one_left cell now d.0 d.1 was held after take give d.2, d.3)
+
+grown : (cell now : CellView) → Delivers cell now → Begins (items cell) (items now)
+grown cell now (inl same) = ([], ap items same ∙ sym (append-nil (items cell)))
+grown cell now (inr d) = (Entry (entry d.0 d.1) ∷ [], ap items d.2 ∙ items_snoc cell d.0 d.1)
+
+-- what was found begins what is given back
+pub gives_back : (cell now : CellView) (was held : Chit Item) → held ≡ took was (items cell) → Begins (items cell) (items now) → Begins (found_list held.holds) (items now)
+gives_back cell now was held take begins = subst (λ (h : Chit Item). Begins (found_list h.holds) (items now)) (sym take) begins
+
+pub delivered_back : (cell now : CellView) (was held : Chit Item) → held ≡ took was (items cell) → Delivers cell now → Begins (found_list held.holds) (items now)
+delivered_back cell now was held take delivers = gives_back cell now was held take (grown cell now delivers)

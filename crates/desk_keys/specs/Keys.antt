@@ -1,0 +1,140 @@
+-- A desk with a chit for each cell, what the two say of each other, and what each call adds.
+use Rattle.std.specs.Prelude.{◌≡◌, ◌⊎◌, ℕ, ◌≤◌, List, [], ◌∷◌, ◌++◌, length, map, All, Option, slice_get}
+use Rattle.std.specs.declared.option.Option.TheVariants.{None, Some}
+use Rattle.std.specs.declared.result.Result.{Result}
+use Rattle.std.specs.declared.result.Result.TheVariants.{Ok, Err}
+use Rattle.std.specs.List.{Contains}
+use Rattle.quorum_rules.specs.Limits.{Numbers}
+use Rattle.protocol.specs.Messages.{Message, Body}
+use Rattle.wire_forms.specs.declared.message.Body.TheVariants.{Ask as Asks, Answer as Answers}
+use Rattle.protocol.specs.Operations.{Outcome}
+use Rattle.event_clock.specs.Passes.{ClockId}
+use Rattle.receipt_lock.specs.Chits.{Holder as Chit, Deposit}
+use Rattle.journals.specs.declared.node.NodeAct.{NodeAct}
+use Rattle.journals.specs.declared.node.NodeEntry.{NodeEntry}
+use Rattle.journals.specs.declared.desk.Way.{Way}
+use Rattle.journals.specs.declared.desk.Way.TheVariants.{Call as ByCall}
+use Rattle.journals.specs.declared.desk.DeskAct.{DeskAct}
+use Rattle.journals.specs.declared.desk.DeskAct.TheVariants.{Call}
+use Rattle.journals.specs.declared.desk.DeskEntry.{DeskEntry}
+use Rattle.journals.specs.Steps.{side, IsOwn}
+use Rattle.locked_nodes.specs.declared.answers.CellRefusal.{CellRefusal}
+use Rattle.locked_nodes.specs.declared.charter.Charter.{Charter}
+use Rattle.locked_nodes.specs.declared.charter.Item.{Item}
+use Rattle.locked_nodes.specs.declared.charter.Item.TheVariants.{Head, Entry}
+use Rattle.locked_nodes.specs.Cells.{entry}
+use Rattle.client_desks.specs.Desks.{DeskView, state_at, asks_of, desk_entry, with_call, ending}
+
+-- how the list of the cell of node i begins, in a cluster of these numbers, by this clock: with the charter of a node's only cell
+pub record IsHead (config : Numbers) (clock : ClockId) (i : ℕ) (begun : List Item) : Type 0 where
+  pub charter : Charter
+  pub rest : List Item
+  pub begins : begun ≡ Head charter ∷ rest
+  pub cluster : charter.config ≡ config
+  pub number : charter.number ≡ i
+  pub whole : (charter.shard ≡ 0) × (charter.shards ≡ 1)
+  pub ticks : charter.pass.clock ≡ clock
+
+-- which clock and which vaults threads share
+pub record FloorView : Type 0 where
+  pub clock : ClockId
+  pub vaults : List (Deposit Item)
+
+-- there is a vault for the cell of each node, in the nodes' order
+pub record IsFloor (config : Numbers) (floor : FloorView) : Type 0 where
+  pub count : length floor.vaults ≡ config.n
+  pub each : (i : ℕ) (v : Deposit Item) → slice_get floor.vaults i ≡ Some v → IsHead config floor.clock i v.id.begun
+
+-- a desk, a chit for each cell, and the refusal that ended its work, if one came
+pub record KeysView : Type 0 where
+  pub desk : DeskView
+  pub chits : List (Chit Item)
+  pub refused : Option CellRefusal
+
+-- an entry that the chit's cell had at first, or that the chit left there
+abbrev pub Knows : Chit Item → NodeEntry → Type 0
+Knows chit n = Contains chit.vault.begun (Entry n) ⊎ ((place : ℕ) × Contains chit.mine (place, Entry n))
+
+-- the desk's entry is the client's side of an entry that one of the chits knows
+pub record IsSide (id : ℕ) (chits : List (Chit Item)) (e : DeskEntry) : Type 0 where
+  pub node : ℕ
+  pub chit : Chit Item
+  pub there : slice_get chits node ≡ Some chit
+  pub of : NodeEntry
+  pub known : Knows chit of
+  pub number : of.number ≡ e.number
+  pub agree : side of.act ≡ Some (id, e.act)
+
+-- each entry that a chit left, if a client has a side of it, stands on the desk; and each entry of the desk is its own, or the side of
+-- an entry that a chit knows
+pub record Agree (desk : DeskView) (chits : List (Chit Item)) : Type 0 where
+  pub left : (k : ℕ) (chit : Chit Item) (p : ℕ) (n : NodeEntry) (c : ℕ) (act : DeskAct) → slice_get chits k ≡ Some chit → Contains chit.mine (p, Entry n) → side n.act ≡ Some (c, act)
+      → (c ≡ desk.id) × Contains desk.entries (desk_entry n.number act)
+  pub asked : (e : DeskEntry) → Contains desk.entries e → IsOwn e.act ⊎ IsSide desk.id chits e
+
+-- what keys keep: no chit holds a cell, and until a refusal came, desk and chits agree
+pub record AreKeys (desk : DeskView) (chits : List (Chit Item)) (refused : Option CellRefusal) : Type 0 where
+  pub rest : All (λ c. c.holds ≡ None) chits
+  pub agree : refused ≡ None → Agree desk chits
+
+-- the keys are for this floor: it is that of the desk's cluster and clock, and the chits are for its vaults, in their order
+pub record Fit (keys : KeysView) (of : FloorView) : Type 0 where
+  pub floor : IsFloor keys.desk.config of
+  pub ticks : keys.desk.pass.clock ≡ of.clock
+  pub own : map (λ c. c.vault) keys.chits ≡ map (λ v. v.id) of.vaults
+
+-- the refusal in an answer, if there is one
+abbrev pub refusal_in : {A : Type 0} → Result A CellRefusal → Option CellRefusal
+refusal_in (Ok x) = None
+refusal_in (Err e) = Some e
+
+-- the body is an ask
+abbrev pub IsAsk : Body → Type 0
+IsAsk (Asks ask) = Unit {0}
+IsAsk (Answers reply) = ⊥
+
+-- the desk asked the node this, in this way, and has the call and its reply, under a number not below any that its pass had seen
+pub record HasAsked (old : DeskView) (way : Way) (ask : Message) (reply : Option Message) (new : DeskView) : Type 0 where
+  pub number : ℕ
+  pub later : old.pass.seen ≤ number
+  pub desk : new ≡ with_call old number (Call way ask reply)
+
+-- it asked what the client's phase asks of the node, and the outcome is that of the operation that the reply ended, if it ended one
+pub record HasCalled (old : DeskView) (node : ℕ) (way : Way) (outcome : Option Outcome) (new : DeskView) : Type 0 where
+  pub ask : Message
+  pub asked : asks_of old node ≡ Some ask
+  pub reply : Option Message
+  pub call : HasAsked old way ask reply new
+  pub ended : outcome ≡ ending (state_at old).client reply
+
+-- it sent the node this ask
+abbrev pub HasSent : DeskView → Message → DeskView → Type 0
+HasSent old ask new = (reply : Option Message) × HasAsked old ByCall ask reply new
+
+-- a chit has one receipt more, for this entry
+pub record HasLeft (was : Chit Item) (number : ℕ) (act : NodeAct) (now : Chit Item) : Type 0 where
+  pub place : ℕ
+  pub mine : now.mine ≡ was.mine ++ (place, Entry (entry number act)) ∷ []
+
+-- a desk and a chit have the two sides of one entry more
+pub record AddSides (old : DeskView) (was : Chit Item) (way : Way) (ask : Message) (reply : Option Message) (new : DeskView) (now : Chit Item) : Type 0 where
+  pub call : HasAsked old way ask reply new
+  pub act : NodeAct
+  pub left : HasLeft was call.number act now
+  pub agree : side act ≡ Some (old.id, Call way ask reply)
+
+-- and these are the sides of what the client's phase asks of the node
+pub record AddCall (old : DeskView) (was : Chit Item) (node : ℕ) (way : Way) (outcome : Option Outcome) (new : DeskView) (now : Chit Item) : Type 0 where
+  pub ask : Message
+  pub asked : asks_of old node ≡ Some ask
+  pub reply : Option Message
+  pub sides : AddSides old was way ask reply new now
+  pub ended : outcome ≡ ending (state_at old).client reply
+
+-- and these are the sides of what a lying client sent
+abbrev pub AddSent : DeskView → Chit Item → Message → DeskView → Chit Item → Type 0
+AddSent old was ask new now = (reply : Option Message) × AddSides old was ByCall ask reply new now
+
+-- a chit has left nothing, or an entry of which no client has a side
+abbrev pub LeavesNoSide : Chit Item → Chit Item → Type 0
+LeavesNoSide was now = (now.mine ≡ was.mine) ⊎ ((n : ℕ) × (act : NodeAct) × HasLeft was n act now × (side act ≡ None))

@@ -1,0 +1,24 @@
+/// A moment of an operation, at which a gate may hold its client.
+#[derive(Clone, Copy, Debug, PartialEq, Eq)]
+pub enum Edge {
+    /// Before the operation starts.
+    Begin,
+    /// While the client has this node's cell in hand, and before the cell's step.
+    Locked(u8),
+    /// After the operation ended.
+    End,
+}
+
+/// Called by the thread of a correct client at each edge of its operations, which count from 1. No contract speaks of what it
+/// does.
+pub trait Gate: Sync {
+    fn at(&self, client: u32, op: u64, edge: Edge);
+}
+
+/// A gate that holds nobody.
+#[derive(Clone, Copy, Debug, PartialEq, Eq)]
+pub struct OpenGate;
+
+impl Gate for OpenGate {
+    fn at(&self, _client: u32, _op: u64, _edge: Edge) {}
+}
