@@ -29,7 +29,12 @@ impl StoredNode<CalmDisk> {
     pub fn opened_again(&self) -> Result<StoredNode<CalmDisk>, NoMemory>
         ensures { IfOk result (λ s. s.node ≡ self.now.node) }
     {
-        open_calm(self.alloc, self.node.config(), self.node.number(), self.disk.copy()?)
+        open_calm(
+            self.alloc,
+            self.node.config(),
+            self.node.number(),
+            self.disk.copy()?,
+        )
     }
 
     /// Makes room for one more slot and the byte after it.
