@@ -1,28 +1,25 @@
 -- What a turn at a cell leaves in a chit and at a desk.
-use Rattle.std.proofs.Common.{◌≡◌, ℕ, Bool, true, false, List, [], ◌∷◌, ◌++◌, length, map, Option, Result, Ok, Err, refl, sym, ap, subst, ◌∙◌, arith, inl, inr, append-nil}
-use Rattle.std.specs.declared.option.Option.TheVariants.{None, Some}
-use Rattle.std.specs.Prelude.{IfOk, OnOk, drop, if◌then◌else◌, nat_lt}
+use Rattle.std.proofs.Common.{◌≡◌, ℕ, List, [], ◌∷◌, ◌++◌, length, map, Option, Result, Ok, Err, refl, sym, ap, subst, ◌∙◌, inl, inr, append-nil}
+use Rattle.std.specs.declared.option.Option.TheVariants.{Some}
+use Rattle.std.specs.Prelude.{IfOk, OnOk, drop}
 use Rattle.std.proofs.lemmas.List.{map-append}
 use Rattle.quorum_rules.specs.Limits.{Numbers}
-use Rattle.protocol.specs.Setting.{Setting}
-use Rattle.protocol.specs.Operations.{Outcome, outstanding}
-use Rattle.protocol.specs.Messages.{Message, Body}
-use Rattle.protocol.specs.Seen.{SeenTask, task_at, outstanding_of}
-use Rattle.wire_forms.specs.declared.message.Body.TheVariants.{Ask as Asks, Answer as Answers}
+use Rattle.protocol.specs.Operations.{Outcome}
+use Rattle.protocol.specs.Messages.{Message}
 use Rattle.event_clock.specs.Passes.{ClockId}
 use Rattle.receipt_lock.specs.Turns.{Begins, new_entries, placed_from}
 use Rattle.receipt_lock.specs.Chits.{Holder as Chit, took, gave, found_list}
 use Rattle.journals.specs.declared.desk.Way.{Way}
-use Rattle.journals.specs.declared.desk.Way.TheVariants.{Call as ByCall, Drop, Hold}
+use Rattle.journals.specs.declared.desk.Way.TheVariants.{Call as ByCall}
 use Rattle.journals.specs.declared.node.NodeAct.{NodeAct}
 use Rattle.journals.specs.declared.node.NodeEntry.{NodeEntry}
 use Rattle.locked_nodes.specs.declared.answers.CellRefusal.{CellRefusal}
 use Rattle.locked_nodes.specs.declared.charter.Charter.{Charter}
 use Rattle.locked_nodes.specs.declared.charter.Item.{Item}
 use Rattle.locked_nodes.specs.declared.charter.Item.TheVariants.{Head, Entry}
-use Rattle.locked_nodes.specs.Cells.{CellView, Serves, HoldsWhole, IsShare, IsWhole, entry, items, with_entry}
+use Rattle.locked_nodes.specs.Cells.{CellView, entry, items, with_entry}
 use Rattle.client_desks.specs.Desks.{DeskView, state_at, asks_of, done_by, reply_by, ending, AddPair, Calls, Delivers}
-use Rattle.desk_keys.specs.Keys.{IsHead, IsAsk, HasLeft, AddSides, AddCall, AddSent, LeavesNoSide}
+use Rattle.desk_keys.specs.Keys.{IsHead, HasLeft, AddSides, AddCall, AddSent, LeavesNoSide}
 
 -- whoever takes a cell knows its charter
 pub charter_of : (config : Numbers) (clock : ClockId) (i : ℕ) (begun : List Item) (cell : CellView) (head : IsHead config clock i begun) → Begins begun (items cell) → cell.charter ≡ head.charter
@@ -32,44 +29,6 @@ charter_of config clock i begun cell head begins =
 
 pub number_is : (config : Numbers) (clock : ClockId) (i : ℕ) (begun : List Item) (cell : CellView) → IsHead config clock i begun → Begins begun (items cell) → cell.charter.number ≡ i
 number_is config clock i begun cell head begins = ap (λ (c : Charter). c.number) (charter_of config clock i begun cell head begins) ∙ head.number
-
-pub ticks_is : (config : Numbers) (clock : ClockId) (i : ℕ) (begun : List Item) (cell : CellView) → IsHead config clock i begun → Begins begun (items cell) → cell.charter.pass.clock ≡ clock
-ticks_is config clock i begun cell head begins = ap (λ (c : Charter). c.pass.clock) (charter_of config clock i begun cell head begins) ∙ head.ticks
-
--- a node's only cell serves each ask to the node, in each way
-share_one : (body : Body) → IsAsk body → IsShare 0 1 body
-share_one (Asks ask) is = omega arith
-share_one (Answers reply) is = absurd is
-
-whole_one : (way : Way) → IsWhole 1 way
-whole_one ByCall = tt
-whole_one Drop = tt
-whole_one Hold = refl
-
-pub serves_all : (config : Numbers) (clock : ClockId) (i : ℕ) (begun : List Item) (cell : CellView) → IsHead config clock i begun → Begins begun (items cell) → (ask : Message) → ask.node ≡ i → IsAsk ask.body → Serves cell.charter ask
-serves_all config clock i begun cell head begins ask node is =
-    let charter = charter_of config clock i begun cell head begins in
-    let shard : cell.charter.shard ≡ 0 = ap (λ (c : Charter). c.shard) charter ∙ head.whole.0 in
-    let shards : cell.charter.shards ≡ 1 = ap (λ (c : Charter). c.shards) charter ∙ head.whole.1 in
-    let one : IsShare 0 1 ask.body = share_one ask.body is in
-    let some : IsShare cell.charter.shard 1 ask.body = subst (λ k. IsShare k 1 ask.body) (sym shard) one in
-    (node ∙ sym (number_is config clock i begun cell head begins), subst (λ k. IsShare cell.charter.shard k ask.body) (sym shards) some)
-
-pub holds_all : (config : Numbers) (clock : ClockId) (i : ℕ) (begun : List Item) (cell : CellView) → IsHead config clock i begun → Begins begun (items cell) → (way : Way) → HoldsWhole cell.charter way
-holds_all config clock i begun cell head begins way = subst (λ k. IsWhole k way) (sym (ap (λ (c : Charter). c.shards) (charter_of config clock i begun cell head begins) ∙ head.whole.1)) (whole_one way)
-
--- what a phase asks of a node is an ask to it
-picked : {A : Type 0} (b : Bool) (m ask : A) → (if b then Some m else None) ≡ Some ask → m ≡ ask
-picked true m ask is = cc
-picked false m ask is = absurd cc
-
-pub asks_node : (s : Setting) (id : ℕ) (task : Option SeenTask) (node : ℕ) (ask : Message) → outstanding_of s id task node ≡ Some ask → ask.node ≡ node
-asks_node s id None node ask is = cc
-asks_node s id (Some t) node ask is = ap (λ (m : Message). m.node) (sym (picked (nat_lt node s.n) (outstanding s id (task_at 0 t) node) ask is))
-
-pub asks_ask : (s : Setting) (id : ℕ) (task : Option SeenTask) (node : ℕ) (ask : Message) → outstanding_of s id task node ≡ Some ask → IsAsk ask.body
-asks_ask s id None node ask is = absurd cc
-asks_ask s id (Some t) node ask is = subst (λ (m : Message). IsAsk m.body) (picked (nat_lt node s.n) (outstanding s id (task_at 0 t) node) ask is) tt
 
 -- the chit gets the entry that the cell got
 items_snoc : (cell : CellView) (n : ℕ) (a : NodeAct) → items (with_entry cell n a) ≡ items cell ++ Entry (entry n a) ∷ []

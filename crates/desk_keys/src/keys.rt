@@ -200,7 +200,6 @@ impl Keys {
             floor.clock(),
             &mut self.chits[place],
             &mut self.desk,
-            node,
         );
         self.refused = refusal_of(&answer);
         answer
@@ -300,11 +299,10 @@ fn deliver_in<R: Wait>(
     clock: &Clock,
     chit: &mut Chit<NodeCell>,
     desk: &mut Desk,
-    node: u8,
 ) -> Result<Late, CellRefusal>
     requires own { chit.old.vault ≡ vault.now.id }
     requires rests { chit.old.holds ≡ None }
-    requires head { IsHead desk.old.config clock.now node vault.now.id.begun }
+    requires head { (i : ℕ) × IsHead desk.old.config clock.now i vault.now.id.begun }
     requires clock { desk.old.pass.clock ≡ clock.now }
     ensures own { chit.new.vault ≡ chit.old.vault }
     ensures rests { chit.new.holds ≡ None }

@@ -1,0 +1,6 @@
+mod Places
+mod Opening
+mod Closing
+mod Pairing
+mod Phasing
+mod Sending

@@ -1,0 +1,104 @@
+-- Vaults, hands and posts before the threads start.
+use Rattle.std.proofs.Common.{◌≡◌, ℕ, suc, List, [], ◌∷◌, ◌++◌, length, map, Result, Ok, Err, refl, sym, ap, subst, ◌∙◌, arith, inl, inr}
+use Rattle.std.specs.declared.option.Option.TheVariants.{None, Some}
+use Rattle.std.specs.Prelude.{All, IfOk, false, slice_get}
+use Rattle.std.specs.List.{Contains}
+use Rattle.std.proofs.lemmas.List.{map-append}
+use Rattle.std.proofs.lemmas.Option.{get_or_from_slice_get}
+use Rattle.quorum_rules.specs.Limits.{Numbers}
+use Rattle.event_clock.specs.Passes.{ClockId}
+use Rattle.receipt_lock.specs.Chits.{Holder as Chit, Deposit, new_chit, AreNew}
+use Rattle.journals.specs.declared.node.NodeEntry.{NodeEntry}
+use Rattle.journals.specs.declared.desk.DeskEntry.{DeskEntry}
+use Rattle.locked_nodes.specs.declared.charter.Charter.{Charter}
+use Rattle.locked_nodes.specs.declared.charter.Item.{Item}
+use Rattle.locked_nodes.specs.declared.charter.Item.TheVariants.{Head, Entry}
+use Rattle.locked_nodes.specs.Cells.{CellView, next_charter}
+use Rattle.client_desks.specs.Desks.{DeskView}
+use Rattle.desk_keys.specs.Keys.{KeysView, IsHead, IsFloor, IsSide, Agree, Fit}
+use Rattle.run_journals.specs.Standing.{AreCells, IsCellAt, IsDeskAt, HasSideIn, PairsStand}
+use Rattle.phase_threads.specs.Phased.{Beside, IsVaultOf, new_hand}
+use Rattle.phase_threads.proofs.Places.{place_of, contains_at, all_from, get_map, map_get, right_of, left_of}
+
+-- the chits of a new vault are all alike
+pub all_new : {E : Type 0} {X : Type 0} (result : Result (Deposit X × List (Chit X)) E) (clients : ℕ) → IfOk result (λ r. length r.1 ≡ clients) → IfOk result (λ r. AreNew r.0.id r.1 clients) → IfOk result (λ r. All (λ c. c ≡ new_chit r.0.id) r.1)
+all_new (Ok r) clients count each = λ k d lt. get_or_from_slice_get r.1 k (new_chit r.0.id) d (each k (omega (arith, count)))
+all_new (Err e) clients count each = tt
+
+pub hand_more : (vaults : List (Deposit Item)) (v : Deposit Item) → new_hand (vaults ++ v ∷ []) ≡ new_hand vaults ++ new_chit v.id ∷ []
+hand_more vaults v = map-append (λ (d : Deposit Item). new_chit d.id) vaults (v ∷ [])
+
+-- the place of a vault tells nothing of its cell
+pub vault_at : (count i j : ℕ) (cell : CellView) (v : Deposit Item) → IsVaultOf count i cell v → IsVaultOf count j cell v
+vault_at count i j cell v is = record { begun = is.begun; chits = is.chits; ticks = is.ticks }
+
+-- no chit of a new hand took anything
+chit_is : (vaults : List (Deposit Item)) (k : ℕ) (c : Chit Item) → slice_get (new_hand vaults) k ≡ Some c → (v : Deposit Item) × (slice_get vaults k ≡ Some v) × (new_chit v.id ≡ c)
+chit_is vaults k c at = map_get (λ (v : Deposit Item). new_chit v.id) vaults k c at
+
+pub hand_rests : (vaults : List (Deposit Item)) → All (λ (c : Chit Item). c.holds ≡ None) (new_hand vaults)
+hand_rests vaults = all_from (λ (c : Chit Item). c.holds ≡ None) (new_hand vaults) (λ k c at. let v = chit_is vaults k c at in ap (λ (x : Chit Item). x.holds) (sym v.2))
+
+pub hand_vaults : (vaults : List (Deposit Item)) → map (λ (c : Chit Item). c.vault) (new_hand vaults) ≡ map (λ (v : Deposit Item). v.id) vaults
+hand_vaults [] = refl
+hand_vaults (v ∷ vaults) = ap (λ l. v.id ∷ l) (hand_vaults vaults)
+
+contains_none : {X : Type 0} (x : X) → Contains [] x → ⊥
+contains_none x has = let lt = has.1 in omega arith
+
+-- an entry of a cell's journal stands in its list
+in_list : (c : Charter) (journal : List NodeEntry) (n : NodeEntry) → Contains journal n → Contains (Head c ∷ map (λ e. Entry e) journal) (Entry n)
+in_list c journal n has =
+    let place = place_of journal n has in
+    contains_at (Head c ∷ map (λ e. Entry e) journal) (suc place.0) (Entry n) (get_map (λ (e : NodeEntry). Entry e) journal place.0 n place.1)
+
+-- a desk agrees with a hand of chits for the vaults of cells with which it agrees
+module _ (count : ℕ) (cells : List CellView) (vaults : List (Deposit Item)) (opened : Beside (IsVaultOf count) cells vaults) where
+  side_of : (id : ℕ) (e : DeskEntry) → HasSideIn cells id e → IsSide id (new_hand vaults) e
+  side_of id e s =
+      let place = place_of cells s.cell s.there in
+      let v = right_of (IsVaultOf count) cells vaults place.0 s.cell opened place.1 in
+      record {
+        node = place.0;
+        chit = new_chit v.0.id;
+        there = get_map (λ (d : Deposit Item). new_chit d.id) vaults place.0 v.0 v.1;
+        of = s.of;
+        known = inl (subst (λ l. Contains l (Entry s.of)) (sym v.2.begun) (in_list (next_charter s.cell false) s.cell.journal s.of s.stands));
+        number = s.number;
+        agree = s.agree;
+      }
+
+  pub agree_new : (desks : List DeskView) (d : DeskView) → PairsStand cells desks → Contains desks d → Agree d (new_hand vaults)
+  agree_new desks d pairs there = record {
+    left = λ k chit p n c act at has is.
+        let v = chit_is vaults k chit at in
+        absurd (contains_none {X = ℕ × Item} (p, Entry n) (subst (λ (l : List (ℕ × Item)). Contains l (p, Entry n)) (ap (λ (x : Chit Item). x.mine) (sym v.2)) has));
+    asked = λ e has. elim (pairs.answered d e there has) [ inl own ↦ inl own | inr s ↦ inr (side_of d.id e s) ];
+  }
+
+  head_of : (config : Numbers) (clock : ClockId) (i : ℕ) (cell : CellView) (v : Deposit Item) → IsCellAt config clock i cell → IsVaultOf count i cell v → IsHead config clock i v.id.begun
+  head_of config clock i cell v at is = record {
+    charter = next_charter cell false;
+    rest = map (λ e. Entry e) cell.journal;
+    begins = is.begun;
+    cluster = at.cluster;
+    number = at.number;
+    whole = at.whole;
+    ticks = is.ticks ∙ at.ticks;
+  }
+
+  pub floor_of : (config : Numbers) (clock : ClockId) → AreCells config clock cells → IsFloor config (record { clock = clock; vaults = vaults })
+  floor_of config clock are = record {
+    count = sym opened.count ∙ are.count;
+    each = λ i v at.
+        let cell = left_of (IsVaultOf count) cells vaults i v opened at in
+        head_of config clock i cell.0 v (are.each i cell.0 cell.1) cell.2;
+  }
+
+  -- new keys fit
+  pub new_fit : (config : Numbers) (clock : ClockId) (keys : KeysView) → AreCells config clock cells → IsDeskAt config clock keys.desk → keys.chits ≡ new_hand vaults → Fit keys (record { clock = clock; vaults = vaults })
+  new_fit config clock keys are desk hand = record {
+    floor = subst (λ c. IsFloor c (record { clock = clock; vaults = vaults })) (sym desk.cluster) (floor_of config clock are);
+    ticks = desk.ticks;
+    own = ap (map (λ (c : Chit Item). c.vault)) hand ∙ hand_vaults vaults;
+  }

@@ -1,0 +1,53 @@
+-- Lemmas of `Places` and `Sending`.
+use denote.Param.Send.{sendable}
+use Rattle.std.proofs.Common.{◌≡◌, ℕ, length, sym, subst, ◌∙◌, All}
+use Rattle.std.specs.declared.option.Option.TheVariants.{None}
+use Rattle.client_desks.specs.Later.{IsLater}
+use Rattle.desk_keys.specs.Keys.{Fit}
+use Rattle.phase_threads.specs.declared.crew.Post.{Post}
+use Rattle.phase_threads.specs.Phased.{Beside}
+use Rattle.phase_threads.proofs.Places.{written_back, made_beside, all_right}
+use Rattle.phase_threads.proofs.Sending.{post_send, floor_sync}
+use Rattle.phase_threads.proofs.crew.work_all.Goals as goal
+
+pub each-requires-send-P : goal.each-requires-send-P
+each-requires-send-P g c κs within = let s = c.type_bounds.send-T in search (sendable, post_send) depth 40
+
+pub each-requires-sync-C : goal.each-requires-sync-C
+each-requires-sync-C g c κs within = search (sendable, floor_sync) depth 40
+
+pub each-requires-clause-can : goal.each-requires-clause-can
+each-requires-clause-can g c κs within =
+    let value = c.as_mut_slice.ensures.value in
+    let floor = c.args.floor.now in
+    subst (All (λ (p : Post g.row.T.Denot). Fit p.keys floor × (p.keys.refused ≡ None) × g.T.Duty.ready p.duty p.keys.desk)) (sym value) (λ k d lt. (c.requires.fit k d lt, c.requires.sound k d lt, c.requires.ready k d lt))
+
+pub returns-clause-fit : goal.returns-clause-fit
+returns-clause-fit g c =
+    let new = c.each.new.posts in
+    let old = c.args.posts.items in
+    let floor = c.args.floor.now in
+    let len : length new ≡ c.args.posts.len = c.each.ensures.count ∙ c.as_mut_slice.ensures.len in
+    let P : Post g.row.T.Denot → Type 0 = λ p. Fit p.keys floor in
+    let beside = made_beside (λ (i : ℕ) (p q : Post g.row.T.Denot). P q) (λ (p q : Post g.row.T.Denot). P q) c.as_mut_slice.result.now new c.each.ensures.count (λ i d lt. (c.each.ensures.done i d lt).0) (λ i x y r. r) in
+    subst (All P) (sym (written_back c.args.posts.len new old len)) (all_right P c.as_mut_slice.result.now new beside)
+
+pub returns-clause-later : goal.returns-clause-later
+returns-clause-later g c =
+    let new = c.each.new.posts in
+    let old = c.args.posts.items in
+    let value = c.as_mut_slice.ensures.value in
+    let len : length new ≡ c.args.posts.len = c.each.ensures.count ∙ c.as_mut_slice.ensures.len in
+    let R : ℕ → Post g.row.T.Denot → Post g.row.T.Denot → Type 0 = λ i p q. IsLater p.keys.desk q.keys.desk in
+    let beside = made_beside R (R 0) c.as_mut_slice.result.now new c.each.ensures.count (λ i d lt. (c.each.ensures.done i d lt).1) (λ i x y r. r) in
+    subst (Beside R old) (sym (written_back c.args.posts.len new old len)) (subst (λ l. Beside R l new) value beside)
+
+pub returns-clause-done : goal.returns-clause-done
+returns-clause-done g c =
+    let new = c.each.new.posts in
+    let old = c.args.posts.items in
+    let value = c.as_mut_slice.ensures.value in
+    let len : length new ≡ c.args.posts.len = c.each.ensures.count ∙ c.as_mut_slice.ensures.len in
+    let R : ℕ → Post g.row.T.Denot → Post g.row.T.Denot → Type 0 = λ i p q. q.keys.refused ≡ None → g.T.Duty.done p.duty p.keys.desk q.duty q.keys.desk in
+    let beside = made_beside R (R 0) c.as_mut_slice.result.now new c.each.ensures.count (λ i d lt. (c.each.ensures.done i d lt).2) (λ i x y r. r) in
+    subst (Beside R old) (sym (written_back c.args.posts.len new old len)) (subst (λ l. Beside R l new) value beside)

@@ -1,0 +1,19 @@
+use Rattle.std.proofs.Common.{◌≡◌, List, length, All}
+use Rattle.std.specs.declared.option.Option.TheVariants.{None}
+use Rattle.std.specs.Vec.Iter.{into_iter_items, into_iter_len}
+use Rattle.receipt_lock.specs.Chits.{Holder as Chit}
+use Rattle.locked_nodes.specs.declared.charter.Item.{Item}
+use Rattle.desk_keys.specs.Keys.{Agree}
+use Rattle.phase_threads.specs.declared.duty.Seat.{Seat}
+use Rattle.phase_threads.specs.Phased.{Beside, IsPostOf}
+use Rattle.phase_threads.proofs.Places.{Walked}
+use Rattle.phase_threads.proofs.open.open_posts.Given as goal
+
+-- the seats so far have their hands
+abbrev pub invariant-loop-seat : goal.invariant-loop-seat
+invariant-loop-seat g l =
+    (done : List (Seat g.row.T.Denot)) × Walked l.fn.seats.items done (into_iter_items l.seat-iterator) (into_iter_len l.seat-iterator)
+    × (length l.hands ≡ into_iter_len l.seat-iterator)
+    × All (λ h. All (λ c. c.holds ≡ None) h) l.hands
+    × All (λ s. All (λ h. Agree s.desk h) l.hands) l.fn.seats.items
+    × ((hand : List (Chit Item)) → All (λ h. h ≡ hand) l.fn.hands → All (λ h. h ≡ hand) l.hands × Beside (IsPostOf hand) done l.posts.items)

@@ -1,0 +1,14 @@
+use Rattle.std.proofs.Common.{◌≡◌, List, length, All}
+use Rattle.std.specs.Vec.Iter.{into_iter_items, into_iter_len}
+use Rattle.locked_nodes.specs.Cells.{CellView}
+use Rattle.phase_threads.specs.Phased.{Beside, IsVaultOf, new_hand}
+use Rattle.phase_threads.proofs.Places.{Walked}
+use Rattle.phase_threads.proofs.open.open_row.Given as goal
+
+-- the cells so far have vaults, and each hand has a chit for each
+abbrev pub invariant-loop-cell : goal.invariant-loop-cell
+invariant-loop-cell l =
+    (done : List CellView) × Walked l.fn.cells.items done (into_iter_items l.cell-iterator) (into_iter_len l.cell-iterator)
+    × Beside (IsVaultOf l.count) done l.vaults.items
+    × (length l.hands ≡ l.count)
+    × All (λ h. h ≡ new_hand l.vaults.items) l.hands

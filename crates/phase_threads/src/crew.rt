@@ -1,0 +1,78 @@
+//! A thread for each desk.
+ghost use Rattle.std.specs.Prelude.{◌≡◌, ◌<◌, ℕ, All, length, slice_index_or, None};
+ghost use Rattle.desk_keys.specs.Keys.{Fit};
+ghost use Rattle.client_desks.specs.Later.{IsLater};
+ghost use Rattle.phase_threads.specs.Phased.{Beside};
+
+use crate::duty::Duty;
+use desk_keys::{Floor, Gate, Keys};
+use std::sync::Wait;
+use std::thread::{Threads, for_each_mut};
+
+/// What one thread has in hand.
+#[derive(Drop)]
+pub struct Post<T> {
+    pub keys: Keys,
+    pub duty: T,
+}
+
+/// Work that threads do at posts of their own, beside what they share.
+pub trait Crew<P> {
+    ghost can_work: { Self → P → Type 0 };
+
+    ghost works: { Self → P → P → Type 0 };
+
+    fn work<R: Wait, G: Gate>(&self, rt: &R, gate: &G, post: &mut P)
+        requires { can_work self.now post.old }
+        ensures { works self.now post.old post.new };
+}
+
+impl<T: Duty> Crew<Post<T>> for Floor {
+    ghost use Rattle.std.specs.Prelude.{◌≡◌, None};
+    ghost use Rattle.desk_keys.specs.Keys.{Fit};
+    ghost use Rattle.client_desks.specs.Later.{IsLater};
+
+    ghost can_work = { λ f p. Fit p.keys f × (p.keys.refused ≡ None) × T.ready p.duty p.keys.desk };
+
+    ghost works = { λ f p q. Fit q.keys f × IsLater p.keys.desk q.keys.desk × (q.keys.refused ≡ None → T.done p.duty p.keys.desk q.duty q.keys.desk) };
+
+    fn work<R: Wait, G: Gate>(&self, rt: &R, gate: &G, post: &mut Post<T>) {
+        post.duty.work(rt, gate, self, &mut post.keys);
+    }
+}
+
+/// Each post has a thread of its own. Where a thread can't be made, another one does its work.
+pub fn each<R: Threads + Wait + Sync, G: Gate, P: Send, C: Crew<P> + Sync>(
+    rt: &R,
+    gate: &G,
+    crew: &C,
+    posts: &mut [P],
+)
+    requires can { All (C.can_work crew.now) posts.old }
+    ensures count { length posts.new ≡ length posts.old }
+    ensures done { (i : ℕ) (d : P) → i < length posts.old → C.works crew.now (slice_index_or posts.old i d) (slice_index_or posts.new i d) }
+{
+    let threads = posts.len();
+    if threads == 0 {
+        return;
+    }
+    for_each_mut(rt, posts, threads, &|_, post| crew.work(rt, gate, post));
+}
+
+/// Each desk has a thread of its own.
+pub fn work_all<R: Threads + Wait + Sync, G: Gate, T: Duty + Send>(
+    rt: &R,
+    gate: &G,
+    floor: &Floor,
+    mut posts: Vec<Post<T>>,
+) -> Vec<Post<T>>
+    requires fit { All (λ p. Fit p.keys floor.now) posts.items }
+    requires sound { All (λ p. p.keys.refused ≡ None) posts.items }
+    requires ready { All (λ p. T.ready p.duty p.keys.desk) posts.items }
+    ensures fit { All (λ p. Fit p.keys floor.now) result.items }
+    ensures later { Beside (λ i p q. IsLater p.keys.desk q.keys.desk) posts.items result.items }
+    ensures done { Beside (λ i p q. q.keys.refused ≡ None → T.done p.duty p.keys.desk q.duty q.keys.desk) posts.items result.items }
+{
+    each(rt, gate, floor, posts.as_mut_slice());
+    posts
+}

@@ -1,0 +1,36 @@
+//! What threads do in a phase.
+ghost use Rattle.std.specs.Prelude.{◌≡◌, None};
+ghost use Rattle.desk_keys.specs.Keys.{Fit};
+ghost use Rattle.client_desks.specs.Desks.{DeskView};
+ghost use Rattle.client_desks.specs.Later.{IsLater};
+
+use client_desks::Desk;
+use desk_keys::{Floor, Gate, Keys};
+use std::sync::Wait;
+
+/// What a desk's thread does in a phase, with the keys of its desk. It may change itself.
+pub trait Duty: Drop {
+    ghost use Rattle.client_desks.specs.Desks.{DeskView};
+
+    /// What must hold of the duty and the desk before the phase.
+    ghost ready: { Self → DeskView → Type 0 };
+
+    /// What holds of both before and both after it, if no refusal came.
+    ghost done: { Self → DeskView → Self → DeskView → Type 0 };
+
+    /// Does it. A refusal is left in the keys.
+    fn work<R: Wait, G: Gate>(&mut self, rt: &R, gate: &G, floor: &Floor, keys: &mut Keys)
+        requires fit { Fit keys.old floor.now }
+        requires sound { keys.old.refused ≡ None }
+        requires ready { ready self.old keys.old.desk }
+        ensures fit { Fit keys.new floor.now }
+        ensures later { IsLater keys.old.desk keys.new.desk }
+        ensures done { keys.new.refused ≡ None → done self.old keys.old.desk self.new keys.new.desk };
+}
+
+/// A desk, and what its thread is to do.
+#[derive(Drop)]
+pub struct Seat<T> {
+    pub desk: Desk,
+    pub duty: T,
+}
