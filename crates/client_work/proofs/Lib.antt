@@ -1,0 +1,9 @@
+pub mod Heard
+pub mod Going
+pub mod Asking
+pub mod Phasing
+pub mod Beginning
+pub mod Running
+pub mod Mailing
+pub mod Opening
+pub mod Ending

@@ -1,0 +1,22 @@
+use Rattle.std.proofs.Common.{◌≡◌}
+use Rattle.std.specs.declared.option.Option.TheVariants.{None}
+use Rattle.client_desks.specs.Later.{IsLater}
+use Rattle.desk_keys.specs.Keys.{Fit}
+use Rattle.client_work.proofs.sends.carry.Given as goal
+
+abbrev pub invariant-loop-round : goal.invariant-loop-round
+invariant-loop-round g l = record {
+  fit : Fit l.keys l.floor;
+  sound : l.keys.refused ≡ None;
+  later : IsLater l.fn.keys.desk l.keys.desk;
+  same : l.keys.desk.entries ≡ l.fn.keys.desk.entries;
+}
+
+abbrev pub invariant-loop-node : goal.invariant-loop-node
+invariant-loop-node g l = record {
+  fit : Fit l.keys l.floor;
+  sound : l.keys.refused ≡ None;
+  later : IsLater l.fn.keys.desk l.keys.desk;
+  same : l.keys.desk.entries ≡ l.fn.keys.desk.entries;
+  ends : l.node-end ≡ l.keys.desk.config.n;
+}

@@ -1,0 +1,10 @@
+use Rattle.std.proofs.Common.{◌∙◌, ap, refl, sym, subst}
+use Rattle.plan_words.specs.declared.plan.Plan.{Plan}
+use Rattle.plan_tasks.specs.Tasks.{IsClientTask}
+use Rattle.client_work.proofs.Beginning.{begins}
+use Rattle.client_work.proofs.worker.Worker.new.Goals as goal
+
+pub returns-clause-ready : goal.returns-clause-ready
+returns-clause-ready c d config id correct entries =
+    let same = ap (λ (p : Plan). p.config) (sym c.of.ensures) in
+    begins _ c.args.task d (subst (λ (p : Plan). IsClientTask p c.args.task) (sym c.of.ensures) c.requires.task) same refl (c.from_vec.ensures.items ∙ c.into_vec.ensures) refl refl c.new.ensures (config ∙ same) id correct entries

@@ -1,0 +1,58 @@
+//! Which node a client asks next.
+ghost use Rattle.std.specs.Prelude.{◌≡◌, ◌<◌, ◌≤◌, ◌%◌, IfSome, Some};
+ghost use Rattle.protocol.specs.Messages.{Tag};
+ghost use Rattle.protocol.specs.Seen.{ops_of, phase_of};
+ghost use Rattle.client_desks.specs.Desks.{CanCall, IsUp, state_at, task_at};
+ghost use Rattle.plan_followed.specs.Clients.{IsNext, last_of, turn_after};
+ghost use Rattle.client_work.specs.Work.{IsOn};
+
+use client_desks::Desk;
+use journals::{DeskAct, DeskEntry};
+
+/// The first node that hasn't answered the phase, of all nodes in ascending order from the client's turn on, going round.
+pub fn next_node(desk: &Desk, nodes: u32) -> Option<u8>
+    requires nodes { nodes ≡ desk.now.config.n }
+    requires some { 0 < nodes }
+    requires few { nodes ≤ 256 }
+    requires up { IsUp desk.now }
+    requires busy { Rattle.std.specs.Prelude.IsSome (task_at desk.now) }
+    ensures node { IfSome result (λ node. node < desk.now.config.n) }
+    ensures can { IfSome result (λ node. CanCall desk.now node) }
+    ensures next { IfSome result (λ node. IsNext desk.now.config.n (task_at desk.now)
+        (turn_after (desk.now.id % desk.now.config.n) (record { op = ops_of (state_at desk.now).client.seen; phase = phase_of (task_at desk.now) }) (last_of desk.now.entries)) node) }
+{
+    if desk.phase() == u64::MAX {
+        return None;
+    }
+    let from = turn(desk, nodes);
+    for passed in 0..nodes {
+        let node = ((from + passed) % nodes) as u8;
+        if desk.can_call(node) {
+            return Some(node);
+        }
+    }
+    None
+}
+
+/// Where the client's turn is: after the node that it asked last, if that was in this phase of this operation, else at its own.
+fn turn(desk: &Desk, nodes: u32) -> u32
+    requires nodes { nodes ≡ desk.now.config.n }
+    requires some { 0 < nodes }
+    requires few { nodes ≤ 256 }
+    ensures turn { result ≡ turn_after (desk.now.id % desk.now.config.n)
+        (record { op = ops_of (state_at desk.now).client.seen; phase = phase_of (task_at desk.now) }) (last_of desk.now.entries) }
+    ensures small { result ≤ 256 }
+{
+    if let Some(
+        DeskEntry {
+            number: _,
+            act: DeskAct::Call { ask, .. },
+        },
+    ) = desk.journal().last()
+    {
+        if ask.tag.op == desk.ops() && ask.tag.phase == desk.phase() {
+            return u32::from(ask.node) + 1;
+        }
+    }
+    desk.id() % nodes
+}
