@@ -1,20 +1,42 @@
 //! A node on a disk that never fails. Its room is made as it is needed, so want of memory is all that refuses.
 
-ghost use Rattle.std.specs.Prelude.{◌≡◌, ◌<◌, true, OnOk, OnErr};
+ghost use Rattle.std.specs.Prelude.{◌≡◌, ◌≤◌, ◌<◌, true, IfOk, OnOk, OnErr};
 ghost use Rattle.protocol.specs.Nodes.{pruned};
 ghost use Rattle.protocol.specs.Instance.{setting};
-ghost use Rattle.node_core.specs.Seen.{versions_in, with_versions, after_of, accepts_of};
+ghost use Rattle.node_core.specs.Seen.{versions_in, with_versions, new_node, after_of, accepts_of};
 ghost use Rattle.version_disk.specs.Held.{held};
 ghost use Rattle.version_disk.specs.Stored.{has_place};
 
 use crate::body::body_size;
 use crate::stored::StoredNode;
 use disk_model::CalmDisk;
-use lists::NoMemory;
+use lists::{Copied, NoMemory};
+use quorum_rules::Config;
 use stamp_order::Stamp;
+use std::alloc::Global;
 use wire_forms::{Ask, Version};
 
 impl StoredNode<CalmDisk> {
+    /// A node of this number on an empty disk, which keeps the first version of each block.
+    pub fn new(alloc: Global, config: &Config, number: u8) -> Result<StoredNode<CalmDisk>, NoMemory>
+        requires { number < config.now.n }
+        ensures { IfOk result (λ s. s.node ≡ new_node config.now number) }
+    {
+        open_calm(alloc, config, number, CalmDisk::new(alloc, 1)?)
+    }
+
+    /// The node, stopped, as it is opened again from a copy of its disk.
+    pub fn opened_again(&self) -> Result<StoredNode<CalmDisk>, NoMemory>
+        ensures { IfOk result (λ s. s.node ≡ self.now.node) }
+    {
+        open_calm(
+            self.alloc,
+            self.node.config(),
+            self.node.number(),
+            self.disk.copy()?,
+        )
+    }
+
     /// Makes room for one more slot and the byte after it.
     pub fn make_room(&mut self) -> Result<(), NoMemory>
         ensures place { OnOk result (has_place self.new.node self.new.disk.bytes self.new.disk.room ≡ true) }
@@ -62,5 +84,22 @@ impl StoredNode<CalmDisk> {
             Ok(()) => Ok(()),
             Err(_) => Err(NoMemory),
         }
+    }
+}
+
+/// Opens a disk that never fails and has no bad slot.
+fn open_calm(
+    alloc: Global,
+    config: &Config,
+    number: u8,
+    disk: CalmDisk,
+) -> Result<StoredNode<CalmDisk>, NoMemory>
+    requires number { number < config.now.n }
+    requires room { 1 ≤ disk.room }
+    ensures { IfOk result (λ s. s.node ≡ held config.now number disk.bytes) }
+{
+    match StoredNode::open(alloc, config, number, disk) {
+        Ok(stored) => Ok(stored),
+        Err(_) => Err(NoMemory),
     }
 }

@@ -26,7 +26,7 @@ use wire_forms::{Ask, Reply, Version};
 /// has broken it.
 #[derive(Drop)]
 pub struct StoredNode<D: Disk> {
-    alloc: Global,
+    pub(crate) alloc: Global,
     pub(crate) node: Node,
     pub(crate) disk: D,
     /// How many slots are open.
@@ -35,7 +35,7 @@ pub struct StoredNode<D: Disk> {
 }
 
 impl<D: Disk> Model for StoredNode<D> {
-    ghost use Rattle.std.specs.Prelude.{◌≡◌, true, false};
+    ghost use Rattle.std.specs.Prelude.{◌≡◌, ◌<◌, true, false};
     ghost use Rattle.outside_io.specs.Causes.{Rose};
     ghost use Rattle.version_disk.specs.Stored.{Stored};
     ghost use Rattle.version_disk.specs.Kept.{IsKept};
@@ -46,7 +46,8 @@ impl<D: Disk> Model for StoredNode<D> {
 
     ghost invariant = { λ s.
         (s.broken ≡ false → IsKept D.pending D.seen s.node.config s.node.number s.node s.count s.disk)
-        × (s.broken ≡ true → Rose D.last 0 (D.faults s.disk)) };
+        × (s.broken ≡ true → Rose D.last 0 (D.faults s.disk))
+        × (s.node.number < s.node.config.n) };
 }
 
 /// Why a disk was not opened. The disk is given back.

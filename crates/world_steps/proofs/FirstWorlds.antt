@@ -26,23 +26,24 @@ use Rattle.world_steps.specs.Slots.{IsWorld, IsNodeSlot, IsClientSlot}
 use Rattle.world_steps.specs.declared.block_use.BlockUse.{BlockUse}
 use Rattle.world_steps.specs.BlockUses.{unused, AreUses}
 use Rattle.world_steps.proofs.BlockUses.{uses_begin}
-use Rattle.world_steps.specs.Beginnings.{new_node_slot, new_client_slot, AreNewNodeSlots, AreNewClientSlots}
+use Rattle.node_core.specs.Seen.{SeenNode, new_node}
+use Rattle.world_steps.specs.Beginnings.{new_client_slot, IsNewNodeSlot, AreNewNodeSlots, AreNewClientSlots}
 use Rattle.world_steps.proofs.ListItems.{slice_get-push_cases}
 
 -- ---- one more that is new
 
-pub node_slots-push : (c : Numbers) (lies : ℕ → Bool) (node_slots : List NodeSlot) (h : NodeSlot) → AreNewNodeSlots c lies node_slots → h ≡ new_node_slot c lies (length node_slots) → AreNewNodeSlots c lies (node_slots ++ h ∷ [])
-node_slots-push c lies node_slots h are new i x e = elim (slice_get-push_cases node_slots h i x e) [ inl f ↦ f.1 ∙ new ∙ ap (new_node_slot c lies) (sym f.0) | inr f ↦ are i x f ]
+pub node_slots-push : (c : Numbers) (lies : ℕ → Bool) (node_slots : List NodeSlot) (h : NodeSlot) → AreNewNodeSlots c lies node_slots → IsNewNodeSlot c lies (length node_slots) h → AreNewNodeSlots c lies (node_slots ++ h ∷ [])
+node_slots-push c lies node_slots h are new i x e = elim (slice_get-push_cases node_slots h i x e) [ inl f ↦ rw (f.0, f.1) new | inr f ↦ are i x f ]
 
 pub client_slots-push : (c : Numbers) (lies : ℕ → Bool) (client_slots : List ClientSlot) (s : ClientSlot) → AreNewClientSlots c lies client_slots → s ≡ new_client_slot c lies (length client_slots) → AreNewClientSlots c lies (client_slots ++ s ∷ [])
 client_slots-push c lies client_slots s are new i x e = elim (slice_get-push_cases client_slots s i x e) [ inl f ↦ f.1 ∙ new ∙ ap (new_client_slot c lies) (sym f.0) | inr f ↦ are i x f ]
 
 -- ---- a table that is what a function says, and beyond its end too
 
-module _ {A B : Type 0} (make : ℕ → A) (f : A → B) (d : B) (xs : List A) (are : (i : ℕ) (x : A) → slice_get xs i ≡ Some x → x ≡ make i) (beyond : (i : ℕ) → length xs ≤ i → f (make i) ≡ d) where
-  pub table : (i : ℕ) → slice_index_or (map f xs) i d ≡ f (make i)
+module _ {A B : Type 0} (said : ℕ → B) (f : A → B) (d : B) (xs : List A) (are : (i : ℕ) (x : A) → slice_get xs i ≡ Some x → f x ≡ said i) (beyond : (i : ℕ) → length xs ≤ i → said i ≡ d) where
+  pub table : (i : ℕ) → slice_index_or (map f xs) i d ≡ said i
   table i = elim ((slice_get_cases xs i).1) [
-    | inl h ↦ get_or-map f xs i h.0 d h.1 ∙ ap f (h.3 ∙ are i h.0 h.2)
+    | inl h ↦ get_or-map f xs i h.0 d h.1 ∙ ap f h.3 ∙ are i h.0 h.2
     | inr h ↦ get_or_past (map f xs) i d (let e = length-map xs f in let l = h.0 in omega (arith, e, l)) ∙ sym (beyond i h.0)
   ]
 
@@ -58,11 +59,11 @@ module _ (w : Inside) (liars : Liars) (node_slots : AreNewNodeSlots w.config (ha
   liars-begin lie = λ j. setting_of w.config (λ i. node i j) (λ k. client k j)
     where
       node : (i : ℕ) → slice_index_or (map (λ (h : NodeSlot). h.lying) w.node_slots.items) i false ≡ has_number liars.nodes i
-      node = table (new_node_slot w.config (has_number liars.nodes)) (λ (h : NodeSlot). h.lying) false w.node_slots.items node_slots
+      node = table (has_number liars.nodes) (λ (h : NodeSlot). h.lying) false w.node_slots.items (λ i h e. (node_slots i h e).lying)
           (λ i l. absent (λ x. x < w.config.n) liars.nodes lie.nodes i (λ m. omega (arith, l, m, nodes)))
 
       client : (k : ℕ) → slice_index_or (map (λ (x : ClientSlot). x.lying) w.client_slots.items) k false ≡ has_number liars.clients k
-      client = table (new_client_slot w.config (has_number liars.clients)) (λ (x : ClientSlot). x.lying) false w.client_slots.items client_slots
+      client = table (has_number liars.clients) (λ (x : ClientSlot). x.lying) false w.client_slots.items (λ k x e. ap (λ (y : ClientSlot). y.lying) (client_slots k x e))
           (λ k l. absent (λ x. (1 ≤ x) × (x ≤ 1000)) liars.clients lie.clients k (λ m. let q = m.1 in omega (arith, l, q, clients)))
 
   pub world-begin : w.pool ≡ [] → w.accepted ≡ [] → w.records ≡ [] → w.place ≡ 0 → world_in (the_view w) ≡ start_world (setting_in (the_view w))
@@ -73,25 +74,25 @@ module _ (w : Inside) (liars : Liars) (node_slots : AreNewNodeSlots w.config (ha
     task = λ k. started_task (slice_index_or (map (λ (x : ClientSlot). x.start) w.client_slots.items) k 0) (client k j).task;
     life = λ k. (client k j).life;
     started = λ k. (client k j).started;
-    node_crashed = λ i. table (new_node_slot w.config (has_number liars.nodes)) (λ (h : NodeSlot). h.crashed) false w.node_slots.items node_slots (λ i l. refl) i j;
-    client_crashed = λ k. table (new_client_slot w.config (has_number liars.clients)) (λ (x : ClientSlot). x.crashed) false w.client_slots.items client_slots (λ i l. refl) k j;
+    node_crashed = λ i. table (λ i. false) (λ (h : NodeSlot). h.crashed) false w.node_slots.items (λ i h e. (node_slots i h e).awake) (λ i l. refl) i j;
+    client_crashed = λ k. table (λ k. false) (λ (x : ClientSlot). x.crashed) false w.client_slots.items (λ k x e. ap (λ (y : ClientSlot). y.crashed) (client_slots k x e)) (λ k l. refl) k j;
     records = map record_of (records j);
     place = place j;
   }
     where
       client : (k : ℕ) → client_at (the_view w).seen k ≡ new_client
-      client = table (new_client_slot w.config (has_number liars.clients)) (λ (x : ClientSlot). x.client.seen) new_client w.client_slots.items client_slots (λ i l. refl)
+      client = table (λ k. new_client) (λ (x : ClientSlot). x.client.seen) new_client w.client_slots.items (λ k x e. ap (λ (y : ClientSlot). y.client.seen) (client_slots k x e)) (λ k l. refl)
 
-      row : (i : ℕ) → i < length w.node_slots.items → slice_index_or (map (λ (h : NodeSlot). h.node.blocks) w.node_slots.items) i [] ≡ (new_node_slot w.config (has_number liars.nodes) i).node.blocks
+      row : (i : ℕ) → i < length w.node_slots.items → slice_index_or (map (λ (h : NodeSlot). h.stored.node.blocks) w.node_slots.items) i [] ≡ (new_node w.config i).blocks
       row i l = elim ((slice_get_cases w.node_slots.items i).1) [
-        | inl h ↦ get_or-map (λ (x : NodeSlot). x.node.blocks) w.node_slots.items i h.0 [] l ∙ ap (λ (x : NodeSlot). x.node.blocks) (h.3 ∙ node_slots i h.0 h.2)
+        | inl h ↦ get_or-map (λ (x : NodeSlot). x.stored.node.blocks) w.node_slots.items i h.0 [] l ∙ ap (λ (x : NodeSlot). x.stored.node.blocks) h.3 ∙ ap (λ (a : SeenNode). a.blocks) (node_slots i h.0 h.2).node
         | inr h ↦ absurd (let q = h.0 in omega (arith, l, q))
       ]
 
       rows : (i block : ℕ) → i < length (the_view w).seen.versions → block < length (slice_index_or (the_view w).seen.versions i [])
           → slice_index_or (slice_index_or (the_view w).seen.versions i []) block (first_version (setting_in (the_view w)) i ∷ []) ≡ first_version (setting_in (the_view w)) i ∷ []
       rows i block l m =
-          let is = row i (let e = length-map w.node_slots.items (λ (h : NodeSlot). h.node.blocks) in omega (arith, l, e)) in
+          let is = row i (let e = length-map w.node_slots.items (λ (h : NodeSlot). h.stored.node.blocks) in omega (arith, l, e)) in
           ap (λ (r : List (List Version)). slice_index_or r block (first_version (setting_in (the_view w)) i ∷ [])) is
           ∙ get_or-replicate w.config.blocks block (first_version (setting w.config) i ∷ []) (first_version (setting_in (the_view w)) i ∷ [])
           (let e = length-replicate w.config.blocks (first_version (setting w.config) i ∷ []) in let n = ap (λ (r : List (List Version)). length r) is in omega (arith, m, e, n))
@@ -100,7 +101,13 @@ module _ (w : Inside) (liars : Liars) (node_slots : AreNewNodeSlots w.config (ha
   kept-begin valid records = record {
     valid = valid;
     nodes = nodes;
-    node_slot = λ i h e. subst (IsNodeSlot w.config i) (sym (node_slots i h e)) (record { config = refl; number = refl; blocks = length-replicate w.config.blocks (first_version (setting w.config) i ∷ []) });
+    node_slot = λ i h e.
+        let new = (node_slots i h e).node in
+        record {
+          config = ap (λ (a : SeenNode). a.config) new;
+          number = ap (λ (a : SeenNode). a.number) new;
+          blocks = ap (λ (a : SeenNode). length a.blocks) new ∙ length-replicate w.config.blocks (first_version (setting w.config) i ∷ []);
+        };
     clients = clients;
     client_slot = λ k x e. subst (IsClientSlot w.config (map record_of w.records) w.place k) (sym (client_slots k x e)) (record { config = refl; id = refl; task = tt });
     ascend = subst (λ (rs : List Told). Ascend (map (λ r. r.start) rs)) (sym records) tt;

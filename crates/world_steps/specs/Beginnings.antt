@@ -7,9 +7,11 @@ use Rattle.node_core.specs.Seen.{new_node}
 use Rattle.world_steps.specs.declared.node_slot.NodeSlot.{NodeSlot}
 use Rattle.world_steps.specs.declared.client_slot.ClientSlot.{ClientSlot}
 
--- the node of this number, which keeps the first versions and hasn't crashed
-abbrev pub new_node_slot : Numbers → (ℕ → Bool) → ℕ → NodeSlot
-new_node_slot c lies i = record { node = new_node c i; crashed = false; lying = lies i }
+-- the node of this number keeps the first versions and hasn't crashed
+pub record IsNewNodeSlot (c : Numbers) (lies : ℕ → Bool) (i : ℕ) (slot : NodeSlot) : Type 0 where
+  pub node : slot.stored.node ≡ new_node c i
+  pub awake : slot.crashed ≡ false
+  pub lying : slot.lying ≡ lies i
 
 -- the client of this number, before its first operation
 abbrev pub new_client_slot : Numbers → (ℕ → Bool) → ℕ → ClientSlot
@@ -17,7 +19,7 @@ new_client_slot c lies k = record { client = record { config = c; id = k; seen =
 
 -- each slot is new
 abbrev pub AreNewNodeSlots : Numbers → (ℕ → Bool) → List NodeSlot → Type 0
-AreNewNodeSlots c lies node_slots = (i : ℕ) (h : NodeSlot) → slice_get node_slots i ≡ Some h → h ≡ new_node_slot c lies i
+AreNewNodeSlots c lies node_slots = (i : ℕ) (h : NodeSlot) → slice_get node_slots i ≡ Some h → IsNewNodeSlot c lies i h
 
 -- each slot is new
 abbrev pub AreNewClientSlots : Numbers → (ℕ → Bool) → List ClientSlot → Type 0

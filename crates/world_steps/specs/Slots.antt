@@ -11,9 +11,9 @@ use Rattle.world_steps.specs.declared.client_slot.ClientSlot.{ClientSlot}
 
 -- the node of this number in this cluster, which has versions of each block
 pub record IsNodeSlot (c : Numbers) (i : ℕ) (slot : NodeSlot) : Type 0 where
-  pub config : slot.node.config ≡ c
-  pub number : slot.node.number ≡ i
-  pub blocks : length slot.node.blocks ≡ c.blocks
+  pub config : slot.stored.node.config ≡ c
+  pub number : slot.stored.node.number ≡ i
+  pub blocks : length slot.stored.node.blocks ≡ c.blocks
 
 -- an operation under way: one answer or none for each node, no more phases than places so far, and the record of this number is its own
 pub record IsUnderWay (c : Numbers) (records : List Record) (place client start index : ℕ) (t : SeenTask) : Type 0 where

@@ -1,5 +1,5 @@
 -- The world that is kept, as contracts see it.
-use Rattle.std.specs.Prelude.{ℕ, ◌<◌, ◌≤◌, Bool, false, List, length, All, slice_index_or}
+use Rattle.std.specs.Prelude.{ℕ, ◌<◌, ◌≤◌, Bool, false, List, [], length, All, slice_index_or}
 use Rattle.quorum_rules.specs.Limits.{Numbers}
 use Rattle.wire_forms.specs.Liars.{Liars}
 use Rattle.protocol.specs.Setting.{Setting}
@@ -7,6 +7,7 @@ use Rattle.protocol.specs.World.{World}
 use Rattle.protocol.specs.Seen.{SeenWorld, world_of}
 use Rattle.protocol.specs.Lines.{Line, IsRun}
 use Rattle.protocol.specs.Instance.{setting_of, IsCluster}
+use Rattle.node_core.specs.Seen.{SeenNode}
 
 -- the cluster, who lies in it by number, and all that there is at one moment
 pub record WorldView : Type 0 where
@@ -26,6 +27,10 @@ world_in v = world_of (setting_in v) v.seen
 -- the same cluster with this world
 abbrev pub with_seen : WorldView → SeenWorld → WorldView
 with_seen v seen = record { config = v.config; lying_nodes = v.lying_nodes; lying_clients = v.lying_clients; seen = seen }
+
+-- a node of its number, which keeps what the world tells
+abbrev pub node_in : WorldView → ℕ → SeenNode
+node_in v i = record { config = v.config; number = i; blocks = slice_index_or v.seen.versions i [] }
 
 -- the lying nodes are nodes, at most b of them, and the lying clients are numbered from 1 to 1000
 pub record AreLiars (c : Numbers) (liars : Liars) : Type 0 where

@@ -1,8 +1,9 @@
-use node_core::Node;
+use disk_model::CalmDisk;
+use version_disk::StoredNode;
 
-/// What the world keeps of a node's number: who has it, and how it stands.
+/// What the world keeps of a node's number: who has it, on its disk, and how it stands.
 pub struct NodeSlot {
-    pub node: Node,
+    pub stored: StoredNode<CalmDisk>,
     pub crashed: bool,
     /// Whether it is declared lying. What its node keeps then says nothing.
     pub lying: bool,
@@ -11,7 +12,7 @@ pub struct NodeSlot {
 impl Drop for NodeSlot {
     fn drop(self) {
         let NodeSlot {
-            node: _node,
+            stored: _stored,
             crashed: _crashed,
             lying: _lying,
         } = self;

@@ -1,21 +1,24 @@
 //! What takes place at nodes: messages are sent, asks are handled, nodes crash and prune.
 
-ghost use Rattle.std.specs.Prelude.{◌≡◌, ◌<◌, nat_lt, IfOk, OnOk, OnErr};
-ghost use Rattle.protocol.specs.World.{sent, answer_of, happens, greatest_given};
+ghost use Rattle.std.specs.Prelude.{◌≡◌, ℕ, ◌<◌, nat_lt, IfOk, OnOk, OnErr};
+ghost use Rattle.protocol.specs.World.{sent, answer_of, happens, only_place, greatest_given};
 ghost use Rattle.protocol.specs.Lines.{is_busy_at};
 ghost use Rattle.protocol.specs.Seen.{block_of};
 ghost use Rattle.protocol.specs.World.Event.{CrashNode as NodeCrashes, Prune as Prunes};
-ghost use Rattle.world_steps.specs.Worlds.{setting_in, world_in, with_seen};
+ghost use Rattle.world_steps.specs.Worlds.{setting_in, world_in, with_seen, node_in};
 ghost use Rattle.protocol.specs.Count.{one_more};
-ghost use Rattle.node_core.specs.Seen.{with_versions, after_of, accepts_of};
+ghost use Rattle.node_core.specs.Seen.{versions_in, with_versions, after_of, accepts_of};
+ghost use Rattle.version_disk.specs.Held.{held};
 ghost use Rattle.world_steps.specs.Steps.{accepts_in, handles};
 ghost use Rattle.world_steps.specs.Acceptances.{told_of};
 
 use crate::block_use::{BlockUse, UNUSED};
 use crate::state::State;
+use disk_model::CalmDisk;
 use lists::{ItemList, NoMemory};
-use node_core::{Node, Prepared};
+use node_core::Prepared;
 use run_words::Accepted;
+use version_disk::StoredNode;
 use wire_forms::{Ask, Body, Mail, Message, Op, Version};
 
 impl State {
@@ -46,7 +49,7 @@ impl State {
         ensures added { IfOk result (λ r. r.1 ≡ accepts_in (setting_in self.now) (world_in self.now) node ask.now) }
     {
         let slot = &self.node_slots[usize::from(node)];
-        let Prepared { reply, added } = slot.node.prepare(ask)?;
+        let Prepared { reply, added } = slot.stored.prepare(ask)?;
         let answer = Message {
             client: message.client,
             node,
@@ -78,7 +81,7 @@ impl State {
         let sent = self.pool.len();
         self.pool.append(&mut mail)?;
         let slot = &mut self.node_slots[usize::from(node)];
-        match keep(&mut slot.node, node, ask, added, &mut self.accepted) {
+        match keep(&mut slot.stored, node, ask, added, &mut self.accepted) {
             Ok(()) => {
                 self.place = place;
                 Ok(())
@@ -124,48 +127,76 @@ impl State {
     }
 
     /// A node prunes a block by the greatest stamp that a completed read of it gave.
-    pub(crate) fn prune(&mut self, place: u64, node: u8, block: u32)
+    pub(crate) fn prune(&mut self, place: u64, node: u8, block: u32) -> Result<(), NoMemory>
         requires later { self.now.seen.place < place }
         requires node { node < self.now.config.n }
         requires block { block < self.now.config.blocks }
-        ensures world { world_in self.new ≡ happens (setting_in self.old) (world_in self.old) place (Prunes node block) }
-        ensures cluster { self.new.config ≡ self.old.config }
-        ensures lying_nodes { self.new.lying_nodes ≡ self.old.lying_nodes }
-        ensures lying_clients { self.new.lying_clients ≡ self.old.lying_clients }
+        ensures ok { OnOk result (world_in self.new ≡ happens (setting_in self.old) (world_in self.old) place (Prunes node block)) }
+        ensures cluster { OnOk result (self.new.config ≡ self.old.config) }
+        ensures lying_nodes { OnOk result (self.new.lying_nodes ≡ self.old.lying_nodes) }
+        ensures lying_clients { OnOk result (self.new.lying_clients ≡ self.old.lying_clients) }
+        ensures err { OnErr result (self.new ≡ self.old) }
     {
         let Some(stamp) = self.block_use(block).given else {
             self.pass(place);
-            return;
+            return Ok(());
         };
         let slot = &mut self.node_slots[usize::from(node)];
-        slot.node.prune(block, &stamp);
+        slot.stored.keep_prune(block, &stamp)?;
         self.place = place;
+        Ok(())
+    }
+
+    /// A node is stopped, and opened again from a copy of its disk.
+    pub(crate) fn restart(&mut self, place: u64, node: u8) -> Result<(), NoMemory>
+        requires later { self.now.seen.place < place }
+        requires node { node < self.now.config.n }
+        ensures ok { OnOk result (world_in self.new ≡ only_place (setting_in self.old) (world_in self.old) place) }
+        ensures cluster { OnOk result (self.new.config ≡ self.old.config) }
+        ensures lying_nodes { OnOk result (self.new.lying_nodes ≡ self.old.lying_nodes) }
+        ensures lying_clients { OnOk result (self.new.lying_clients ≡ self.old.lying_clients) }
+        ensures err { OnErr result (self.new ≡ self.old) }
+    {
+        let slot = &mut self.node_slots[usize::from(node)];
+        let again = slot.stored.opened_again()?;
+        slot.stored = again;
+        self.place = place;
+        Ok(())
+    }
+
+    /// The bytes of a node's disk, which hold the node's state.
+    pub(crate) fn stored(&self, node: u8) -> &[u8]
+        requires { node < self.now.config.n }
+        ensures state { held self.now.config node result.now ≡ node_in self.now node }
+        ensures versions { (block : ℕ) → block < self.now.config.blocks → versions_in (held self.now.config node result.now) block ≡ (world_in self.now).versions node block }
+    {
+        self.node_slots[usize::from(node)].stored.bytes()
     }
 }
 
 /// Lets the node of this number add what it prepared for the ask, and tells the version, if any.
 fn keep(
-    node: &mut Node,
+    node: &mut StoredNode<CalmDisk>,
     number: u8,
     ask: &Ask,
     added: Option<Version>,
     accepted: &mut ItemList<Accepted>,
 ) -> Result<(), NoMemory>
-    requires { added ≡ accepts_of node.old ask.now }
-    ensures node { OnOk result (node.new ≡ with_versions node.old ask.now.block (after_of node.old ask.now)) }
-    ensures told { OnOk result (accepted.new ≡ one_more accepted.old (told_of number ask.now.block (accepts_of node.old ask.now))) }
-    ensures node_kept { OnErr result (node.new ≡ node.old) }
+    requires { added ≡ accepts_of node.old.node ask.now }
+    ensures node { OnOk result (node.new.node ≡ with_versions node.old.node ask.now.block (after_of node.old.node ask.now)) }
+    ensures told { OnOk result (accepted.new ≡ one_more accepted.old (told_of number ask.now.block (accepts_of node.old.node ask.now))) }
+    ensures node_kept { OnErr result (node.new.node ≡ node.old.node) }
     ensures told_kept { OnErr result (accepted.new ≡ accepted.old) }
 {
     let Some(version) = &added else {
-        return node.commit(ask, added);
+        return node.keep(ask, added);
     };
     accepted.push(Accepted {
         node: number,
         block: ask.block,
         stamp: version.stamp,
     })?;
-    let kept = node.commit(ask, added);
+    let kept = node.keep(ask, added);
     if kept.is_err() {
         let _ = accepted.pop();
     }

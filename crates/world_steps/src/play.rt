@@ -63,7 +63,7 @@ impl State {
             Line::Call { client, node } => self.call(place, *client, *node),
             Line::Give { node, message } => self.give_pooled(place, *node, *message),
             Line::Hear { client, message } => self.hear(place, *client, *message as usize),
-            Line::Lost { .. } | Line::Restart { .. } => {
+            Line::Lost { .. } => {
                 self.pass(place);
                 Ok(())
             }
@@ -100,11 +100,9 @@ impl State {
                 let message = self.mix_ask(*client, *node, *block, *time, value, other)?;
                 self.poke(place, message)
             }
-            Line::Prune { node, block } => {
-                self.prune(place, *node, *block);
-                Ok(())
-            }
+            Line::Prune { node, block } => self.prune(place, *node, *block),
             Line::Back { client } => self.come_back(place, *client),
+            Line::Restart { node } => self.restart(place, *node),
         }
     }
 

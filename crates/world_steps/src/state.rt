@@ -11,11 +11,11 @@ use crate::client_slot::ClientSlot;
 use crate::node_slot::NodeSlot;
 use client_core::Client;
 use lists::{ItemList, NoMemory};
-use node_core::Node;
 use quorum_rules::Config;
 use run_words::{Accepted, Record};
 use std::alloc::Global;
 use std::marker::Model;
+use version_disk::StoredNode;
 use wire_forms::{First, Liars, Message};
 
 /// All that there is at one moment, whether or not a run leads to it. Contracts see the cluster's numbers, who lies, and the
@@ -71,7 +71,7 @@ impl Model for State {
       lying_clients = map (λ s. s.lying) w.client_slots.items;
       seen = record {
         pool = w.pool;
-        versions = map (λ h. h.node.blocks) w.node_slots.items;
+        versions = map (λ h. h.stored.node.blocks) w.node_slots.items;
         accepted = map accepted_of w.accepted;
         clients = map (λ s. s.client.seen) w.client_slots.items;
         starts = map (λ s. s.start) w.client_slots.items;
@@ -120,7 +120,7 @@ fn new_node_slots(alloc: Global, config: &Config, liars: &Liars) -> Result<Vec<N
     let mut slots = Vec::new(alloc);
     for number in 0..config.n() as u8 {
         slots.push(NodeSlot {
-            node: Node::new(alloc, config, number)?,
+            stored: StoredNode::new(alloc, config, number)?,
             crashed: false,
             lying: liars.node(number),
         })?;

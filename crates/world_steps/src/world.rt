@@ -1,4 +1,4 @@
-ghost use Rattle.std.specs.Prelude.{◌≡◌, ◌<◌, OnOk, OnErr, IfOk, IsErrOf, map};
+ghost use Rattle.std.specs.Prelude.{false, ◌≡◌, ℕ, ◌<◌, OnOk, OnErr, IfOk, IsErrOf, map};
 ghost use Rattle.std.specs.declared.option.Option.TheVariants.{None, Some};
 ghost use Rattle.wire_forms.specs.Liars.{has_number};
 ghost use Rattle.protocol.specs.Instance.{setting_of};
@@ -7,7 +7,9 @@ ghost use Rattle.protocol.specs.Setting.{first_stamp};
 ghost use Rattle.protocol.specs.Lines.{fault, plays, FitsLine};
 ghost use Rattle.protocol.specs.Seen.{record_of, accepted_of};
 ghost use Rattle.run_words.specs.declared.line.StepFault.{StepFault as Faults};
-ghost use Rattle.world_steps.specs.Worlds.{setting_in, world_in, AreLiars, IsReached};
+ghost use Rattle.node_core.specs.Seen.{versions_in};
+ghost use Rattle.version_disk.specs.Held.{held};
+ghost use Rattle.world_steps.specs.Worlds.{setting_in, world_in, node_in, AreLiars, IsReached};
 ghost use Rattle.world_steps.specs.Events.{line_of, Happens};
 
 use crate::event::Event;
@@ -121,6 +123,16 @@ impl World {
         ensures { result.now ≡ first_stamp (setting_in self.now) }
     {
         self.state.first_stamp()
+    }
+
+    /// The bytes of the disk of a node that isn't declared lying. They hold the node's state.
+    pub fn stored(&self, node: u8) -> &[u8]
+        requires there { node < self.now.config.n }
+        requires upright { (setting_in self.now).lying_node node ≡ false }
+        ensures state { held self.now.config node result.now ≡ node_in self.now node }
+        ensures versions { (block : ℕ) → block < self.now.config.blocks → versions_in (held self.now.config node result.now) block ≡ (world_in self.now).versions node block }
+    {
+        self.state.stored(node)
     }
 
     /// Each world is the last one of a run.

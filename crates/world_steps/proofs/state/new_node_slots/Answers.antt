@@ -1,7 +1,7 @@
-use Rattle.std.proofs.Common.{false, sym, ◌∙◌, ap, subst, arith}
+use Rattle.std.proofs.Common.{false, refl, sym, subst, arith}
 use Rattle.std.proofs.lemmas.Grind.{common_steps}
 use Rattle.wire_forms.specs.Liars.{has_number}
-use Rattle.world_steps.specs.Beginnings.{new_node_slot, AreNewNodeSlots}
+use Rattle.world_steps.specs.Beginnings.{IsNewNodeSlot, AreNewNodeSlots}
 use Rattle.world_steps.proofs.FirstWorlds.{node_slots-push}
 use Rattle.world_steps.proofs.state.new_node_slots.Goals as goal
 
@@ -10,5 +10,6 @@ loop-number-preserved c = record {
   count = grind (arith, common_steps);
   new =
       subst (AreNewNodeSlots c.args.config.now (has_number c.args.liars.now.nodes)) (sym c.in_ok-push.ensures.items)
-      (node_slots-push c.args.config.now (has_number c.args.liars.now.nodes) c.loop-number.slots.items _ c.loop-number.invariant.new ((λ i. record { node = c.in_ok-new.ensures i; crashed = false; lying = c.node.ensures i }) ∙ ap (new_node_slot c.args.config.now (has_number c.args.liars.now.nodes)) (sym c.loop-number.invariant.count)));
+      (node_slots-push c.args.config.now (has_number c.args.liars.now.nodes) c.loop-number.slots.items _ c.loop-number.invariant.new
+      (subst (λ i. IsNewNodeSlot c.args.config.now (has_number c.args.liars.now.nodes) i (record { stored = c.in_ok-new.field-0; crashed = false; lying = c.node.result })) (sym c.loop-number.invariant.count) (record { node = c.in_ok-new.ensures; awake = refl; lying = c.node.ensures })));
 }

@@ -1,4 +1,5 @@
-use Rattle.std.proofs.Common.{List, map, refl, sym, ◌∙◌, ap, arith}
+use Rattle.std.proofs.Common.{◌≡◌, List, map, take, refl, sym, ◌∙◌, ap, arith}
+use Rattle.std.proofs.Math.Seq.{take-append_seam}
 use Rattle.run_words.specs.declared.record.Accepted.{Accepted}
 use Rattle.protocol.specs.Count.{one_more}
 use Rattle.protocol.specs.World.{accepted_at}
@@ -8,7 +9,7 @@ use Rattle.world_steps.specs.Worlds.{setting_in, world_in}
 use Rattle.world_steps.specs.Steps.{accepts_in, handles}
 use Rattle.world_steps.specs.contracts.state.State.{the_view}
 use Rattle.world_steps.proofs.KeptWorlds.{raised}
-use Rattle.world_steps.proofs.NodeSlots.{within, node_slot-there, node_slots_versions, with_node_slot, slot-lying, world-handled, accepts-node_slot, accepted-more}
+use Rattle.world_steps.proofs.NodeSlots.{within, node_slot-there, node_slots_versions, node_slots_same, with_node_slot, slot-lying, world-handled, accepts-node_slot, accepted-more, view-same}
 use Rattle.world_steps.proofs.state.State.give.Goals as goal
 
 pub keep-requires : goal.keep-requires
@@ -28,8 +29,8 @@ invariant_of-self-in-Ok c =
     let old = c.index_mut-slot.result.now in
     let inside = within c.self.inside _ i c.args.node c.self.invariant.0 c.self.view_is c.from.ensures c.requires.node in
     let is = c.self.invariant.0.node_slot i old (node_slot-there c.self.inside i inside old c.index_mut-slot.ensures.value) in
-    let new = node_slots_versions c.self.inside.config i old is c.keep.new.node c.args.ask.now.block (after_of old.node c.args.ask.now) c.in-Ok.ensures.node in
-    (raised _ _ _ _ _ (with_node_slot _ _ _ _ _ c.self.invariant.0 i (record old { node = c.keep.new.node }) new) c.args.place (let l = c.requires.later in let e = ap (λ v. v.seen.place) c.self.view_is in omega (arith, l, e)), c.self.invariant.1, c.self.invariant.2)
+    let new = node_slots_versions c.self.inside.config i old is (record old { stored = c.keep.new.node }) c.args.ask.now.block (after_of old.stored.node c.args.ask.now) c.in-Ok.ensures.node in
+    (raised _ _ _ _ _ (with_node_slot _ _ _ _ _ c.self.invariant.0 i (record old { stored = c.keep.new.node }) new) c.args.place (let l = c.requires.later in let e = ap (λ v. v.seen.place) c.self.view_is in omega (arith, l, e)), c.self.invariant.1, c.self.invariant.2)
 
 pub returns-in-Ok-clause-ok : goal.returns-in-Ok-clause-ok
 returns-in-Ok-clause-ok c =
@@ -40,7 +41,7 @@ returns-in-Ok-clause-ok c =
     let is = c.self.invariant.0.node_slot i old (node_slot-there c.self.inside i inside old there) in
     let s = setting_in (the_view c.self.inside) in
     let block = c.args.ask.now.block in
-    let world = world-handled c.self.inside i inside old there is c.args.ask.now c.keep.new.node c.in-Ok.ensures.node in
+    let world = world-handled c.self.inside i inside old there is c.args.ask.now (record old { stored = c.keep.new.node }) refl c.in-Ok.ensures.node in
     let accepts = accepts-node_slot c.self.inside i inside old there is c.args.ask.now in
     let told = ap (λ (xs : List Accepted). map accepted_of xs) c.in-Ok.ensures.told ∙ accepted-more s c.self.inside.accepted c.args.node block _ in
     (λ j. record (world j) { pool = c.in_ok-append.ensures.ok j; accepted = told j; place = c.args.place })
@@ -57,4 +58,24 @@ returns-in-Ok-clause-lying_nodes c =
     let i = c.from.result in
     let old = c.index_mut-slot.result.now in
     let inside = within c.self.inside _ i c.args.node c.self.invariant.0 c.self.view_is c.from.ensures c.requires.node in
-    slot-lying c.self.inside i inside old c.index_mut-slot.ensures.value (record old { node = c.keep.new.node }) refl ∙ ap (λ v. v.lying_nodes) c.self.view_is
+    slot-lying c.self.inside i inside old c.index_mut-slot.ensures.value (record old { stored = c.keep.new.node }) refl ∙ ap (λ v. v.lying_nodes) c.self.view_is
+
+pub invariant_of-self-in-Err : goal.invariant_of-self-in-Err
+invariant_of-self-in-Err c =
+    let i = c.from.result in
+    let old = c.index_mut-slot.result.now in
+    let inside = within c.self.inside _ i c.args.node c.self.invariant.0 c.self.view_is c.from.ensures c.requires.node in
+    let is = c.self.invariant.0.node_slot i old (node_slot-there c.self.inside i inside old c.index_mut-slot.ensures.value) in
+    let same = node_slots_same c.self.inside.config i old is (record old { stored = c.keep.new.node }) c.in-Err.ensures.node_kept in
+    (with_node_slot _ _ _ _ _ c.self.invariant.0 i _ same, c.self.invariant.1, c.self.invariant.2)
+
+pub returns-clause-err : goal.returns-clause-err
+returns-clause-err c =
+    let i = c.from.result in
+    let old = c.index_mut-slot.result.now in
+    let inside = within c.self.inside _ i c.args.node c.self.invariant.0 c.self.view_is c.from.ensures c.requires.node in
+    let same = view-same c.self.inside i inside old c.index_mut-slot.ensures.value (record old { stored = c.keep.new.node }) refl refl c.in-Err.ensures.node_kept in
+    let pool : c.truncate.new.self ≡ c.self.inside.pool =
+    c.truncate.ensures ∙ (λ j. take (c.len-sent.ensures j) (c.in_ok-append.ensures.ok j)) ∙ take-append_seam c.self.inside.pool c.args.mail in
+    let told : c.keep.new.accepted ≡ c.self.inside.accepted = c.in-Err.ensures.told_kept in
+    (λ j. record (same j) { seen = record (same j).seen { pool = pool j; accepted = map accepted_of (told j) } }) ∙ c.self.view_is
