@@ -1,1 +1,4 @@
-pub mod Numbering
+mod Adding
+mod Clients
+mod Entries
+mod Fitting

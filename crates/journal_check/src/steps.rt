@@ -1,10 +1,12 @@
 //! Whether all steps of journals have different numbers, and lines that fit.
 
-ghost use Rattle.std.specs.Prelude.{IsTrue, IfOk, ◌≤◌, length, map, ◌∷◌, []};
+ghost use Rattle.std.specs.Prelude.{◌≡◌, ◌↔◌, ◌≤◌, IsTrue, IfOk, length, map, ◌∷◌, [], true, false};
+ghost use Rattle.std.specs.Ordering.{nat_cmp};
+ghost use Rattle.std.specs.BTreeSet.{Updates, contains};
 ghost use Rattle.protocol.specs.Report.{Ascend};
 ghost use Rattle.journals.specs.Journals.{setting_for};
-ghost use Rattle.merge_trace.specs.Turns.{IsOnce, AllFitting};
-ghost use Rattle.journal_check.specs.Numbered.{node_steps, all_node_steps, own_step, desk_steps, all_desk_steps, IsNewIn, Adds};
+ghost use Rattle.merge_trace.specs.Turns.{IsOnce};
+ghost use Rattle.journal_check.specs.Numbered.{node_steps, all_node_steps, own_step, desk_steps, all_desk_steps, AreNew, AreAdded, CanMerge};
 
 use crate::lines::{fits_desk, fits_node};
 use journals::{DeskAct, DeskEntry, DeskJournal, Journals, NodeEntry, NodeJournal};
@@ -14,7 +16,8 @@ use std::collections::BTreeSet;
 
 /// Adds a number, and tells whether it is new.
 fn is_new(numbers: &mut BTreeSet<u64>, number: u64) -> Result<bool, NoMemory>
-    ensures { IfOk result (λ new. IsTrue new → IsNewIn numbers.old numbers.new number) }
+    ensures new { IfOk result (λ new. IsTrue new ↔ (contains nat_cmp numbers.old number ≡ false)) }
+    ensures numbers { IfOk result (λ new. IsTrue new → Updates nat_cmp numbers.old numbers.new number true) }
 {
     if numbers.contains(&number) {
         return Ok(false);
@@ -30,7 +33,8 @@ fn add_node_entry(
     node: u8,
     entry: &NodeEntry,
 ) -> Result<bool, NoMemory>
-    ensures { IfOk result (λ fine. IsTrue fine → Adds (setting_for journals.now) numbers.old numbers.new (node_steps node (entry.now ∷ []))) }
+    ensures fine { IfOk result (λ fine. IsTrue fine ↔ AreNew (setting_for journals.now) numbers.old (node_steps node (entry.now ∷ []))) }
+    ensures numbers { IfOk result (λ fine. IsTrue fine → AreAdded numbers.old numbers.new (node_steps node (entry.now ∷ []))) }
 {
     if !fits_node(journals, node, &entry.act) {
         return Ok(false);
@@ -45,7 +49,8 @@ fn add_desk_entry(
     client: u32,
     entry: &DeskEntry,
 ) -> Result<bool, NoMemory>
-    ensures { IfOk result (λ fine. IsTrue fine → Adds (setting_for journals.now) numbers.old numbers.new (own_step client entry.now.number entry.now.act)) }
+    ensures fine { IfOk result (λ fine. IsTrue fine ↔ AreNew (setting_for journals.now) numbers.old (own_step client entry.now.number entry.now.act)) }
+    ensures numbers { IfOk result (λ fine. IsTrue fine → AreAdded numbers.old numbers.new (own_step client entry.now.number entry.now.act)) }
 {
     if let DeskAct::Call { .. } = entry.act {
         return Ok(true);
@@ -63,7 +68,8 @@ fn add_node(
     node: u8,
     entries: &[NodeEntry],
 ) -> Result<bool, NoMemory>
-    ensures { IfOk result (λ fine. IsTrue fine → Adds (setting_for journals.now) numbers.old numbers.new (node_steps node entries.now)) }
+    ensures fine { IfOk result (λ fine. IsTrue fine ↔ AreNew (setting_for journals.now) numbers.old (node_steps node entries.now)) }
+    ensures numbers { IfOk result (λ fine. IsTrue fine → AreAdded numbers.old numbers.new (node_steps node entries.now)) }
 {
     for entry in entries {
         if !add_node_entry(journals, numbers, node, entry)? {
@@ -80,7 +86,8 @@ fn add_desk(
     client: u32,
     entries: &[DeskEntry],
 ) -> Result<bool, NoMemory>
-    ensures { IfOk result (λ fine. IsTrue fine → Adds (setting_for journals.now) numbers.old numbers.new (desk_steps client entries.now)) }
+    ensures fine { IfOk result (λ fine. IsTrue fine ↔ AreNew (setting_for journals.now) numbers.old (desk_steps client entries.now)) }
+    ensures numbers { IfOk result (λ fine. IsTrue fine → AreAdded numbers.old numbers.new (desk_steps client entries.now)) }
 {
     for entry in entries {
         if !add_desk_entry(journals, numbers, client, entry)? {
@@ -97,7 +104,8 @@ fn add_nodes(
     nodes: &[NodeJournal],
 ) -> Result<bool, NoMemory>
     requires { length nodes.now ≤ 256 }
-    ensures { IfOk result (λ fine. IsTrue fine → Adds (setting_for journals.now) numbers.old numbers.new (all_node_steps 0 nodes.now)) }
+    ensures fine { IfOk result (λ fine. IsTrue fine ↔ AreNew (setting_for journals.now) numbers.old (all_node_steps 0 nodes.now)) }
+    ensures numbers { IfOk result (λ fine. IsTrue fine → AreAdded numbers.old numbers.new (all_node_steps 0 nodes.now)) }
 {
     for node in 0..nodes.len() {
         if !add_node(journals, numbers, node as u8, nodes[node].as_slice())? {
@@ -113,7 +121,8 @@ fn add_desks(
     numbers: &mut BTreeSet<u64>,
     desks: &[DeskJournal],
 ) -> Result<bool, NoMemory>
-    ensures { IfOk result (λ fine. IsTrue fine → Adds (setting_for journals.now) numbers.old numbers.new (all_desk_steps desks.now)) }
+    ensures fine { IfOk result (λ fine. IsTrue fine ↔ AreNew (setting_for journals.now) numbers.old (all_desk_steps desks.now)) }
+    ensures numbers { IfOk result (λ fine. IsTrue fine → AreAdded numbers.old numbers.new (all_desk_steps desks.now)) }
 {
     for desk in desks {
         if !add_desk(journals, numbers, desk.client, desk.entries.as_slice())? {
@@ -125,7 +134,7 @@ fn add_desks(
 
 /// Whether the clients ascend.
 fn do_ascend(desks: &[DeskJournal]) -> bool
-    ensures { IsTrue result → Ascend (map (λ d. d.client) desks.now) }
+    ensures { IsTrue result ↔ Ascend (map (λ d. d.client) desks.now) }
 {
     let mut least = 0;
     for desk in desks {
@@ -138,13 +147,11 @@ fn do_ascend(desks: &[DeskJournal]) -> bool
     true
 }
 
-/// Whether the journals can be merged: there are at most 256 nodes, the clients ascend, no number stands twice among what nodes
-/// did and what clients started, and each operation and each prune is one of the cluster's.
+/// Whether the journals can be merged: true exactly where there are at most 256 nodes, the clients ascend, no number stands twice
+/// among what nodes did and what clients started, and each operation and each prune is one of the cluster's.
 pub fn can_merge(alloc: Global, journals: &Journals) -> Result<bool, NoMemory>
-    ensures nodes { IfOk result (λ can. IsTrue can → length journals.now.nodes ≤ 256) }
-    ensures desks { IfOk result (λ can. IsTrue can → Ascend (map (λ d. d.client) journals.now.desks)) }
+    ensures exact { IfOk result (λ can. IsTrue can ↔ CanMerge journals.now) }
     ensures once { IfOk result (λ can. IsTrue can → IsOnce journals.now) }
-    ensures fits { IfOk result (λ can. IsTrue can → AllFitting journals.now) }
 {
     if 256 < journals.nodes.len() || !do_ascend(journals.desks.as_slice()) {
         return Ok(false);

@@ -1,13 +1,7 @@
-use Rattle.std.specs.Prelude.{IsTrue}
 use Rattle.journals.specs.Journals.{setting_for}
 use Rattle.journals.specs.Steps.Step.{AtNode}
-use Rattle.journal_check.specs.Numbered.{node_steps, IsNewIn, Adds}
-use Rattle.journal_check.proofs.Numbering.{step_added, if_ok_more}
-use Rattle.std.proofs.Common.{◌∷◌, []}
+use Rattle.journal_check.proofs.Adding.{refused, one_new_fits}
 use Rattle.journal_check.proofs.steps.add_node_entry.Goals as goal
 
-pub returns : goal.returns
-returns c =
-    if_ok_more c.is_new.result (λ new. IsTrue new → IsNewIn c.args.numbers.now c.is_new.new.numbers c.args.entry.now.number)
-    (λ fine. IsTrue fine → Adds (setting_for c.args.journals.now) c.args.numbers.now c.is_new.new.numbers (node_steps c.args.node (c.args.entry.now ∷ []))) c.is_new.ensures
-    (λ fine new yes. step_added (setting_for c.args.journals.now) c.args.numbers.now c.is_new.new.numbers c.args.entry.now.number (new yes) (AtNode c.args.node c.args.entry.now.act) (c.fits_node.ensures c.if-not-fits_node.false))
+pub returns-then-not-fits_node-clause-fine : goal.returns-then-not-fits_node-clause-fine
+returns-then-not-fits_node-clause-fine c = refused _ (λ new. let k = c.fits_node.ensures.1 (one_new_fits (setting_for c.args.journals.now) c.args.numbers.now c.args.entry.now.number (AtNode c.args.node c.args.entry.now.act) new) in cc)

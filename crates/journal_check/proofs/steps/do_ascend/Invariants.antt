@@ -1,7 +1,7 @@
-use Rattle.std.proofs.Common.{map, take}
-use Rattle.journal_check.proofs.Numbering.{IsBelow}
+use Rattle.std.proofs.Common.{take}
+use Rattle.journal_check.proofs.Clients.{clients_of, IsLeast}
 use Rattle.journal_check.proofs.steps.do_ascend.Given as goal
 
--- the clients so far ascend, all below this number
+-- the clients so far ascend, and this is the least one that may follow
 abbrev pub invariant-loop-desk : goal.invariant-loop-desk
-invariant-loop-desk l = IsBelow (map (λ d. d.client) (take l.desk-index l.desks)) l.least
+invariant-loop-desk l = IsLeast (clients_of (take l.desk-index l.desks)) l.least
