@@ -38,7 +38,7 @@ all_left None = refl
 all_left (Some count) = let e : count ≡ count - 0 = omega arith in ap Some e
 
 module _ (plan : Plan) (t : ClientTask) (h : IsClientTask plan t) where
-  none_done : phase_in plan t.phases ≡ 0
+  pub none_done : phase_in plan t.phases ≡ 0
   none_done = let c = h.count in omega arith
 
   first_is : steps_of_first plan t.client (phase_in plan t.phases) ≡ []

@@ -7,3 +7,4 @@ pub mod Running
 pub mod Mailing
 pub mod Opening
 pub mod Ending
+pub mod Sending

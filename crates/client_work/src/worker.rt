@@ -7,7 +7,7 @@ ghost use Rattle.plan_words.specs.Plans.{Fits};
 ghost use Rattle.client_desks.specs.Desks.{DeskView};
 ghost use Rattle.plan_followed.specs.Clients.{way_of};
 ghost use Rattle.plan_tasks.specs.Tasks.{IsClientTask};
-ghost use Rattle.client_work.specs.Work.{given_by, IsReady, HasCounted, IsWholeIn, IsOpOf, ways_left};
+ghost use Rattle.client_work.specs.Work.{given_by, phase_at, IsReady, HasCounted, IsWholeIn, IsOpOf, ways_left};
 
 use crate::reads::{GivenRead, latest};
 use block_device::{BlockStep, BlockSteps, merge};
@@ -44,6 +44,7 @@ impl Worker {
         ensures plan { result.plan.value ≡ plan.now }
         ensures client { result.client ≡ task.client }
         ensures reads { result.reads ≡ [] }
+        ensures first { phase_at result ≡ 0 }
         ensures ready { (d : DeskView) → d.config ≡ plan.now.config → d.id ≡ task.client → d.lying ≡ false → d.entries ≡ [] → IsReady result d }
     {
         let ClientTask {

@@ -1,8 +1,14 @@
-use Rattle.std.proofs.Common.{◌∙◌, ap, refl, sym, subst}
+use Rattle.std.proofs.Common.{◌≡◌, ◌∙◌, ap, refl, sym, subst}
 use Rattle.plan_words.specs.declared.plan.Plan.{Plan}
 use Rattle.plan_tasks.specs.Tasks.{IsClientTask}
-use Rattle.client_work.proofs.Beginning.{begins}
+use Rattle.client_work.specs.Work.{phase_in}
+use Rattle.client_work.proofs.Beginning.{begins, none_done}
 use Rattle.client_work.proofs.worker.Worker.new.Goals as goal
+
+pub returns-clause-first : goal.returns-clause-first
+returns-clause-first c =
+    ap (phase_in c.of.result.value) (c.from_vec.ensures.items ∙ c.into_vec.ensures)
+    ∙ none_done c.of.result.value c.args.task (subst (λ (p : Plan). IsClientTask p c.args.task) (sym c.of.ensures) c.requires.task)
 
 pub returns-clause-ready : goal.returns-clause-ready
 returns-clause-ready c d config id correct entries =
