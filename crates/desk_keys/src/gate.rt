@@ -10,8 +10,8 @@ pub enum Edge {
 }
 
 /// Called by the thread of a correct client at each edge of its operations, which count from 1. No contract speaks of what it
-/// does.
-pub trait Gate: Sync {
+/// does. Threads that share one ask that it is `Sync`.
+pub trait Gate {
     fn at(&self, client: u32, op: u64, edge: Edge);
 }
 

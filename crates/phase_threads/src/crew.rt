@@ -42,7 +42,7 @@ impl<T: Duty> Crew<Post<T>> for Floor {
 }
 
 /// Each post has a thread of its own. Where a thread can't be made, another one does its work.
-pub fn each<R: Threads + Wait + Sync, G: Gate, P: Send, C: Crew<P> + Sync>(
+pub fn each<R: Threads + Wait + Sync, G: Gate + Sync, P: Send, C: Crew<P> + Sync>(
     rt: &R,
     gate: &G,
     crew: &C,
@@ -60,7 +60,7 @@ pub fn each<R: Threads + Wait + Sync, G: Gate, P: Send, C: Crew<P> + Sync>(
 }
 
 /// Each desk has a thread of its own.
-pub fn work_all<R: Threads + Wait + Sync, G: Gate, T: Duty + Send>(
+pub fn work_all<R: Threads + Wait + Sync, G: Gate + Sync, T: Duty + Send>(
     rt: &R,
     gate: &G,
     floor: &Floor,

@@ -31,7 +31,7 @@ pub struct Left<T> {
 ///
 /// A refusal ends the work of the thread to which it comes, and the others end theirs. If none came, cells and desks agree in pairs
 /// again.
-pub fn run_phase<R: Threads + Wait + Sync, G: Gate, T: Duty + Send>(
+pub fn run_phase<R: Threads + Wait + Sync, G: Gate + Sync, T: Duty + Send>(
     rt: &R,
     alloc: Global,
     gate: &G,

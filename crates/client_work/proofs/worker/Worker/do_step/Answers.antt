@@ -5,19 +5,19 @@ use Rattle.client_work.proofs.Ending.{stepped}
 use Rattle.client_work.proofs.worker.Worker.do_step.Goals as goal
 
 pub ask_on-requires-clause-goes : goal.ask_on-requires-clause-goes
-ask_on-requires-clause-goes g c κs within =
+ask_on-requires-clause-goes g c =
     let sound : c.start.new.self.refused ≡ None = search rules in
     (begun c.args.self.now c.args.keys.now.desk c.start.new.self.desk c.args.step c.in-Ok.op c.block_of-block.result c.requires.goes c.requires.can c.requires.next c.in-Ok.ensures c.block_of-block.ensures
     (ok_gives c.start.result (sym c.start.ensures.refused ∙ sound) c.start.ensures.ok)).goes
 
 pub ask_on-requires-clause-up : goal.ask_on-requires-clause-up
-ask_on-requires-clause-up g c κs within =
+ask_on-requires-clause-up g c =
     let sound : c.start.new.self.refused ≡ None = search rules in
     (begun c.args.self.now c.args.keys.now.desk c.start.new.self.desk c.args.step c.in-Ok.op c.block_of-block.result c.requires.goes c.requires.can c.requires.next c.in-Ok.ensures c.block_of-block.ensures
     (ok_gives c.start.result (sym c.start.ensures.refused ∙ sound) c.start.ensures.ok)).up
 
 pub ask_on-requires-clause-on : goal.ask_on-requires-clause-on
-ask_on-requires-clause-on g c κs within =
+ask_on-requires-clause-on g c =
     let sound : c.start.new.self.refused ≡ None = search rules in
     (begun c.args.self.now c.args.keys.now.desk c.start.new.self.desk c.args.step c.in-Ok.op c.block_of-block.result c.requires.goes c.requires.can c.requires.next c.in-Ok.ensures c.block_of-block.ensures
     (ok_gives c.start.result (sym c.start.ensures.refused ∙ sound) c.start.ensures.ok)).on

@@ -12,12 +12,12 @@ returns-then-not-can_start-clause-done g c ok =
     inr (amid_off c.loop-step.self c.loop-step.steps c.loop-step.keys.desk c.loop-step.invariant.goes.its.correct c.loop-step.invariant.steps not c.loop-step.invariant.amid)
 
 pub do_step-requires-clause-next : goal.do_step-requires-clause-next
-do_step-requires-clause-next g c κs within =
+do_step-requires-clause-next g c =
     let can : CanStart c.loop-step.keys.desk = search rules in
     step_next c.loop-step.self c.loop-step.steps c.in-Some.step c.next.new.self c.loop-step.keys.desk c.loop-step.invariant.goes can c.in-Some.ensures.steps c.loop-step.invariant.steps c.loop-step.invariant.amid
 
 pub do_step-requires-clause-fits : goal.do_step-requires-clause-fits
-do_step-requires-clause-fits g c κs within = step_there c.loop-step.self c.loop-step.steps c.in-Some.step c.next.new.self c.in-Some.ensures.steps c.loop-step.invariant.steps
+do_step-requires-clause-fits g c = step_there c.loop-step.self c.loop-step.steps c.in-Some.step c.next.new.self c.in-Some.ensures.steps c.loop-step.invariant.steps
 
 pub loop-step-preserved : goal.loop-step-preserved
 loop-step-preserved g c =

@@ -7,7 +7,7 @@ use Rattle.client_work.proofs.Ending.{worked}
 use Rattle.client_work.proofs.worker.Worker.work.Goals as goal
 
 pub do_steps-requires-clause-amid : goal.do_steps-requires-clause-amid
-do_steps-requires-clause-amid g c κs within =
+do_steps-requires-clause-amid g c =
     let w = c.args.self.now in
     let d = c.args.keys.now.desk in
     let rest = c.pop_front.new.self.items in
@@ -15,7 +15,7 @@ do_steps-requires-clause-amid g c κs within =
     (phase_amid w d c.in-Some.steps rest c.in-Some.ensures.items c.requires.ready.stands)
 
 pub do_steps-requires-clause-steps : goal.do_steps-requires-clause-steps
-do_steps-requires-clause-steps g c κs within =
+do_steps-requires-clause-steps g c =
     let w = c.args.self.now in
     let rest = c.pop_front.new.self.items in
     subst (StepsFit w.plan.value w.client rest) (sym c.of.ensures)

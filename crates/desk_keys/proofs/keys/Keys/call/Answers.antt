@@ -6,7 +6,7 @@ use Rattle.desk_keys.proofs.Keying.{own_at, chit_at, fit_turn, keys_called, call
 use Rattle.desk_keys.proofs.keys.Keys.call.Goals as goal
 
 pub call_in-answer-requires-clause-own : goal.call_in-answer-requires-clause-own
-call_in-answer-requires-clause-own g c κs within =
+call_in-answer-requires-clause-own g c =
     let was = c.self.inside in
     let old : KeysView = record { desk = was.desk; chits = was.chits.items; refused = was.refused } in
     let fit : Fit old c.args.floor.now = subst (λ (k : KeysView). Fit k c.args.floor.now) (sym c.self.view_is) c.requires.fit in
