@@ -1,4 +1,4 @@
-ghost use Rattle.std.specs.Prelude.{◌≡◌, ◌≤◌, IfOk, OnOk, IsErrOf};
+ghost use Rattle.std.specs.Prelude.{◌≡◌, ◌≢◌, ◌≤◌, Err, IfOk, IsErrOf};
 ghost use Rattle.outside_io.specs.Causes.{Rose};
 ghost use Rattle.outside_io.specs.Given.{GaveAtMost};
 ghost use Rattle.nbd_words.specs.Arrivals.{HasArrived, HasBegun};
@@ -31,7 +31,7 @@ pub fn read_request<S: Source>(alloc: Global, source: &mut S) -> Result<Arrival,
     ensures fault { IsErrOf result TakeRefusal.ReadFault → Rose S.last (S.faults source.old) (S.faults source.new) }
     ensures begun { IsErrOf result TakeRefusal.ReadFault → HasBegun (S.left source.old) (S.left source.new) }
     ensures most { IsErrOf result TakeRefusal.NoMemory → GaveAtMost head_len (S.left source.old) (S.left source.new) }
-    ensures calm { OnOk result (S.faults source.new ≡ S.faults source.old) }
+    ensures calm { result ≢ Err TakeRefusal.ReadFault → S.faults source.new ≡ S.faults source.old }
     ensures later { S.faults source.old ≤ S.faults source.new }
 {
     let magic = take_bytes(alloc, source, 4)?;
