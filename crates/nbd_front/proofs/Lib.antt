@@ -1,0 +1,5 @@
+mod Blocks
+mod Progress
+mod Devices
+mod Steps
+mod Lives

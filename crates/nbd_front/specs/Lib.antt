@@ -1,0 +1,4 @@
+pub mod Arrays
+pub mod Ends
+pub mod Sessions
+pub mod Servers
