@@ -3,7 +3,10 @@ use Rattle.std.proofs.Common.{◌≡◌, ℕ, zero, suc, ◌+◌, ◌-◌, ◌*�
 use Rattle.std.proofs.lemmas.Bool.{cases_eq}
 use Rattle.std.proofs.lemmas.List.{take_all, get_or-set_same, get_or-set_other, length-set}
 use Rattle.std.proofs.Math.Nat.{mul_comm}
-use Rattle.quorum_rules.specs.Limits.{Numbers, IsValid}
+use Rattle.std.proofs.lemmas.Nat.{mul-le}
+use Rattle.quorum_rules.specs.declared.Edition.{Edition}
+use Rattle.quorum_rules.specs.declared.Edition.TheVariants.{One, Two}
+use Rattle.quorum_rules.specs.Limits.{Numbers, IsValid, most_size}
 use Rattle.block_device.specs.Device.{merged}
 use Rattle.protocol.specs.Setting.{IsBlock, zeros}
 use Rattle.protocol.specs.Instance.{setting}
@@ -95,3 +98,11 @@ read_written d e o r =
 
 pub same_written : (d : SeenDevice) → IsInOrder d → HasWritten 8192 (array_of d.held) d d
 same_written d o = record { order = o; config = refl; life = refl; bytes = refl; times = λ n h k l. omega (arith, h k l); steps = omega arith }
+
+most : (e : Edition) → most_size e ≤ 16384
+most One = omega arith
+most Two = omega arith
+
+-- a device has at most 2^26 bytes
+pub small_array : (c : Numbers) → IsValid c → c.size * c.blocks ≤ 2 ^ 26
+small_array c v = let m = most c.edition in mul-le c.size c.blocks 16384 4096 (omega (arith, v.size, m)) (omega (arith, v.blocks))

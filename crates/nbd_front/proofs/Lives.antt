@@ -8,8 +8,9 @@ use Rattle.protocol.specs.Setting.{zeros}
 use Rattle.protocol.specs.Instance.{setting}
 use Rattle.node_device.specs.Held.{Held, held_at, unwritten}
 use Rattle.node_device.specs.Devices.{SeenDevice}
-use Rattle.nbd_front.specs.Arrays.{array_of, IsInOrder, IsWrittenUpTo, HasWritten}
-use Rattle.nbd_front.specs.Servers.{life_len, IsInLife, IsServer, HasRefreshed}
+use Rattle.nbd_front.specs.Arrays.{array_of, IsInOrder, IsWrittenUpTo, HasRead, HasWritten}
+use Rattle.nbd_front.specs.Answers.{most_steps}
+use Rattle.nbd_front.specs.Servers.{life_len, most_len, IsInLife, IsServer, HasRefreshed}
 use Rattle.nbd_front.specs.Sessions.{most_requests}
 
 -- the client may serve one more request, and the device is as it was
@@ -20,7 +21,7 @@ pub refreshed_times : (served most : ℕ) (d e : SeenDevice) → IsWrittenUpTo m
 refreshed_times served most d e h r = rw r.same h
 
 -- one more request
-pub served_more : (d e : SeenDevice) (served place more : ℕ) (array : List ℕ) → IsWrittenUpTo served d → IsInLife d served → served < life_len * (d.life + 1) → served < most_requests → place ≤ served * 2 ^ 33 → more ≤ 2 ^ 33 → HasWritten 8192 array d e → IsServer e (served + 1) (place + more)
+pub served_more : (d e : SeenDevice) (served place more : ℕ) (array : List ℕ) → IsWrittenUpTo served d → IsInLife d served → served < life_len * (d.life + 1) → served < most_requests → place ≤ served * most_len → more ≤ most_len → HasWritten most_steps array d e → IsServer e (served + 1) (place + more)
 served_more d e served place more array times life later few here long w =
     let same = w.life in
     let begun = life.begun in
@@ -76,3 +77,18 @@ module _ (c : Numbers) (valid : IsValid c) (d : SeenDevice) (is : d ≡ record {
 pub if_ok : {T E : Type 0} (P Q : T → Type 0) → ((x : T) → P x → Q x) → (r : Result T E) → IfOk r P → IfOk r Q
 if_ok P Q f (Ok x) h = f x h
 if_ok P Q f (Err e) h = h
+
+-- reads, and then writes
+pub then_written : (d e f : SeenDevice) (array : List ℕ → List ℕ) → HasRead 4096 d e → HasWritten 8192 (array (array_of e.held)) e f → HasWritten most_steps (array (array_of d.held)) d f
+then_written d e f array r w =
+    let held : array_of e.held ≡ array_of d.held = ap (λ (x : SeenDevice). array_of x.held) r.same in
+    let config : e.config ≡ d.config = ap (λ (x : SeenDevice). x.config) r.same in
+    let life : e.life ≡ d.life = ap (λ (x : SeenDevice). x.life) r.same in
+    record {
+      order = w.order;
+      config = w.config ∙ config;
+      life = w.life ∙ life;
+      bytes = w.bytes ∙ ap array held;
+      times = λ n h. w.times n (rw r.same h);
+      steps = omega (arith, w.steps, r.steps);
+    }

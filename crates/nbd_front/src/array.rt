@@ -38,7 +38,11 @@ impl Span {
 }
 
 /// Adds the bytes of a span to a text.
-pub fn read_span(device: &mut NodeDevice, span: Span, text: &mut Vec<u8>) -> Result<(), NoMemory>
+pub(crate) fn read_span(
+    device: &mut NodeDevice,
+    span: Span,
+    text: &mut Vec<u8>,
+) -> Result<(), NoMemory>
     requires order { IsInOrder device.old }
     requires within { IsWithin span device.old.config }
     requires steps { device.old.started + 4096 < 2 ^ 32 - 1 }
@@ -57,7 +61,7 @@ pub fn read_span(device: &mut NodeDevice, span: Span, text: &mut Vec<u8>) -> Res
 }
 
 /// Writes bytes from a place on. A block of which only a part is written is read first.
-pub fn write_span(
+pub(crate) fn write_span(
     alloc: Global,
     device: &mut NodeDevice,
     start: usize,

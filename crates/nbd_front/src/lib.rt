@@ -1,11 +1,11 @@
-//! A block device that other makers' clients use: its bytes over the nodes of a cluster, the words that it begins with, and what
-//! a session of requests and replies is.
+//! A block device that other makers' clients use: a session of requests and replies over a source and a sink.
 #![tactic(auto)]
 
-pub mod array;
+mod answer;
+mod array;
 pub mod ending;
 pub mod server;
+mod turn;
 
-pub use array::{Span, read_span, write_span};
 pub use ending::{Served, SessionEnd};
 pub use server::Server;

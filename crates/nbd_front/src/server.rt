@@ -1,16 +1,18 @@
-ghost use Rattle.std.specs.Prelude.{◌≡◌, ◌≤◌, ◌+◌, ◌*◌, ◌<◌, true, replicate, slice_range, OnOk, OnErr, IfOk, IfErr};
+ghost use Rattle.std.specs.Prelude.{◌≡◌, ◌≢◌, ◌≤◌, ◌+◌, ◌*◌, ◌^◌, ◌<◌, Ok, Err, None, true, [], replicate, length, slice_range, List, ℕ, OnOk, OnErr, IfOk, IfErr, IfSome, IsErrOf};
+ghost use Rattle.std.specs.Io.KnownBytes.{Consumes, IsAtEnd};
 ghost use Rattle.outside_io.specs.Causes.{Rose};
 ghost use Rattle.outside_io.specs.Written.{Adds, AllFlushed, TakesPrefix};
 ghost use Rattle.quorum_rules.specs.Limits.{wait_of};
 ghost use Rattle.node_device.specs.Held.{Held, version_of};
 ghost use Rattle.nbd_words.specs.Replies.{greeting};
-ghost use Rattle.nbd_front.specs.Servers.{bytes_of};
+ghost use Rattle.nbd_front.specs.Servers.{bytes_of, HasStepped};
 
-use crate::ending::SessionEnd;
+use crate::ending::{Served, SessionEnd};
+use crate::turn::answer_next;
 use lists::NoMemory;
 use nbd_words::greeting;
 use node_device::NodeDevice;
-use outside_io::{Sink, write_all};
+use outside_io::{Sink, Source, write_all};
 use quorum_rules::Config;
 use std::alloc::Global;
 use std::marker::Model;
@@ -78,6 +80,35 @@ impl Server {
         let config = self.device.config();
         let size = u64::from(config.size()) * u64::from(config.blocks());
         write_or_end(sink, &greeting(size))
+    }
+
+    /// Reads one request, does what it asks, and writes and flushes its whole reply before it returns.
+    pub fn serve_one<S: Source, K: Sink>(
+        &mut self,
+        alloc: Global,
+        source: &mut S,
+        sink: &mut K,
+    ) -> Result<Served, SessionEnd>
+        requires { self.old.whole ≡ true }
+        ensures step { HasStepped self.old self.new (S.left source.old) (S.left source.new) (K.taken sink.old) (K.taken sink.new) result }
+        ensures flushed { result ≡ Ok Served.Next → AllFlushed (K.taken sink.new) (K.flushed sink.new) }
+        ensures unwritten { result ≢ Ok Served.Next → result ≢ Err SessionEnd.WriteFault → sink.new ≡ sink.old }
+        ensures read_fault { IsErrOf result SessionEnd.ReadFault → Rose S.last (S.faults source.old) (S.faults source.new) }
+        ensures write_fault { IsErrOf result SessionEnd.WriteFault → Rose K.last (K.faults sink.old) (K.faults sink.new) }
+        ensures calm_source { result ≢ Err SessionEnd.ReadFault → S.faults source.new ≡ S.faults source.old }
+        ensures calm_sink { result ≢ Err SessionEnd.WriteFault → K.faults sink.new ≡ K.faults sink.old }
+    {
+        self.whole = false;
+        let turn = answer_next(alloc, &mut self.device, source, self.served, self.place)?;
+        let Some(turn) = turn else {
+            self.whole = true;
+            return Ok(Served::Over);
+        };
+        self.served += 1;
+        self.place += turn.len;
+        write_or_end(sink, &turn.reply)?;
+        self.whole = true;
+        Ok(Served::Next)
     }
 }
 
