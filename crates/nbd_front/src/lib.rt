@@ -5,7 +5,9 @@ mod answer;
 mod array;
 pub mod ending;
 pub mod server;
+pub mod session;
 mod turn;
 
 pub use ending::{Served, SessionEnd};
 pub use server::Server;
+pub use session::serve;

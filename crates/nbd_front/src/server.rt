@@ -5,6 +5,7 @@ ghost use Rattle.outside_io.specs.Written.{Adds, AllFlushed, TakesPrefix};
 ghost use Rattle.quorum_rules.specs.Limits.{wait_of};
 ghost use Rattle.node_device.specs.Held.{Held, version_of};
 ghost use Rattle.nbd_words.specs.Replies.{greeting};
+ghost use Rattle.nbd_front.specs.Sessions.{IsSession};
 ghost use Rattle.nbd_front.specs.Servers.{bytes_of, HasStepped};
 
 use crate::ending::{Served, SessionEnd};
@@ -109,6 +110,34 @@ impl Server {
         write_or_end(sink, &turn.reply)?;
         self.whole = true;
         Ok(Served::Next)
+    }
+
+    /// Serves requests until the session ends.
+    pub fn serve<S: Source, K: Sink>(
+        &mut self,
+        alloc: Global,
+        source: &mut S,
+        sink: &mut K,
+    ) -> Result<(), SessionEnd>
+        requires { self.old.whole ≡ true }
+        ensures done { OnOk result (IsSession [] (bytes_of self.old) self.old.served self.old.place (Ok Served.Over)
+            (S.left source.old) (S.left source.new) (K.taken sink.old) (K.taken sink.new)) }
+        ensures ended { IfErr result (λ end. IsSession [] (bytes_of self.old) self.old.served self.old.place (Err end)
+            (S.left source.old) (S.left source.new) (K.taken sink.old) (K.taken sink.new)) }
+        ensures whole { OnOk result (self.new.whole ≡ true) }
+        ensures flushed { result ≢ Err SessionEnd.WriteFault → AllFlushed (K.taken sink.old) (K.flushed sink.old) → AllFlushed (K.taken sink.new) (K.flushed sink.new) }
+        // faults
+        ensures read_fault { IsErrOf result SessionEnd.ReadFault → Rose S.last (S.faults source.old) (S.faults source.new) }
+        ensures write_fault { IsErrOf result SessionEnd.WriteFault → Rose K.last (K.faults sink.old) (K.faults sink.new) }
+        ensures calm_source { result ≢ Err SessionEnd.ReadFault → S.faults source.new ≡ S.faults source.old }
+        ensures calm_sink { result ≢ Err SessionEnd.WriteFault → K.faults sink.new ≡ K.faults sink.old }
+    {
+        loop {
+            match self.serve_one(alloc, source, sink)? {
+                Served::Next => {}
+                Served::Over => return Ok(()),
+            }
+        }
     }
 }
 
