@@ -19,3 +19,11 @@ HasArrived old new arrival = (bytes : List ℕ) × Consumes old new bytes × IsA
 -- the source gave at most so many bytes, and fewer only to its end
 abbrev pub GaveUpTo : ℕ → Option (List ℕ) → Option (List ℕ) → List ℕ → Type 0
 GaveUpTo most old new bytes = Consumes old new bytes × (length bytes ≤ most) × (length bytes < most → IsAtEnd new)
+
+-- the source gave fewer bytes than so many
+abbrev pub GaveFewer : ℕ → Option (List ℕ) → Option (List ℕ) → Type 0
+GaveFewer most old new = (bytes : List ℕ) × Consumes old new bytes × (length bytes < most)
+
+-- the source gave a part of a request, its data aside, or nothing
+abbrev pub HasBegun : Option (List ℕ) → Option (List ℕ) → Type 0
+HasBegun old new = (bytes : List ℕ) × Consumes old new bytes × (length bytes < head_len) × (4 ≤ length bytes → magic_of bytes ≡ request_magic)

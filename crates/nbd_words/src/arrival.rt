@@ -1,6 +1,8 @@
-ghost use Rattle.std.specs.Prelude.{◌≡◌, ◌≤◌, IfOk, OnOk, IsErrOf};
+ghost use Rattle.std.specs.Prelude.{◌≡◌, ◌≢◌, ◌≤◌, Err, IfOk, IsErrOf};
 ghost use Rattle.outside_io.specs.Causes.{Rose};
-ghost use Rattle.nbd_words.specs.Arrivals.{HasArrived};
+ghost use Rattle.outside_io.specs.Given.{GaveAtMost};
+ghost use Rattle.nbd_words.specs.Arrivals.{HasArrived, HasBegun};
+ghost use Rattle.nbd_words.specs.Requests.{head_len};
 
 use crate::filling::{TakeRefusal, take_bytes};
 use crate::request::{Request, four};
@@ -27,7 +29,9 @@ pub enum Arrival {
 pub fn read_request<S: Source>(alloc: Global, source: &mut S) -> Result<Arrival, TakeRefusal>
     ensures arrival { IfOk result (λ arrival. HasArrived (S.left source.old) (S.left source.new) arrival) }
     ensures fault { IsErrOf result TakeRefusal.ReadFault → Rose S.last (S.faults source.old) (S.faults source.new) }
-    ensures calm { OnOk result (S.faults source.new ≡ S.faults source.old) }
+    ensures begun { IsErrOf result TakeRefusal.ReadFault → HasBegun (S.left source.old) (S.left source.new) }
+    ensures most { IsErrOf result TakeRefusal.NoMemory → GaveAtMost head_len (S.left source.old) (S.left source.new) }
+    ensures calm { result ≢ Err TakeRefusal.ReadFault → S.faults source.new ≡ S.faults source.old }
     ensures later { S.faults source.old ≤ S.faults source.new }
 {
     let magic = take_bytes(alloc, source, 4)?;

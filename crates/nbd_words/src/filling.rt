@@ -1,6 +1,7 @@
 ghost use Rattle.std.specs.Prelude.{◌≡◌, ◌≢◌, ◌≤◌, ◌↔◌, IsTrue, Err, IfOk, OnOk, OnErr, IsErrOf, take, length, List, ℕ};
 ghost use Rattle.outside_io.specs.Causes.{Rose};
-ghost use Rattle.nbd_words.specs.Arrivals.{GaveUpTo};
+ghost use Rattle.outside_io.specs.Given.{GaveAtMost};
+ghost use Rattle.nbd_words.specs.Arrivals.{GaveUpTo, GaveFewer};
 
 use outside_io::{Failed, Source};
 use std::alloc::{AllocError, Global};
@@ -36,6 +37,8 @@ pub fn take_bytes<S: Source>(
 ) -> Result<Vec<u8>, TakeRefusal>
     ensures bytes { IfOk result (λ taken. GaveUpTo len (S.left source.old) (S.left source.new) taken.items) }
     ensures fault { IsErrOf result TakeRefusal.ReadFault → Rose S.last (S.faults source.old) (S.faults source.new) }
+    ensures fewer { IsErrOf result TakeRefusal.ReadFault → GaveFewer len (S.left source.old) (S.left source.new) }
+    ensures most { IsErrOf result TakeRefusal.NoMemory → GaveAtMost len (S.left source.old) (S.left source.new) }
     ensures calm { result ≢ Err TakeRefusal.ReadFault → S.faults source.new ≡ S.faults source.old }
     ensures later { S.faults source.old ≤ S.faults source.new }
 {
@@ -57,6 +60,7 @@ pub fn take_bytes<S: Source>(
 pub fn drop_bytes<S: Source>(source: &mut S, len: u32) -> Result<bool, Failed>
     ensures bytes { IfOk result (λ all. (bytes : List ℕ) × GaveUpTo len (S.left source.old) (S.left source.new) bytes × (IsTrue all ↔ (length bytes ≡ len))) }
     ensures cause { OnErr result (Rose S.last (S.faults source.old) (S.faults source.new)) }
+    ensures fewer { OnErr result (GaveFewer len (S.left source.old) (S.left source.new)) }
     ensures calm { OnOk result (S.faults source.new ≡ S.faults source.old) }
     ensures later { S.faults source.old ≤ S.faults source.new }
 {

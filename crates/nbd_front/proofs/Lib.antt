@@ -1,0 +1,9 @@
+mod Blocks
+mod Progress
+mod Devices
+mod Steps
+mod Runs
+mod Requests
+mod Lives
+mod Replying
+mod Stepping

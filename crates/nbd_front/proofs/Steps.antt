@@ -1,0 +1,130 @@
+-- What a read or a write of one block adds to a walk over the blocks of a span.
+use Rattle.std.proofs.Common.{◌≡◌, ℕ, ◌+◌, ◌-◌, ◌*◌, ◌<◌, ◌≤◌, min, List, ◌++◌, length, take, refl, sym, ◌∙◌, ap, subst, arith, inl, inr, slice_range, slice_set}
+use Rattle.std.proofs.lemmas.Bool.{cases_eq}
+use Rattle.std.proofs.lemmas.List.{append_assoc, length-take-le}
+use Rattle.std.proofs.lemmas.List.Edits.{length-between}
+use Rattle.quorum_rules.specs.Limits.{Numbers}
+use Rattle.block_device.specs.Device.{merged}
+use Rattle.protocol.specs.Setting.{IsBlock}
+use Rattle.protocol.specs.Instance.{setting}
+use Rattle.node_device.specs.Held.{Held, held_at, rewritten}
+use Rattle.node_device.specs.Devices.{SeenDevice}
+use Rattle.nbd_front.specs.Arrays.{array_of, IsInOrder, IsWrittenUpTo, HasRead}
+use Rattle.nbd_front.proofs.Blocks.{merged_then, parts_then, start_then}
+use Rattle.nbd_front.proofs.Devices.{block_part, block_merged, write_order, write_early, write_apart, write_rest}
+use Rattle.nbd_front.proofs.Progress.{IsStep}
+
+-- a text with the bytes up to a place, and those of the next block's part
+pub read_more : (d0 : SeenDevice) → IsInOrder d0 → (d : SeenDevice) → d ≡ record d0 { started = d.started } → (k start end place from to : ℕ)
+    → IsStep d0.config.size start end d0.config.blocks k place → from + k * d0.config.size ≡ place → to ≡ min (end - k * d0.config.size) d0.config.size
+    → (text0 text text1 value : List ℕ) → text ≡ text0 ++ slice_range (array_of d0.held) start place → value ≡ (held_at d.config d.held k).value → text1 ≡ text ++ slice_range value from to
+    → text1 ≡ text0 ++ slice_range (array_of d0.held) start (k * d0.config.size + to)
+read_more d0 o d same k start end place from to s first last text0 text text1 value before is after =
+    let next = k * d0.config.size + to in
+    let value0 : value ≡ (held_at d0.config d0.held k).value = is ∙ ap (λ (x : SeenDevice). (held_at x.config x.held k).value) same in
+    let here : place ≡ k * d0.config.size + from = omega (arith, first) in
+    let order : from ≤ to = omega (arith, s.high, first, last) in
+    let fits : to ≤ d0.config.size = omega (arith, last) in
+    let low : place ≤ next = omega (arith, here, order) in
+    let part = block_part d0 o k s.block from to place next here refl order fits in
+    after ∙ ap (λ z. z ++ slice_range value from to) before
+    ∙ append_assoc text0 (slice_range (array_of d0.held) start place) (slice_range value from to)
+    ∙ ap (λ z. text0 ++ (slice_range (array_of d0.held) start place ++ slice_range z from to)) value0
+    ∙ ap (λ z. text0 ++ (slice_range (array_of d0.held) start place ++ z)) (sym part)
+    ∙ ap (λ z. text0 ++ z) (parts_then (array_of d0.held) start place next s.first low)
+
+-- an array with data up to a place, and those for the next block's part
+pub write_more : (d : SeenDevice) (o : IsInOrder d) (array bytes : List ℕ) (k start end place from to : ℕ)
+    → IsStep d.config.size start end d.config.blocks k place → from + k * d.config.size ≡ place → to ≡ min (end - k * d.config.size) d.config.size
+    → end ≡ start + length bytes → end ≤ length array → array_of d.held ≡ merged array start (take (place - start) bytes)
+    → (value : List ℕ) → value ≡ merged (held_at d.config d.held k).value from (slice_range bytes (place - start) (k * d.config.size + to - start))
+    → array_of (slice_set d.held k (rewritten (held_at d.config d.held k) value)) ≡ merged array start (take (k * d.config.size + to - start) bytes)
+write_more d o array bytes k start end place from to s first last all within before value is =
+    let done = place - start in
+    let next = k * d.config.size + to - start in
+    let piece = slice_range bytes done next in
+    let here : place ≡ k * d.config.size + from = omega (arith, first) in
+    let low : done ≤ next = omega (arith, here, s.high, last) in
+    let short : next ≤ length bytes = omega (arith, s.fits, last, all) in
+    let long : length piece ≡ next - done = length-between bytes done next short in
+    let fits : from + length piece ≤ d.config.size = omega (arith, long, last, here, s.first, s.high) in
+    let place_is : start + done ≡ place = omega (arith, s.first) in
+    let done_is : done ≡ length (take done bytes) = sym (length-take-le done bytes (omega (arith, low, short))) in
+    let inside : start ≤ length array = omega (arith, all, within) in
+    ap (λ z. array_of (slice_set d.held k (rewritten (held_at d.config d.held k) z))) is
+    ∙ block_merged d o k s.block from place piece here fits
+    ∙ ap (λ z. merged z place piece) before
+    ∙ ap (λ p. merged (merged array start (take done bytes)) p piece) (sym place_is)
+    ∙ merged_then array (take done bytes) piece start done done_is inside
+    ∙ ap (λ z. merged array start z) (start_then bytes done next low)
+
+-- what is written fits its block
+pub piece_fits : (size start end blocks k place from to : ℕ) (bytes : List ℕ) → IsStep size start end blocks k place → from + k * size ≡ place → to ≡ min (end - k * size) size → end ≡ start + length bytes
+    → from + length (slice_range bytes (place - start) (k * size + to - start)) ≤ size
+piece_fits size start end blocks k place from to bytes s first last all =
+    let short : k * size + to - start ≤ length bytes = omega (arith, s.fits, last, all) in
+    let long = length-between bytes (place - start) (k * size + to - start) short in
+    omega (arith, long, last, first, s.first, s.high)
+
+-- the same, where the block's size goes by another name
+pub read_more_at : (d0 : SeenDevice) → IsInOrder d0 → (d : SeenDevice) → d ≡ record d0 { started = d.started } → (size : ℕ) → size ≡ d0.config.size → (k start end place from to : ℕ)
+    → IsStep size start end d0.config.blocks k place → from + k * size ≡ place → to ≡ min (end - k * size) size
+    → (text0 text text1 value : List ℕ) → text ≡ text0 ++ slice_range (array_of d0.held) start place → value ≡ (held_at d.config d.held k).value → text1 ≡ text ++ slice_range value from to
+    → text1 ≡ text0 ++ slice_range (array_of d0.held) start (k * size + to)
+read_more_at d0 o d same size e k start end place from to =
+    subst (λ n. IsStep n start end d0.config.blocks k place → from + k * n ≡ place → to ≡ min (end - k * n) n
+    → (text0 text text1 value : List ℕ) → text ≡ text0 ++ slice_range (array_of d0.held) start place → value ≡ (held_at d.config d.held k).value → text1 ≡ text ++ slice_range value from to
+    → text1 ≡ text0 ++ slice_range (array_of d0.held) start (k * n + to)) (sym e) (read_more d0 o d same k start end place from to)
+
+pub write_more_at : (d : SeenDevice) (o : IsInOrder d) (size : ℕ) → size ≡ d.config.size → (array bytes : List ℕ) (k start end place from to : ℕ)
+    → IsStep size start end d.config.blocks k place → from + k * size ≡ place → to ≡ min (end - k * size) size
+    → end ≡ start + length bytes → end ≤ length array → array_of d.held ≡ merged array start (take (place - start) bytes)
+    → (value : List ℕ) → value ≡ merged (held_at d.config d.held k).value from (slice_range bytes (place - start) (k * size + to - start))
+    → array_of (slice_set d.held k (rewritten (held_at d.config d.held k) value)) ≡ merged array start (take (k * size + to - start) bytes)
+write_more_at d o size e array bytes k start end place from to =
+    subst (λ n. IsStep n start end d.config.blocks k place → from + k * n ≡ place → to ≡ min (end - k * n) n
+    → end ≡ start + length bytes → end ≤ length array → array_of d.held ≡ merged array start (take (place - start) bytes)
+    → (value : List ℕ) → value ≡ merged (held_at d.config d.held k).value from (slice_range bytes (place - start) (k * n + to - start))
+    → array_of (slice_set d.held k (rewritten (held_at d.config d.held k) value)) ≡ merged array start (take (k * n + to - start) bytes)) (sym e) (write_more d o array bytes k start end place from to)
+
+-- one more read
+pub read_same : (d0 d e : SeenDevice) → d ≡ record d0 { started = d.started } → e ≡ record d { started = d.started + 1 } → (e ≡ record d0 { started = e.started }) × (e.started ≡ d.started + 1)
+read_same d0 d e h k =
+    let n : e.started ≡ d.started + 1 = ap (λ (x : SeenDevice). x.started) k in
+    (k ∙ ap (λ (x : SeenDevice). record x { started = d.started + 1 }) h ∙ ap (λ m. record d0 { started = m }) (sym n), n)
+
+-- one more write
+pub record HasWrittenOne (d0 d e : SeenDevice) (k : ℕ) (value : List ℕ) : Type 0 where
+  pub order : IsInOrder e
+  pub config : e.config ≡ d.config
+  pub life : e.life ≡ d.life
+  pub held : e.held ≡ slice_set d.held k (rewritten (held_at d.config d.held k) value)
+  pub early : (j : ℕ) → (held_at e.config e.held j).time ≤ (held_at e.config d0.held j).time + 1
+  pub rest : (j : ℕ) → k + 1 ≤ j → (held_at e.config e.held j).time ≡ (held_at e.config d0.held j).time
+
+pub write_one : (d0 d r e : SeenDevice) (k : ℕ) (value : List ℕ) → IsInOrder d → k < d.config.blocks → IsBlock (setting d.config) value → HasRead 1 d r
+    → e ≡ record r { held = slice_set r.held k (rewritten (held_at r.config r.held k) value); started = r.started + 1 }
+    → ((j : ℕ) → (held_at d.config d.held j).time ≤ (held_at d.config d0.held j).time + 1) → ((j : ℕ) → k ≤ j → (held_at d.config d.held j).time ≡ (held_at d.config d0.held j).time)
+    → HasWrittenOne d0 d e k value
+write_one d0 d r e k value o there is read wrote early rest =
+    let n = r.started + 1 in
+    let by_read : e ≡ record d { held = slice_set d.held k (rewritten (held_at d.config d.held k) value); started = n } =
+    wrote ∙ ap (λ (x : SeenDevice). record x { held = slice_set x.held k (rewritten (held_at x.config x.held k) value); started = n }) read.same in
+    subst (λ (x : SeenDevice). HasWrittenOne d0 d x k value) (sym by_read) (record {
+      order = write_order d o k there value is n;
+      config = refl;
+      life = refl;
+      held = refl;
+      early = λ j. elim (cases_eq j k) [
+        | inl same ↦ (let w = write_early d o k there value is n j in let h = rest j (omega (arith, same)) in omega (arith, w, h))
+        | inr other ↦ (let w = write_apart d o k there value is n j other in omega (arith, w, early j))
+      ];
+      rest = λ j l. (let w = write_rest d o k there value is n j (omega (arith, l)) in let h = rest j (omega (arith, l)) in omega (arith, w, h));
+    })
+
+-- no block was written more than once more
+pub written_up_to : (d0 d : SeenDevice) (n : ℕ) → d.config ≡ d0.config → ((j : ℕ) → (held_at d.config d.held j).time ≤ (held_at d.config d0.held j).time + 1) → IsWrittenUpTo n d0 → (k : ℕ) → k < d.config.blocks → (held_at d.config d.held k).time ≤ n + 1
+written_up_to d0 d n same early h k l =
+    let before : (held_at d.config d0.held k).time ≤ n = subst (λ (c : Numbers). k < c.blocks → (held_at c d0.held k).time ≤ n) (sym same) (h k) l in
+    let now = early k in
+    omega (arith, now, before)

@@ -1,0 +1,43 @@
+use Rattle.std.proofs.Common.{rules, ◌≡◌, ◌*◌, ℕ, Ok, Err, ap, subst, sym, replicate}
+use Rattle.std.proofs.lemmas.Grind.{common_steps}
+use Rattle.std.proofs.Common.{arith}
+use Rattle.outside_io.specs.Written.{Adds, TakesPrefix}
+use Rattle.outside_io.proofs.Known.{Consumes-none}
+use Rattle.quorum_rules.specs.Limits.{Numbers}
+use Rattle.nbd_words.specs.Replies.{greeting}
+use Rattle.nbd_front.specs.declared.ending.Served.TheVariants.{Over}
+use Rattle.nbd_front.specs.declared.ending.SessionEnd.TheVariants.{NoMemory, WriteFault}
+use Rattle.nbd_front.specs.Servers.{bytes_of}
+use Rattle.nbd_front.specs.Sessions.{IsSession}
+use Rattle.nbd_front.proofs.Runs.{not_greeted, not_made}
+use Rattle.nbd_front.proofs.Stepping.{greeted, on_ok, if_err}
+use Rattle.nbd_front.proofs.session.serve.Goals as goal
+
+pub returns-in_err-server-clause-ended : goal.returns-in_err-server-clause-ended
+returns-in_err-server-clause-ended g c =
+    let is : c.from_residual.result ≡ Err NoMemory = first_of (search rules, grind (arith, common_steps), cc) in
+    rw is (not_made _ _ _ _ (Consumes-none (g.S.Source.left c.args.source.now)))
+
+pub returns-in_err-greet-clause-ended : goal.returns-in_err-greet-clause-ended
+returns-in_err-greet-clause-ended g c =
+    let x = c.in_err-greet.field-0.0 in
+    let is : c.from_residual-in_err-greet.result ≡ Err x = first_of (search rules, cc) in
+    let written : c.from_residual-in_err-greet.result ≡ Err WriteFault = first_of (search rules, cc) in
+    let prefix = subst (λ (k : Numbers). TakesPrefix (g.K.Sink.taken c.args.sink.now) (g.K.Sink.taken c.greet.new.sink) (greeting (k.size * k.blocks))) c.in_ok-server.ensures.config c.in_err-greet.ensures.prefix in
+    rw written (not_greeted _ _ _ _ _ (Consumes-none (g.S.Source.left c.args.source.now)) prefix)
+
+pub returns-clause-done : goal.returns-clause-done
+returns-clause-done g c =
+    let s = c.in_ok-server.server in
+    let made = c.in_ok-server.ensures in
+    let size = c.args.config.now.size * c.args.config.now.blocks in
+    let adds = subst (λ (k : Numbers). Adds (g.K.Sink.taken c.args.sink.now) (g.K.Sink.taken c.greet.new.sink) (greeting (k.size * k.blocks))) made.config c.in_ok-greet.ensures.whole in
+    on_ok _ _ (greeted (greeting size) (replicate size 0) s (Ok Over) _ _ _ _ _ made.zeros made.fresh.0 made.fresh.1 adds) c.serve.result c.serve.ensures.done
+
+pub returns-clause-ended : goal.returns-clause-ended
+returns-clause-ended g c =
+    let s = c.in_ok-server.server in
+    let made = c.in_ok-server.ensures in
+    let size = c.args.config.now.size * c.args.config.now.blocks in
+    let adds = subst (λ (k : Numbers). Adds (g.K.Sink.taken c.args.sink.now) (g.K.Sink.taken c.greet.new.sink) (greeting (k.size * k.blocks))) made.config c.in_ok-greet.ensures.whole in
+    if_err _ _ (λ e i. greeted (greeting size) (replicate size 0) s (Err e) _ _ _ _ _ made.zeros made.fresh.0 made.fresh.1 adds i) c.serve.result c.serve.ensures.ended

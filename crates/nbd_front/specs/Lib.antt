@@ -1,0 +1,5 @@
+pub mod Arrays
+pub mod Ends
+pub mod Sessions
+pub mod Answers
+pub mod Servers

@@ -1,0 +1,133 @@
+-- What contracts see of a server.
+use Rattle.std.specs.Prelude.{◌≡◌, ℕ, ◌+◌, ◌*◌, ◌^◌, ◌<◌, ◌≤◌, Bool, true, List, [], length, Option, Some, None, Result, Ok, Err, ◌≢◌}
+use Rattle.std.specs.Io.KnownBytes.{Consumes}
+use Rattle.node_device.specs.Devices.{SeenDevice}
+use Rattle.nbd_front.specs.Arrays.{array_of, IsInOrder, IsWrittenUpTo}
+use Rattle.nbd_front.specs.Answers.{most_steps}
+use Rattle.nbd_words.specs.declared.request.Request.{Request}
+use Rattle.nbd_words.specs.Requests.{request_magic, magic_of, head_len, request_of}
+use Rattle.nbd_front.specs.declared.ending.SessionEnd.{SessionEnd}
+use Rattle.nbd_front.specs.declared.ending.SessionEnd.TheVariants.{NoMemory, ReadFault, WriteFault, BadMagic, CutRequest, TooManyRequests}
+use Rattle.nbd_front.specs.declared.ending.Served.{Served}
+use Rattle.nbd_front.specs.declared.ending.Served.TheVariants.{Next, Over}
+use Rattle.nbd_front.specs.declared.turn.Turn.{Turn}
+use Rattle.outside_io.specs.Written.{Adds, TakesPrefix}
+use Rattle.nbd_front.specs.Sessions.{reply_to, after_request, most_requests, IsEnd, IsRequest}
+
+-- a server: its device, how many requests it served, how many bytes of the input they had, and whether it can serve more
+pub record SeenServer : Type 0 where
+  pub device : SeenDevice
+  pub served : ℕ
+  pub place : ℕ
+  pub whole : Bool
+
+-- the bytes that it serves
+abbrev pub bytes_of : SeenServer → List ℕ
+bytes_of s = array_of s.device.held
+
+-- how many bytes a request has at most, with its data
+abbrev pub most_len : ℕ
+most_len = 2 ^ 32 + 28
+
+-- how many requests a client serves before another one takes its place
+abbrev pub life_len : ℕ
+life_len = 2 ^ 18
+
+-- a client serves the requests of its life, each by few operations
+pub record IsInLife (d : SeenDevice) (served : ℕ) : Type 0 where
+  pub begun : life_len * d.life ≤ served
+  pub few : served ≤ life_len * (d.life + 1)
+  pub steps : d.started + most_steps * (life_len * d.life) ≤ most_steps * served
+
+-- after so many requests of so many bytes the device is in order
+pub record IsServer (d : SeenDevice) (served place : ℕ) : Type 0 where
+  pub order : IsInOrder d
+  pub times : IsWrittenUpTo served d
+  pub life : IsInLife d served
+  pub few : served ≤ most_requests
+  pub near : place ≤ served * most_len
+
+-- it serves as long as no call of it failed
+abbrev pub IsWhole : SeenDevice → ℕ → ℕ → Bool → Type 0
+IsWhole d served place whole = whole ≡ true → IsServer d served place
+
+-- the server has served this request
+pub record HasServed (bytes : List ℕ) (old new : SeenServer) : Type 0 where
+  pub whole : new.whole ≡ true
+  pub config : new.device.config ≡ old.device.config
+  pub array : bytes_of new ≡ after_request (bytes_of old) bytes
+  pub served : new.served ≡ old.served + 1
+  pub place : new.place ≡ old.place + length bytes
+
+-- the client may serve one more request; it is the same, or a later one that has served none
+pub record HasRefreshed (served : ℕ) (old new : SeenDevice) : Type 0 where
+  pub same : new ≡ record old { life = new.life; started = new.started }
+  pub life : IsInLife new served
+  pub more : served < life_len * (new.life + 1)
+
+-- the source gave the bytes of a request, its data aside
+pub record HasCome (r : Request) (served : ℕ) (left left_after : Option (List ℕ)) : Type 0 where
+  pub bytes : List ℕ
+  pub gave : Consumes left left_after bytes
+  pub size : length bytes ≡ head_len
+  pub magic : magic_of bytes ≡ request_magic
+  pub is : r ≡ request_of bytes
+  pub few : served < most_requests
+
+-- the source gave bytes by which the session ends, before anything was written
+pub record HasNotCome (end : SessionEnd) (served place : ℕ) (left left_after : Option (List ℕ)) : Type 0 where
+  pub bytes : List ℕ
+  pub gave : Consumes left left_after bytes
+  pub ends : IsEnd (Err end) served place bytes left_after
+  pub early : end ≢ WriteFault
+
+-- where no request may come any more: a byte came, or none could be read
+abbrev pub IsPastTheLast : SessionEnd → Option (List ℕ) → Option (List ℕ) → Type 0
+IsPastTheLast TooManyRequests left left_after = (bytes : List ℕ) × Consumes left left_after bytes × (length bytes ≡ 1)
+IsPastTheLast ReadFault left left_after = Consumes left left_after []
+IsPastTheLast NoMemory left left_after = ⊥
+IsPastTheLast WriteFault left left_after = ⊥
+IsPastTheLast (BadMagic at) left left_after = ⊥
+IsPastTheLast (CutRequest at) left left_after = ⊥
+
+-- the client left, or the input ended, and the device is as it was
+pub record HasLeft (served place : ℕ) (old new : SeenDevice) (left left_after : Option (List ℕ)) : Type 0 where
+  pub bytes : List ℕ
+  pub gave : Consumes left left_after bytes
+  pub ends : IsEnd (Ok Over) served place bytes left_after
+  pub same : new ≡ old
+
+-- a request was answered
+pub record HasReplied (served place : ℕ) (old new : SeenDevice) (left left_after : Option (List ℕ)) (turn : Turn) : Type 0 where
+  pub bytes : List ℕ
+  pub gave : Consumes left left_after bytes
+  pub request : IsRequest bytes
+  pub few : served < most_requests
+  pub told : turn.reply.items ≡ reply_to (array_of old.held) bytes
+  pub long : turn.len ≡ length bytes
+  pub config : new.config ≡ old.config
+  pub array : array_of new.held ≡ after_request (array_of old.held) bytes
+  pub server : IsServer new (served + 1) (place + length bytes)
+
+-- what became of a turn: the client left, or the input ended; or a request was answered; or the session ended before its reply
+abbrev pub HasTurned : ℕ → ℕ → SeenDevice → SeenDevice → Option (List ℕ) → Option (List ℕ) → Result (Option Turn) SessionEnd → Type 0
+HasTurned served place old new left left_after (Ok None) = HasLeft served place old new left left_after
+HasTurned served place old new left left_after (Ok (Some turn)) = HasReplied served place old new left left_after turn
+HasTurned served place old new left left_after (Err end) = HasNotCome end served place left left_after
+
+-- the session has ended here, and the server is as it was
+pub record HasFinished (end : Result Served SessionEnd) (old : SeenServer) (left left_after : Option (List ℕ)) : Type 0 where
+  pub bytes : List ℕ
+  pub gave : Consumes left left_after bytes
+  pub ends : IsEnd end old.served old.place bytes left_after
+
+-- what a call did: it served a request, whose reply was taken; or the session has ended, and only where the sink failed was a beginning of a reply taken
+abbrev pub HasStepped : SeenServer → SeenServer → Option (List ℕ) → Option (List ℕ) → Option (List ℕ) → Option (List ℕ) → Result Served SessionEnd → Type 0
+HasStepped old new left left_after taken taken_after (Ok Next) = (bytes : List ℕ) × IsRequest bytes × (old.served < most_requests) × Consumes left left_after bytes × HasServed bytes old new × Adds taken taken_after (reply_to (bytes_of old) bytes)
+HasStepped old new left left_after taken taken_after (Ok Over) = HasFinished (Ok Over) old left left_after × (new ≡ old)
+HasStepped old new left left_after taken taken_after (Err WriteFault) = (bytes : List ℕ) × IsRequest bytes × Consumes left left_after bytes × TakesPrefix taken taken_after (reply_to (bytes_of old) bytes)
+HasStepped old new left left_after taken taken_after (Err NoMemory) = HasFinished (Err NoMemory) old left left_after
+HasStepped old new left left_after taken taken_after (Err ReadFault) = HasFinished (Err ReadFault) old left left_after
+HasStepped old new left left_after taken taken_after (Err (BadMagic at)) = HasFinished (Err (BadMagic at)) old left left_after
+HasStepped old new left left_after taken taken_after (Err (CutRequest at)) = HasFinished (Err (CutRequest at)) old left left_after
+HasStepped old new left left_after taken taken_after (Err TooManyRequests) = HasFinished (Err TooManyRequests) old left left_after

@@ -1,0 +1,157 @@
+ghost use Rattle.std.specs.Prelude.{◌≡◌, ◌≢◌, ◌≤◌, ◌+◌, ◌*◌, ◌^◌, ◌<◌, Ok, Err, None, true, [], replicate, length, slice_range, List, ℕ, OnOk, OnErr, IfOk, IfErr, IfSome, IsErrOf};
+ghost use Rattle.std.specs.Io.KnownBytes.{Consumes, IsAtEnd};
+ghost use Rattle.outside_io.specs.Causes.{Rose};
+ghost use Rattle.outside_io.specs.Written.{Adds, AllFlushed, TakesPrefix};
+ghost use Rattle.quorum_rules.specs.Limits.{wait_of};
+ghost use Rattle.node_device.specs.Held.{Held, version_of};
+ghost use Rattle.nbd_words.specs.Replies.{greeting};
+ghost use Rattle.nbd_front.specs.Sessions.{IsSession};
+ghost use Rattle.nbd_front.specs.Servers.{bytes_of, HasStepped};
+
+use crate::ending::{Served, SessionEnd};
+use crate::turn::answer_next;
+use lists::NoMemory;
+use nbd_words::greeting;
+use node_device::NodeDevice;
+use outside_io::{Sink, Source, write_all};
+use quorum_rules::Config;
+use std::alloc::Global;
+use std::marker::Model;
+use wire_forms::Version;
+
+/// A block device that is served over a source and a sink. Its blocks are kept by nodes in the same process, and read and
+/// written by one client. Contracts see the device, how many requests were served, how many bytes of the input they had, and
+/// whether more can be served: none after a call that answered a `SessionEnd`.
+#[derive(Drop)]
+pub struct Server {
+    device: NodeDevice,
+    served: u64,
+    place: u64,
+    whole: bool,
+}
+
+impl Model for Server {
+    ghost use Rattle.nbd_front.specs.Servers.{SeenServer, IsWhole};
+
+    ghost Value = { SeenServer };
+
+    ghost view = { λ s. record { device = s.device; served = s.served; place = s.place; whole = s.whole } };
+
+    ghost invariant = { λ s. IsWhole s.device s.served s.place s.whole };
+}
+
+impl Server {
+    /// A server of a device whose bytes are all 0.
+    pub fn new(alloc: Global, config: &Config) -> Result<Server, NoMemory>
+        ensures fresh { IfOk result (λ s. (s.served ≡ 0) × (s.place ≡ 0) × (s.whole ≡ true)) }
+        ensures config { IfOk result (λ s. s.device.config ≡ config.now) }
+        ensures zeros { IfOk result (λ s. bytes_of s ≡ replicate (config.now.size * config.now.blocks) 0) }
+    {
+        Ok(Server {
+            device: NodeDevice::new(alloc, config)?,
+            served: 0,
+            place: 0,
+            whole: true,
+        })
+    }
+
+    /// The version that a node which is asked finds of a block.
+    pub fn held(&self, node: u8, block: u32) -> Result<Version, NoMemory>
+        requires whole { self.now.whole ≡ true }
+        requires node { node < wait_of self.now.device.config }
+        requires block { block < self.now.device.config.blocks }
+        // it is the version of the block's bytes, at a time that is no more than the number of requests
+        ensures { IfOk result (λ v. (h : Held)
+            × (h.value ≡ slice_range (bytes_of self.now) (block * self.now.device.config.size) ((block + 1) * self.now.device.config.size))
+            × (h.time ≤ self.now.served)
+            × (v ≡ version_of self.now.device.config node h)) }
+    {
+        self.device.held(node, block)
+    }
+
+    /// Writes and flushes the greeting. It takes no memory.
+    pub fn greet<K: Sink>(&self, sink: &mut K) -> Result<(), SessionEnd>
+        ensures whole { OnOk result (Adds (K.taken sink.old) (K.taken sink.new) (greeting (self.now.device.config.size * self.now.device.config.blocks))) }
+        ensures flushed { OnOk result (AllFlushed (K.taken sink.new) (K.flushed sink.new)) }
+        ensures prefix { TakesPrefix (K.taken sink.old) (K.taken sink.new) (greeting (self.now.device.config.size * self.now.device.config.blocks)) }
+        ensures end { IfErr result (λ end. end ≡ SessionEnd.WriteFault) }
+        ensures cause { OnErr result (Rose K.last (K.faults sink.old) (K.faults sink.new)) }
+        ensures calm { OnOk result (K.faults sink.new ≡ K.faults sink.old) }
+    {
+        let config = self.device.config();
+        let size = u64::from(config.size()) * u64::from(config.blocks());
+        write_or_end(sink, &greeting(size))
+    }
+
+    /// Reads one request, does what it asks, and writes and flushes its whole reply before it returns.
+    pub fn serve_one<S: Source, K: Sink>(
+        &mut self,
+        alloc: Global,
+        source: &mut S,
+        sink: &mut K,
+    ) -> Result<Served, SessionEnd>
+        requires { self.old.whole ≡ true }
+        ensures step { HasStepped self.old self.new (S.left source.old) (S.left source.new) (K.taken sink.old) (K.taken sink.new) result }
+        ensures flushed { result ≡ Ok Served.Next → AllFlushed (K.taken sink.new) (K.flushed sink.new) }
+        ensures unwritten { result ≢ Ok Served.Next → result ≢ Err SessionEnd.WriteFault → sink.new ≡ sink.old }
+        ensures read_fault { IsErrOf result SessionEnd.ReadFault → Rose S.last (S.faults source.old) (S.faults source.new) }
+        ensures write_fault { IsErrOf result SessionEnd.WriteFault → Rose K.last (K.faults sink.old) (K.faults sink.new) }
+        ensures calm_source { result ≢ Err SessionEnd.ReadFault → S.faults source.new ≡ S.faults source.old }
+        ensures calm_sink { result ≢ Err SessionEnd.WriteFault → K.faults sink.new ≡ K.faults sink.old }
+    {
+        self.whole = false;
+        let turn = answer_next(alloc, &mut self.device, source, self.served, self.place)?;
+        let Some(turn) = turn else {
+            self.whole = true;
+            return Ok(Served::Over);
+        };
+        self.served += 1;
+        self.place += turn.len;
+        write_or_end(sink, &turn.reply)?;
+        self.whole = true;
+        Ok(Served::Next)
+    }
+
+    /// Serves requests until the session ends.
+    pub fn serve<S: Source, K: Sink>(
+        &mut self,
+        alloc: Global,
+        source: &mut S,
+        sink: &mut K,
+    ) -> Result<(), SessionEnd>
+        requires { self.old.whole ≡ true }
+        ensures done { OnOk result (IsSession [] (bytes_of self.old) self.old.served self.old.place (Ok Served.Over)
+            (S.left source.old) (S.left source.new) (K.taken sink.old) (K.taken sink.new)) }
+        ensures ended { IfErr result (λ end. IsSession [] (bytes_of self.old) self.old.served self.old.place (Err end)
+            (S.left source.old) (S.left source.new) (K.taken sink.old) (K.taken sink.new)) }
+        ensures whole { OnOk result (self.new.whole ≡ true) }
+        ensures flushed { result ≢ Err SessionEnd.WriteFault → AllFlushed (K.taken sink.old) (K.flushed sink.old) → AllFlushed (K.taken sink.new) (K.flushed sink.new) }
+        // faults
+        ensures read_fault { IsErrOf result SessionEnd.ReadFault → Rose S.last (S.faults source.old) (S.faults source.new) }
+        ensures write_fault { IsErrOf result SessionEnd.WriteFault → Rose K.last (K.faults sink.old) (K.faults sink.new) }
+        ensures calm_source { result ≢ Err SessionEnd.ReadFault → S.faults source.new ≡ S.faults source.old }
+        ensures calm_sink { result ≢ Err SessionEnd.WriteFault → K.faults sink.new ≡ K.faults sink.old }
+    {
+        loop {
+            match self.serve_one(alloc, source, sink)? {
+                Served::Next => {}
+                Served::Over => return Ok(()),
+            }
+        }
+    }
+}
+
+/// Writes and flushes a text.
+fn write_or_end<K: Sink>(sink: &mut K, text: &[u8]) -> Result<(), SessionEnd>
+    ensures whole { OnOk result (Adds (K.taken sink.old) (K.taken sink.new) text.now) }
+    ensures flushed { OnOk result (AllFlushed (K.taken sink.new) (K.flushed sink.new)) }
+    ensures prefix { TakesPrefix (K.taken sink.old) (K.taken sink.new) text.now }
+    ensures end { IfErr result (λ end. end ≡ SessionEnd.WriteFault) }
+    ensures cause { OnErr result (Rose K.last (K.faults sink.old) (K.faults sink.new)) }
+    ensures calm { OnOk result (K.faults sink.new ≡ K.faults sink.old) }
+{
+    match write_all(sink, text) {
+        Ok(()) => Ok(()),
+        Err(_) => Err(SessionEnd::WriteFault),
+    }
+}
