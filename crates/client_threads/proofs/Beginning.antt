@@ -1,0 +1,131 @@
+-- A run in which nobody has done anything.
+use Rattle.std.proofs.Common.{◌≡◌, ◌⊎◌, ℕ, ◌≤◌, List, [], ◌∷◌, length, refl, sym, ◌∙◌, ap, subst, inl, inr, arith}
+use Rattle.std.specs.Prelude.{replicate}
+use Rattle.std.specs.declared.option.Option.TheVariants.{Some}
+use Rattle.std.specs.List.{Contains, AllZip, All}
+use Rattle.std.proofs.lemmas.List.Elements.{All-nil, All-cons, All-head, All-tail, All-contains}
+use Rattle.protocol.proofs.Lists.{Contains-none, Contains-map_cases}
+use Rattle.event_clock.specs.Passes.{ClockId}
+use Rattle.journals.specs.declared.node.NodeEntry.{NodeEntry}
+use Rattle.journals.specs.declared.desk.DeskAct.{DeskAct}
+use Rattle.journals.specs.declared.desk.DeskEntry.{DeskEntry}
+use Rattle.journals.specs.declared.whole.Journals.{Journals}
+use Rattle.journals.specs.Steps.{side, IsOwn}
+use Rattle.locked_nodes.specs.Cells.{CellView}
+use Rattle.client_desks.specs.Desks.{DeskView, state_at}
+use Rattle.plan_words.specs.declared.plan.Plan.{Plan}
+use Rattle.plan_phases.specs.Closed.{AreBelow, AreEmpty, Begins}
+use Rattle.run_journals.specs.Standing.{IsCellAt, HasSideIn, HasSideOn, PairsStand, ArePlanned, journals_of}
+use Rattle.run_journals.specs.Ended.{AreClients}
+use Rattle.run_journals.proofs.Cells.{node_at, desk_at}
+use Rattle.journals.proofs.Lists.{number_of}
+use Rattle.phase_threads.specs.declared.duty.Seat.{Seat}
+use Rattle.client_work.specs.declared.work.Work.{Work}
+use Rattle.client_work.specs.declared.work.Work.TheVariants.{Client, Lying, Courier}
+use Rattle.client_threads.specs.Opened.{IsNewCell, AreNewCells, IsNewSeat}
+use Rattle.client_threads.specs.Reads.{IsPartedAs, IsParted}
+use Rattle.client_threads.specs.Running.{desks_of, clients_of, plan_of, journals_in, StandsAt, LiarsNamed, IsOpen, IsBetween}
+use Rattle.client_threads.specs.declared.state.Run.{Run}
+
+pub cells_planned : (plan : Plan) (clock : ClockId) (cells : List CellView) → AreNewCells plan clock plan.config.n cells → ArePlanned plan clock cells
+cells_planned plan clock cells h = record {
+  cells = record {
+    count = h.count;
+    each = λ i cell at. (
+        let n = h.each i cell at in
+        subst (IsCellAt plan.config clock i) (sym n.is) (record { cluster = refl; number = refl; whole = (refl, refl); ticks = n.unused.ticks })
+        );
+  };
+  conduct = λ i cell at. (
+      let n = h.each i cell at in
+      (ap (λ (c : CellView). c.charter.nature) n.is, ap (λ (c : CellView). c.charter.crash_after) n.is)
+      );
+}
+
+cell_empty : (plan : Plan) (clock : ClockId) (i : ℕ) (cell : CellView) → IsNewCell plan clock i cell → cell.journal ≡ []
+cell_empty plan clock i cell n = ap (λ (c : CellView). c.journal) n.is
+
+seat_empty : (plan : Plan) (clock : ClockId) (s : Seat Work) → IsNewSeat plan clock s → s.desk.entries ≡ []
+seat_empty plan clock s n = ap (λ (d : DeskView). d.entries) n.is
+
+-- nobody has an entry
+pub no_pairs : (plan : Plan) (clock : ClockId) (cells : List CellView) (seats : List (Seat Work)) → AreNewCells plan clock plan.config.n cells → All (IsNewSeat plan clock) seats → PairsStand cells (desks_of seats)
+no_pairs plan clock cells seats c s = record { called = called; answered = answered }
+  where
+    called : (cell : CellView) (n : NodeEntry) (k : ℕ) (act : DeskAct) → Contains cells cell → Contains cell.journal n → side n.act ≡ Some (k, act) → HasSideOn (desks_of seats) k n.number act
+    called cell n k act among there is =
+        let at = number_of cells cell among in
+        let none = cell_empty plan clock at.0 cell (c.each at.0 cell at.1) in
+        absurd (Contains-none n (subst (λ (es : List NodeEntry). Contains es n) none there))
+
+    answered : (d : DeskView) (e : DeskEntry) → Contains (desks_of seats) d → Contains d.entries e → IsOwn e.act ⊎ HasSideIn cells d.id e
+    answered d e among there =
+        let q = Contains-map_cases (λ (s : Seat Work). s.desk) seats d among in
+        let none = seat_empty plan clock q.0 (All-contains (IsNewSeat plan clock) seats q.0 s q.1) in
+        absurd (Contains-none e (subst (λ (es : List DeskEntry). Contains es e) (ap (λ (x : DeskView). x.entries) q.2 ∙ none) there))
+
+pub journals_empty : (plan : Plan) (clock : ClockId) (cells : List CellView) (seats : List (Seat Work)) → AreNewCells plan clock plan.config.n cells → All (IsNewSeat plan clock) seats → AreEmpty plan (journals_of plan cells (desks_of seats))
+journals_empty plan clock cells seats c s = record {
+  config = refl;
+  liars = refl;
+  nodes = λ i. elim (node_at cells i).is [
+    | inl q ↦ q.2 ∙ cell_empty plan clock i q.0 (c.each i q.0 q.1)
+    | inr q ↦ q.1
+  ];
+  desks = λ k. elim (desk_at (desks_of seats) k).is [
+    | inl q ↦ (
+        let m = Contains-map_cases (λ (s : Seat Work). s.desk) seats q.0 q.1 in
+        q.3 ∙ ap (λ (x : DeskView). x.entries) m.2 ∙ seat_empty plan clock m.0 (All-contains (IsNewSeat plan clock) seats m.0 s m.1)
+        )
+    | inr none ↦ none.0
+  ];
+}
+
+pub nothing_below : (bound : ℕ) (plan : Plan) (j : Journals) → AreEmpty plan j → AreBelow bound j
+nothing_below bound plan j h = record {
+  nodes = λ i e there. absurd (Contains-none e (subst (λ (es : List NodeEntry). Contains es e) (h.nodes i) there));
+  desks = λ c e there. absurd (Contains-none e (subst (λ (es : List DeskEntry). Contains es e) (h.desks c) there));
+}
+
+-- no read has ended
+part_new : (w : Work) (d : DeskView) → IsPartedAs 0 w d 0
+part_new (Client w) d = record { before = []; after = (state_at d).ended; ended = refl; count = refl; low = λ x there. absurd (Contains-none x there); high = λ x there. omega arith }
+part_new (Lying w) d = refl
+part_new Courier d = refl
+
+pub parts_new : (seats : List (Seat Work)) → AllZip (IsParted 0) seats (replicate (length seats) 0)
+parts_new [] = tt
+parts_new (s ∷ seats) = (part_new s.duty s.desk, parts_new seats)
+
+seen_all : {X : Type 0} (seen : X → ℕ) (xs : List X) → All (λ x. 0 ≤ seen x) xs
+seen_all seen [] = All-nil (λ x. 0 ≤ seen x)
+seen_all seen (x ∷ xs) = All-cons (λ x. 0 ≤ seen x) x xs (omega arith) (seen_all seen xs)
+
+-- so the run stands before its first phase
+pub is_first : (begins : Begins) (run : Run) → IsOpen run → AreNewCells (plan_of run) run.clock (plan_of run).config.n run.cells.items → All (IsNewSeat (plan_of run) run.clock) run.clients.items
+    → AreClients (plan_of run) (clients_of run) → run.counted.items ≡ replicate (length run.clients.items) 0 → run.courier.entries ≡ [] → LiarsNamed (plan_of run) → IsBetween 0 run
+is_first begins run is_open c s are counted quiet named =
+    let empty = journals_empty (plan_of run) run.clock run.cells.items run.clients.items c s in
+    record {
+      standing = record {
+        opened = is_open;
+        planned = cells_planned (plan_of run) run.clock run.cells.items c;
+        clients = are;
+        works = parts run.clients.items s;
+        pairs = no_pairs (plan_of run) run.clock run.cells.items run.clients.items c s;
+        quiet = quiet;
+        named = named;
+      };
+      phases = [];
+      count = refl;
+      prunes = λ k. [];
+      closed = begins (plan_of run) (journals_in run) (λ k. []) empty;
+      low = nothing_below 0 (plan_of run) (journals_in run) empty;
+      seen = record { cells = seen_all (λ (c : CellView). c.pass.seen) run.cells.items; desks = seen_all (λ (d : DeskView). d.pass.seen) (clients_of run) };
+      began = omega arith;
+      counted = subst (λ (l : List ℕ). AllZip (IsParted 0) run.clients.items l) (sym counted) (parts_new run.clients.items);
+    }
+  where
+    parts : (seats : List (Seat Work)) → All (IsNewSeat (plan_of run) run.clock) seats → All (λ s. StandsAt (plan_of run) 0 s.duty s.desk) seats
+    parts [] a = All-nil (λ s. StandsAt (plan_of run) 0 s.duty s.desk)
+    parts (x ∷ seats) a = All-cons (λ s. StandsAt (plan_of run) 0 s.duty s.desk) x seats (All-head (IsNewSeat (plan_of run) run.clock) x seats a).part (parts seats (All-tail (IsNewSeat (plan_of run) run.clock) x seats a))

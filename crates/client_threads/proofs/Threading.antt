@@ -1,0 +1,265 @@
+-- The threads of a phase: what they may begin with, and what they leave.
+use Rattle.std.proofs.Common.{◌≡◌, ◌⊎◌, ℕ, zero, suc, ◌+◌, ◌<◌, ◌≤◌, true, List, [], ◌∷◌, ◌++◌, length, map, refl, sym, ◌∙◌, ap, subst, inl, inr, arith}
+use Rattle.std.specs.List.{Contains, AllZip, All}
+use Rattle.std.proofs.lemmas.List.Elements.{Contains-append_cases, Contains-append_left, All-nil, All-cons, All-head, All-tail}
+use Rattle.protocol.specs.Report.{Ascend}
+use Rattle.protocol.proofs.Lists.{Contains-none, Contains-one}
+use Rattle.plan_words.specs.Named.{clients}
+use Rattle.wire_forms.specs.Liars.{has_number}
+use Rattle.event_clock.specs.Passes.{ClockId}
+use Rattle.quorum_rules.specs.Limits.{Numbers}
+use Rattle.journals.specs.declared.node.NodeEntry.{NodeEntry}
+use Rattle.journals.specs.declared.desk.DeskAct.{DeskAct}
+use Rattle.journals.specs.declared.desk.DeskEntry.{DeskEntry}
+use Rattle.locked_nodes.specs.Cells.{CellView, KeptCell}
+use Rattle.client_desks.specs.Desks.{DeskView, desk_entry}
+use Rattle.client_desks.specs.Later.{IsLater}
+use Rattle.plan_words.specs.declared.plan.Plan.{Plan}
+use Rattle.run_journals.specs.Standing.{IsDeskAt, AreCells, HasSideOn, PairsStand, HasWorked, ArePlanned}
+use Rattle.run_journals.specs.Ended.{AreClients}
+use Rattle.phase_threads.specs.declared.duty.Seat.{Seat}
+use Rattle.client_work.specs.declared.work.Work.{Work}
+use Rattle.client_work.specs.declared.work.Work.TheVariants.{Client, Lying, Courier}
+use Rattle.client_work.specs.Work.{Ready, Done}
+use Rattle.client_threads.specs.Running.{desks_of, clients_of, plan_of, StandsAt, cuts, LiarsNamed, IsOpen, IsStanding, HasDonePhase}
+use Rattle.client_threads.specs.declared.state.Run.{Run}
+use Rattle.client_threads.proofs.Working.{IsFixedAs, zip_all, zip_long, cells_fixed, planned_fixed}
+
+-- ---- before the phase
+
+ready_of : (plan : Plan) (k : ℕ) → k ≤ cuts plan → (w : Work) (d : DeskView) → StandsAt plan k w d → Ready w d
+ready_of plan k few (Client w) d h = record {
+  stands = h.1;
+  left =
+      let c : cuts w.plan.value ≡ cuts plan = ap cuts h.0 in
+      let at = h.2 in
+      omega (arith, c, at, few);
+}
+ready_of plan k few (Lying w) d h = h.1
+ready_of plan k few Courier d h = absurd h
+
+pub all_ready : (plan : Plan) (k : ℕ) → k ≤ cuts plan → (seats : List (Seat Work)) (courier : DeskView) → All (λ s. StandsAt plan k s.duty s.desk) seats → courier.entries ≡ []
+    → All (λ s. Ready s.duty s.desk) (seats ++ record { desk = courier; duty = Courier } ∷ [])
+all_ready plan k few [] courier works quiet = All-cons (λ s. Ready s.duty s.desk) (record { desk = courier; duty = Courier }) [] quiet (All-nil (λ s. Ready s.duty s.desk))
+all_ready plan k few (s ∷ seats) courier works quiet =
+    All-cons (λ s. Ready s.duty s.desk) s (seats ++ record { desk = courier; duty = Courier } ∷ []) (ready_of plan k few s.duty s.desk (All-head (λ s. StandsAt plan k s.duty s.desk) s seats works))
+    (all_ready plan k few seats courier (All-tail (λ s. StandsAt plan k s.duty s.desk) s seats works) quiet)
+
+pub desks_pushed : (seats : List (Seat Work)) (s : Seat Work) → desks_of (seats ++ s ∷ []) ≡ desks_of seats ++ s.desk ∷ []
+desks_pushed [] s = refl
+desks_pushed (x ∷ seats) s = ap (λ (l : List DeskView). x.desk ∷ l) (desks_pushed seats s)
+
+-- a desk with no entries changes nothing of the pairs
+pub pairs_more : (cells : List CellView) (desks : List DeskView) (d : DeskView) → d.entries ≡ [] → PairsStand cells desks → PairsStand cells (desks ++ d ∷ [])
+pairs_more cells desks d quiet h = record {
+  called = λ cell n c act among there is. (let q = h.called cell n c act among there is in record { desk = q.desk; there = Contains-append_left desks (d ∷ []) q.desk q.there; client = q.client; stands = q.stands });
+  answered = λ e x among there. elim (Contains-append_cases desks (d ∷ []) e among) [
+    | inl was ↦ h.answered e x was there
+    | inr is ↦ (let same : e ≡ d = Contains-one e d is in absurd (Contains-none x (subst (λ (es : List DeskEntry). Contains es x) (ap (λ (y : DeskView). y.entries) same ∙ quiet) there)))
+  ];
+}
+
+pub pairs_less : (cells : List CellView) (desks : List DeskView) (d : DeskView) → d.entries ≡ [] → PairsStand cells (desks ++ d ∷ []) → PairsStand cells desks
+pairs_less cells desks d quiet h = record {
+  called = λ cell n c act among there is. at c n act (h.called cell n c act among there is);
+  answered = λ e x among there. h.answered e x (Contains-append_left desks (d ∷ []) e among) there;
+}
+  where
+    at : (c : ℕ) (n : NodeEntry) (act : DeskAct) → HasSideOn (desks ++ d ∷ []) c n.number act → HasSideOn desks c n.number act
+    at c n act q = elim (Contains-append_cases desks (d ∷ []) q.desk q.there) [
+      | inl was ↦ record { desk = q.desk; there = was; client = q.client; stands = q.stands }
+      | inr is ↦ (let same : q.desk ≡ d = Contains-one q.desk d is in absurd (Contains-none (desk_entry n.number act) (subst (λ (es : List DeskEntry). Contains es (desk_entry n.number act)) (ap (λ (y : DeskView). y.entries) same ∙ quiet) q.stands)))
+    ]
+
+-- ---- after it
+
+-- the last of two lists side by side
+pub zip_pushed : {X Y : Type 0} (R : X → Y → Type 0) (xs : List X) (x : X) (ys : List Y) (y : Y) → AllZip R (xs ++ x ∷ []) (ys ++ y ∷ []) → AllZip R xs ys × R x y
+zip_pushed R [] x [] y z = (tt, z.0)
+zip_pushed R [] x (b ∷ []) y z = absurd z.1
+zip_pushed R [] x (b ∷ c ∷ ys) y z = absurd z.1
+zip_pushed R (a ∷ []) x [] y z = absurd z.1
+zip_pushed R (a ∷ c ∷ xs) x [] y z = absurd z.1
+zip_pushed R (a ∷ xs) x (b ∷ ys) y z = (let q = zip_pushed R xs x ys y z.1 in ((z.0, q.0), q.1))
+
+done_of : (plan : Plan) (k : ℕ) (v w : Work) (d e : DeskView) → StandsAt plan k v d → Done v d w e → StandsAt plan (k + 1) w e
+done_of plan k (Client v) (Client w) d e h done =
+    let same : w.plan.value ≡ plan = done.same.plan ∙ h.0 in
+    let a : cuts v.plan.value ≡ cuts plan = ap cuts h.0 in
+    let b : cuts w.plan.value ≡ cuts plan = ap cuts same in
+    let at = h.2 in
+    let one = done.one in
+    let fewer = h.1.steps.fewer in
+    (same, done.stands, omega (arith, a, b, at, one, fewer))
+done_of plan k (Lying v) (Lying w) d e h done = (done.plan ∙ h.0, done.mail, λ l. done.all)
+done_of plan k (Client v) (Lying w) d e h done = absurd done
+done_of plan k (Client v) Courier d e h done = absurd done
+done_of plan k (Lying v) (Client w) d e h done = absurd done
+done_of plan k (Lying v) Courier d e h done = absurd done
+done_of plan k Courier w d e h done = absurd h
+
+pub all_done : (plan : Plan) (k : ℕ) (xs ys : List (Seat Work)) → All (λ s. StandsAt plan k s.duty s.desk) xs → AllZip (λ s t. Done s.duty s.desk t.duty t.desk) xs ys → All (λ s. StandsAt plan (k + 1) s.duty s.desk) ys
+all_done plan k [] [] works z = All-nil (λ s. StandsAt plan (k + 1) s.duty s.desk)
+all_done plan k [] (y ∷ ys) works z = absurd z
+all_done plan k (x ∷ xs) [] works z = absurd z
+all_done plan k (x ∷ xs) (y ∷ ys) works z =
+    All-cons (λ s. StandsAt plan (k + 1) s.duty s.desk) y ys (done_of plan k x.duty y.duty x.desk y.desk (All-head (λ s. StandsAt plan k s.duty s.desk) x xs works) z.0)
+    (all_done plan k xs ys (All-tail (λ s. StandsAt plan k s.duty s.desk) x xs works) z.1)
+
+quiet_of : (plan : Plan) (k : ℕ) (v w : Work) (d e : DeskView) → StandsAt plan k v d → Done v d w e → d.lying ≡ has_number plan.liars.clients d.id → has_number plan.liars.clients d.id ≡ true → (k ≡ 0) ⊎ (e.entries ≡ d.entries)
+quiet_of plan zero (Lying v) (Lying w) d e h done honest lies = inl refl
+quiet_of plan (suc k) (Lying v) (Lying w) d e h done honest lies = inr (done.none (h.2 (omega arith)))
+quiet_of plan k (Client v) w d e h done honest lies = absurd (let c = h.1.goes.its.correct in cc (c, honest, lies))
+quiet_of plan k (Lying v) (Client w) d e h done honest lies = absurd done
+quiet_of plan k (Lying v) Courier d e h done honest lies = absurd done
+quiet_of plan k Courier w d e h done honest lies = absurd h
+
+pub all_quiet : (plan : Plan) (k : ℕ) (xs ys : List (Seat Work)) → All (λ s. StandsAt plan k s.duty s.desk) xs → AllZip (λ s t. Done s.duty s.desk t.duty t.desk) xs ys
+    → All (λ d. d.lying ≡ has_number plan.liars.clients d.id) (desks_of xs) → AllZip (λ d e. has_number plan.liars.clients d.id ≡ true → (k ≡ 0) ⊎ (e.entries ≡ d.entries)) (desks_of xs) (desks_of ys)
+all_quiet plan k [] [] works z honest = tt
+all_quiet plan k [] (y ∷ ys) works z honest = absurd z
+all_quiet plan k (x ∷ xs) [] works z honest = absurd z
+all_quiet plan k (x ∷ xs) (y ∷ ys) works z honest = (
+  quiet_of plan k x.duty y.duty x.desk y.desk (All-head (λ s. StandsAt plan k s.duty s.desk) x xs works) z.0 (All-head (λ d. d.lying ≡ has_number plan.liars.clients d.id) x.desk (desks_of xs) honest),
+  all_quiet plan k xs ys (All-tail (λ s. StandsAt plan k s.duty s.desk) x xs works) z.1 (All-tail (λ d. d.lying ≡ has_number plan.liars.clients d.id) x.desk (desks_of xs) honest),
+)
+
+-- seats side by side have desks side by side
+pub desks_beside : (R : DeskView → DeskView → Type 0) (xs ys : List (Seat Work)) → AllZip (λ s t. R s.desk t.desk) xs ys → AllZip R (desks_of xs) (desks_of ys)
+desks_beside R [] [] z = tt
+desks_beside R [] (y ∷ ys) z = absurd z
+desks_beside R (x ∷ xs) [] z = absurd z
+desks_beside R (x ∷ xs) (y ∷ ys) z = (z.0, desks_beside R xs ys z.1)
+
+-- clients' desks that went on
+ids_later : (xs ys : List DeskView) → AllZip IsLater xs ys → map (λ d. d.id) ys ≡ map (λ d. d.id) xs
+ids_later [] [] z = refl
+ids_later [] (y ∷ ys) z = absurd z
+ids_later (x ∷ xs) [] z = absurd z
+ids_later (x ∷ xs) (y ∷ ys) z = λ i. z.0.id i ∷ ids_later xs ys z.1 i
+
+pub clients_later : (plan : Plan) (xs ys : List DeskView) → AllZip IsLater xs ys → AreClients plan xs → AreClients plan ys
+clients_later plan xs ys z h = record {
+  ascend = subst Ascend (sym (ids_later xs ys z)) h.ascend;
+  named = zip_all IsLater (λ d. Contains (clients plan.rules plan.work) d.id) (λ d. Contains (clients plan.rules plan.work) d.id) xs ys (λ x y m p. subst (Contains (clients plan.rules plan.work)) (sym m.id) p) z h.named;
+  all = λ c there. subst (λ (l : List ℕ). Contains l c) (sym (ids_later xs ys z)) (h.all c there);
+  cluster = zip_all IsLater (λ d. d.config ≡ plan.config) (λ d. d.config ≡ plan.config) xs ys (λ x y m p. m.config ∙ p) z h.cluster;
+  honesty = zip_all IsLater (λ d. d.lying ≡ has_number plan.liars.clients d.id) (λ d. d.lying ≡ has_number plan.liars.clients d.id) xs ys (λ x y m p. m.lying ∙ p ∙ ap (has_number plan.liars.clients) (sym m.id)) z h.honesty;
+}
+
+pub desks_tick : (config : Numbers) (clock : ClockId) (xs ys : List DeskView) → AllZip IsLater xs ys → All (IsDeskAt config clock) xs → All (IsDeskAt config clock) ys
+desks_tick config clock xs ys z h = zip_all IsLater (IsDeskAt config clock) (IsDeskAt config clock) xs ys (λ x y m p. record { cluster = m.config ∙ p.cluster; ticks = m.clock ∙ p.ticks }) z h
+
+-- cells that worked are fixed as they were
+pub worked_fixed : (a b : CellView) → HasWorked a b → KeptCell a → IsFixedAs a b
+worked_fixed a b w k = record {
+  config = ap (λ c. c.config) w.charter;
+  number = ap (λ c. c.number) w.charter;
+  whole = (ap (λ c. c.shard) w.charter, ap (λ c. c.shards) w.charter);
+  nature = ap (λ c. c.nature) w.charter;
+  crash = ap (λ c. c.crash_after) w.charter;
+  clock = ap (λ c. c.pass.clock) w.charter ∙ k.own.0;
+}
+
+-- ---- the run
+
+all_pushed : {X : Type 0} (P : X → Type 0) (xs : List X) (x : X) → All P xs → P x → All P (xs ++ x ∷ [])
+all_pushed P [] x a p = All-cons P x [] p (All-nil P)
+all_pushed P (y ∷ xs) x a p = All-cons P y (xs ++ x ∷ []) (All-head P y xs a) (all_pushed P xs x (All-tail P y xs a) p)
+
+pub all_desks : (P : DeskView → Type 0) (seats : List (Seat Work)) → All P (desks_of seats) → All (λ s. P s.desk) seats
+all_desks P [] a = All-nil (λ s. P s.desk)
+all_desks P (s ∷ seats) a = All-cons (λ s. P s.desk) s seats (All-head P s.desk (desks_of seats) a) (all_desks P seats (All-tail P s.desk (desks_of seats) a))
+
+abbrev pub courier_seat : DeskView → Seat Work
+courier_seat d = record { desk = d; duty = Courier }
+
+-- with the courier's seat
+pub desks_with : (P : DeskView → Type 0) (seats : List (Seat Work)) (courier : DeskView) → All P (desks_of seats) → P courier → All (λ s. P s.desk) (seats ++ courier_seat courier ∷ [])
+desks_with P seats courier a p = all_pushed (λ s. P s.desk) seats (courier_seat courier) (all_desks P seats a) p
+
+pub pairs_with : (cells : List CellView) (seats : List (Seat Work)) (courier : DeskView) → courier.entries ≡ [] → PairsStand cells (desks_of seats) → PairsStand cells (desks_of (seats ++ courier_seat courier ∷ []))
+pairs_with cells seats courier quiet h = subst (PairsStand cells) (sym (desks_pushed seats (courier_seat courier))) (pairs_more cells (desks_of seats) courier quiet h)
+
+none_long : {X Y : Type 0} (R : X → Y → Type 0) (xs : List X) (x : X) (ys : List Y) → AllZip R (xs ++ x ∷ []) ys → 0 < length ys
+none_long R [] x [] z = absurd z
+none_long R (a ∷ xs) x [] z = absurd z
+none_long R [] x (y ∷ ys) z = omega arith
+none_long R (a ∷ xs) x (y ∷ ys) z = omega arith
+
+pub some_left : {X Y : Type 0} (R : X → Y → Type 0) (xs zs : List X) (x : X) (ys : List Y) → zs ≡ xs ++ x ∷ [] → AllZip R zs ys → 0 < length ys
+some_left R xs zs x ys is z = none_long R xs x ys (subst (λ l. AllZip R l ys) is z)
+
+-- the parts of a run whose threads have ended
+pub record HasEndedThreads (old new : Run) (seats : List (Seat Work)) (last : Seat Work) : Type 0 where
+  pub plan : plan_of new ≡ plan_of old
+  pub clock : new.clock ≡ old.clock
+  pub keeper : new.keeper ≡ old.keeper
+  pub counted : new.counted.items ≡ old.counted.items
+  pub cells : AllZip HasWorked old.cells.items new.cells.items
+  pub all : seats ≡ new.clients.items ++ last ∷ []
+  pub courier : new.courier ≡ last.desk
+  pub desks : AllZip (λ s t. IsLater s.desk t.desk) (old.clients.items ++ courier_seat old.courier ∷ []) seats
+
+module _ (old new : Run) (seats : List (Seat Work)) (last : Seat Work) (e : HasEndedThreads old new seats last) (kept : All KeptCell old.cells.items) where
+  split : AllZip (λ s t. IsLater s.desk t.desk) old.clients.items new.clients.items × IsLater old.courier last.desk
+  split = zip_pushed (λ s t. IsLater s.desk t.desk) old.clients.items (courier_seat old.courier) new.clients.items last (subst (λ (l : List (Seat Work)). AllZip (λ s t. IsLater s.desk t.desk) (old.clients.items ++ courier_seat old.courier ∷ []) l) e.all e.desks)
+
+  later : AllZip IsLater (clients_of old) (clients_of new)
+  later = desks_beside IsLater old.clients.items new.clients.items split.0
+
+  fixed : AllZip IsFixedAs old.cells.items new.cells.items
+  fixed = zip_kept old.cells.items new.cells.items e.cells kept
+    where
+      zip_kept : (xs ys : List CellView) → AllZip HasWorked xs ys → All KeptCell xs → AllZip IsFixedAs xs ys
+      zip_kept [] [] z a = tt
+      zip_kept [] (y ∷ ys) z a = absurd z
+      zip_kept (x ∷ xs) [] z a = absurd z
+      zip_kept (x ∷ xs) (y ∷ ys) z a = (worked_fixed x y z.0 (All-head KeptCell x xs a), zip_kept xs ys z.1 (All-tail KeptCell x xs a))
+
+  pub open_after : IsOpen old → IsOpen new
+  open_after h = record {
+    cells = subst (λ (p : Plan). AreCells p.config new.clock new.cells.items) (sym e.plan) (subst (λ (c : ClockId). AreCells (plan_of old).config c new.cells.items) (sym e.clock) (cells_fixed (plan_of old).config old.clock old.cells.items new.cells.items fixed h.cells));
+    desks = subst (λ (p : Plan). All (IsDeskAt p.config new.clock) (clients_of new)) (sym e.plan) (subst (λ (c : ClockId). All (IsDeskAt (plan_of old).config c) (clients_of new)) (sym e.clock) (desks_tick (plan_of old).config old.clock (clients_of old) (clients_of new) later h.desks));
+    courier = record {
+      cluster = ap (λ (d : DeskView). d.config) e.courier ∙ split.1.config ∙ h.courier.cluster ∙ ap (λ (p : Plan). p.config) (sym e.plan);
+      ticks = ap (λ (d : DeskView). d.pass.clock) e.courier ∙ split.1.clock ∙ h.courier.ticks ∙ sym e.clock;
+    };
+    keeper = (ap (λ p. p.clock) e.keeper ∙ h.keeper.0 ∙ sym e.clock, ap (λ p. p.drawn) e.keeper ∙ h.keeper.1);
+    passes =
+        let a : new.clock.passes ≡ old.clock.passes = ap (λ c. c.passes) e.clock in
+        let b : length new.cells.items ≡ length old.cells.items = zip_long HasWorked old.cells.items new.cells.items e.cells in
+        let c : length new.clients.items ≡ length old.clients.items = zip_long (λ s t. IsLater s.desk t.desk) old.clients.items new.clients.items split.0 in
+        let d = h.passes in
+        omega (arith, a, b, c, d);
+  }
+
+  module _ (done : AllZip (λ s t. Done s.duty s.desk t.duty t.desk) (old.clients.items ++ courier_seat old.courier ∷ []) seats) (pairs : PairsStand new.cells.items (desks_of seats)) where
+    parts : AllZip (λ s t. Done s.duty s.desk t.duty t.desk) old.clients.items new.clients.items × Done Courier old.courier last.duty last.desk
+    parts = zip_pushed (λ s t. Done s.duty s.desk t.duty t.desk) old.clients.items (courier_seat old.courier) new.clients.items last (subst (λ (l : List (Seat Work)). AllZip (λ s t. Done s.duty s.desk t.duty t.desk) (old.clients.items ++ courier_seat old.courier ∷ []) l) e.all done)
+
+    courier_quiet : (w : Work) → Done Courier old.courier w last.desk → last.desk.entries ≡ []
+    courier_quiet (Client v) d = absurd d
+    courier_quiet (Lying v) d = absurd d
+    courier_quiet Courier d = d
+
+    quiet : new.courier.entries ≡ []
+    quiet = ap (λ (d : DeskView). d.entries) e.courier ∙ courier_quiet last.duty parts.1
+
+    pub phase_done : (k : ℕ) → IsStanding k old → HasDonePhase k old new
+    phase_done k h = record {
+      same = record { plan = e.plan; clock = e.clock; keeper = e.keeper; counted = e.counted };
+      standing = record {
+        opened = open_after h.opened;
+        planned = subst (λ (p : Plan). ArePlanned p new.clock new.cells.items) (sym e.plan) (subst (λ (c : ClockId). ArePlanned (plan_of old) c new.cells.items) (sym e.clock) (planned_fixed (plan_of old) old.clock old.cells.items new.cells.items fixed h.planned));
+        clients = subst (λ (p : Plan). AreClients p (clients_of new)) (sym e.plan) (clients_later (plan_of old) (clients_of old) (clients_of new) later h.clients);
+        works = subst (λ (p : Plan). All (λ s. StandsAt p (k + 1) s.duty s.desk) new.clients.items) (sym e.plan) (all_done (plan_of old) k old.clients.items new.clients.items h.works parts.0);
+        pairs = pairs_less new.cells.items (clients_of new) last.desk (courier_quiet last.duty parts.1)
+            (subst (PairsStand new.cells.items) (ap desks_of e.all ∙ desks_pushed new.clients.items last) pairs);
+        quiet = quiet;
+        named = subst LiarsNamed (sym e.plan) h.named;
+      };
+      cells = e.cells;
+      desks = later;
+      quiet = all_quiet (plan_of old) k old.clients.items new.clients.items h.works parts.0 h.clients.honesty;
+    }

@@ -1,0 +1,113 @@
+-- The passes of a run, when they are put together and its clock is closed.
+use Rattle.std.proofs.Common.{◌≡◌, ℕ, ◌+◌, List, [], ◌∷◌, ◌++◌, map, refl, sym, ◌∙◌, ap, subst, arith}
+use Rattle.std.specs.List.{Contains, All}
+use Rattle.std.proofs.lemmas.List.{map_push}
+use Rattle.std.proofs.lemmas.List.Sums.{sum_by_push}
+use Rattle.std.proofs.lemmas.List.Elements.{Contains-get_or, All-append, All-push, All-contains}
+use Rattle.protocol.proofs.Lists.{Contains-map, Contains-map_cases}
+use Rattle.journals.proofs.Lists.{number_of}
+use Rattle.quorum_rules.specs.Limits.{Numbers}
+use Rattle.event_clock.specs.declared.rule.Share.{Share}
+use Rattle.event_clock.specs.Passes.{ClockId, Holder, Tally, share_of}
+use Rattle.event_clock.specs.Views.{times, times_drawn, IsDrawnOnce}
+use Rattle.locked_nodes.specs.Cells.{CellView, KeptCell}
+use Rattle.client_desks.specs.Desks.{DeskView, KeptDesk, own_numbers}
+use Rattle.run_journals.specs.Standing.{IsDeskAt, AreCells, journal_at}
+use Rattle.journals.specs.declared.desk.DeskJournal.{DeskJournal}
+use Rattle.phase_threads.specs.declared.duty.Seat.{Seat}
+use Rattle.client_work.specs.declared.work.Work.{Work}
+use Rattle.client_threads.specs.Ran.{HasFullPass, IsOneFull}
+use Rattle.client_threads.specs.Running.{desks_of}
+use Rattle.client_threads.proofs.Threading.{desks_pushed}
+use Rattle.client_threads.proofs.Walking.{Walked, walk_on, made_more}
+
+-- all passes, in the order in which they are put together
+abbrev pub passes_of : List CellView → List DeskView → Holder → Holder → List Holder
+passes_of cells desks courier keeper = ((map (λ c. c.pass) cells ++ map (λ d. d.pass) desks) ++ courier ∷ []) ++ keeper ∷ []
+
+pub together : (cells : List CellView) (desks : List DeskView) (courier pass keeper : Holder) (a b c d e : List Holder) → a ≡ [] → b ≡ a ++ map (λ (x : CellView). x.pass) cells → c ≡ b ++ map (λ (x : DeskView). x.pass) desks
+    → d ≡ c ++ pass ∷ [] → pass ≡ courier → e ≡ d ++ keeper ∷ [] → e ≡ passes_of cells desks courier keeper
+together cells desks courier pass keeper a b c d e none row table more is last =
+    let row' = map (λ (x : CellView). x.pass) cells in
+    let table' = map (λ (x : DeskView). x.pass) desks in
+    let first : c ≡ row' ++ table' = table ∙ ap (λ (l : List Holder). l ++ table') (row ∙ ap (λ (l : List Holder). l ++ row') none) in
+    last ∙ ap (λ (l : List Holder). l ++ keeper ∷ []) (more ∙ ap (λ (l : List Holder). l ++ pass ∷ []) first ∙ ap (λ (p : Holder). (row' ++ table') ++ p ∷ []) is)
+
+all_by : {X : Type 0} (P : X → Type 0) (xs : List X) → ((x : X) → Contains xs x → P x) → All P xs
+all_by P xs f k d lt = f _ (Contains-get_or xs k d lt)
+
+cells_tick : (config : Numbers) (clock : ClockId) (cells : List CellView) → AreCells config clock cells → All KeptCell cells → All (λ p. p.clock ≡ clock) (map (λ (c : CellView). c.pass) cells)
+cells_tick config clock cells are kept = all_by (λ (p : Holder). p.clock ≡ clock) (map (λ (c : CellView). c.pass) cells) (λ p there.
+    let q = Contains-map_cases (λ (c : CellView). c.pass) cells p there in
+    let at = number_of cells q.0 q.1 in
+    ap (λ (h : Holder). h.clock) q.2 ∙ (All-contains KeptCell cells q.0 kept q.1).own.0 ∙ (are.each at.0 q.0 at.1).ticks)
+
+desks_tick : (config : Numbers) (clock : ClockId) (desks : List DeskView) → All (IsDeskAt config clock) desks → All (λ p. p.clock ≡ clock) (map (λ (d : DeskView). d.pass) desks)
+desks_tick config clock desks are = all_by (λ (p : Holder). p.clock ≡ clock) (map (λ (d : DeskView). d.pass) desks) (λ p there.
+    let q = Contains-map_cases (λ (d : DeskView). d.pass) desks p there in
+    ap (λ (h : Holder). h.clock) q.2 ∙ (All-contains (IsDeskAt config clock) desks q.0 are q.1).ticks)
+
+-- they are all of the clock
+pub all_tick : (config : Numbers) (clock : ClockId) (cells : List CellView) (desks : List DeskView) (courier keeper : Holder) → AreCells config clock cells → All KeptCell cells → All (IsDeskAt config clock) desks
+    → courier.clock ≡ clock → keeper.clock ≡ clock → All (λ p. p.clock ≡ clock) (passes_of cells desks courier keeper)
+all_tick config clock cells desks courier keeper are kept at c k =
+    let P = λ (p : Holder). p.clock ≡ clock in
+    let row = map (λ (x : CellView). x.pass) cells in
+    let table = map (λ (x : DeskView). x.pass) desks in
+    All-push P ((row ++ table) ++ courier ∷ []) keeper (All-push P (row ++ table) courier (All-append P row table (cells_tick config clock cells are kept) (desks_tick config clock desks at)) c) k
+
+-- a pass that drew nothing changes nothing
+undrawn : (x : ℕ) (ps : List Holder) (p : Holder) → p.drawn ≡ [] → times_drawn x (map share_of (ps ++ p ∷ [])) ≡ times_drawn x (map share_of ps)
+undrawn x ps p none =
+    let more = sum_by_push (λ (s : Share). times x s.drawn) (map share_of ps) (share_of p) in
+    let zero : times x p.drawn ≡ 0 = ap (times x) none in
+    ap (times_drawn x) (map_push share_of ps p) ∙ omega (arith, more, zero)
+
+shared : {X : Type 0} (f : X → Holder) (xs : List X) → map share_of (map f xs) ≡ map (λ x. share_of (f x)) xs
+shared f [] = refl
+shared f (x ∷ xs) = ap (λ (l : List Share). share_of (f x) ∷ l) (shared f xs)
+
+both : (ps qs : List Holder) → map share_of (ps ++ qs) ≡ map share_of ps ++ map share_of qs
+both [] qs = refl
+both (p ∷ ps) qs = ap (λ (l : List Share). share_of p ∷ l) (both ps qs)
+
+-- what they drew is what cells and clients drew
+pub drawn_once : (n : ℕ) (cells : List CellView) (desks : List DeskView) (courier keeper : Holder) → courier.drawn ≡ [] → keeper.drawn ≡ []
+    → IsDrawnOnce n (map share_of (passes_of cells desks courier keeper)) → IsDrawnOnce n (map (λ (c : CellView). share_of c.pass) cells ++ map (λ (d : DeskView). share_of d.pass) desks)
+drawn_once n cells desks courier keeper c k once x =
+    let row = map (λ (y : CellView). y.pass) cells in
+    let table = map (λ (y : DeskView). y.pass) desks in
+    let same : map share_of (row ++ table) ≡ map (λ (y : CellView). share_of y.pass) cells ++ map (λ (y : DeskView). share_of y.pass) desks =
+    both row table ∙ ap (λ (l : List Share). l ++ map share_of table) (shared (λ (y : CellView). y.pass) cells) ∙ ap (λ (l : List Share). map (λ (y : CellView). share_of y.pass) cells ++ l) (shared (λ (y : DeskView). y.pass) desks) in
+    sym (ap (times_drawn x) same) ∙ sym (undrawn x (row ++ table) courier c) ∙ sym (undrawn x ((row ++ table) ++ courier ∷ []) keeper k) ∙ once x
+
+-- a desk without entries drew nothing
+pub quiet_drawn : (d : DeskView) → KeptDesk d → d.entries ≡ [] → d.pass.drawn ≡ []
+quiet_drawn d kept quiet = kept.drawn ∙ ap own_numbers quiet
+
+-- a full pass has a full share
+pub full_share : (t : Tally) (passes : List Holder) → t.shares ≡ map share_of passes → IsOneFull passes → HasFullPass t
+full_share t passes is full = record {
+  share = share_of full.pass;
+  there = subst (λ (l : List Share). Contains l (share_of full.pass)) (sym is) (Contains-map share_of passes full.pass full.there);
+  full = full.full;
+}
+
+-- the desks of the seats so far gave their journals and passes
+abbrev pub Finished : List (Seat Work) → List Holder → List (Seat Work) → ℕ → List DeskJournal → List Holder → Type 0
+Finished all old rest n desks passes =
+    (done : List (Seat Work)) × Walked all done rest n × (desks ≡ map journal_at (desks_of done)) × (passes ≡ old ++ map (λ d. d.pass) (desks_of done)) × All KeptDesk (desks_of done)
+
+pub one_finished : (all : List (Seat Work)) (old : List Holder) (rest next : List (Seat Work)) (n m : ℕ) (desks more : List DeskJournal) (passes others : List Holder) (seat : Seat Work) (journal : DeskJournal) (pass : Holder)
+    → Finished all old rest n desks passes → rest ≡ seat ∷ next → m + 1 ≡ n → more ≡ desks ++ journal ∷ [] → journal.client ≡ seat.desk.id → journal.entries ≡ seat.desk.entries
+    → others ≡ passes ++ pass ∷ [] → pass ≡ seat.desk.pass → KeptDesk seat.desk → Finished all old next m more others
+one_finished all old rest next n m desks more passes others seat journal pass inv is one added client entries put its kept =
+    let was = desks_of inv.0 in
+    let same = sym (desks_pushed inv.0 seat) in
+    let told : journal ≡ journal_at seat.desk = λ i. record { client = client i; entries = entries i } in (
+      inv.0 ++ seat ∷ [],
+      walk_on all inv.0 rest next seat n m inv.1 is one,
+      made_more journal_at [] desks more was seat.desk journal added inv.2 told ∙ ap (map journal_at) same,
+      made_more (λ (x : DeskView). x.pass) old passes others was seat.desk pass put inv.3 its ∙ ap (λ (l : List DeskView). old ++ map (λ (x : DeskView). x.pass) l) same,
+      subst (All KeptDesk) same (All-push KeptDesk was seat.desk inv.4 kept),
+    )

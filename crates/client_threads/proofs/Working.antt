@@ -1,0 +1,390 @@
+-- A phase that threads did, and what came late after them: it is worked off.
+use Rattle.std.proofs.Common.{◌≡◌, ◌⊎◌, ℕ, zero, suc, ◌+◌, ◌<◌, ◌≤◌, Bool, true, false, List, [], ◌∷◌, ◌++◌, length, map, drop, refl, sym, ◌∙◌, ap, subst, inl, inr, arith, append_assoc}
+use Rattle.std.specs.Prelude.{slice_get, ◌==◌}
+use Rattle.event_clock.specs.Passes.{ClockId}
+use Rattle.std.specs.declared.option.Option.TheVariants.{Some}
+use Rattle.std.specs.List.{Contains, AllZip, All, filter_map}
+use Rattle.std.proofs.lemmas.Bool.Decides.{eqb_tells}
+use Rattle.std.proofs.lemmas.List.Elements.{Contains-append_right, All-nil, All-cons, All-head, All-tail, All-contains}
+use Rattle.std.proofs.lemmas.List.{append-nil}
+use Rattle.protocol.specs.Messages.{Message}
+use Rattle.wire_forms.specs.Liars.{has_number}
+use Rattle.quorum_rules.specs.Limits.{Numbers}
+use Rattle.protocol.proofs.Lists.{Contains-none, Contains-head, Contains-rest, Contains-map_cases, Contains-slice_get}
+use Rattle.journals.specs.declared.desk.DeskEntry.{DeskEntry}
+use Rattle.journals.specs.declared.node.NodeEntry.{NodeEntry}
+use Rattle.journals.specs.Phases.{Phase}
+use Rattle.locked_nodes.specs.Cells.{CellView, KeptCell, HasNoLateMail, numbers}
+use Rattle.client_desks.specs.Desks.{DeskView, KeepsDesk, numbers_of}
+use Rattle.client_desks.specs.Later.{IsLater}
+use Rattle.plan_words.specs.declared.plan.Plan.{Plan}
+use Rattle.plan_words.specs.declared.job.Job.{Job}
+use Rattle.plan_words.specs.declared.job.Job.TheVariants.{Block, Device, Phase as PhaseEnd}
+use Rattle.plan_words.specs.Named.{job_client, clients, lying_clients, asking_clients, troubled_client}
+use Rattle.plan_followed.specs.Asked.{steps_for, first_phases, messages}
+use Rattle.plan_followed.specs.Clients.{InEach, GoesByPlan, IsDone, all_asked}
+use Rattle.plan_followed.specs.Nodes.{node_after}
+use Rattle.plan_phases.specs.Closed.{next_begin, HaveClosed, AreWorked, FinishedAs, IsWorkedOff, GoesOn}
+use Rattle.run_journals.specs.Standing.{IsCellAt, IsDeskAt, AreCells, HasWorked, ArePlanned, HaveSeen, PairsStand, PhasesWork, journals_of}
+use Rattle.run_journals.specs.Ended.{AreClients}
+use Rattle.run_journals.proofs.Cells.{journal_of, node_at, entries_at, desk_at, rises_from}
+use Rattle.run_journals.proofs.Working.{state_is}
+use Rattle.phase_threads.specs.declared.duty.Seat.{Seat}
+use Rattle.client_work.specs.declared.work.Work.{Work}
+use Rattle.client_work.specs.declared.work.Work.TheVariants.{Client, Lying, Courier}
+use Rattle.client_work.specs.Work.{phase_at}
+use Rattle.client_threads.specs.Mailed.{Brings}
+use Rattle.client_threads.specs.Reads.{IsPartedAs, IsParted}
+use Rattle.client_threads.specs.Running.{desks_of, clients_of, plan_of, journals_in, StandsAt, LiarsNamed, IsOpen, IsStanding, HasDonePhase, IsBetween, IsWorked}
+use Rattle.client_threads.specs.declared.state.Run.{Run}
+use Rattle.client_threads.proofs.Pairs.{HasMoreAlone, HasSameEntries, pairs_on}
+use Rattle.client_threads.proofs.Parting.{parted_on}
+
+-- ---- lists beside each other
+
+pub zip_map : {X Y : Type 0} (R S : X → Y → Type 0) (xs : List X) (ys : List Y) → ((x : X) (y : Y) → R x y → S x y) → AllZip R xs ys → AllZip S xs ys
+zip_map R S [] [] h z = tt
+zip_map R S [] (y ∷ ys) h z = absurd z
+zip_map R S (x ∷ xs) [] h z = absurd z
+zip_map R S (x ∷ xs) (y ∷ ys) h z = (h x y z.0, zip_map R S xs ys h z.1)
+
+pub zip_same : {X : Type 0} (R : X → X → Type 0) (xs : List X) → ((x : X) → R x x) → AllZip R xs xs
+zip_same R [] h = tt
+zip_same R (x ∷ xs) h = (h x, zip_same R xs h)
+
+pub zip_then : {X : Type 0} (R S T : X → X → Type 0) (xs ys zs : List X) → ((x y z : X) → R x y → S y z → T x z) → AllZip R xs ys → AllZip S ys zs → AllZip T xs zs
+zip_then R S T [] [] [] h a b = tt
+zip_then R S T [] [] (z ∷ zs) h a b = absurd b
+zip_then R S T [] (y ∷ ys) zs h a b = absurd a
+zip_then R S T (x ∷ xs) [] zs h a b = absurd a
+zip_then R S T (x ∷ xs) (y ∷ ys) [] h a b = absurd b
+zip_then R S T (x ∷ xs) (y ∷ ys) (z ∷ zs) h a b = (h x y z a.0 b.0, zip_then R S T xs ys zs h a.1 b.1)
+
+-- what holds of all in one list holds of all beside them
+pub zip_all : {X Y : Type 0} (R : X → Y → Type 0) (P : X → Type 0) (Q : Y → Type 0) (xs : List X) (ys : List Y) → ((x : X) (y : Y) → R x y → P x → Q y) → AllZip R xs ys → All P xs → All Q ys
+zip_all R P Q [] [] h z a = All-nil Q
+zip_all R P Q [] (y ∷ ys) h z a = absurd z
+zip_all R P Q (x ∷ xs) [] h z a = absurd z
+zip_all R P Q (x ∷ xs) (y ∷ ys) h z a = All-cons Q y ys (h x y z.0 (All-head P x xs a)) (zip_all R P Q xs ys h z.1 (All-tail P x xs a))
+
+-- and with what holds of each of the other ones
+pub zip_with : {X Y : Type 0} (R S : X → Y → Type 0) (Q : Y → Type 0) (xs : List X) (ys : List Y) → ((x : X) (y : Y) → R x y → Q y → S x y) → AllZip R xs ys → All Q ys → AllZip S xs ys
+zip_with R S Q [] [] h z a = tt
+zip_with R S Q [] (y ∷ ys) h z a = absurd z
+zip_with R S Q (x ∷ xs) [] h z a = absurd z
+zip_with R S Q (x ∷ xs) (y ∷ ys) h z a = (h x y z.0 (All-head Q y ys a), zip_with R S Q xs ys h z.1 (All-tail Q y ys a))
+
+-- ---- clients
+
+no_entry : (e : DeskEntry) (before rest : List DeskEntry) → [] ≡ before ++ e ∷ rest → ⊥
+no_entry e [] rest p = absurd (cc)
+no_entry e (b ∷ bs) rest p = absurd (cc)
+
+-- whose steps are none of a plan's work
+idle_steps : (config : Numbers) (c : ℕ) (work : List Job) → (Contains (filter_map job_client work) c → ⊥) → (k : ℕ) → steps_for config c (first_phases k work) ≡ []
+idle_steps config c work none zero = refl
+idle_steps config c [] none (suc k) = refl
+idle_steps config c (PhaseEnd ∷ work) none (suc k) = idle_steps config c work none k
+idle_steps config c (Block client op ∷ work) none (suc k) =
+    let other : (c == client) ≡ false = not_same (λ e. none (subst (λ (d : ℕ). Contains (client ∷ filter_map job_client work) d) (sym e) (Contains-head client (filter_map job_client work)))) in
+    let rest = idle_steps config c work (λ there. none (Contains-rest c client (filter_map job_client work) there)) (suc k) in
+    rw other rest
+  where
+    not_same : {a b : ℕ} → (a ≡ b → ⊥) → (a == b) ≡ false
+    not_same {a} {b} h = elim (eqb_tells a b) [ inl e ↦ absurd (h e.1) | inr n ↦ n.0 ]
+idle_steps config c (Device client op ∷ work) none (suc k) =
+    let other : (c == client) ≡ false = not_same (λ e. none (subst (λ (d : ℕ). Contains (client ∷ filter_map job_client work) d) (sym e) (Contains-head client (filter_map job_client work)))) in
+    let rest = idle_steps config c work (λ there. none (Contains-rest c client (filter_map job_client work) there)) (suc k) in
+    rw other rest
+  where
+    not_same : {a b : ℕ} → (a ≡ b → ⊥) → (a == b) ≡ false
+    not_same {a} {b} h = elim (eqb_tells a b) [ inl e ↦ absurd (h e.1) | inr n ↦ n.0 ]
+
+-- a client that does nothing has finished
+pub idle_client : (plan : Plan) (c k : ℕ) → (Contains (clients plan.rules plan.work) c → ⊥) → FinishedAs false plan k c []
+idle_client plan c k none =
+    let jobless : Contains (filter_map job_client plan.work) c → ⊥ = λ there. none (Contains-append_right (lying_clients plan.rules) (asking_clients plan.rules plan.work) c (Contains-append_right (filter_map troubled_client plan.rules) (filter_map job_client plan.work) c there)) in
+    let steps = idle_steps plan.config c plan.work jobless k in (
+      λ before rest e p. absurd (no_entry e before rest p),
+      inl (record {
+        started = ap length (sym steps);
+        ended = refl;
+        up = refl;
+        few = λ count is. omega arith;
+      }),
+    )
+
+-- a thread's part that is done is its client's
+pub finished : (plan : Plan) (k : ℕ) (w : Work) (d : DeskView) → StandsAt plan (suc k) w d → d.lying ≡ has_number plan.liars.clients d.id → FinishedAs (has_number plan.liars.clients d.id) plan (suc k) d.id d.entries
+finished plan k (Client w) d h honest =
+    let stands = h.1 in
+    let its = stands.goes.its in
+    let bool : has_number plan.liars.clients d.id ≡ false = sym honest ∙ its.correct in
+    let acts1 = subst (λ (p : Plan). InEach (GoesByPlan p w.client) d.entries) h.0 stands.goes.acts in
+    let acts2 = subst (λ (c : ℕ). InEach (GoesByPlan plan c) d.entries) (sym its.id) acts1 in
+    let done1 = subst (λ (p : Plan). IsDone p w.client (steps_for p.config w.client (first_phases (phase_at w) p.work)) d.entries) h.0 stands.done in
+    let done2 = subst (λ (c : ℕ). IsDone plan c (steps_for plan.config c (first_phases (phase_at w) plan.work)) d.entries) (sym its.id) done1 in
+    let done3 = subst (λ (m : ℕ). IsDone plan d.id (steps_for plan.config d.id (first_phases m plan.work)) d.entries) h.2 done2 in
+    subst (λ (b : Bool). FinishedAs b plan (suc k) d.id d.entries) (sym bool) (acts2, done3)
+finished plan k (Lying w) d h honest =
+    let mail = h.1 in
+    let bool : has_number plan.liars.clients d.id ≡ true = sym honest ∙ mail.lying in
+    let none : w.mail.items ≡ [] = h.2 (omega arith) in
+    let sent1 : all_asked d.entries ≡ messages w.plan.value.config w.plan.value.rules w.client = sym (append-nil (all_asked d.entries)) ∙ ap (λ (l : List Message). all_asked d.entries ++ l) (sym none) ∙ mail.sent in
+    let sent2 : all_asked d.entries ≡ messages plan.config plan.rules w.client = sent1 ∙ ap (λ (p : Plan). messages p.config p.rules w.client) h.0 in
+    let sent3 : all_asked d.entries ≡ messages plan.config plan.rules d.id = sent2 ∙ ap (messages plan.config plan.rules) (sym mail.id) in
+    subst (λ (b : Bool). FinishedAs b plan (suc k) d.id d.entries) (sym bool) sent3
+finished plan k Courier d h honest = absurd h
+
+-- every client is done with the phase
+pub all_finished : (plan : Plan) (k : ℕ) (seats : List (Seat Work)) → AreClients plan (desks_of seats) → ((c : ℕ) → has_number plan.liars.clients c ≡ true → Contains (clients plan.rules plan.work) c)
+    → All (λ s. StandsAt plan (suc k) s.duty s.desk) seats → (c : ℕ) → FinishedAs (has_number plan.liars.clients c) plan (suc k) c (entries_at (desks_of seats) c)
+all_finished plan k seats are liars works c = elim (desk_at (desks_of seats) c).is [
+  | inl q ↦ (
+      let s = Contains-map_cases (λ (s : Seat Work). s.desk) seats q.0 q.1 in
+      let honest : q.0.lying ≡ has_number plan.liars.clients q.0.id = All-contains (λ d. d.lying ≡ has_number plan.liars.clients d.id) (desks_of seats) q.0 are.honesty q.1 in
+      let stands = All-contains (λ s. StandsAt plan (suc k) s.duty s.desk) seats s.0 works s.1 in
+      let f = finished plan k s.0.duty q.0 (subst (StandsAt plan (suc k) s.0.duty) (sym s.2) stands) honest in
+      let g = subst (λ (m : ℕ). FinishedAs (has_number plan.liars.clients m) plan (suc k) m q.0.entries) q.2 f in
+      subst (FinishedAs (has_number plan.liars.clients c) plan (suc k) c) (sym q.3) g
+      )
+  | inr none ↦ subst (FinishedAs (has_number plan.liars.clients c) plan (suc k) c) (sym none.0) (nobody (has_number plan.liars.clients c) refl none.1)
+]
+  where
+    nobody : (b : Bool) → has_number plan.liars.clients c ≡ b → (Contains (map (λ d. d.id) (desks_of seats)) c → ⊥) → FinishedAs b plan (suc k) c []
+    nobody true e none = absurd (none (are.all c (liars c e)))
+    nobody false e none = idle_client plan c (suc k) (λ there. none (are.all c there))
+
+-- ---- cells
+
+-- a cell that worked, and to which mail came late
+pub worked_on : (a b c : CellView) → HasWorked a b → Brings b c → HasWorked a c
+worked_on a b c w m = record {
+  charter = m.charter ∙ w.charter;
+  grew = (w.grew.0 ++ m.more, m.grew ∙ ap (λ (es : List NodeEntry). es ++ m.more) w.grew.1 ∙ append_assoc a.journal w.grew.0 m.more);
+}
+
+pub seen_on : (from : ℕ) (a b : CellView) → HasWorked a b → KeptCell b → from ≤ a.pass.seen → from ≤ b.pass.seen
+seen_on from a b w k l =
+    let e : b.charter.pass.seen ≡ a.pass.seen = ap (λ c. c.pass.seen) w.charter in
+    let r = rises_from b.charter.pass.seen (numbers (drop b.charter.base b.journal)) b.pass.seen k.since in
+    omega (arith, e, r, l)
+
+-- cells whose charters say the same
+pub cells_alike : (config : Numbers) (clock : ClockId) (i : ℕ) (a b : CellView) → b.charter ≡ a.charter → IsCellAt config clock i a → IsCellAt config clock i b
+cells_alike config clock i a b e h = record {
+  cluster = ap (λ c. c.config) e ∙ h.cluster;
+  number = ap (λ c. c.number) e ∙ h.number;
+  whole = (ap (λ c. c.shard) e ∙ h.whole.0, ap (λ c. c.shards) e ∙ h.whole.1);
+  ticks = ap (λ c. c.pass.clock) e ∙ h.ticks;
+}
+
+-- the item beside one at its place
+pub beside_at : {X Y : Type 0} (R : X → Y → Type 0) (xs : List X) (ys : List Y) → AllZip R xs ys → (i : ℕ) (y : Y) → slice_get ys i ≡ Some y → (x : X) × (slice_get xs i ≡ Some x) × R x y
+beside_at R [] [] z i y at = absurd (Contains-none y (Contains-slice_get [] i y at))
+beside_at R [] (b ∷ ys) z i y at = absurd z
+beside_at R (a ∷ xs) [] z i y at = absurd z
+beside_at R (a ∷ xs) (b ∷ ys) z zero y at = (let same : b ≡ y = cc in (a, refl, subst (R a) same z.0))
+beside_at R (a ∷ xs) (b ∷ ys) z (suc i) y at = beside_at R xs ys z.1 i y at
+
+pub zip_long : {X Y : Type 0} (R : X → Y → Type 0) (xs : List X) (ys : List Y) → AllZip R xs ys → length ys ≡ length xs
+zip_long R [] [] z = refl
+zip_long R [] (y ∷ ys) z = absurd z
+zip_long R (x ∷ xs) [] z = absurd z
+zip_long R (x ∷ xs) (y ∷ ys) z = ap suc (zip_long R xs ys z.1)
+
+-- what is fixed about two cells alike
+pub record IsFixedAs (a b : CellView) : Type 0 where
+  pub config : b.charter.config ≡ a.charter.config
+  pub number : b.charter.number ≡ a.charter.number
+  pub whole : (b.charter.shard ≡ a.charter.shard) × (b.charter.shards ≡ a.charter.shards)
+  pub nature : b.charter.nature ≡ a.charter.nature
+  pub crash : b.charter.crash_after ≡ a.charter.crash_after
+  pub clock : b.charter.pass.clock ≡ a.charter.pass.clock
+
+pub fixed_same : (a b : CellView) → b.charter ≡ a.charter → IsFixedAs a b
+fixed_same a b e = record {
+  config = ap (λ c. c.config) e;
+  number = ap (λ c. c.number) e;
+  whole = (ap (λ c. c.shard) e, ap (λ c. c.shards) e);
+  nature = ap (λ c. c.nature) e;
+  crash = ap (λ c. c.crash_after) e;
+  clock = ap (λ c. c.pass.clock) e;
+}
+
+pub cells_fixed : (config : Numbers) (clock : ClockId) (xs ys : List CellView) → AllZip IsFixedAs xs ys → AreCells config clock xs → AreCells config clock ys
+cells_fixed config clock xs ys z h = record {
+  count = zip_long IsFixedAs xs ys z ∙ h.count;
+  each = λ i y at. (
+      let q = beside_at IsFixedAs xs ys z i y at in
+      let x = h.each i q.0 q.1 in
+      let f = q.2 in
+      record { cluster = f.config ∙ x.cluster; number = f.number ∙ x.number; whole = (f.whole.0 ∙ x.whole.0, f.whole.1 ∙ x.whole.1); ticks = f.clock ∙ x.ticks }
+      );
+}
+
+pub planned_fixed : (plan : Plan) (clock : ClockId) (xs ys : List CellView) → AllZip IsFixedAs xs ys → ArePlanned plan clock xs → ArePlanned plan clock ys
+planned_fixed plan clock xs ys z h = record {
+  cells = cells_fixed plan.config clock xs ys z h.cells;
+  conduct = λ i y at. (
+      let q = beside_at IsFixedAs xs ys z i y at in
+      let c = h.conduct i q.0 q.1 in
+      (q.2.nature ∙ c.0, q.2.crash ∙ c.1)
+      );
+}
+
+-- ---- clients
+
+-- a part says nothing of what its desk's pass has seen
+pub same_kind : (plan : Plan) (k m from n : ℕ) (v w : Work) (d e : DeskView) → StandsAt plan k v d → StandsAt plan m w e → e.lying ≡ d.lying → IsLater d e → from ≤ d.pass.seen → IsPartedAs from v d n → IsPartedAs from w e n
+same_kind plan k m from n (Client v) (Client w) d e a b honest later l p = parted_on from d e n later l p
+same_kind plan k m from n (Lying v) (Lying w) d e a b honest later l p = p
+same_kind plan k m from n (Client v) (Lying w) d e a b honest later l p = absurd (let x = a.1.goes.its.correct in let y = b.1.lying in cc (x, y, honest))
+same_kind plan k m from n (Lying v) (Client w) d e a b honest later l p = absurd (let x = b.1.goes.its.correct in let y = a.1.lying in cc (x, y, honest))
+same_kind plan k m from n Courier w d e a b honest later l p = absurd a
+same_kind plan k m from n (Client v) Courier d e a b honest later l p = absurd b
+same_kind plan k m from n (Lying v) Courier d e a b honest later l p = absurd b
+
+pub counted_on : (plan : Plan) (k m from : ℕ) (old new : List (Seat Work)) (counted : List ℕ) → All (λ s. StandsAt plan k s.duty s.desk) old → All (λ s. StandsAt plan m s.duty s.desk) new
+    → AllZip IsLater (desks_of old) (desks_of new) → All (λ d. from ≤ d.pass.seen) (desks_of old) → AllZip (IsParted from) old counted → AllZip (IsParted from) new counted
+counted_on plan k m from [] [] counted a b z s p = p
+counted_on plan k m from [] (y ∷ ys) counted a b z s p = absurd z
+counted_on plan k m from (x ∷ xs) [] counted a b z s p = absurd z
+counted_on plan k m from (x ∷ xs) (y ∷ ys) [] a b z s p = absurd p
+counted_on plan k m from (x ∷ xs) (y ∷ ys) (n ∷ ns) a b z s p = (
+  same_kind plan k m from n x.duty y.duty x.desk y.desk (All-head (λ s. StandsAt plan k s.duty s.desk) x xs a) (All-head (λ s. StandsAt plan m s.duty s.desk) y ys b) z.0.lying z.0 (All-head (λ d. from ≤ d.pass.seen) x.desk (desks_of xs) s) p.0,
+  counted_on plan k m from xs ys ns (All-tail (λ s. StandsAt plan k s.duty s.desk) x xs a) (All-tail (λ s. StandsAt plan m s.duty s.desk) y ys b) z.1 (All-tail (λ d. from ≤ d.pass.seen) x.desk (desks_of xs) s) p.1,
+)
+
+no_phases : (phases : List Phase) (k : ℕ) → length phases ≡ k → k ≡ 0 → phases ≡ []
+no_phases [] k e z = refl
+no_phases (p ∷ ps) k e z = absurd (omega (arith, e, z))
+
+-- ---- the phase
+
+-- mail came late to the cells of a run, by its courier
+pub record IsMailed (old new : Run) : Type 0 where
+  pub plan : plan_of new ≡ plan_of old
+  pub clock : new.clock ≡ old.clock
+  pub clients : new.clients.items ≡ old.clients.items
+  pub keeper : new.keeper ≡ old.keeper
+  pub counted : new.counted.items ≡ old.counted.items
+  pub courier : KeepsDesk old.courier new.courier
+  pub cells : AllZip Brings old.cells.items new.cells.items
+
+pub open_mailed : (old new : Run) → IsMailed old new → IsOpen old → IsOpen new
+open_mailed old new m h = record {
+  cells = subst (λ (p : Plan). AreCells p.config new.clock new.cells.items) (sym m.plan) (subst (λ (c : ClockId). AreCells (plan_of old).config c new.cells.items) (sym m.clock)
+      (cells_fixed (plan_of old).config old.clock old.cells.items new.cells.items (zip_map Brings IsFixedAs old.cells.items new.cells.items (λ x y b. fixed_same x y b.charter) m.cells) h.cells));
+  desks = subst (λ (l : List (Seat Work)). All (IsDeskAt (plan_of new).config new.clock) (desks_of l)) (sym m.clients)
+      (subst (λ (p : Plan). All (IsDeskAt p.config new.clock) (clients_of old)) (sym m.plan) (subst (λ (c : ClockId). All (IsDeskAt (plan_of old).config c) (clients_of old)) (sym m.clock) h.desks));
+  courier = record {
+    cluster = ap (λ d. d.config) m.courier.same ∙ h.courier.cluster ∙ ap (λ (p : Plan). p.config) (sym m.plan);
+    ticks = ap (λ p. p.clock) m.courier.pass ∙ h.courier.ticks ∙ sym m.clock;
+  };
+  keeper = (ap (λ p. p.clock) m.keeper ∙ h.keeper.0 ∙ sym m.clock, ap (λ p. p.drawn) m.keeper ∙ h.keeper.1);
+  passes =
+      let a : new.clock.passes ≡ old.clock.passes = ap (λ c. c.passes) m.clock in
+      let b : length new.cells.items ≡ length old.cells.items = zip_long Brings old.cells.items new.cells.items m.cells in
+      let c : length new.clients.items ≡ length old.clients.items = ap length m.clients in
+      let d = h.passes in
+      omega (arith, a, b, c, d);
+}
+
+pub standing_mailed : (k : ℕ) (old new : Run) → IsMailed old new → IsStanding k old → IsStanding k new
+standing_mailed k old new m h = record {
+  opened = open_mailed old new m h.opened;
+  planned = subst (λ (p : Plan). ArePlanned p new.clock new.cells.items) (sym m.plan) (subst (λ (c : ClockId). ArePlanned (plan_of old) c new.cells.items) (sym m.clock)
+      (planned_fixed (plan_of old) old.clock old.cells.items new.cells.items (zip_map Brings IsFixedAs old.cells.items new.cells.items (λ x y b. fixed_same x y b.charter) m.cells) h.planned));
+  clients = subst (λ (l : List (Seat Work)). AreClients (plan_of new) (desks_of l)) (sym m.clients) (subst (λ (p : Plan). AreClients p (clients_of old)) (sym m.plan) h.clients);
+  works = subst (λ (l : List (Seat Work)). All (λ s. StandsAt (plan_of new) k s.duty s.desk) l) (sym m.clients) (subst (λ (p : Plan). All (λ s. StandsAt p k s.duty s.desk) old.clients.items) (sym m.plan) h.works);
+  pairs = subst (λ (l : List (Seat Work)). PairsStand new.cells.items (desks_of l)) (sym m.clients)
+      (pairs_on old.cells.items new.cells.items (clients_of old) (clients_of old)
+      (zip_map Brings HasMoreAlone old.cells.items new.cells.items (λ x y b. record { more = b.more; grew = b.grew; alone = b.alone }) m.cells)
+      (zip_same HasSameEntries (clients_of old) (λ d. record { id = refl; entries = refl })) h.pairs);
+  quiet = ap (λ d. d.entries) m.courier.same ∙ h.quiet;
+  named = subst LiarsNamed (sym m.plan) h.named;
+}
+
+module _ (works : PhasesWork) (goes : GoesOn) (k : ℕ) (run mid new : Run) (b : IsBetween k run) (d : HasDonePhase k run mid) (m : IsMailed mid new)
+    (kept : All KeptCell new.cells.items) (none : All HasNoLateMail new.cells.items) where
+  abbrev plan : Plan
+  plan = plan_of run
+
+  same_plan : plan_of new ≡ plan
+  same_plan = m.plan ∙ d.same.plan
+
+  worked : AllZip HasWorked run.cells.items new.cells.items
+  worked = zip_then HasWorked Brings HasWorked run.cells.items mid.cells.items new.cells.items worked_on d.cells m.cells
+
+  later : AllZip IsLater (clients_of run) (clients_of new)
+  later = subst (λ (l : List (Seat Work)). AllZip IsLater (clients_of run) (desks_of l)) (sym m.clients) d.desks
+
+  quiet : AllZip (λ d e. has_number plan.liars.clients d.id ≡ true → (b.phases ≡ []) ⊎ (e.entries ≡ d.entries)) (clients_of run) (clients_of new)
+  quiet =
+      let q = zip_map (λ d e. has_number plan.liars.clients d.id ≡ true → (k ≡ 0) ⊎ (e.entries ≡ d.entries)) (λ d e. has_number plan.liars.clients d.id ≡ true → (b.phases ≡ []) ⊎ (e.entries ≡ d.entries)) (clients_of run) (clients_of mid)
+      (λ x y h lies. elim (h lies) [ inl z ↦ inl (no_phases b.phases k b.count z) | inr s ↦ inr s ]) d.quiet in
+      subst (λ (l : List (Seat Work)). AllZip (λ d e. has_number plan.liars.clients d.id ≡ true → (b.phases ≡ []) ⊎ (e.entries ≡ d.entries)) (clients_of run) (desks_of l)) (sym m.clients) q
+
+  journals_go : AreWorked plan b.phases (journals_in run) (journals_of plan new.cells.items (clients_of new))
+  journals_go = works plan b.phases run.cells.items (clients_of run) new.cells.items (clients_of new) b.seen (record { cells = worked; desks = later; quiet = quiet }) kept
+
+  closed : HaveClosed plan (journals_of plan new.cells.items (clients_of new)) b.phases b.prunes
+  closed = goes plan (journals_in run) (journals_of plan new.cells.items (clients_of new)) b.phases b.prunes b.closed journals_go
+
+  standing : IsStanding (k + 1) new
+  standing = standing_mailed (k + 1) mid new m d.standing
+
+  off : IsWorkedOff plan (journals_of plan new.cells.items (clients_of new)) b.phases
+  off = record { clients = clients_off; late = late_off }
+    where
+      are : AreClients plan (clients_of new)
+      are = subst (λ (p : Plan). AreClients p (clients_of new)) same_plan standing.clients
+
+      parts : All (λ s. StandsAt plan (suc k) s.duty s.desk) new.clients.items
+      parts =
+          let e : k + 1 ≡ suc k = omega arith in
+          subst (λ (n : ℕ). All (λ s. StandsAt plan n s.duty s.desk) new.clients.items) e (subst (λ (p : Plan). All (λ s. StandsAt p (k + 1) s.duty s.desk) new.clients.items) same_plan standing.works)
+
+      clients_off : (c : ℕ) → FinishedAs (has_number plan.liars.clients c) plan (length b.phases + 1) c (entries_at (clients_of new) c)
+      clients_off c =
+          let e : suc k ≡ length b.phases + 1 = (let n = b.count in omega (arith, n)) in
+          subst (λ (n : ℕ). FinishedAs (has_number plan.liars.clients c) plan n c (entries_at (clients_of new) c)) e (all_finished plan k new.clients.items are b.standing.named parts c)
+
+      late_off : (i : ℕ) → i < plan.config.n → (node_after plan i (journal_of new.cells.items i)).late ≡ []
+      late_off i l = elim (node_at new.cells.items i).is [
+        | inl q ↦ (
+            let planned = subst (λ (p : Plan). ArePlanned p new.clock new.cells.items) same_plan standing.planned in
+            let s = state_is plan new.clock new.cells.items planned i q.0 q.1 in
+            let n = All-contains HasNoLateMail new.cells.items q.0 none (Contains-slice_get new.cells.items i q.0 q.1) in
+            ap (λ (es : List NodeEntry). (node_after plan i es).late) q.2 ∙ ap (λ s. s.late) (sym s) ∙ n
+            )
+        | inr q ↦ ap (λ (es : List NodeEntry). (node_after plan i es).late) q.1
+      ]
+
+  seen : HaveSeen (next_begin b.phases) new.cells.items (clients_of new)
+  seen = record {
+    cells = zip_all (λ x y. HasWorked x y × KeptCell y) (λ c. next_begin b.phases ≤ c.pass.seen) (λ c. next_begin b.phases ≤ c.pass.seen) run.cells.items new.cells.items
+        (λ x y h l. seen_on (next_begin b.phases) x y h.0 h.1 l) (zip_with HasWorked (λ x y. HasWorked x y × KeptCell y) KeptCell run.cells.items new.cells.items (λ x y w q. (w, q)) worked kept) b.seen.cells;
+    desks = zip_all IsLater (λ d. next_begin b.phases ≤ d.pass.seen) (λ d. next_begin b.phases ≤ d.pass.seen) (clients_of run) (clients_of new)
+        (λ x y h l. (let r = rises_from x.pass.seen (numbers_of h.more) y.pass.seen h.rises in omega (arith, r, l))) later b.seen.desks;
+  }
+
+  counted : AllZip (IsParted (next_begin b.phases)) new.clients.items new.counted.items
+  counted =
+      let works1 = subst (λ (p : Plan). All (λ s. StandsAt p (k + 1) s.duty s.desk) new.clients.items) same_plan standing.works in
+      let c = counted_on plan k (k + 1) (next_begin b.phases) run.clients.items new.clients.items run.counted.items b.standing.works works1 later b.seen.desks b.counted in
+      subst (λ (l : List ℕ). AllZip (IsParted (next_begin b.phases)) new.clients.items l) (sym (m.counted ∙ d.same.counted)) c
+
+  pub is_worked : IsWorked k new
+  is_worked = record {
+    standing = standing;
+    phases = b.phases;
+    count = b.count;
+    prunes = b.prunes;
+    closed = subst (λ (p : Plan). HaveClosed p (journals_of p new.cells.items (clients_of new)) b.phases b.prunes) (sym same_plan) closed;
+    off = subst (λ (p : Plan). IsWorkedOff p (journals_of p new.cells.items (clients_of new)) b.phases) (sym same_plan) off;
+    seen = seen;
+    began = (let e : new.keeper.seen ≡ run.keeper.seen = ap (λ p. p.seen) (m.keeper ∙ d.same.keeper) in let l = b.began in omega (arith, e, l));
+    counted = counted;
+  }

@@ -1,0 +1,63 @@
+use Rattle.std.proofs.Common.{◌++◌, [], List, length, map, sym, ap, subst, ◌∙◌, All, append-nil}
+use Rattle.std.specs.Vec.Iter.{into_iter_items, into_iter_len}
+use Rattle.std.proofs.lemmas.List.Elements.{All-nil}
+use Rattle.client_desks.specs.Desks.{DeskView, KeptDesk}
+use Rattle.run_journals.specs.Standing.{journal_at}
+use Rattle.phase_threads.specs.declared.duty.Seat.{Seat}
+use Rattle.client_work.specs.declared.work.Work.{Work}
+use Rattle.client_threads.specs.Running.{desks_of}
+use Rattle.client_threads.proofs.Walking.{walk_end}
+use Rattle.client_threads.proofs.Together.{one_finished}
+use Rattle.client_threads.proofs.closing.finish_desks.Goals as goal
+
+pub loop-seat-init : goal.loop-seat-init
+loop-seat-init c =
+    let gives = c.into_iter-seat-iterator.ensures.into_iter_gives in (
+      [],
+      (sym gives.0, gives.1 ∙ c.args.seats.ok.0 ∙ ap length (sym gives.0)),
+      c.new-desks.ensures,
+      sym (append-nil c.args.passes.now),
+      All-nil KeptDesk,
+    )
+
+pub loop-seat-preserved : goal.loop-seat-preserved
+loop-seat-preserved c =
+    let steps = c.in-Some.ensures.steps in
+    let told = c.finish-journal.ensures in
+    one_finished c.args.seats.items c.args.passes.now (into_iter_items c.loop-seat.seat-iterator) (into_iter_items c.next.new.self) (into_iter_len c.loop-seat.seat-iterator) (into_iter_len c.next.new.self)
+    c.loop-seat.desks c.push-in-loop-seat.new.self c.loop-seat.passes c.push.new.self c.in-Some.seat c.finish-journal.result.0 c.finish-journal.result.1
+    c.loop-seat.invariant steps.0 steps.1 c.in_ok-push-2.ensures.ok told.client told.entries c.in_ok-push.ensures.ok told.pass told.kept
+
+pub loop-seat-preserved-in_ok-push-2 : goal.loop-seat-preserved-in_ok-push-2
+loop-seat-preserved-in_ok-push-2 c =
+    let steps = c.in-Some.ensures.steps in
+    let told = c.finish-journal.ensures in
+    one_finished c.args.seats.items c.args.passes.now (into_iter_items c.loop-seat.seat-iterator) (into_iter_items c.next.new.self) (into_iter_len c.loop-seat.seat-iterator) (into_iter_len c.next.new.self)
+    c.loop-seat.desks c.push-in-loop-seat.new.self c.loop-seat.passes c.push.new.self c.in-Some.seat c.finish-journal.result.0 c.finish-journal.result.1
+    c.loop-seat.invariant steps.0 steps.1 c.in_ok-push-2.ensures.ok told.client told.entries c.in_ok-push.ensures.ok told.pass told.kept
+
+pub loop-seat-preserved-in_ok-push-2-2 : goal.loop-seat-preserved-in_ok-push-2-2
+loop-seat-preserved-in_ok-push-2-2 c =
+    let steps = c.in-Some.ensures.steps in
+    let told = c.finish-journal.ensures in
+    one_finished c.args.seats.items c.args.passes.now (into_iter_items c.loop-seat.seat-iterator) (into_iter_items c.next.new.self) (into_iter_len c.loop-seat.seat-iterator) (into_iter_len c.next.new.self)
+    c.loop-seat.desks c.push-in-loop-seat.new.self c.loop-seat.passes c.push.new.self c.in-Some.seat c.finish-journal.result.0 c.finish-journal.result.1
+    c.loop-seat.invariant steps.0 steps.1 c.in_ok-push-2.ensures.ok told.client told.entries c.in_ok-push.ensures.ok told.pass told.kept
+
+pub returns-clause-desks : goal.returns-clause-desks
+returns-clause-desks c =
+    let inv = c.loop-seat.invariant in
+    let all = walk_end c.args.seats.items inv.0 (into_iter_items c.loop-seat.seat-iterator) (into_iter_len c.loop-seat.seat-iterator) inv.1 c.in-None.ensures.steps.0 in
+    inv.2 ∙ ap (λ (l : List (Seat Work)). map journal_at (desks_of l)) (sym all)
+
+pub returns-clause-passes : goal.returns-clause-passes
+returns-clause-passes c =
+    let inv = c.loop-seat.invariant in
+    let all = walk_end c.args.seats.items inv.0 (into_iter_items c.loop-seat.seat-iterator) (into_iter_len c.loop-seat.seat-iterator) inv.1 c.in-None.ensures.steps.0 in
+    inv.3 ∙ ap (λ (l : List (Seat Work)). c.args.passes.now ++ map (λ (x : DeskView). x.pass) (desks_of l)) (sym all)
+
+pub returns-clause-kept : goal.returns-clause-kept
+returns-clause-kept c =
+    let inv = c.loop-seat.invariant in
+    let all = walk_end c.args.seats.items inv.0 (into_iter_items c.loop-seat.seat-iterator) (into_iter_len c.loop-seat.seat-iterator) inv.1 c.in-None.ensures.steps.0 in
+    subst (λ (l : List (Seat Work)). All KeptDesk (desks_of l)) (sym all) inv.4

@@ -1,0 +1,7 @@
+use Rattle.client_desks.specs.Desks.{KeepsDesk}
+use Rattle.client_threads.specs.Mailed.{Brings}
+use Rattle.client_threads.proofs.mail.bring.Given as goal
+
+-- the cell has what came so far
+abbrev pub invariant-loop : goal.invariant-loop
+invariant-loop g l = KeepsDesk l.initial.courier l.courier × Brings l.initial.cell l.cell

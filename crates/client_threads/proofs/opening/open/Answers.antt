@@ -1,0 +1,58 @@
+use Rattle.std.proofs.Common.{rules, ◌≡◌, ◌+◌, Some, ℕ, length, ap, ◌∙◌, arith}
+use Rattle.std.specs.Prelude.{replicate}
+use Rattle.std.proofs.lemmas.List.Elements.{All-pop}
+use Rattle.plan_tasks.specs.Tasks.{client_of}
+use Rattle.phase_threads.specs.declared.duty.Seat.{Seat}
+use Rattle.client_work.specs.declared.work.Work.{Work}
+use Rattle.client_threads.specs.Opened.{IsUnusedPass}
+use Rattle.client_threads.proofs.Newcomers.{tasks_few, same_long, all_unused, liars_named, stands_first}
+use Rattle.client_threads.proofs.opening.open.Goals as goal
+
+pub overflow_cast-clients : goal.overflow_cast-clients
+overflow_cast-clients c =
+    let few = tasks_few c.args.plan.now c.requires c.in_ok-tasks.tasks c.in_ok-tasks.ensures.clients in
+    omega (arith, few, c.len-clients.ensures)
+
+pub overflow_add-n : goal.overflow_add-n
+overflow_add-n c =
+    let few = tasks_few c.args.plan.now c.requires c.in_ok-tasks.tasks c.in_ok-tasks.ensures.clients in
+    let most = c.requires.valid.nodes.1 in
+    omega (arith, few, most, c.len-clients.ensures, c.n.ensures.is)
+
+pub overflow_add-n-2 : goal.overflow_add-n-2
+overflow_add-n-2 c =
+    let few = tasks_few c.args.plan.now c.requires c.in_ok-tasks.tasks c.in_ok-tasks.ensures.clients in
+    let most = c.requires.valid.nodes.1 in
+    omega (arith, few, most, c.len-clients.ensures, c.n.ensures.is)
+
+pub start-requires : goal.start-requires
+start-requires c =
+    let few = tasks_few c.args.plan.now c.requires c.in_ok-tasks.tasks c.in_ok-tasks.ensures.clients in
+    let most = c.requires.valid.nodes.1 in
+    (omega arith, omega (arith, few, most, c.len-clients.ensures, c.n.ensures.is))
+
+pub open_cells-requires-clause-unused : goal.open_cells-requires-clause-unused
+open_cells-requires-clause-unused c = all_unused c.in_ok-clock.clock c.in_ok-clock.passes (c.n.result + c.len-clients.result + 2) c.in_ok-clock.ensures.all c.in_ok-clock.ensures.each
+
+pub lying-requires : goal.lying-requires
+lying-requires c = record { unused = (All-pop (IsUnusedPass c.in_ok-clock.clock) c.open_seats.new.passes c.pop.new.self (Some c.in-Some.pass) c.in-Some.ensures.items c.in_ok-clients.ensures.unused).1.drawn }
+
+pub returns-clause-stands : goal.returns-clause-stands
+returns-clause-stands c =
+    let clock = c.in_ok-clock.clock in
+    let one = All-pop (IsUnusedPass clock) c.open_seats.new.passes c.pop.new.self (Some c.in-Some.pass) c.in-Some.ensures.items c.in_ok-clients.ensures.unused in
+    let other = All-pop (IsUnusedPass clock) c.pop.new.self c.pop-2.new.self (Some c.in-Some-pop.keeper) c.in-Some-pop.ensures.items one.0 in
+    let long = same_long (λ (s : Seat Work). s.desk.id) client_of c.in_ok-clients.clients.items c.in_ok-tasks.tasks c.in_ok-clients.ensures.ids in
+    let count : c.len.result ≡ length c.in_ok-clients.clients.items = search rules in
+    stands_first c.phases_close.ensures.begins _ c.args.plan.now c.of.ensures (record {
+      cells = c.in_ok-cells.ensures.cells;
+      seats = c.in_ok-clients.ensures.seats;
+      ids = c.in_ok-clients.ensures.ids ∙ c.in_ok-tasks.ensures.clients;
+      pass = c.in-Some.pass;
+      unused = one.1;
+      courier = c.in_ok-courier.ensures;
+      keeper = other.1;
+      passes = omega (arith, long, c.in_ok-clock.ensures.clock, c.len-clients.ensures, c.n.ensures.is);
+      counted = c.in_ok-counted.ensures.items_if_clones_equal (λ y e. e) ∙ ap (λ (k : ℕ). replicate k 0) count;
+      named = liars_named c.args.plan.now c.requires;
+    })

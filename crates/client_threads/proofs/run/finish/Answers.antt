@@ -1,0 +1,33 @@
+-- The law of runs that have ended.
+use Rattle.std.proofs.Common.{◌≡◌, sym, ap, subst, ◌∙◌}
+use Rattle.journals.specs.declared.whole.Journals.{Journals}
+use Rattle.plan_words.specs.declared.plan.Plan.{Plan}
+use Rattle.plan_words.specs.Plans.{Fits}
+use Rattle.plan_followed.specs.Followed.{AreOfPlan}
+use Rattle.run_journals.specs.Standing.{journals_of}
+use Rattle.run_journals.specs.Ended.{HasEnded}
+use Rattle.client_threads.specs.Running.{plan_of, clients_of, cuts}
+use Rattle.client_threads.proofs.run.finish.Goals as goal
+
+pub returns-clause-followed : goal.returns-clause-followed
+returns-clause-followed c =
+    let run = c.args.run in
+    let plan = c.args.plan.now in
+    let h = c.requires.worked in
+    let closed = c.in_ok-closed.closed in
+    let told = c.in_ok-closed.ensures in
+    let ended : HasEnded (plan_of run) run.clock run.cells.items (clients_of run) closed.drawn.count h.phases h.prunes = record {
+      cells = h.standing.planned;
+      clients = h.standing.clients;
+      kept = record { cells = told.cells; desks = told.kept };
+      pairs = h.standing.pairs;
+      numbers = told.drawn h.standing.quiet;
+      closed = h.closed;
+      count = h.count ∙ ap cuts (sym c.requires.plan);
+      done = h.off;
+    } in
+    let followed = c.runs_end.ensures (plan_of run) run.clock run.cells.items (clients_of run) closed.drawn.count h.phases h.prunes (subst Fits (sym c.requires.plan) c.requires.fits) ended in
+    let of_plan = subst (λ (p : Plan). AreOfPlan p (journals_of p run.cells.items (clients_of run)) closed.drawn.count) c.requires.plan followed in
+    let same : ◌≡◌ {A = Journals} (record { config = plan.config; liars = c.args.liars; nodes = closed.nodes; desks = closed.desks }) (journals_of plan run.cells.items (clients_of run)) =
+    λ i. record { config = plan.config; liars = c.requires.liars i; nodes = told.nodes i; desks = told.desks i } in
+    subst (λ (j : Journals). AreOfPlan plan j closed.drawn.count) (sym same) of_plan

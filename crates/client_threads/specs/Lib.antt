@@ -1,0 +1,8 @@
+pub mod Ran
+pub mod Met
+pub mod Mailed
+pub mod Pruned
+pub mod Reads
+pub mod Running
+pub mod Opened
+pub mod Meeting

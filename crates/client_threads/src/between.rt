@@ -1,0 +1,71 @@
+//! What happens between two phases.
+ghost use Rattle.std.specs.Prelude.{◌≡◌, ◌+◌, ℕ, None, IfOk};
+ghost use Rattle.run_journals.specs.Standing.{AreKept};
+ghost use Rattle.client_threads.specs.Running.{IsOpen, IsWorked, IsBetween, plan_of, clients_of};
+ghost use Rattle.client_threads.specs.Meeting.{HasMetAll};
+
+use crate::meeting::{meet_cells, meet_desks};
+use crate::pruning::prune_all;
+use crate::reads::{count, gather};
+use crate::state::Run;
+use lists::NoMemory;
+use locked_nodes::CellRefusal;
+use plan_phases::laws::phases_close;
+use plan_prunes::prunings;
+use run_journals::laws::phases_work;
+use std::alloc::Global;
+
+/// Closes a phase that is worked off: one pass meets all others, the nodes prune what was read in the phase, and the pass meets all
+/// others again. It hands the run back with the refusal that came, if one did.
+pub(crate) fn close_phase(
+    alloc: Global,
+    blocks: u32,
+    run: Run,
+) -> Result<(Run, Option<CellRefusal>), NoMemory>
+    requires worked { (k : ℕ) × IsWorked k run }
+    requires blocks { blocks ≡ (plan_of run).config.blocks }
+    ensures open { IfOk result (λ r. IsOpen r.0) }
+    ensures plan { IfOk result (λ r. plan_of r.0 ≡ plan_of run) }
+    ensures closed { IfOk result (λ r. r.1 ≡ None → (k : ℕ) → IsWorked k run → IsBetween (k + 1) r.0) }
+{
+    phases_work();
+    phases_close();
+    let mut run = run;
+    meet_all(&mut run);
+    let reads = gather(alloc, run.clients.as_slice(), run.counted.as_slice())?;
+    let prunings = prunings(alloc, blocks, reads.given.as_slice(), reads.early)?;
+    let Run {
+        plan,
+        clock,
+        cells,
+        clients,
+        courier,
+        mut keeper,
+        mut counted,
+    } = run;
+    let (cells, refused) = prune_all(alloc, &clock, &mut keeper, cells, prunings.as_slice())?;
+    count(counted.as_mut_slice(), clients.as_slice());
+    let mut run = Run {
+        plan,
+        clock,
+        cells,
+        clients,
+        courier,
+        keeper,
+        counted,
+    };
+    meet_all(&mut run);
+    Ok((run, refused))
+}
+
+// One pass meets all others.
+fn meet_all(run: &mut Run)
+    requires { IsOpen run.old }
+    ensures open { IsOpen run.new }
+    ensures met { HasMetAll run.old run.new }
+    ensures kept { AreKept run.new.cells.items (clients_of run.new) }
+{
+    meet_cells(&run.clock, &mut run.keeper, run.cells.as_mut_slice());
+    meet_desks(&run.clock, &mut run.keeper, run.clients.as_mut_slice());
+    run.courier.meet(&run.clock, &mut run.keeper);
+}

@@ -1,0 +1,127 @@
+//! The beginning of a run.
+ghost use Rattle.std.specs.Prelude.{◌≡◌, ◌≤◌, ◌<◌, ◌+◌, [], map, All, length, IfOk, OnOk};
+ghost use Rattle.plan_words.specs.Plans.{Fits};
+ghost use Rattle.plan_tasks.specs.Tasks.{IsTaskOf, client_of};
+ghost use Rattle.client_threads.specs.Running.{IsBetween, IsOpen, StandsAt, desks_of, plan_of};
+ghost use Rattle.client_threads.specs.Opened.{IsUnusedPass, IsNewCell, AreNewCells, IsNewSeat};
+
+use crate::state::Run;
+use client_desks::Desk;
+use client_work::{Liar, Work, Worker};
+use event_clock::{Clock, Pass, Passes};
+use lists::{ItemList, NoMemory};
+use locked_nodes::NodeCell;
+use phase_threads::Seat;
+use plan_phases::laws::phases_close;
+use plan_tasks::{Task, crash_after, nature_of, tasks_of};
+use plan_words::Plan;
+use std::alloc::Global;
+use std::snapshot::Snapshot;
+
+// The number of the courier's desk, which is no client's.
+const COURIER: u32 = 0;
+
+/// A run of a plan that fits, in which nobody has done anything.
+pub(crate) fn open(alloc: Global, plan: &Plan) -> Result<Run, NoMemory>
+    requires { Fits plan.now }
+    ensures plan { IfOk result (λ run. plan_of run ≡ plan.now) }
+    ensures stands { IfOk result (λ run. IsBetween 0 run) }
+{
+    phases_close();
+    let tasks = tasks_of(alloc, plan)?;
+    let clients = tasks.len() as u32;
+    let (clock, mut passes) = Clock::start(alloc, plan.config.n() + clients + 2)?;
+    let cells = open_cells(alloc, plan, &clock, &mut passes)?;
+    let clients = open_seats(alloc, plan, &clock, tasks, &mut passes)?;
+    let Some(pass) = passes.pop() else {
+        unreachable!()
+    };
+    let courier = Desk::lying(alloc, &plan.config, COURIER, pass)?;
+    let Some(keeper) = passes.pop() else {
+        unreachable!()
+    };
+    let counted = vec![in alloc; 0; clients.len()]?;
+    Ok(Run {
+        plan: Snapshot::of(plan),
+        clock,
+        cells,
+        clients,
+        courier,
+        keeper,
+        counted,
+    })
+}
+
+// The cells of all nodes, each with a pass of its own.
+fn open_cells(
+    alloc: Global,
+    plan: &Plan,
+    clock: &Clock,
+    passes: &mut Passes,
+) -> Result<Vec<NodeCell>, NoMemory>
+    requires unused { All (IsUnusedPass clock.now) passes.old }
+    requires enough { plan.now.config.n ≤ length passes.old }
+    ensures cells { IfOk result (λ cells. AreNewCells plan.now clock.now plan.now.config.n cells.items) }
+    ensures unused { OnOk result (All (IsUnusedPass clock.now) passes.new) }
+    ensures left { OnOk result (length passes.new + plan.now.config.n ≡ length passes.old) }
+{
+    let mut cells = Vec::new(alloc);
+    for number in 0..plan.config.n() as u8 {
+        let Some(pass) = passes.pop() else {
+            unreachable!()
+        };
+        let nature = nature_of(plan, number);
+        let crash_after = crash_after(plan, number);
+        cells.push(NodeCell::new(alloc, &plan.config, number, 0, 1, nature, crash_after, pass)?)?;
+    }
+    Ok(cells)
+}
+
+// The desks of all clients, each with a pass of its own and what its thread is to do.
+fn open_seats(
+    alloc: Global,
+    plan: &Plan,
+    clock: &Clock,
+    tasks: ItemList<Task>,
+    passes: &mut Passes,
+) -> Result<Vec<Seat<Work>>, NoMemory>
+    requires fits { Fits plan.now }
+    requires tasks { All (IsTaskOf plan.now) tasks }
+    requires unused { All (IsUnusedPass clock.now) passes.old }
+    requires enough { length tasks ≤ length passes.old }
+    ensures seats { IfOk result (λ seats. All (IsNewSeat plan.now clock.now) seats.items) }
+    ensures ids { IfOk result (λ seats. map (λ s. s.desk.id) seats.items ≡ map client_of tasks) }
+    ensures unused { OnOk result (All (IsUnusedPass clock.now) passes.new) }
+    ensures left { OnOk result (length passes.new + length tasks ≡ length passes.old) }
+{
+    let mut seats = Vec::new(alloc);
+    for task in tasks.into_vec() {
+        let Some(pass) = passes.pop() else {
+            unreachable!()
+        };
+        seats.push(open_seat(alloc, plan, task, pass)?)?;
+    }
+    Ok(seats)
+}
+
+// The desk of a client, and what its thread is to do.
+fn open_seat(alloc: Global, plan: &Plan, task: Task, pass: Pass) -> Result<Seat<Work>, NoMemory>
+    requires fits { Fits plan.now }
+    requires task { IsTaskOf plan.now task }
+    requires unused { pass.drawn ≡ [] }
+    ensures seat { IfOk result (λ seat. IsNewSeat plan.now pass.clock seat) }
+    ensures id { IfOk result (λ seat. seat.desk.id ≡ client_of task) }
+{
+    match task {
+        Task::Client(task) => {
+            let desk = Desk::new(alloc, &plan.config, task.client, pass)?;
+            let duty = Work::Client(Worker::new(alloc, plan, task));
+            Ok(Seat { desk, duty })
+        }
+        Task::Liar { client, mail } => {
+            let desk = Desk::lying(alloc, &plan.config, client, pass)?;
+            let duty = Work::Lying(Liar::new(plan, client, mail));
+            Ok(Seat { desk, duty })
+        }
+    }
+}

@@ -1,0 +1,38 @@
+//! A run between its phases.
+ghost use Rattle.std.specs.Prelude.{All};
+ghost use Rattle.locked_nodes.specs.Cells.{KeptCell};
+
+use client_desks::Desk;
+use client_work::Work;
+use event_clock::{Clock, Pass};
+use locked_nodes::NodeCell;
+use phase_threads::Seat;
+use plan_words::Plan;
+use std::snapshot::Snapshot;
+
+/// The cells, desks and passes of a run, and what its reads gave.
+#[derive(Drop)]
+pub(crate) struct Run {
+    /// The plan, in proofs alone.
+    pub(crate) plan: Snapshot<Plan>,
+    pub(crate) clock: Clock,
+    /// By node.
+    pub(crate) cells: Vec<NodeCell>,
+    /// By ascending client.
+    pub(crate) clients: Vec<Seat<Work>>,
+    /// Its journal stays empty.
+    pub(crate) courier: Desk,
+    /// The pass that meets all others between phases. It draws nothing.
+    pub(crate) keeper: Pass,
+    /// How many reads of each client ended before the phase that comes next or is under way.
+    pub(crate) counted: Vec<usize>,
+}
+
+/// What all cells keep.
+pub(crate) fn know_cells(cells: &[NodeCell])
+    ensures { All KeptCell cells.now }
+{
+    for cell in cells {
+        cell.known();
+    }
+}

@@ -1,0 +1,64 @@
+//! The threads of a phase.
+ghost use Rattle.std.specs.Prelude.{◌≡◌, ◌≤◌, ℕ, None, IfOk};
+ghost use Rattle.client_threads.specs.Running.{IsOpen, IsStanding, HasDonePhase, cuts, plan_of};
+
+use crate::state::{Run, know_cells};
+use client_work::Work;
+use desk_keys::Gate;
+use lists::NoMemory;
+use locked_nodes::CellRefusal;
+use phase_threads::{Left, Seat, run_phase};
+use std::alloc::Global;
+use std::sync::Wait;
+use std::thread::Threads;
+
+/// Lets each client and the courier do their parts of the next phase, each in a thread of its own. It hands the run back with the
+/// refusal that came, if one did.
+pub(crate) fn work<R: Threads + Wait + Sync, G: Gate + Sync>(
+    rt: &R,
+    alloc: Global,
+    gate: &G,
+    run: Run,
+) -> Result<(Run, Option<CellRefusal>), NoMemory>
+    requires { (k : ℕ) × IsStanding k run × (k ≤ cuts (plan_of run)) }
+    ensures open { IfOk result (λ r. IsOpen r.0) }
+    ensures done { IfOk result (λ r. r.1 ≡ None → (k : ℕ) → IsStanding k run → HasDonePhase k run r.0) }
+{
+    let Run {
+        plan,
+        clock,
+        cells,
+        mut clients,
+        courier,
+        keeper,
+        counted,
+    } = run;
+    know_cells(cells.as_slice());
+    clients.push(Seat {
+        desk: courier,
+        duty: Work::Courier,
+    })?;
+    let (clock, left) = run_phase(rt, alloc, gate, clock, cells, clients)?;
+    let Left {
+        cells,
+        seats: mut clients,
+        refused,
+    } = left;
+    let Some(seat) = clients.pop() else {
+        unreachable!()
+    };
+    let Seat {
+        desk: courier,
+        duty: _,
+    } = seat;
+    let run = Run {
+        plan,
+        clock,
+        cells,
+        clients,
+        courier,
+        keeper,
+        counted,
+    };
+    Ok((run, refused))
+}

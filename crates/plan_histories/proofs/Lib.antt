@@ -1,0 +1,5 @@
+mod Operations
+mod Completing
+mod Late
+mod Short
+mod Telling
