@@ -1,0 +1,104 @@
+//! Gates that hold clients 1 and 2.
+
+use client_threads::{Edge, Gate};
+use std::sync::atomic::{AtomicBool, Ordering};
+
+/// After so many turns a gate gives up.
+const TURNS: u32 = 10_000_000;
+
+/// Something that a client came to, and whether somebody gave up waiting for it.
+#[derive(Drop)]
+pub struct Mark {
+    is_seen: AtomicBool,
+    is_given_up: AtomicBool,
+}
+
+impl Mark {
+    fn new() -> Mark {
+        Mark {
+            is_seen: AtomicBool::new(false),
+            is_given_up: AtomicBool::new(false),
+        }
+    }
+
+    fn see(&self) {
+        self.is_seen.store(true, Ordering::SeqCst);
+    }
+
+    // Waits for it.
+    fn wait(&self) {
+        for _ in 0..TURNS {
+            if self.is_seen.load(Ordering::SeqCst) {
+                return;
+            }
+        }
+        self.is_given_up.store(true, Ordering::SeqCst);
+    }
+
+    /// Whether it was seen, and by all who waited for it.
+    pub fn is_met(&self) -> bool {
+        self.is_seen.load(Ordering::SeqCst) && !self.is_given_up.load(Ordering::SeqCst)
+    }
+}
+
+/// Holds each of the two clients at the beginning of its operation until the other begins its own.
+#[derive(Drop)]
+pub struct SideBySide {
+    pub first: Mark,
+    pub second: Mark,
+}
+
+impl SideBySide {
+    pub fn new() -> SideBySide {
+        SideBySide {
+            first: Mark::new(),
+            second: Mark::new(),
+        }
+    }
+}
+
+impl Gate for SideBySide {
+    fn at(&self, client: u32, op: u64, edge: Edge) {
+        if op != 1 || edge != Edge::Begin {
+            return;
+        }
+        let (own, other) = if client == 1 {
+            (&self.first, &self.second)
+        } else {
+            (&self.second, &self.first)
+        };
+        own.see();
+        other.wait();
+    }
+}
+
+/// Holds client 2 at the beginning of its operation until client 1 has node 1 in hand for the first time, and client 1 there until
+/// client 2 has ended its operation.
+#[derive(Drop)]
+pub struct InBetween {
+    pub locked: Mark,
+    pub ended: Mark,
+}
+
+impl InBetween {
+    pub fn new() -> InBetween {
+        InBetween {
+            locked: Mark::new(),
+            ended: Mark::new(),
+        }
+    }
+}
+
+impl Gate for InBetween {
+    fn at(&self, client: u32, _op: u64, edge: Edge) {
+        match (client, edge) {
+            (2, Edge::Begin) => self.locked.wait(),
+            (2, Edge::End) => self.ended.see(),
+            (1, Edge::Locked(1)) => {
+                self.locked.see();
+                self.ended.wait();
+            }
+            _ => {}
+        }
+    }
+}
