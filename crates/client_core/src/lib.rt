@@ -7,6 +7,3 @@ pub mod heard;
 pub use client::Client;
 pub use heard::Heard;
 pub use run_words::{How, Nodes, Outcome};
-
-#[cfg(test)]
-mod tests;

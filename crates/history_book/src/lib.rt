@@ -10,11 +10,7 @@ mod judging;
 pub mod laws;
 mod reading;
 mod report;
-#[cfg(test)]
-mod report_tests;
 mod sweep;
-#[cfg(test)]
-mod tests;
 
 pub use entry::{Counts, Entry, Kind, Spent};
 pub use history::{History, history_of};

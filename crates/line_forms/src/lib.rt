@@ -12,8 +12,6 @@ pub mod laws;
 mod lines;
 mod number;
 mod refusal;
-#[cfg(test)]
-mod tests;
 
 pub use cause::{Cause, DeviceFault};
 pub use fields::{has_empty, value_of_len};

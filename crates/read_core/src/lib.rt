@@ -13,6 +13,3 @@ mod stage;
 pub use reader::Reader;
 pub use reading::Reading;
 pub use run_words::{How, Nodes};
-
-#[cfg(test)]
-mod tests;

@@ -5,8 +5,6 @@ pub mod laws;
 mod liars;
 mod replay;
 mod sum;
-#[cfg(test)]
-mod tests;
 
 pub use event_lines::ReplayLine;
 pub use line_forms::{Cause, DeviceFault, ScriptFault, ScriptRefusal};

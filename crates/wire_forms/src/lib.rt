@@ -24,6 +24,3 @@ pub use printing::print;
 pub use reading::read;
 pub use refusal::TextRefusal;
 pub use rule::Rule;
-
-#[cfg(test)]
-mod tests;

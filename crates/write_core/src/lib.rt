@@ -6,6 +6,3 @@ mod parcel;
 pub mod writer;
 
 pub use writer::{Writer, Writing};
-
-#[cfg(test)]
-mod tests;

@@ -1,4 +1,6 @@
-use crate::{Cause, DeviceFault, ScriptFault, ScriptRefusal, add_head, read_head, value_of_len};
+use line_forms::{
+    Cause, DeviceFault, ScriptFault, ScriptRefusal, add_head, read_head, value_of_len,
+};
 use quorum_rules::ConfigFault;
 use run_words::StepFault;
 use std::test::Fail;

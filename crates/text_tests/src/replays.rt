@@ -1,4 +1,4 @@
-use crate::{print_replay, read_replay};
+use script_text::{print_replay, read_replay};
 use std::test::Fail;
 
 #[test]

@@ -1,4 +1,4 @@
-use crate::{Flaw, FlawKind, History, judge, read};
+use history_book::{Flaw, FlawKind, History, judge, read};
 use line_forms::{Cause, ScriptFault, ScriptRefusal};
 use std::alloc::Global;
 use std::test::Fail;

@@ -1,10 +1,6 @@
 ghost use Rattle.std.specs.Prelude.{IsTrue};
 ghost use Rattle.wire_forms.specs.Texts.{HasShort, HasLimits};
 
-use crate::{
-    Ask, Body, DeviceOp, First, Liars, Message, Op, Reason, Reply, Request, Tag, TextRefusal,
-    Version, print, read,
-};
 use cross_sum::{Bytes, CrossSum};
 use lists::Copied;
 use quorum_rules::Config;
@@ -12,6 +8,10 @@ use stamp_order::{Bound, Stamp};
 use std::alloc::Global;
 use std::process::Abort;
 use std::test::Fail;
+use wire_forms::{
+    Ask, Body, DeviceOp, First, Liars, Message, Op, Reason, Reply, Request, Tag, TextRefusal,
+    Version, print, read,
+};
 
 const STAMP: Stamp = Stamp {
     time: 7,

@@ -1,8 +1,8 @@
-use super::*;
 use cross_sum::Bytes;
 use frag_check::{Code, summed_block};
 use lists::Copied;
 use quorum_rules::Config;
+use read_core::{How, Reader, Reading};
 use stamp_order::{Bound, Stamp};
 use std::alloc::Global;
 use std::process::Abort;

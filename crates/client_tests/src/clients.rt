@@ -2,7 +2,7 @@ ghost use Rattle.std.specs.Prelude.{◌≡◌};
 ghost use Rattle.quorum_rules.specs.Faults.{numbers};
 ghost use Rattle.quorum_rules.specs.declared.Edition.TheVariants.{One};
 
-use super::*;
+use client_core::{Client, Heard, How, Outcome};
 use cross_sum::Bytes;
 use lists::Copied;
 use quorum_rules::Config;

@@ -2,8 +2,8 @@ ghost use Rattle.std.specs.Prelude.{◌≡◌, ◌<◌, ◌^◌, Some, IfOk, len
 ghost use Rattle.protocol.specs.Seen.{record_of};
 ghost use Rattle.history_book.specs.Rows.{IsPlaced, IsRow};
 
-use crate::{history_of, print};
 use cross_sum::Bytes;
+use history_book::{history_of, print};
 use lists::NoMemory;
 use run_words::{How, Outcome, Record};
 use stamp_order::Stamp;

@@ -1,12 +1,12 @@
 ghost use Rattle.std.specs.Prelude.{IsSome};
 
-use super::*;
 use cross_sum::Bytes;
 use lists::Copied;
 use quorum_rules::Config;
 use std::process::Abort;
 use std::test::Fail;
 use wire_forms::{Body, Mail, Reply, Request, Tag};
+use write_core::{Writer, Writing};
 
 const ASKING: Tag = Tag { op: 1, phase: 1 };
 
