@@ -1,4 +1,7 @@
 //! The messages of a run, by their numbers in the pool.
+ghost use Rattle.std.specs.Prelude.{◌≡◌, ◌+◌, IfSome, OnOk, length};
+ghost use Rattle.picture_svg.specs.declared.picture.Fate.TheVariants as fates;
+
 use lists::NoMemory;
 use picture_svg::{Actor, Arrow, Fate};
 use std::alloc::Global;
@@ -21,7 +24,9 @@ struct Question {
 }
 
 /// The client and the node of a message.
-pub fn pair_of(message: &Message) -> Pair {
+pub fn pair_of(message: &Message) -> Pair
+    ensures { (result.client ≡ message.now.client) × (result.node ≡ message.now.node) }
+{
     Pair {
         client: message.client,
         node: message.node,
@@ -65,7 +70,11 @@ impl Sent {
         }
     }
 
-    fn arrow(&self, got: usize, fate: Fate) -> Arrow {
+    fn arrow(&self, got: usize, fate: Fate) -> Arrow
+        ensures ends { (result.from ≡ self.now.from) × (result.to ≡ self.now.to) }
+        ensures rows { (result.sent ≡ self.now.row) × (result.got ≡ got) }
+        ensures fate { result.fate ≡ fate }
+    {
         Arrow {
             from: self.from,
             to: self.to,
@@ -97,7 +106,9 @@ impl Post {
     }
 
     /// Adds a message that is sent in a row.
-    pub fn add(&mut self, message: &Message, row: usize, liars: &Liars) -> Result<(), NoMemory> {
+    pub fn add(&mut self, message: &Message, row: usize, liars: &Liars) -> Result<(), NoMemory>
+        ensures { OnOk result (length self.new.sent.items ≡ length self.old.sent.items + 1) }
+    {
         let number = self.sent.len();
         let pair = pair_of(message);
         match message.body {
@@ -119,21 +130,27 @@ impl Post {
     }
 
     /// The arrow of a message of this number that reaches its end in a row.
-    pub fn settle(&mut self, number: usize, row: usize, fate: Fate) -> Option<Arrow> {
+    pub fn settle(&mut self, number: usize, row: usize, fate: Fate) -> Option<Arrow>
+        ensures { IfSome result (λ arrow. (arrow.got ≡ row) × (arrow.fate ≡ fate)) }
+    {
         let sent = self.sent.get_mut(number)?;
         sent.is_settled = true;
         Some(sent.arrow(row, fate))
     }
 
     /// The arrow of an ask of this number that is made and given in a row.
-    pub fn settle_call(&mut self, number: usize, row: usize) -> Option<Arrow> {
+    pub fn settle_call(&mut self, number: usize, row: usize) -> Option<Arrow>
+        ensures { IfSome result (λ arrow. (arrow.sent ≡ row) × (arrow.got ≡ row) × (arrow.fate ≡ fates.Arrived)) }
+    {
         let arrow = self.settle(number, row, Fate::Arrived)?;
         Some(in_row(arrow, row))
     }
 
     /// The arrow of a message between the two that is lost in a row: of the last ask, or else the last answer, that is still
     /// under way.
-    pub fn lose(&mut self, pair: Pair, row: usize) -> Arrow {
+    pub fn lose(&mut self, pair: Pair, row: usize) -> Arrow
+        ensures { (result.sent ≡ row) × (result.got ≡ row) × (result.fate ≡ fates.Lost) }
+    {
         let lost = match self.under_way(pair) {
             Some(number) => self.settle(number, row, Fate::Lost),
             None => None,
@@ -182,7 +199,10 @@ impl Post {
 }
 
 /// The arrow as it looks where its message is sent in the row in which it arrives.
-fn in_row(arrow: Arrow, row: usize) -> Arrow {
+fn in_row(arrow: Arrow, row: usize) -> Arrow
+    ensures rows { (result.sent ≡ row) × (result.got ≡ row) }
+    ensures fate { result.fate ≡ arrow.fate }
+{
     Arrow {
         from: arrow.from,
         to: arrow.to,
