@@ -7,3 +7,4 @@ mod Requests
 mod Lives
 mod Replying
 mod Stepping
+mod Completing

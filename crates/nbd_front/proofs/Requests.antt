@@ -18,14 +18,21 @@ use Rattle.nbd_front.specs.Sessions.{leave_kind, most_requests, IsRequest, IsLea
 use Rattle.nbd_front.specs.Answers.{HasStopped}
 use Rattle.nbd_front.specs.Servers.{HasNotCome}
 
+-- a request is known by its first bytes
+pub front_magic : (head more : List ℕ) → 4 ≤ length head → magic_of (head ++ more) ≡ magic_of head
+front_magic head more long = ap (λ xs. from_be_bytes w32 xs) (take-append-le 4 head more long)
+
+pub front_request : (head more : List ℕ) → head_len ≤ length head → request_of (head ++ more) ≡ request_of head
+front_request head more long =
+    ap (λ xs. fields_of (take 24 xs)) (drop-append-le 4 head more (omega (arith, long)))
+    ∙ ap fields_of (take-append-le 24 (drop 4 head) more (omega (arith, long, length-drop 4 head)))
+
 module _ (head more : List ℕ) (size : length head ≡ head_len) where
   pub same_magic : magic_of (head ++ more) ≡ magic_of head
-  same_magic = ap (λ xs. from_be_bytes w32 xs) (take-append-le 4 head more (omega (arith, size)))
+  same_magic = front_magic head more (omega (arith, size))
 
   pub same_request : request_of (head ++ more) ≡ request_of head
-  same_request =
-      ap (λ xs. fields_of (take 24 xs)) (drop-append-le 4 head more (omega (arith, size)))
-      ∙ ap fields_of (take-append-le 24 (drop 4 head) more (omega (arith, size, length-drop 4 head)))
+  same_request = front_request head more (omega (arith, size))
 
   pub same_data : drop head_len (head ++ more) ≡ more
   same_data = drop_at head more head_len size

@@ -1,5 +1,5 @@
 -- A session: requests, the replies to them, and how it ends. A request is the bytes that it has.
-use Rattle.std.specs.Prelude.{◌≡◌, ◌≢◌, ◌⊎◌, ⊤, ℕ, ◌+◌, ◌^◌, ◌<◌, ◌≤◌, ◌==◌, ◌&&◌, if◌then◌else◌, List, [], ◌∷◌, ◌++◌, length, drop, slice_range, Option, Result, Ok, Err}
+use Rattle.std.specs.Prelude.{◌≡◌, ◌≢◌, ◌⊎◌, ⊤, ℕ, ◌+◌, ◌^◌, ◌<◌, ◌≤◌, ◌==◌, ◌&&◌, if◌then◌else◌, List, [], ◌∷◌, ◌++◌, length, drop, slice_range, Option, Some, Result, Ok, Err}
 use Rattle.std.specs.Io.KnownBytes.{Consumes, IsAtEnd}
 use Rattle.std.specs.List.{All, concat}
 use Rattle.block_device.specs.Device.{merged}
@@ -104,3 +104,15 @@ pub record IsSession (words array : List ℕ) (count place : ℕ) (result : Resu
   pub gave : Consumes left left_after (concat requests ++ rest)
   pub ended : IsEnd result (count + length requests) (place + length (concat requests)) rest left_after
   pub said : HasTaken result (words ++ replies array requests) taken taken_after
+
+-- after so many requests the input has ended, or goes on with a request that leaves
+abbrev pub IsLast : ℕ → List ℕ → Type 0
+IsLast count rest = ((rest ≡ []) × (count ≤ most_requests)) ⊎ ((leave : List ℕ) × (more : List ℕ) × (rest ≡ leave ++ more) × IsLeave leave × (count < most_requests))
+
+-- the input of a session after so many requests: whole requests, and then its end or one that leaves
+pub record IsWholeInput (count : ℕ) (left : Option (List ℕ)) : Type 0 where
+  pub requests : List (List ℕ)
+  pub rest : List ℕ
+  pub whole : All IsRequest requests
+  pub told : left ≡ Some (concat requests ++ rest)
+  pub last : IsLast (count + length requests) rest

@@ -1,11 +1,11 @@
-ghost use Rattle.std.specs.Prelude.{◌≡◌, ◌≢◌, ◌≤◌, ◌+◌, ◌*◌, ◌^◌, ◌<◌, Ok, Err, None, true, [], replicate, length, slice_range, List, ℕ, OnOk, OnErr, IfOk, IfErr, IfSome, IsErrOf};
+ghost use Rattle.std.specs.Prelude.{◌≡◌, ◌≢◌, ◌⊎◌, ◌≤◌, ◌+◌, ◌*◌, ◌^◌, ◌<◌, Ok, Err, None, true, [], replicate, length, slice_range, List, ℕ, OnOk, OnErr, IfOk, IfErr, IfSome, IsErrOf};
 ghost use Rattle.std.specs.Io.KnownBytes.{Consumes, IsAtEnd};
 ghost use Rattle.outside_io.specs.Causes.{Rose};
 ghost use Rattle.outside_io.specs.Written.{Adds, AllFlushed, TakesPrefix};
 ghost use Rattle.quorum_rules.specs.Limits.{wait_of};
 ghost use Rattle.node_device.specs.Held.{Held, version_of};
 ghost use Rattle.nbd_words.specs.Replies.{greeting};
-ghost use Rattle.nbd_front.specs.Sessions.{IsSession};
+ghost use Rattle.nbd_front.specs.Sessions.{IsSession, IsWholeInput};
 ghost use Rattle.nbd_front.specs.Servers.{bytes_of, HasStepped};
 
 use crate::ending::{Served, SessionEnd};
@@ -131,6 +131,11 @@ impl Server {
         ensures write_fault { IsErrOf result SessionEnd.WriteFault → Rose K.last (K.faults sink.old) (K.faults sink.new) }
         ensures calm_source { result ≢ Err SessionEnd.ReadFault → S.faults source.new ≡ S.faults source.old }
         ensures calm_sink { result ≢ Err SessionEnd.WriteFault → K.faults sink.new ≡ K.faults sink.old }
+        // whole requests that meet no fault are served to their end, where there is memory
+        ensures complete { IsWholeInput self.old.served (S.left source.old)
+            → (Rose S.last (S.faults source.old) (S.faults source.new) → ⊥)
+            → (Rose K.last (K.faults sink.old) (K.faults sink.new) → ⊥)
+            → (result ≡ Ok tt) ⊎ (result ≡ Err SessionEnd.NoMemory) }
     {
         loop {
             match self.serve_one(alloc, source, sink)? {

@@ -1,9 +1,9 @@
 //! A whole session: the greeting, and then requests and replies.
-ghost use Rattle.std.specs.Prelude.{◌≡◌, ◌≢◌, ◌*◌, Ok, Err, replicate, OnOk, IfErr, IsErrOf};
+ghost use Rattle.std.specs.Prelude.{◌≡◌, ◌≢◌, ◌⊎◌, ◌*◌, Ok, Err, replicate, OnOk, IfErr, IsErrOf};
 ghost use Rattle.outside_io.specs.Causes.{Rose};
 ghost use Rattle.outside_io.specs.Written.{AllFlushed};
 ghost use Rattle.nbd_words.specs.Replies.{greeting};
-ghost use Rattle.nbd_front.specs.Sessions.{IsSession};
+ghost use Rattle.nbd_front.specs.Sessions.{IsSession, IsWholeInput};
 
 use crate::ending::{Served, SessionEnd};
 use crate::server::Server;
@@ -27,6 +27,11 @@ pub fn serve<S: Source, K: Sink>(
     ensures write_fault { IsErrOf result SessionEnd.WriteFault → Rose K.last (K.faults sink.old) (K.faults sink.new) }
     ensures calm_source { result ≢ Err SessionEnd.ReadFault → S.faults source.new ≡ S.faults source.old }
     ensures calm_sink { result ≢ Err SessionEnd.WriteFault → K.faults sink.new ≡ K.faults sink.old }
+    // whole requests that meet no fault are served to their end, where there is memory
+    ensures complete { IsWholeInput 0 (S.left source.old)
+        → (Rose S.last (S.faults source.old) (S.faults source.new) → ⊥)
+        → (Rose K.last (K.faults sink.old) (K.faults sink.new) → ⊥)
+        → (result ≡ Ok tt) ⊎ (result ≡ Err SessionEnd.NoMemory) }
 {
     let mut server = Server::new(alloc, config)?;
     server.greet(sink)?;

@@ -1,6 +1,7 @@
 use Rattle.std.proofs.Common.{rules, ◌≡◌, ◌*◌, ℕ, Ok, Err, ap, subst, sym, replicate}
 use Rattle.std.proofs.lemmas.Grind.{common_steps}
 use Rattle.std.proofs.Common.{arith}
+use Rattle.outside_io.specs.Causes.{Rose}
 use Rattle.outside_io.specs.Written.{Adds, TakesPrefix}
 use Rattle.outside_io.proofs.Known.{Consumes-none}
 use Rattle.quorum_rules.specs.Limits.{Numbers}
@@ -8,7 +9,7 @@ use Rattle.nbd_words.specs.Replies.{greeting}
 use Rattle.nbd_front.specs.declared.ending.Served.TheVariants.{Over}
 use Rattle.nbd_front.specs.declared.ending.SessionEnd.TheVariants.{NoMemory, WriteFault}
 use Rattle.nbd_front.specs.Servers.{bytes_of}
-use Rattle.nbd_front.specs.Sessions.{IsSession}
+use Rattle.nbd_front.specs.Sessions.{IsSession, IsWholeInput}
 use Rattle.nbd_front.proofs.Runs.{not_greeted, not_made}
 use Rattle.nbd_front.proofs.Stepping.{greeted, on_ok, if_err}
 use Rattle.nbd_front.proofs.session.serve.Goals as goal
@@ -41,3 +42,9 @@ returns-clause-ended g c =
     let size = c.args.config.now.size * c.args.config.now.blocks in
     let adds = subst (λ (k : Numbers). Adds (g.K.Sink.taken c.args.sink.now) (g.K.Sink.taken c.greet.new.sink) (greeting (k.size * k.blocks))) made.config c.in_ok-greet.ensures.whole in
     if_err _ _ (λ e i. greeted (greeting size) (replicate size 0) s (Err e) _ _ _ _ _ made.zeros made.fresh.0 made.fresh.1 adds i) c.serve.result c.serve.ensures.ended
+
+pub returns-clause-complete : goal.returns-clause-complete
+returns-clause-complete g c input no_read no_write =
+    let s = c.in_ok-server.server in
+    let made = c.in_ok-server.ensures in
+    c.serve.ensures.complete (subst (λ n. IsWholeInput n (g.S.Source.left c.args.source.now)) (sym made.fresh.0) input) no_read (λ rose. no_write (subst (λ n. Rose g.K.Sink.last n (g.K.Sink.faults c.serve.new.sink)) c.in_ok-greet.ensures.calm rose))

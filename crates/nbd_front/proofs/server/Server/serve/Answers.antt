@@ -1,8 +1,10 @@
-use Rattle.std.proofs.Common.{rules, ◌≡◌, ◌≢◌, ◌∙◌, Ok, Err, ap}
+use Rattle.std.proofs.Common.{rules, ◌≡◌, ◌≢◌, ◌⊎◌, ◌∙◌, Ok, Err, ap, subst, sym, inl, inr, refl, ℕ, []}
+use Rattle.outside_io.specs.Causes.{Rose}
 use Rattle.nbd_front.specs.declared.ending.Served.TheVariants.{Next, Over}
-use Rattle.nbd_front.specs.declared.ending.SessionEnd.TheVariants.{WriteFault}
+use Rattle.nbd_front.specs.declared.ending.SessionEnd.TheVariants.{NoMemory, ReadFault, WriteFault}
 use Rattle.nbd_front.specs.Servers.{HasStepped}
 use Rattle.nbd_front.proofs.Stepping.{next_gone, finished, step_ended}
+use Rattle.nbd_front.proofs.Completing.{completes}
 use Rattle.nbd_front.proofs.server.Server.serve.Goals as goal
 
 pub returns-in_err-serve_one-clause-ended : goal.returns-in_err-serve_one-clause-ended
@@ -32,3 +34,14 @@ returns-in-Over-clause-done g c =
     let other : Over ≢ Next = λ e. cc in
     let same = calls.unwritten (λ e. other cc) (λ e. cc) in
     finished c.args.self.now c.loop.self c.serve_one.new.self _ _ _ _ _ _ c.loop.invariant.gone (Ok Over) (λ e. cc) (λ e. cc) (ap g.K.Sink.taken same) step.0
+
+pub returns-in_err-serve_one-clause-complete : goal.returns-in_err-serve_one-clause-complete
+returns-in_err-serve_one-clause-complete g c input no_read no_write =
+    let x = c.in_err-serve_one.field-0.0 in
+    let calls = c.in_err-serve_one.ensures in
+    let inv = c.loop.invariant in
+    let is : c.from_residual.result ≡ Err x = first_of (search rules, cc) in
+    let ended = step_ended c.args.self.now c.loop.self c.serve_one.new.self _ _ _ _ _ _ inv.gone x (λ n. ap g.K.Sink.taken (calls.unwritten (λ e. cc) (λ e. n cc))) calls.step in
+    let read_at = λ (n : ℕ). Rose g.S.Source.last n (g.S.Source.faults c.serve_one.new.source) in
+    let write_at = λ (n : ℕ). Rose g.K.Sink.last n (g.K.Sink.faults c.serve_one.new.sink) in
+    rw is (completes [] _ _ _ _ _ _ _ input (Err x) ended (λ e. no_read (subst read_at inv.reads (calls.read_fault cc))) (λ e. no_write (subst write_at inv.writes (calls.write_fault cc))))
