@@ -1,0 +1,10 @@
+//! Plans that numbers make. Tests alone.
+//!
+//! What is expected comes from another program, which draws its words by the code that the generator's authors published, and
+//! was tried on the words that they give for state 42 and stream 54.
+#![tactic(auto)]
+
+#[cfg(test)]
+mod lines;
+#[cfg(test)]
+mod plans;

@@ -1,0 +1,7 @@
+mod Records
+mod Bounded
+mod Walk
+mod Sorted
+mod Exact
+mod Values
+mod Whole

@@ -1,0 +1,4 @@
+//! What is written of runs that numbers made.
+#![tactic(auto)]
+
+pub mod laws;

@@ -1,0 +1,2 @@
+pub mod Soaks
+pub mod Plain
