@@ -1,0 +1,55 @@
+-- What is told of the run of a plan.
+use Rattle.std.specs.Prelude.{◌≡◌, ℕ, List}
+use Rattle.protocol.specs.Setting.{Setting, first_stamp}
+use Rattle.protocol.specs.World.{World}
+use Rattle.protocol.specs.Lines.{Line, IsRun}
+use Rattle.protocol.specs.History.{Entry, NoClash}
+use Rattle.world_steps.specs.Worlds.{WorldView, setting_in, world_in}
+use Rattle.history_book.specs.Books.{Book}
+use Rattle.history_book.specs.Tellings.{Tells}
+use Rattle.history_book.specs.Reports.{report_text}
+use Rattle.history_book.specs.ReportTexts.{IsReport}
+use Rattle.history_book.specs.Judging.{IsLegal, IsInTime}
+use Rattle.run_reports.specs.Registers.{AreRegisters}
+use Rattle.journals.specs.declared.whole.Journals.{Journals}
+use Rattle.journals.specs.Journals.{setting_for, IsMerge}
+use Rattle.merge_trace.specs.Traces.{placed}
+use Rattle.plan_words.specs.declared.plan.Plan.{Plan}
+use Rattle.plan_followed.specs.Followed.{AreOfPlan}
+use Rattle.plan_histories.specs.Shown.{IsComplete}
+
+-- the text is the report of the world's history, which is one of plain registers and in time: of all that takes place nothing is
+-- known but that it does, and that no two strings that were seen clash
+pub record Reports (s : Setting) (w : World) (text : List ℕ) : Type 0 where
+  pub history : List Entry
+  pub book : Book
+  pub tells : Tells w.records (first_stamp s) history book
+  pub registers : AreRegisters s w history
+  pub told : IsReport book
+  pub plain : NoClash s w → IsLegal book.entries × IsInTime book.entries
+  pub shown : text ≡ report_text book
+
+abbrev pub ReportsWorld : WorldView → List ℕ → Type 0
+ReportsWorld v text = Reports (setting_in v) (world_in v) text
+
+-- the journals are those of a run of the plan
+abbrev pub AreOfPlanRun : Plan → Journals → Type 0
+AreOfPlanRun plan j = (drawn : ℕ) × AreOfPlan plan j drawn
+
+-- the lines are those that the journals tell, and a run to this world
+pub record IsPlanRun (plan : Plan) (j : Journals) (lines : List Line) (v : WorldView) : Type 0 where
+  pub merged : IsMerge j (placed 0 lines)
+  pub setting : setting_in v ≡ setting_for j
+  pub run : IsRun (setting_for j) (placed 0 lines) (world_in v)
+
+-- the text is the report of a run of the plan: of the run that the journals which its threads left tell, with each operation of
+-- each client that neither lies nor crashes
+pub record RunsPlan (plan : Plan) (text : List ℕ) : Type 0 where
+  pub journals : Journals
+  pub of_plan : AreOfPlanRun plan journals
+  pub lines : List Line
+  pub merged : IsMerge journals (placed 0 lines)
+  pub world : World
+  pub run : IsRun (setting_for journals) (placed 0 lines) world
+  pub reports : Reports (setting_for journals) world text
+  pub complete : IsComplete plan journals world reports.history
