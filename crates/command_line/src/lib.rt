@@ -3,14 +3,22 @@
 //! this show it, and `tools/exit_statuses` for each status.
 #![tactic(auto)]
 
+ghost use Rattle.std.specs.Prelude.{◌≡◌, ◌⊎◌, IfErr};
+ghost use Rattle.pasis_shell.specs.declared.status.Status.TheVariants as statuses;
+
 use outside_io::{StdSink, StdSource};
 use pasis_shell::{OpenGate, Status};
 use std::env;
-use std::io::ErrorKind;
+use std::env::Env;
+use std::io::{ErrorKind, Stderr, Stdin, Stdout};
 use std::process::ExitCode;
+use std::sync::Wait;
+use std::thread::Threads;
 
 // The arguments after the program's name. Words that are no text are bad words.
-fn words_of(rt: &HostRuntime) -> Result<Vec<String>, Status> {
+fn words_of<R: Env + AllocGlobal>(rt: &R) -> Result<Vec<String>, Status>
+    ensures { IfErr result (λ status. (status ≡ statuses.BadWords) ⊎ (status ≡ statuses.NoMemory)) }
+{
     let mut words = match env::args(rt) {
         Ok(words) => words,
         Err(error) if error.kind() == ErrorKind::OutOfMemory => return Err(Status::NoMemory),
@@ -23,12 +31,17 @@ fn words_of(rt: &HostRuntime) -> Result<Vec<String>, Status> {
     }
 }
 
-fn status_of(rt: &HostRuntime) -> Status {
+fn status_of<R: Env + AllocGlobal + Threads + Wait + Sync>(
+    rt: &R,
+    input: Stdin,
+    output: Stdout,
+) -> Status {
     match words_of(rt) {
         Ok(words) => {
-            let mut source = StdSource::new(rt.stdin());
-            let mut sink = StdSink::new(rt.stdout());
+            let mut source = StdSource::new(input);
+            let mut sink = StdSink::new(output);
             pasis_shell::pasis(
+                rt,
                 rt.alloc(),
                 words.as_slice(),
                 &mut source,
@@ -40,10 +53,16 @@ fn status_of(rt: &HostRuntime) -> Status {
     }
 }
 
-/// Does what the words of the command line ask for, and tells on standard error how that ended, unless all went well.
-pub fn run(rt: &HostRuntime) -> ExitCode {
-    let status = status_of(rt);
+/// Does what the words of the command line ask for, over the standard streams, and tells on standard error how that ended, unless
+/// all went well.
+pub fn run<R: Env + AllocGlobal + Threads + Wait + Sync>(
+    rt: &R,
+    input: Stdin,
+    output: Stdout,
+    mut errors: Stderr,
+) -> ExitCode {
+    let status = status_of(rt, input, output);
     // a line that can't be printed changes nothing of the exit status
-    let _ = status.tell(&mut rt.stderr());
+    let _ = status.tell(&mut errors);
     ExitCode::from(status.number())
 }

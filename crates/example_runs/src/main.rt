@@ -1,13 +1,18 @@
 //! The examples in the folder that the program runs in. A script NAME.txt is replayed, its report is compared with NAME.out and
 //! checked, and its picture is compared with NAME.svg; a report NAME.report is checked, and the verdict compared with
-//! NAME.verdict. Writes a line for each example.
+//! NAME.verdict. Of a plan NAME.plan there is a trace, whose script must replay to its report, and that report is checked; where
+//! a file NAME.trace lies beside it the run is the same each time, and the trace is compared with it. Writes a line for each
+//! example.
 #![tactic(auto)]
 
 use cross_sum::Bytes;
 use outside_io::{Calls, MemorySink, MemorySource};
-use pasis_shell::{OpenGate, Status};
-use run_pictures::{PictureStatus, draw};
+use pasis_shell::{OpenGate, Status, alone, pasis};
+use run_pictures::draw;
 use std::alloc::Global;
+use std::rt::Files;
+use std::sync::Wait;
+use std::thread::Threads;
 use std::{fmt, fs, io};
 
 // What came of an example.
@@ -16,8 +21,10 @@ enum Outcome {
     Ok,
     // The text that lies beside the example is another than the one that was written.
     Differs,
-    // The report of a script isn't legal.
+    // The report of a script or of a plan isn't legal.
     Illegal,
+    // The script of a trace doesn't replay to its report.
+    OtherReport,
     // The picture that lies beside the script is another than the one that was drawn.
     OtherPicture,
 }
@@ -28,6 +35,7 @@ impl fmt::Display for Outcome {
             Outcome::Ok => write!(f, "ok"),
             Outcome::Differs => write!(f, "differs"),
             Outcome::Illegal => write!(f, "illegal"),
+            Outcome::OtherReport => write!(f, "other report"),
             Outcome::OtherPicture => write!(f, "other picture"),
         }
     }
@@ -39,11 +47,11 @@ fn answered(alloc: Global, word: &str, text: Vec<u8>) -> io::Result<(Status, Mem
     words.push(String::from_str(alloc, word)?)?;
     let mut source = MemorySource::new(Bytes::from_vec(text), 4096, Calls::new(alloc));
     let mut sink = MemorySink::new(alloc, 4096, Calls::new(alloc));
-    let status = pasis_shell::pasis(alloc, words.as_slice(), &mut source, &mut sink, &OpenGate);
-    Ok((status, sink))
+    let status = alone(alloc, words.as_slice(), &mut source, &mut sink);
+    Ok((status.unwrap_or(Status::BadWords), sink))
 }
 
-fn file_of(rt: &HostRuntime, name: &str, ending: &str) -> io::Result<Vec<u8>> {
+fn file_of(rt: &(impl Files + AllocGlobal), name: &str, ending: &str) -> io::Result<Vec<u8>> {
     let path = format!(in rt.alloc(); "{name}.{ending}")?;
     fs::read(rt, path.as_str())
 }
@@ -51,11 +59,11 @@ fn file_of(rt: &HostRuntime, name: &str, ending: &str) -> io::Result<Vec<u8>> {
 fn replayed(rt: &HostRuntime, name: &str) -> io::Result<Outcome> {
     let (status, written) = answered(rt.alloc(), "replay", file_of(rt, name, "txt")?)?;
     let report = file_of(rt, name, "out")?;
-    if status != Status::Done || written.taken() != report.as_slice() {
+    if !status.is_done() || written.taken() != report.as_slice() {
         return Ok(Outcome::Differs);
     }
     let (status, verdict) = answered(rt.alloc(), "check", report)?;
-    if status != Status::Done || verdict.taken() != b"legal\n".as_slice() {
+    if !status.is_done() || verdict.taken() != b"legal\n".as_slice() {
         return Ok(Outcome::Illegal);
     }
     if !is_pictured(rt, name)? {
@@ -71,7 +79,7 @@ fn is_pictured(rt: &HostRuntime, name: &str) -> io::Result<bool> {
     let mut sink = MemorySink::new(rt.alloc(), 4096, Calls::new(rt.alloc()));
     let status = draw(rt.alloc(), &mut source, &mut sink);
     let picture = file_of(rt, name, "svg")?;
-    let is_drawn = status == PictureStatus::Replay(Status::Done);
+    let is_drawn = status.is_done();
     Ok(is_drawn && sink.taken() == picture.as_slice())
 }
 
@@ -90,6 +98,72 @@ fn checked(rt: &HostRuntime, name: &str) -> io::Result<Outcome> {
     }
 }
 
+// The trace of a plan, if it was run.
+fn trace_of<R: Threads + Wait + Sync>(
+    rt: &R,
+    alloc: Global,
+    plan: Vec<u8>,
+) -> io::Result<Option<String>> {
+    let mut words = Vec::new(alloc);
+    words.push(String::from_str(alloc, "trace")?)?;
+    let mut source = MemorySource::new(Bytes::from_vec(plan), 4096, Calls::new(alloc));
+    let mut sink = MemorySink::new(alloc, 4096, Calls::new(alloc));
+    let status = pasis(
+        rt,
+        alloc,
+        words.as_slice(),
+        &mut source,
+        &mut sink,
+        &OpenGate,
+    );
+    match str::from_utf8(sink.taken()) {
+        Ok(trace) if status.is_done() => Ok(Some(String::from_str(alloc, trace)?)),
+        _ => Ok(None),
+    }
+}
+
+// What a trace shows: a script, the line `report`, and a report.
+fn shown(alloc: Global, trace: &str) -> io::Result<Outcome> {
+    let Some((front, report)) = trace.split_once("\nreport\n") else {
+        return Ok(Outcome::Differs);
+    };
+    let mut script = Vec::from_slice(alloc, front.as_bytes())?;
+    script.push(b'\n')?;
+    let (status, written) = answered(alloc, "replay", script)?;
+    if !status.is_done() || written.taken() != report.as_bytes() {
+        return Ok(Outcome::OtherReport);
+    }
+    let report = Vec::from_slice(alloc, report.as_bytes())?;
+    let (status, verdict) = answered(alloc, "check", report)?;
+    if !status.is_done() || verdict.taken() != b"legal\n".as_slice() {
+        return Ok(Outcome::Illegal);
+    }
+    Ok(Outcome::Ok)
+}
+
+// A plan is run, whose trace is the one that lies beside it if the run is the same each time.
+fn ran<R: Files + AllocGlobal + Threads + Wait + Sync>(
+    rt: &R,
+    name: &str,
+    is_fixed: bool,
+) -> io::Result<Outcome> {
+    let alloc = rt.alloc();
+    let Some(trace) = trace_of(rt, alloc, file_of(rt, name, "plan")?)? else {
+        return Ok(Outcome::Differs);
+    };
+    if is_fixed && file_of(rt, name, "trace")?.as_slice() != trace.as_bytes() {
+        return Ok(Outcome::Differs);
+    }
+    shown(alloc, trace.as_str())
+}
+
+// Whether there is a file of this name and ending.
+fn has_file(files: &[String], name: &str, ending: &str) -> bool {
+    files
+        .iter()
+        .any(|file| file.strip_suffix(ending) == Some(name))
+}
+
 // The names of the files, in order.
 fn files(rt: &HostRuntime) -> io::Result<Vec<String>> {
     let mut names = Vec::new(rt.alloc());
@@ -101,13 +175,19 @@ fn files(rt: &HostRuntime) -> io::Result<Vec<String>> {
 }
 
 fn main(rt: HostRuntime) -> io::Result<()> {
-    for file in &files(&rt)? {
+    let files = files(&rt)?;
+    for file in &files {
         if let Some(name) = file.strip_suffix(".txt") {
             let outcome = replayed(&rt, name)?;
             println!(rt; "{name} {outcome}")?;
         }
         if let Some(name) = file.strip_suffix(".report") {
             let outcome = checked(&rt, name)?;
+            println!(rt; "{name} {outcome}")?;
+        }
+        if let Some(name) = file.strip_suffix(".plan") {
+            let is_fixed = has_file(files.as_slice(), name, ".trace");
+            let outcome = ran(&rt, name, is_fixed)?;
             println!(rt; "{name} {outcome}")?;
         }
     }

@@ -8,7 +8,6 @@ use crate::played::Played;
 use crate::program::answered;
 use crate::unmade::Unmade;
 use lists::{Copied, NoMemory};
-use pasis_shell::Status;
 use std::alloc::Global;
 use wire_forms::{Body, Message, Reply, Request, Version, print};
 
@@ -452,9 +451,9 @@ fn foreign_writes(alloc: Global, cluster: &Cluster, seed: u64) -> Result<Option<
     let (replay, report) = answered(alloc, "replay", run.script())?;
     let (check, verdict) = answered(alloc, "check", report.taken())?;
     let report = str::from_utf8(report.taken())?;
-    let is_legal = check == Status::Done && verdict.taken() == b"legal\n".as_slice();
+    let is_legal = check.is_done() && verdict.taken() == b"legal\n".as_slice();
     let is_lively = !cluster.lives || has_lives(str::from_utf8(run.script())?);
-    if !is_whole || replay != Status::Done || !is_full(cluster, report) || !is_legal || !is_lively {
+    if !is_whole || !replay.is_done() || !is_full(cluster, report) || !is_legal || !is_lively {
         return Ok(None);
     }
     Ok(Some(report.split(" foreign ").count().saturating_sub(1)))

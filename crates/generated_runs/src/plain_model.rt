@@ -4,7 +4,6 @@
 use crate::program::answered;
 use crate::unmade::Unmade;
 use lists::NoMemory;
-use pasis_shell::Status;
 use std::alloc::Global;
 
 // A version: its time, its writer and its value. In these scripts a time and a writer have one value.
@@ -355,5 +354,5 @@ pub fn is_as_reported(alloc: Global, drawing: &Drawing) -> Result<bool, Unmade> 
     let is_varied = 0 < run.repaired && (reads as u64) < run.rounds;
     let report = run.report(alloc)?;
     let (status, sink) = answered(alloc, "replay", run.script.as_bytes())?;
-    Ok(is_varied && status == Status::Done && sink.taken() == report.as_bytes())
+    Ok(is_varied && status.is_done() && sink.taken() == report.as_bytes())
 }

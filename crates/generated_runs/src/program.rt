@@ -3,7 +3,7 @@
 use cross_sum::Bytes;
 use lists::NoMemory;
 use outside_io::{Calls, MemorySink, MemorySource};
-use pasis_shell::{OpenGate, Status, pasis};
+use pasis_shell::{Status, alone};
 use std::alloc::Global;
 
 /// How a command ends that is given a text, and the sink that it writes to.
@@ -12,6 +12,6 @@ pub fn answered(alloc: Global, word: &str, text: &[u8]) -> Result<(Status, Memor
     words.push(String::from_str(alloc, word)?)?;
     let mut source = MemorySource::new(Bytes::of(alloc, text)?, 4096, Calls::new(alloc));
     let mut sink = MemorySink::new(alloc, 4096, Calls::new(alloc));
-    let status = pasis(alloc, words.as_slice(), &mut source, &mut sink, &OpenGate);
-    Ok((status, sink))
+    let status = alone(alloc, words.as_slice(), &mut source, &mut sink);
+    Ok((status.unwrap_or(Status::BadWords), sink))
 }

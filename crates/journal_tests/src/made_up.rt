@@ -12,7 +12,7 @@ use journals::{DeskAct, NodeAct, Silence, Way};
 use lists::{Copied, NoMemory};
 use node_core::Node;
 use outside_io::{Calls, MemorySink, MemorySource};
-use pasis_shell::{OpenGate, Status, pasis};
+use pasis_shell::{Status, alone};
 use quorum_rules::Config;
 use run_words::Outcome;
 use script_text::read_replay;
@@ -451,8 +451,8 @@ fn answered(alloc: Global, word: &str, text: &[u8]) -> Result<(Status, MemorySin
     words.push(String::from_str(alloc, word)?)?;
     let mut source = MemorySource::new(Bytes::of(alloc, text)?, 4096, Calls::new(alloc));
     let mut sink = MemorySink::new(alloc, 4096, Calls::new(alloc));
-    let status = pasis(alloc, words.as_slice(), &mut source, &mut sink, &OpenGate);
-    Ok((status, sink))
+    let status = alone(alloc, words.as_slice(), &mut source, &mut sink);
+    Ok((status.unwrap_or(Status::BadWords), sink))
 }
 
 /// Whether the journals of a run can be merged, `replay` takes their lines whole, as many operations end in the report as the
@@ -472,7 +472,7 @@ pub fn is_a_run(alloc: Global, run: &Run) -> Result<bool, Unmade> {
     let (checked, verdict) = answered(alloc, "check", report.taken())?;
     let report = str::from_utf8(report.taken())?;
     let end = format!(in alloc; "\nend done={done} spent=0 ")?;
-    let is_whole = replayed == Status::Done && report.contains(end.as_str());
-    let is_legal = checked == Status::Done && verdict.taken() == b"legal\n".as_slice();
+    let is_whole = replayed.is_done() && report.contains(end.as_str());
+    let is_legal = checked.is_done() && verdict.taken() == b"legal\n".as_slice();
     Ok(is_whole && is_legal && 10 < done)
 }

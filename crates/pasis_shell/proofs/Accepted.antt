@@ -1,14 +1,21 @@
 -- An input that is accepted, and meets no fault, is answered.
-use Rattle.std.proofs.Common.{◌≡◌, ℕ, ◌≤◌, ◌+◌, List, ◌++◌, length, ap, sym, subst, ◌∙◌, refl, arith, append-nil, length-append}
-use Rattle.std.specs.Prelude.{Option, Some, None}
+use Rattle.std.proofs.Common.{◌≡◌, ℕ, ◌≤◌, ◌+◌, List, ◌++◌, length, ap, sym, subst, ◌∙◌, refl, inl, inr, ◌⊎◌, arith, append-nil, length-append}
+use Rattle.std.specs.Prelude.{⊤, Option, Some, None}
+use Rattle.event_clock.specs.Passes.{Tally}
 use Rattle.outside_io.specs.Given.{GaveExactly}
-use Rattle.line_forms.specs.declared.cause.Cause.{Cause}
 use Rattle.line_forms.specs.declared.refusal.ScriptFault.{ScriptFault}
-use Rattle.pasis_shell.specs.Words.{words_of}
-use Rattle.pasis_shell.specs.Texts.{Refuses, IsAccepted, IsRefusedFor, GivesAll}
-use Rattle.pasis_shell.specs.Statuses.{CanStopBefore}
+use Rattle.outside_io.specs.declared.reading.TheConstants.{LIMIT}
+use Rattle.history_book.specs.declared.judging.Flaw.{Flaw}
+use Rattle.pasis_shell.specs.Words.{words_of, IsForm, AskForPlan}
+use Rattle.plan_words.specs.declared.plan.Plan.{Plan}
+use Rattle.plan_words.specs.Plans.{Fits}
+use Rattle.plan_text.specs.Plans.{Spells as SpellsPlan}
+use Rattle.pasis_shell.specs.Texts.{Refuses, IsUnbuilt, AnswersFor, IsAccepted, IsRefusedFor, GivesAll}
+use Rattle.pasis_shell.specs.Calls.{Ends}
+use Rattle.pasis_shell.proofs.Commands.{plans_only, plan_form}
+use Rattle.pasis_shell.proofs.WellFormed.{plan_is_no_bad_script}
 use Rattle.pasis_shell.specs.declared.status.Status.{Status}
-use Rattle.pasis_shell.specs.declared.status.Status.TheVariants.{Done, Illegal, BadWords, BadScript, ReadFault, WriteFault, NoMemory, TooLong, NotBuilt}
+use Rattle.pasis_shell.specs.declared.status.Status.TheVariants.{Done, Illegal, BadWords, BadScript, ReadFault, WriteFault, NoMemory, TooLong, NotBuilt, ClockFull, BadMagic, CutRequest, TooManyRequests}
 use Rattle.pasis_shell.specs.declared.words.Command.{Command}
 use Rattle.pasis_shell.specs.declared.words.Command.TheVariants.{Replay, Run, Trace, Check, Sum, Soak}
 use Rattle.pasis_shell.specs.declared.text.Refusal.{Refusal}
@@ -50,14 +57,85 @@ not_built_memory line e = cc
 fault_memory : (fault : ScriptFault) → refusals.BadScript fault ≡ refusals.NoMemory → ⊥
 fault_memory fault e = cc
 
--- of the statuses without a text, want of memory alone is left
-pub memory_alone : (status : Status) (command : Command) (words : List (List ℕ)) (before after : Option (List ℕ)) (input : List ℕ) (most : ℕ) → CanStopBefore status → words ≡ words_of command → before ≡ Some input → length input ≤ most → IsAccepted words input → (status ≡ ReadFault → ⊥) → (status ≡ TooLong → GaveExactly (most + 1) before after) → ((line : ℕ) → status ≡ NotBuilt line → IsRefusedFor command before after (refusals.NotBuilt line)) → ((line : ℕ) (cause : Cause) → status ≡ BadScript line cause → IsRefusedFor command before after (refusals.BadScript (record { line = line; cause = cause }))) → status ≡ NoMemory
-memory_alone NoMemory command words before after input most can w e small accepted no_fault long refused bad = refl
-memory_alone ReadFault command words before after input most can w e small accepted no_fault long refused bad = absurd (no_fault refl)
-memory_alone TooLong command words before after input most can w e small accepted no_fault long refused bad = absurd (too_much before after input most e small (long refl))
-memory_alone (NotBuilt line) command words before after input most can w e small accepted no_fault long refused bad = absurd (not_built_memory line (memory_missing command words before after input (refusals.NotBuilt line) w e accepted (refused line refl)))
-memory_alone (BadScript line cause) command words before after input most can w e small accepted no_fault long refused bad = absurd (fault_memory (record { line = line; cause = cause }) (memory_missing command words before after input (refusals.BadScript (record { line = line; cause = cause })) w e accepted (bad line cause refl)))
-memory_alone Done command words before after input most can w e small accepted no_fault long refused bad = absurd can
-memory_alone (Illegal flaw) command words before after input most can w e small accepted no_fault long refused bad = absurd can
-memory_alone BadWords command words before after input most can w e small accepted no_fault long refused bad = absurd can
-memory_alone WriteFault command words before after input most can w e small accepted no_fault long refused bad = absurd can
+clock_memory : (drawn : Tally) → refusals.ClockFull drawn ≡ refusals.NoMemory → ⊥
+clock_memory drawn e = cc
+
+-- an accepted input is answered, or memory was wanting
+abbrev IsAnswered : Status → Type 0
+IsAnswered status = (status ≡ Done) ⊎ ((flaw : Flaw) × (status ≡ Illegal flaw)) ⊎ (status ≡ NoMemory)
+
+module _ (words : List (List ℕ)) (before after taken taken_after : Option (List ℕ)) (flushed flushed_after : ℕ) (input : List ℕ) where
+  pub complete : (status : Status) → Ends words status before after taken taken_after flushed flushed_after → IsForm words → before ≡ Some input → length input ≤ LIMIT → IsAccepted words input → (status ≡ ReadFault → ⊥) → (status ≡ WriteFault → ⊥) → IsAnswered status
+  complete Done h form e small accepted read wrote = inl refl
+  complete (Illegal flaw) h form e small accepted read wrote = inr (inl (flaw, refl))
+  complete NoMemory h form e small accepted read wrote = inr (inr refl)
+  complete BadWords h form e small accepted read wrote = absurd (h form)
+  complete ReadFault h form e small accepted read wrote = absurd (read refl)
+  complete WriteFault h form e small accepted read wrote = absurd (wrote refl)
+  complete TooLong h form e small accepted read wrote = absurd (too_much before after input LIMIT e small h.2)
+  complete (NotBuilt line) h form e small accepted read wrote = absurd (not_built_memory line (memory_missing h.0 words before after input (refusals.NotBuilt line) h.1 e accepted h.2))
+  complete (BadScript line cause) h form e small accepted read wrote = absurd (fault_memory (record { line = line; cause = cause }) (memory_missing h.0 words before after input (refusals.BadScript (record { line = line; cause = cause })) h.1 e accepted h.2))
+  complete (ClockFull drawn) h form e small accepted read wrote = absurd (clock_memory drawn (memory_missing h.0 words before after input (refusals.ClockFull drawn) h.1 e accepted h.2))
+  complete (BadMagic at) h form e small accepted read wrote = absurd h
+  complete (CutRequest at) h form e small accepted read wrote = absurd h
+  complete TooManyRequests h form e small accepted read wrote = absurd h
+
+-- the same, of a status that there is
+pub some_answered : (status : Status) → IsAnswered status → (Some status ≡ Some Done) ⊎ ((flaw : Flaw) × (Some status ≡ Some (Illegal flaw))) ⊎ (Some status ≡ Some NoMemory)
+some_answered status (inl e) = inl (ap Some e)
+some_answered status (inr (inl h)) = inr (inl (h.0, ap Some h.1))
+some_answered status (inr (inr e)) = inr (inr (ap Some e))
+
+-- ---- a plan that meets no fault
+
+-- a plan is refused for want of memory, or by a clock that is full
+abbrev IsLate : Refusal → Type 0
+IsLate refusals.NoMemory = ⊤
+IsLate (refusals.ClockFull drawn) = ⊤
+IsLate (refusals.NotBuilt line) = ⊥
+IsLate (refusals.BadScript fault) = ⊥
+
+module _ (input : List ℕ) (plan : Plan) (fits : Fits plan) (spelled : SpellsPlan input plan) where
+  late : (command : Command) → (command ≡ Run) ⊎ (command ≡ Trace) → (refusal : Refusal) → Refuses command input refusal → IsLate refusal
+  late command is refusals.NoMemory h = tt
+  late command is (refusals.ClockFull drawn) h = tt
+  late command (inl e) (refusals.NotBuilt line) h = let none : IsUnbuilt Run input × (line ≡ 1) = rw e at h in none.0
+  late command (inr e) (refusals.NotBuilt line) h = let none : IsUnbuilt Trace input × (line ≡ 1) = rw e at h in none.0
+  late command (inl e) (refusals.BadScript fault) h = plan_is_no_bad_script input plan fault fits spelled (rw e at h)
+  late command (inr e) (refusals.BadScript fault) h = plan_is_no_bad_script input plan fault fits spelled (rw e at h)
+
+  late_for : (command : Command) → (command ≡ Run) ⊎ (command ≡ Trace) → (before after : Option (List ℕ)) (refusal : Refusal) → before ≡ Some input → IsRefusedFor command before after refusal → IsLate refusal
+  late_for command (inl e) before after refusal there h =
+      let r : IsRefusedFor Run before after refusal = rw e at h in
+      late Run (inl refl) refusal (subst (λ (i : List ℕ). Refuses Run i refusal) (all_read before after input r.0 there r.1) r.2)
+  late_for command (inr e) before after refusal there h =
+      let r : IsRefusedFor Trace before after refusal = rw e at h in
+      late Trace (inr refl) refusal (subst (λ (i : List ℕ). Refuses Trace i refusal) (all_read before after input r.0 there r.1) r.2)
+
+-- no flaw is found of a run
+no_flaw : (command : Command) → (command ≡ Run) ⊎ (command ≡ Trace) → (before after : Option (List ℕ)) (text : List ℕ) (flaw : Flaw) → AnswersFor command before after text (Some flaw) → ⊥
+no_flaw command (inl e) before after text flaw h =
+    let a : AnswersFor Run before after text (Some flaw) = rw e at h in
+    let none : Some flaw ≡ None = a.2.1 in
+    absurd cc
+no_flaw command (inr e) before after text flaw h =
+    let a : AnswersFor Trace before after text (Some flaw) = rw e at h in
+    let none : Some flaw ≡ None = a.2.1 in
+    absurd cc
+
+module _ (words : List (List ℕ)) (before after taken taken_after : Option (List ℕ)) (flushed flushed_after : ℕ) (input : List ℕ) (plan : Plan) (fits : Fits plan) (spelled : SpellsPlan input plan) (ask : AskForPlan words) where
+  pub plan_runs : (status : Status) → Ends words status before after taken taken_after flushed flushed_after → before ≡ Some input → length input ≤ LIMIT → (status ≡ ReadFault → ⊥) → (status ≡ WriteFault → ⊥)
+      → (status ≡ Done) ⊎ (status ≡ NoMemory) ⊎ ((drawn : Tally) × (status ≡ ClockFull drawn))
+  plan_runs Done h e small read wrote = inl refl
+  plan_runs NoMemory h e small read wrote = inr (inl refl)
+  plan_runs (ClockFull drawn) h e small read wrote = inr (inr (drawn, refl))
+  plan_runs (Illegal flaw) h e small read wrote = absurd (no_flaw h.1.0 (plans_only words h.1.0 h.1.1 ask) before after h.0 flaw h.1.2)
+  plan_runs BadWords h e small read wrote = absurd (h (plan_form words ask))
+  plan_runs ReadFault h e small read wrote = absurd (read refl)
+  plan_runs WriteFault h e small read wrote = absurd (wrote refl)
+  plan_runs TooLong h e small read wrote = absurd (too_much before after input LIMIT e small h.2)
+  plan_runs (NotBuilt line) h e small read wrote = absurd (late_for input plan fits spelled h.0 (plans_only words h.0 h.1 ask) before after (refusals.NotBuilt line) e h.2)
+  plan_runs (BadScript line cause) h e small read wrote = absurd (late_for input plan fits spelled h.0 (plans_only words h.0 h.1 ask) before after (refusals.BadScript (record { line = line; cause = cause })) e h.2)
+  plan_runs (BadMagic at) h e small read wrote = absurd h
+  plan_runs (CutRequest at) h e small read wrote = absurd h
+  plan_runs TooManyRequests h e small read wrote = absurd h

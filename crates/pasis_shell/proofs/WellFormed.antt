@@ -24,22 +24,23 @@ use Rattle.plan_text.specs.Plans.{Spells as PlanSpells, plan_script}
 use Rattle.plan_text.proofs.PlanLaws.{plan_accepted}
 use Rattle.pasis_shell.specs.Words.{words_of}
 use Rattle.pasis_shell.specs.Replays.{cluster_of, Stops}
-use Rattle.pasis_shell.specs.Texts.{HasFault, IsAccepted, IsUnbuilt, Refuses}
+use Rattle.pasis_shell.specs.Texts.{HasFault, IsAccepted, IsUnbuilt, RunsIt, Refuses}
 use Rattle.pasis_shell.specs.declared.words.Command.{Command}
 use Rattle.pasis_shell.specs.declared.words.Command.TheVariants.{Replay, Run, Trace, Check, Sum, Soak}
 use Rattle.pasis_shell.specs.declared.text.Refusal.{Refusal}
-use Rattle.pasis_shell.specs.declared.text.Refusal.TheVariants.{NoMemory, NotBuilt, BadScript}
+use Rattle.pasis_shell.specs.declared.text.Refusal.TheVariants.{NoMemory, NotBuilt, BadScript, ClockFull}
 
 -- ---- one command
 
-only_memory : (command : Command) (input : List ℕ) → (IsUnbuilt command input → ⊥) → ((fault : ScriptFault) → HasFault command input fault → ⊥) → (refusal : Refusal) → Refuses command input refusal → refusal ≡ NoMemory
-only_memory command input built faultless NoMemory h = refl
-only_memory command input built faultless (NotBuilt line) h = absurd (built h.0)
-only_memory command input built faultless (BadScript fault) h = absurd (faultless fault h)
+only_memory : (command : Command) (input : List ℕ) → (IsUnbuilt command input → ⊥) → (RunsIt command input → ⊥) → ((fault : ScriptFault) → HasFault command input fault → ⊥) → (refusal : Refusal) → Refuses command input refusal → refusal ≡ NoMemory
+only_memory command input built alone faultless NoMemory h = refl
+only_memory command input built alone faultless (NotBuilt line) h = absurd (built h.0)
+only_memory command input built alone faultless (BadScript fault) h = absurd (faultless fault h)
+only_memory command input built alone faultless (ClockFull drawn) h = absurd (alone h.0)
 
--- a command that has its words alone, is built, and finds no fault of the input
-accepts : (mine : Command) (input : List ℕ) → ((command : Command) → words_of mine ≡ words_of command → mine ≡ command) → (IsUnbuilt mine input → ⊥) → ((fault : ScriptFault) → HasFault mine input fault → ⊥) → IsAccepted (words_of mine) input
-accepts mine input alone built faultless = λ command e refusal h. only_memory mine input built faultless refusal (subst (λ (k : Command). Refuses k input refusal) (sym (alone command e)) h)
+-- a command that has its words alone, is built, runs no threads, and finds no fault of the input
+accepts : (mine : Command) (input : List ℕ) → ((command : Command) → words_of mine ≡ words_of command → mine ≡ command) → (IsUnbuilt mine input → ⊥) → (RunsIt mine input → ⊥) → ((fault : ScriptFault) → HasFault mine input fault → ⊥) → IsAccepted (words_of mine) input
+accepts mine input alone built quiet faultless = λ command e refusal h. only_memory mine input built quiet faultless refusal (subst (λ (k : Command). Refuses k input refusal) (sym (alone command e)) h)
 
 -- the first two letters of the first word tell a command
 tells : List (List ℕ) → ℕ
@@ -49,7 +50,7 @@ tells _ = 0
 apart : true ≡ false → ⊥
 apart e = cc
 
-replay_alone : (command : Command) → words_of Replay ≡ words_of command → Replay ≡ command
+pub replay_alone : (command : Command) → words_of Replay ≡ words_of command → Replay ≡ command
 unfolding tells
 replay_alone Replay e = refl
 replay_alone Run e = absurd (apart (ap (λ (ws : List (List ℕ)). tells ws == 215) e))
@@ -58,7 +59,7 @@ replay_alone Check e = absurd (apart (ap (λ (ws : List (List ℕ)). tells ws ==
 replay_alone Sum e = absurd (apart (ap (λ (ws : List (List ℕ)). tells ws == 215) e))
 replay_alone (Soak n) e = absurd (apart (ap (λ (ws : List (List ℕ)). tells ws == 215) e))
 
-check_alone : (command : Command) → words_of Check ≡ words_of command → Check ≡ command
+pub check_alone : (command : Command) → words_of Check ≡ words_of command → Check ≡ command
 unfolding tells
 check_alone Replay e = absurd (apart (ap (λ (ws : List (List ℕ)). tells ws == 203) e))
 check_alone Run e = absurd (apart (ap (λ (ws : List (List ℕ)). tells ws == 203) e))
@@ -67,7 +68,7 @@ check_alone Check e = refl
 check_alone Sum e = absurd (apart (ap (λ (ws : List (List ℕ)). tells ws == 203) e))
 check_alone (Soak n) e = absurd (apart (ap (λ (ws : List (List ℕ)). tells ws == 203) e))
 
-sum_alone : (command : Command) → words_of Sum ≡ words_of command → Sum ≡ command
+pub sum_alone : (command : Command) → words_of Sum ≡ words_of command → Sum ≡ command
 unfolding tells
 sum_alone Replay e = absurd (apart (ap (λ (ws : List (List ℕ)). tells ws == 232) e))
 sum_alone Run e = absurd (apart (ap (λ (ws : List (List ℕ)). tells ws == 232) e))
@@ -75,6 +76,24 @@ sum_alone Trace e = absurd (apart (ap (λ (ws : List (List ℕ)). tells ws == 23
 sum_alone Check e = absurd (apart (ap (λ (ws : List (List ℕ)). tells ws == 232) e))
 sum_alone Sum e = refl
 sum_alone (Soak n) e = absurd (apart (ap (λ (ws : List (List ℕ)). tells ws == 232) e))
+
+pub run_alone : (command : Command) → words_of Run ≡ words_of command → Run ≡ command
+unfolding tells
+run_alone Replay e = absurd (apart (ap (λ (ws : List (List ℕ)). tells ws == 231) e))
+run_alone Run e = refl
+run_alone Trace e = absurd (apart (ap (λ (ws : List (List ℕ)). tells ws == 231) e))
+run_alone Check e = absurd (apart (ap (λ (ws : List (List ℕ)). tells ws == 231) e))
+run_alone Sum e = absurd (apart (ap (λ (ws : List (List ℕ)). tells ws == 231) e))
+run_alone (Soak n) e = absurd (apart (ap (λ (ws : List (List ℕ)). tells ws == 231) e))
+
+pub trace_alone : (command : Command) → words_of Trace ≡ words_of command → Trace ≡ command
+unfolding tells
+trace_alone Replay e = absurd (apart (ap (λ (ws : List (List ℕ)). tells ws == 230) e))
+trace_alone Run e = absurd (apart (ap (λ (ws : List (List ℕ)). tells ws == 230) e))
+trace_alone Trace e = refl
+trace_alone Check e = absurd (apart (ap (λ (ws : List (List ℕ)). tells ws == 230) e))
+trace_alone Sum e = absurd (apart (ap (λ (ws : List (List ℕ)). tells ws == 230) e))
+trace_alone (Soak n) e = absurd (apart (ap (λ (ws : List (List ℕ)). tells ws == 230) e))
 
 -- ---- no fault
 
@@ -115,13 +134,13 @@ module _ (input : List ℕ) (c : Numbers) (liars : Liars) (lines : List ReplayLi
       ]
 
   pub replay_is_accepted : IsAccepted (words_of Replay) input
-  replay_is_accepted = accepts Replay input replay_alone (λ no. no) replay_faultless
+  replay_is_accepted = accepts Replay input replay_alone (λ no. no) (λ no. no) replay_faultless
 
 pub sum_is_accepted : (c : Numbers) (v : List ℕ) → IsSum c v → IsAccepted (words_of Sum) (sum_text c v)
-sum_is_accepted c v good = accepts Sum (sum_text c v) sum_alone (λ no. no) (λ fault h. no_fault sum_script (sum_text c v) fault.line fault.cause (sum_accepted c v good) h)
+sum_is_accepted c v good = accepts Sum (sum_text c v) sum_alone (λ no. no) (λ no. no) (λ fault h. no_fault sum_script (sum_text c v) fault.line fault.cause (sum_accepted c v good) h)
 
 pub report_is_accepted : (book : Book) → IsReport book → IsAccepted (words_of Check) (report_text book)
-report_is_accepted book good = accepts Check (report_text book) check_alone (λ no. no) (λ fault h. no_fault report (report_text book) fault.line fault.cause (report_accepted book good) h)
+report_is_accepted book good = accepts Check (report_text book) check_alone (λ no. no) (λ no. no) (λ fault h. no_fault report (report_text book) fault.line fault.cause (report_accepted book good) h)
 
 pub plan_is_no_bad_script : (input : List ℕ) (plan : Plan) (fault : ScriptFault) → Fits plan → PlanSpells input plan → IsFault plan_script input fault.line fault.cause → ⊥
 plan_is_no_bad_script input plan fault fits spelled bad = no_fault plan_script input fault.line fault.cause (plan_accepted input plan fits spelled) bad

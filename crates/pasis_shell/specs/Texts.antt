@@ -11,16 +11,16 @@ use Rattle.pasis_shell.specs.Words.{words_of}
 use Rattle.pasis_shell.specs.declared.words.Command.{Command}
 use Rattle.pasis_shell.specs.declared.words.Command.TheVariants.{Replay, Run, Trace, Check, Sum, Soak}
 use Rattle.pasis_shell.specs.declared.text.Refusal.{Refusal}
-use Rattle.pasis_shell.specs.declared.text.Refusal.TheVariants.{NoMemory, NotBuilt, BadScript}
+use Rattle.pasis_shell.specs.declared.text.Refusal.TheVariants.{NoMemory, NotBuilt, BadScript, ClockFull}
 use Rattle.quorum_rules.specs.Limits.{Numbers}
 use Rattle.line_forms.specs.declared.refusal.ScriptFault.{ScriptFault}
 use Rattle.line_forms.specs.Texts.{IsFault, IsFaultless}
 use Rattle.script_text.specs.Replays.{replay_script}
 use Rattle.script_text.specs.Sum.{IsSum, sum_text, sum_script}
 use Rattle.sum_text.specs.Shown.{shown_text}
-use Rattle.plan_words.specs.declared.plan.Plan.{Plan}
-use Rattle.plan_words.specs.Plans.{Fits}
-use Rattle.plan_text.specs.Plans.{Spells, plan_script}
+use Rattle.plan_text.specs.Plans.{plan_script}
+use Rattle.client_threads.specs.Ran.{HasFullPass}
+use Rattle.pasis_shell.specs.PlanRuns.{IsPlan, Runs, Traces}
 
 -- the input spells a configuration and a value, and the text shows the value's fragments, their digests and its verifier
 pub record Shows (input text : List ℕ) : Type 0 where
@@ -34,24 +34,17 @@ pub record Shows (input text : List ℕ) : Type 0 where
 -- the command writes this text for the input; the flaw is what `check` finds, and no other command has one
 abbrev pub Writes : Command → List ℕ → List ℕ → Option Flaw → Type 0
 Writes Replay input text flaw = Replays input text × (flaw ≡ None)
-Writes Run input text flaw = ⊥
-Writes Trace input text flaw = ⊥
+Writes Run input text flaw = Runs input text × (flaw ≡ None)
+Writes Trace input text flaw = Traces input text × (flaw ≡ None)
 Writes Check input text flaw = Judges input text flaw
 Writes Sum input text flaw = Shows input text × (flaw ≡ None)
 Writes (Soak number) input text flaw = ⊥
 
--- the input spells a plan that can be run
-pub record IsPlan (input : List ℕ) : Type 0 where
-  pub plan : Plan
-  pub fits : Fits plan
-  pub spelled : Spells input plan
-  pub faultless : IsFaultless plan_script input
-
 -- what the command would do with the input isn't built yet
 abbrev pub IsUnbuilt : Command → List ℕ → Type 0
 IsUnbuilt Replay input = ⊥
-IsUnbuilt Run input = IsPlan input
-IsUnbuilt Trace input = IsPlan input
+IsUnbuilt Run input = ⊥
+IsUnbuilt Trace input = ⊥
 IsUnbuilt Check input = ⊥
 IsUnbuilt Sum input = ⊥
 IsUnbuilt (Soak number) input = ⊤
@@ -65,11 +58,21 @@ HasFault Check input fault = IsFault report input fault.line fault.cause
 HasFault Sum input fault = IsFault sum_script input fault.line fault.cause
 HasFault (Soak number) input fault = ⊥
 
+-- the command runs the plan that the input spells
+abbrev pub RunsIt : Command → List ℕ → Type 0
+RunsIt Replay input = ⊥
+RunsIt Run input = IsPlan input
+RunsIt Trace input = IsPlan input
+RunsIt Check input = ⊥
+RunsIt Sum input = ⊥
+RunsIt (Soak number) input = ⊥
+
 -- the command writes nothing for the input, for this reason
 abbrev pub Refuses : Command → List ℕ → Refusal → Type 0
 Refuses command input NoMemory = ⊤
 Refuses command input (NotBuilt line) = IsUnbuilt command input × (line ≡ 1)
 Refuses command input (BadScript fault) = HasFault command input fault
+Refuses command input (ClockFull drawn) = RunsIt command input × HasFullPass drawn
 
 -- the source gave this input, which is within the limit, and has none left
 abbrev pub GivesAll : Option (List ℕ) → Option (List ℕ) → List ℕ → Type 0

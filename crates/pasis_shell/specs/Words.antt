@@ -1,7 +1,9 @@
 -- The words of the command line.
-use Rattle.std.specs.Prelude.{ℕ, ◌≡◌, ◌<◌, ◌^◌, ⊤, List, [], ◌∷◌, map, codes, decimal, string_bytes}
+use Rattle.std.specs.Prelude.{ℕ, ◌≡◌, ◌⊎◌, ◌<◌, ◌^◌, ⊤, List, [], ◌∷◌, map, codes, decimal, string_bytes}
 use Rattle.std.specs.declared.string.String.{String}
 use Rattle.std.specs.declared.alloc.Global.{Global}
+use Rattle.quorum_rules.specs.declared.Edition.TheVariants.{One}
+use Rattle.quorum_rules.specs.Limits.{Numbers, IsValid}
 use Rattle.pasis_shell.specs.declared.words.Command.{Command}
 use Rattle.pasis_shell.specs.declared.words.Command.TheVariants.{Replay, Run, Trace, Check, Sum, Soak}
 
@@ -27,6 +29,23 @@ IsCommand Check = ⊤
 IsCommand Sum = ⊤
 IsCommand (Soak number) = number < 2 ^ 64
 
+-- the command runs threads
+abbrev pub RunsThreads : Command → Type 0
+RunsThreads Replay = ⊥
+RunsThreads Run = ⊤
+RunsThreads Trace = ⊤
+RunsThreads Check = ⊥
+RunsThreads Sum = ⊥
+RunsThreads (Soak number) = ⊤
+
+-- the words are those of a command that runs threads
+abbrev pub AskForThreads : List (List ℕ) → Type 0
+AskForThreads words = (command : Command) × IsCommand command × RunsThreads command × (words ≡ words_of command)
+
+-- the words are those of a command that runs a plan
+abbrev pub AskForPlan : List (List ℕ) → Type 0
+AskForPlan words = (words ≡ words_of Run) ⊎ (words ≡ words_of Trace)
+
 -- the words are those of a command
 abbrev pub IsForm : List (List ℕ) → Type 0
 IsForm words = (command : Command) × IsCommand command × (words ≡ words_of command)
@@ -34,3 +53,17 @@ IsForm words = (command : Command) × IsCommand command × (words ≡ words_of c
 -- one word is a command's
 abbrev pub IsNamed : List ℕ → Type 0
 IsNamed word = (command : Command) × (words_of command ≡ word ∷ [])
+
+-- the words of `nbd`, with the numbers of a configuration
+abbrev pub nbd_words : Numbers → List (List ℕ)
+nbd_words c = codes "nbd" ∷ decimal c.n ∷ decimal c.t ∷ decimal c.b ∷ decimal c.qc ∷ decimal c.m ∷ decimal c.size ∷ decimal c.blocks ∷ []
+
+-- the words are those of `nbd`, with the numbers of a valid configuration of edition 1
+pub record IsNbd (words : List (List ℕ)) (c : Numbers) : Type 0 where
+  pub edition : c.edition ≡ One
+  pub valid : IsValid c
+  pub spelled : words ≡ nbd_words c
+
+-- the words are those of `nbd` with some configuration
+abbrev pub IsNbdForm : List (List ℕ) → Type 0
+IsNbdForm words = (c : Numbers) × IsNbd words c

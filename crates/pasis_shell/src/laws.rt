@@ -1,9 +1,11 @@
 //! What the words of the top call cover. Each law is a function with nothing to do.
-ghost use Rattle.std.specs.Prelude.{◌≡◌, ℕ, List, Option, None};
+ghost use Rattle.std.specs.Prelude.{◌≡◌, ◌≤◌, ℕ, List, Option, None, length, map};
 ghost use Rattle.quorum_rules.specs.Limits.{Numbers};
 ghost use Rattle.wire_forms.specs.Liars.{Liars};
 ghost use Rattle.event_lines.specs.declared.line.ReplayLine.{ReplayLine};
-ghost use Rattle.script_text.specs.Replays.{IsReplay, Spells};
+ghost use Rattle.event_lines.specs.declared.line.ReplayLine.TheVariants.{Plain};
+ghost use Rattle.script_text.specs.Replays.{IsReplay, Spells, event_limit, replay_text};
+ghost use Rattle.plan_reports.specs.Traces.{TracesPlan};
 ghost use Rattle.script_text.specs.Sum.{IsSum, sum_text};
 ghost use Rattle.script_run.specs.Performing.{CommandQueues, Performs};
 ghost use Rattle.history_book.specs.Books.{Book};
@@ -44,3 +46,13 @@ pub fn replays_are_legal()
     ensures { (input text verdict : List ℕ) (flaw : Option Flaw) → (r : Replays input text)
         → NoClash (cluster_of r.config r.liars) r.queues.world → Judges text verdict flaw → flaw ≡ None }
 {}
+
+/// The script that a trace shows is one that `replay` takes, and it writes the trace's report, where there are no more lines than a
+/// script may have.
+pub fn traces_replay()
+    ensures { (plan : Plan) (text : List ℕ) → (t : TracesPlan plan text) → length t.run.lines ≤ event_limit plan.config
+        → Replays (replay_text plan.config plan.liars (map Plain t.run.lines)) t.report }
+{
+    told_scripts::laws::plans_declare();
+    script_text::laws::replays_are_spelled();
+}

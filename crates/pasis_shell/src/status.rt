@@ -1,20 +1,24 @@
-ghost use Rattle.std.specs.Prelude.{◌≡◌, ◌≢◌, ◌++◌, Some, codes, OnOk};
+ghost use Rattle.std.specs.Prelude.{◌≡◌, ◌≢◌, ◌↔◌, ◌++◌, Some, Ok, Err, codes, IsTrue, OnOk, IfErr};
 ghost use Rattle.std.specs.Io.KnownBytes.{Appends, Keeps};
 ghost use Rattle.std.specs.Fmt.{DisplaysOnOk};
 ghost use Rattle.pasis_shell.specs.declared.status.Status.TheVariants.{BadScript};
-ghost use Rattle.pasis_shell.specs.Statuses.{number_of, status_of_flaw, status_of_read, status_of_refusal, status_text};
+ghost use Rattle.pasis_shell.specs.Statuses.{number_of, status_of_flaw, status_of_read, status_of_refusal, status_of_session, status_text};
+ghost use Rattle.nbd_front.specs.declared.ending.Served.TheVariants.{Over};
 
 use crate::text::Refusal;
+use event_clock::Drawn;
 use history_book::Flaw;
 use line_forms::Cause;
+use nbd_front::SessionEnd;
 use outside_io::ReadRefusal;
 use std::io::Write;
 use std::{fmt, io};
 
 /// How a call of the program ended.
-#[derive(Clone, Copy, Debug, PartialEq, Eq)]
+#[derive(Drop)]
 pub enum Status {
-    /// The text was written whole and flushed.
+    /// The text was written whole and flushed. Of `nbd`: the client has left, or the input has ended where a request would
+    /// begin.
     Done,
     /// The text was written whole and flushed. The history isn't one of plain registers, and this is its first flaw.
     Illegal(Flaw),
@@ -24,17 +28,33 @@ pub enum Status {
     BadScript { line: u64, cause: Cause },
     /// The source failed.
     ReadFault,
-    /// The sink failed. What it took in this call is a beginning of the text.
+    /// The sink failed. What it took in this call is a beginning of the text, or of `nbd`'s greeting and replies.
     WriteFault,
-    /// No memory was found. Nothing was written.
+    /// No memory was found. Nothing was written; of `nbd`, a beginning of its greeting and replies.
     NoMemory,
     /// The source gave more than 4,194,304 bytes.
     TooLong,
     /// The command, or what this line asks for, isn't built yet. Lines count from 1.
     NotBuilt { line: u64 },
+    /// A run in threads drew as many numbers as a pass may, 2^40, and would draw another. Nothing was written. The numbers drawn
+    /// show it.
+    ClockFull(Drawn),
+    /// Of `nbd`: at this place of the input, where a request begins, stand four bytes that begin none.
+    BadMagic { at: u64 },
+    /// Of `nbd`: the input ends within the request that begins at this place, its data included.
+    CutRequest { at: u64 },
+    /// Of `nbd`: a byte follows the 2^31-th request.
+    TooManyRequests,
 }
 
 impl Status {
+    /// Whether all went well, and no flaw was found.
+    pub fn is_done(&self) -> bool
+        ensures { IsTrue result ↔ (self.now ≡ Status.Done) }
+    {
+        matches!(self, Status::Done)
+    }
+
     /// The number with which the program ends.
     pub fn number(&self) -> u8
         ensures { result ≡ number_of self.now }
@@ -49,6 +69,10 @@ impl Status {
             Status::NoMemory => 6,
             Status::TooLong => 8,
             Status::NotBuilt { .. } => 9,
+            Status::ClockFull(_) => 10,
+            Status::BadMagic { .. } => 11,
+            Status::CutRequest { .. } => 12,
+            Status::TooManyRequests => 13,
         }
     }
 }
@@ -68,6 +92,10 @@ impl fmt::Display for Status {
             Status::NoMemory => write!(f, "pasis: no memory"),
             Status::TooLong => write!(f, "pasis: input too long"),
             Status::NotBuilt { line } => write!(f, "pasis: line {line}: not built"),
+            Status::ClockFull(_) => write!(f, "pasis: clock full"),
+            Status::BadMagic { at } => write!(f, "pasis: bad magic at {at}"),
+            Status::CutRequest { at } => write!(f, "pasis: cut request at {at}"),
+            Status::TooManyRequests => write!(f, "pasis: too many requests"),
         }
     }
 }
@@ -90,7 +118,7 @@ impl Status {
         ensures line { self.now ≢ Status.Done
             → OnOk result (Appends (W.contents to.old) (W.contents to.new) (status_text self.now ++ codes "\n")) }
     {
-        if *self == Status::Done {
+        if self.is_done() {
             return Ok(());
         }
         writeln!(to, "{self}")
@@ -117,6 +145,22 @@ impl Status {
         }
     }
 
+    /// The status of a session.
+    pub fn of_session(ended: Result<(), SessionEnd>) -> Status
+        ensures done { OnOk ended (result ≡ status_of_session (Ok Over)) }
+        ensures end { IfErr ended (λ end. result ≡ status_of_session (Err end)) }
+    {
+        match ended {
+            Ok(()) => Status::Done,
+            Err(SessionEnd::NoMemory) => Status::NoMemory,
+            Err(SessionEnd::ReadFault) => Status::ReadFault,
+            Err(SessionEnd::WriteFault) => Status::WriteFault,
+            Err(SessionEnd::BadMagic { at }) => Status::BadMagic { at },
+            Err(SessionEnd::CutRequest { at }) => Status::CutRequest { at },
+            Err(SessionEnd::TooManyRequests) => Status::TooManyRequests,
+        }
+    }
+
     /// The status of an input for which no text is written.
     pub fn of_refusal(refusal: Refusal) -> Status
         ensures { result ≡ status_of_refusal refusal }
@@ -128,6 +172,7 @@ impl Status {
                 line: fault.line,
                 cause: fault.cause,
             },
+            Refusal::ClockFull(drawn) => Status::ClockFull(drawn),
         }
     }
 }

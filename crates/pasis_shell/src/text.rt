@@ -1,22 +1,23 @@
 ghost use Rattle.std.specs.Prelude.{◌≡◌, ◌<◌, ◌^◌, length, IfOk, IfErr};
 ghost use Rattle.pasis_shell.specs.Texts.{Writes, Refuses};
 ghost use Rattle.pasis_shell.specs.Statuses.{refusal_of};
+ghost use Rattle.pasis_shell.specs.Words.{RunsThreads};
 ghost use Rattle.pasis_shell.specs.declared.text.Refusal.TheVariants as refusals;
 
 use crate::check::verdict_of;
 use crate::replay::report_of;
 use crate::words::Command;
 use cross_sum::Bytes;
+use event_clock::Drawn;
 use history_book::Flaw;
 use line_forms::{ScriptFault, ScriptRefusal};
 use lists::NoMemory;
-use plan_text::read_plan;
 use script_text::read_sum;
 use std::alloc::Global;
 use sum_text::print_sum;
 
 /// Why a command writes no text for an input.
-#[derive(Clone, Copy, Debug, PartialEq, Eq)]
+#[derive(Drop)]
 pub enum Refusal {
     /// No memory was found.
     NoMemory,
@@ -24,6 +25,8 @@ pub enum Refusal {
     NotBuilt { line: u64 },
     /// The input is refused at the line and for the cause that the fault has.
     BadScript(ScriptFault),
+    /// A run in threads drew as many numbers as a pass may.
+    ClockFull(Drawn),
 }
 
 impl From<ScriptRefusal> for Refusal {
@@ -72,19 +75,10 @@ fn sum_of(alloc: Global, input: &Bytes) -> Result<Answer, Refusal>
     Ok(Answer::of(print_sum(alloc, &config, &value)?))
 }
 
-// What is to be done with a plan that fits isn't built yet.
-fn run_of(alloc: Global, input: &Bytes) -> Result<Answer, Refusal>
-    ensures none { IfOk result (λ _. ⊥) }
-    ensures run { IfErr result (λ refusal. Refuses Command.Run input.now refusal) }
-    ensures trace { IfErr result (λ refusal. Refuses Command.Trace input.now refusal) }
-{
-    let _plan = read_plan(alloc, input.as_slice())?;
-    Err(Refusal::NotBuilt { line: 1 })
-}
-
-/// What a command writes for an input, and the flaw that it finds.
+/// What a command that runs no threads writes for an input, and the flaw that it finds.
 pub fn text_of(alloc: Global, command: Command, input: &Bytes) -> Result<Answer, Refusal>
-    requires { length input.now < 2 ^ 32 }
+    requires short { length input.now < 2 ^ 32 }
+    requires alone { RunsThreads command → ⊥ }
     ensures text { IfOk result (λ answer. Writes command input.now answer.text answer.flaw) }
     ensures refused { IfErr result (λ refusal. Refuses command input.now refusal) }
 {
@@ -92,7 +86,6 @@ pub fn text_of(alloc: Global, command: Command, input: &Bytes) -> Result<Answer,
         Command::Replay => report_of(alloc, input),
         Command::Check => verdict_of(alloc, input),
         Command::Sum => sum_of(alloc, input),
-        Command::Run | Command::Trace => run_of(alloc, input),
-        Command::Soak(_) => Err(Refusal::NotBuilt { line: 1 }),
+        Command::Run | Command::Trace | Command::Soak(_) => Err(Refusal::NotBuilt { line: 1 }),
     }
 }

@@ -1,5 +1,5 @@
-ghost use Rattle.std.specs.Prelude.{◌≡◌, [], ◌∷◌, IfSome, IfNone};
-ghost use Rattle.pasis_shell.specs.Words.{texts, IsForm, IsCommand, words_of, IsNamed};
+ghost use Rattle.std.specs.Prelude.{◌≡◌, ◌↔◌, [], ◌∷◌, IsTrue, IfSome, IfNone};
+ghost use Rattle.pasis_shell.specs.Words.{texts, IsForm, IsCommand, RunsThreads, words_of, IsNamed};
 
 use text_lines::number;
 
@@ -18,6 +18,15 @@ pub enum Command {
     Sum,
     /// Runs the plan that the number makes, and writes a digest of its history.
     Soak(u64),
+}
+
+impl Command {
+    /// Whether the command runs threads.
+    pub fn runs_threads(&self) -> bool
+        ensures { IsTrue result ↔ RunsThreads self.now }
+    {
+        matches!(self, Command::Run | Command::Trace | Command::Soak(_))
+    }
 }
 
 // The command of a single word.

@@ -10,7 +10,8 @@ use std::sync::Wait;
 use std::test::Fail;
 use std::thread::Threads;
 
-const TWO_WRITES: &[u8] = b"pasis 1
+/// Two clients write.
+pub const TWO_WRITES: &[u8] = b"pasis 1
 cluster 5 1 1 3 2 2 2
 write 1 0 x0100
 write 2 1 x0200

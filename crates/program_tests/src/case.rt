@@ -10,6 +10,9 @@
 //! | `reads MOST [K]` | the source gives at most so many bytes at once, and its call K fails, counted from 0 |
 //! | `> TEXT`, `>\| TEXT` | what is written, as of the input |
 //! | `writes MOST [K]` | the sink takes at most so many bytes at once, and its call K fails |
+//! | `ends TEXT` | the last line that is written begins so, and the others aren't compared |
+//! | `has N TEXT` | so many of the lines that are written begin so, and the others aren't compared |
+//! | `replays` | what stands before the line `report` is a script, and `replay` writes for it what stands after that line |
 //! | `each call fails` | the case is also run with each call of the source failing in turn, and with each of the sink |
 //! | `! TEXT` | a line on standard error |
 //! | `status N` | the exit status, if it isn't 0 |
@@ -36,6 +39,12 @@ pub struct Case {
     pub writes: Pace,
     pub told: Vec<u8>,
     pub status: u8,
+    /// How the last line that is written begins, where that is all that is compared.
+    pub end: Option<String>,
+    /// How many lines begin so.
+    pub counts: Vec<(usize, String)>,
+    /// What is written is a trace, whose script replays to its report.
+    pub replays: bool,
     /// The calls fail in turn.
     pub fails_in_turn: bool,
     /// Each line is one of those that cases have.
@@ -58,6 +67,9 @@ impl Case {
             writes: WIDE,
             told: Vec::new(alloc),
             status: 0,
+            end: None,
+            counts: Vec::new(alloc),
+            replays: false,
             fails_in_turn: false,
             is_readable: true,
         })
@@ -77,6 +89,8 @@ impl Case {
             Some(("writes", pace)) => self.writes = pace_of(pace),
             Some(("status", number)) => self.status = number.parse().unwrap_or(u8::MAX),
             Some(("each", "call fails")) => self.fails_in_turn = true,
+            Some(("ends", text)) => self.end = Some(String::from_str(alloc, text)?),
+            Some(("has", count)) => self.add_count(alloc, count)?,
             Some(("!", text)) => add_line(&mut self.told, text)?,
             Some((mark, text)) => self.add_text(mark, text)?,
             None => self.add_bare(line)?,
@@ -84,10 +98,22 @@ impl Case {
         Ok(())
     }
 
+    // How many lines begin with a text.
+    fn add_count(&mut self, alloc: Global, count: &str) -> io::Result<()> {
+        let (number, text) = count.split_once(' ').unwrap_or((count, ""));
+        let number = number.parse().unwrap_or(usize::MAX);
+        self.counts.push((number, String::from_str(alloc, text)?))?;
+        Ok(())
+    }
+
     // A line with a mark alone.
     fn add_bare(&mut self, line: &str) -> io::Result<()> {
         match line {
             "" | "words" => Ok(()),
+            "replays" => {
+                self.replays = true;
+                Ok(())
+            }
             _ => self.add_text(line, ""),
         }
     }

@@ -8,20 +8,31 @@ mod outcome;
 
 use case::{Case, cases_of};
 use outcome::{outcome_of, tells_faults};
+use std::rt::Files;
+use std::sync::Wait;
+use std::thread::Threads;
 use std::{fs, io};
 
-fn run(rt: &HostRuntime, file: &str, case: &Case) -> io::Result<()> {
-    let outcome = outcome_of(rt.alloc(), case)?;
-    if let Some(difference) = outcome.difference(case) {
+fn run<R: Files + Print + AllocGlobal + Threads + Wait + Sync>(
+    rt: &R,
+    file: &str,
+    case: &Case,
+) -> io::Result<()> {
+    let outcome = outcome_of(rt, rt.alloc(), case)?;
+    if let Some(difference) = outcome.difference(rt.alloc(), case)? {
         println!(rt; "{file}: {}: {difference} differs", case.name)?;
     }
-    if !tells_faults(rt.alloc(), case)? {
+    if !tells_faults(rt, rt.alloc(), case)? {
         println!(rt; "{file}: {}: a fault isn't told", case.name)?;
     }
     Ok(())
 }
 
-fn run_file(rt: &HostRuntime, file: &str, path: &str) -> io::Result<()> {
+fn run_file<R: Files + Print + AllocGlobal + Threads + Wait + Sync>(
+    rt: &R,
+    file: &str,
+    path: &str,
+) -> io::Result<()> {
     let text = fs::read_to_string(rt, path)?;
     let cases = cases_of(rt.alloc(), text.as_str())?;
     for case in &cases {

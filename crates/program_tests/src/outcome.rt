@@ -4,10 +4,12 @@ use crate::case::{Case, Pace};
 use cross_sum::Bytes;
 use lists::NoMemory;
 use outside_io::{Calls, MemorySink, MemorySource};
-use pasis_shell::{OpenGate, Status, pasis};
+use pasis_shell::{OpenGate, Status, alone, pasis};
 use std::alloc::Global;
 use std::io;
 use std::io::ErrorKind;
+use std::sync::Wait;
+use std::thread::Threads;
 
 /// How a case ended, what was written, and what stands on standard error.
 #[derive(Drop)]
@@ -30,17 +32,27 @@ fn error_of(_: NoMemory) -> io::Error {
 }
 
 /// Runs a case.
-pub fn outcome_of(alloc: Global, case: &Case) -> io::Result<Outcome> {
-    paced(alloc, case, case.reads, case.writes)
+pub fn outcome_of<R: Threads + Wait + Sync>(
+    rt: &R,
+    alloc: Global,
+    case: &Case,
+) -> io::Result<Outcome> {
+    paced(rt, alloc, case, case.reads, case.writes)
 }
 
 // Runs a case with other calls that fail.
-fn paced(alloc: Global, case: &Case, reads: Pace, writes: Pace) -> io::Result<Outcome> {
+fn paced<R: Threads + Wait + Sync>(
+    rt: &R,
+    alloc: Global,
+    case: &Case,
+    reads: Pace,
+    writes: Pace,
+) -> io::Result<Outcome> {
     let input = Bytes::of(alloc, case.input.as_slice()).map_err(error_of)?;
     let mut source = MemorySource::new(input, reads.most.max(1), calls_of(alloc, reads)?);
     let mut sink = MemorySink::new(alloc, writes.most.max(1), calls_of(alloc, writes)?);
     let words = case.words.as_slice();
-    let status = pasis(alloc, words, &mut source, &mut sink, &OpenGate);
+    let status = pasis(rt, alloc, words, &mut source, &mut sink, &OpenGate);
     let mut told = Vec::new(alloc);
     status.tell(&mut told)?;
     Ok(Outcome { status, sink, told })
@@ -50,10 +62,15 @@ fn paced(alloc: Global, case: &Case, reads: Pace, writes: Pace) -> io::Result<Ou
 const CALLS: u64 = 10_000;
 
 // Whether each call of the source that fails is a read fault, at which nothing is written.
-fn tells_read_faults(alloc: Global, case: &Case) -> io::Result<bool> {
+fn tells_read_faults<R: Threads + Wait + Sync>(
+    rt: &R,
+    alloc: Global,
+    case: &Case,
+) -> io::Result<bool> {
     for call in 0..CALLS {
         let failing = Some(call);
         let outcome = paced(
+            rt,
             alloc,
             case,
             Pace {
@@ -64,17 +81,22 @@ fn tells_read_faults(alloc: Global, case: &Case) -> io::Result<bool> {
         )?;
         match outcome.status {
             Status::ReadFault if outcome.sink.taken().is_empty() => {}
-            status => return Ok(status == Status::Done && 0 < call),
+            status => return Ok(status.is_done() && 0 < call),
         }
     }
     Ok(false)
 }
 
 // Whether each call of the sink that fails is a write fault, at which a beginning of the output is written.
-fn tells_write_faults(alloc: Global, case: &Case) -> io::Result<bool> {
+fn tells_write_faults<R: Threads + Wait + Sync>(
+    rt: &R,
+    alloc: Global,
+    case: &Case,
+) -> io::Result<bool> {
     for call in 0..CALLS {
         let failing = Some(call);
         let outcome = paced(
+            rt,
             alloc,
             case,
             case.reads,
@@ -85,30 +107,81 @@ fn tells_write_faults(alloc: Global, case: &Case) -> io::Result<bool> {
         )?;
         match outcome.status {
             Status::WriteFault if case.output.starts_with(outcome.sink.taken()) => {}
-            status => return Ok(status == Status::Done && 0 < call),
+            status => return Ok(status.is_done() && 0 < call),
         }
     }
     Ok(false)
 }
 
 /// Whether each fault of a case whose calls fail in turn is told. After the last call none fails.
-pub fn tells_faults(alloc: Global, case: &Case) -> io::Result<bool> {
-    Ok(!case.fails_in_turn || tells_read_faults(alloc, case)? && tells_write_faults(alloc, case)?)
+pub fn tells_faults<R: Threads + Wait + Sync>(
+    rt: &R,
+    alloc: Global,
+    case: &Case,
+) -> io::Result<bool> {
+    Ok(
+        !case.fails_in_turn
+            || tells_read_faults(rt, alloc, case)? && tells_write_faults(rt, alloc, case)?,
+    )
+}
+
+// What stands before the line `report`, and what stands after it.
+fn parts_of(trace: &str) -> Option<(&str, &str)> {
+    let (front, report) = trace.split_once("\nreport\n")?;
+    Some((front, report))
+}
+
+// Whether the script of a trace replays to its report.
+fn replays(alloc: Global, trace: &str) -> io::Result<bool> {
+    let Some((front, report)) = parts_of(trace) else {
+        return Ok(false);
+    };
+    let mut script = Vec::from_slice(alloc, front.as_bytes())?;
+    script.push(b'\n')?;
+    let input = Bytes::from_vec(script);
+    let mut words = Vec::new(alloc);
+    words.push(String::from_str(alloc, "replay")?)?;
+    let mut source = MemorySource::new(input, 4096, Calls::new(alloc));
+    let mut sink = MemorySink::new(alloc, 4096, Calls::new(alloc));
+    let Some(status) = alone(alloc, words.as_slice(), &mut source, &mut sink) else {
+        return Ok(false);
+    };
+    Ok(status.is_done() && sink.taken() == report.as_bytes())
 }
 
 impl Outcome {
+    // Whether what was written is what the case says of it.
+    fn is_written(&self, alloc: Global, case: &Case) -> io::Result<bool> {
+        let Some(end) = &case.end else {
+            return Ok(self.sink.taken() == case.output.as_slice());
+        };
+        let Ok(text) = str::from_utf8(self.sink.taken()) else {
+            return Ok(false);
+        };
+        let ends = text
+            .lines()
+            .last()
+            .is_some_and(|line| line.starts_with(end.as_str()));
+        let counts = case.counts.iter().all(|(count, front)| text
+            .lines()
+            .filter(|line| line.starts_with(front.as_str()))
+            .count()
+            == *count);
+        Ok(ends && counts && (!case.replays || replays(alloc, text)?))
+    }
+
     /// What is otherwise than the case says, if anything is.
-    pub fn difference(&self, case: &Case) -> Option<&'static str> {
+    pub fn difference(&self, alloc: Global, case: &Case) -> io::Result<Option<&'static str>> {
         if !case.is_readable {
-            Some("a line of the case")
+            Ok(Some("a line of the case"))
         } else if self.status.number() != case.status {
-            Some("the status")
+            Ok(Some("the status"))
         } else if self.told.as_slice() != case.told.as_slice() {
-            Some("the line on standard error")
-        } else if self.sink.taken() != case.output.as_slice() {
-            Some("the output")
+            Ok(Some("the line on standard error"))
+        } else if !self.is_written(alloc, case)? {
+            Ok(Some("the output"))
         } else {
-            None
+            Ok(None)
         }
     }
 }

@@ -21,6 +21,7 @@ pub told : (input : List ℕ) (r : Refusal) (line : ℕ) (cause : Cause) → sta
     → Refuses Replay input r → Refuses Replay input (refusals.BadScript (record { line = line; cause = cause }))
 told input refusals.NoMemory line cause e h = absurd cc
 told input (refusals.NotBuilt n) line cause e h = absurd cc
+told input (refusals.ClockFull drawn) line cause e h = absurd cc
 told input (refusals.BadScript fault) line cause e h =
     let same_line : fault.line ≡ line = cc in
     let same_cause : fault.cause ≡ cause = cc in

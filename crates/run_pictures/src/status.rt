@@ -1,5 +1,5 @@
 //! How a picture ends that isn't drawn, and its line on standard error.
-ghost use Rattle.std.specs.Prelude.{◌≡◌};
+ghost use Rattle.std.specs.Prelude.{◌≡◌, ◌↔◌, IsTrue};
 ghost use Rattle.run_pictures.specs.declared.status.PictureRefusal.TheVariants as refusals;
 
 use lists::NoMemory;
@@ -10,7 +10,7 @@ use std::fmt;
 pub const MOST_LINES: usize = 400;
 
 /// Why no picture is drawn.
-#[derive(Clone, Copy, Debug, PartialEq, Eq)]
+#[derive(Drop)]
 pub enum PictureRefusal {
     /// The script is refused as `replay` refuses it.
     Replay(Refusal),
@@ -37,7 +37,7 @@ impl From<NoMemory> for PictureRefusal {
 }
 
 /// How a call of the program ended.
-#[derive(Clone, Copy, Debug, PartialEq, Eq)]
+#[derive(Drop)]
 pub enum PictureStatus {
     /// As a call of `replay` ends.
     Replay(Status),
@@ -46,6 +46,16 @@ pub enum PictureStatus {
 }
 
 impl PictureStatus {
+    /// Whether the picture was written whole.
+    pub fn is_done(&self) -> bool
+        ensures { IsTrue result ↔ (self.now ≡ PictureStatus.Replay Status.Done) }
+    {
+        match self {
+            PictureStatus::Replay(status) => status.is_done(),
+            PictureStatus::TooManyLines(_) => false,
+        }
+    }
+
     /// The number with which the program ends: that of `replay`, and 11 where there are too many lines.
     pub fn number(&self) -> u8 {
         match self {

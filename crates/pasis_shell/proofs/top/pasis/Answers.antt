@@ -1,10 +1,50 @@
-use Rattle.std.proofs.Common.{ap, Err, inr}
-use Rattle.pasis_shell.proofs.Accepted.{memory_alone}
-use Rattle.outside_io.specs.declared.reading.TheConstants.{LIMIT}
+use Rattle.std.proofs.Common.{◌≡◌, List, ℕ, Some, None, ap, refl, subst, ◌∙◌}
+use Rattle.outside_io.specs.Causes.{Rose}
+use Rattle.pasis_shell.specs.Words.{texts, words_of, AskForPlan}
+use Rattle.pasis_shell.specs.Texts.{IsAccepted}
+use Rattle.pasis_shell.proofs.Accepted.{complete, plan_runs}
+use Rattle.pasis_shell.proofs.Commands.{asks_threads, plan_form}
+use Rattle.pasis_shell.proofs.NbdForms.{no_command}
 use Rattle.pasis_shell.proofs.top.pasis.Goals as goal
 
-pub returns-clause-complete : goal.returns-clause-complete
-returns-clause-complete g c form input before small accepted calm_source calm_sink =
-    let none = c.in-Err.ensures in
-    inr (inr (memory_alone c.in-Err.status c.in-Some.command _ (g.S.Source.left c.args.source.now) (g.S.Source.left c.answer.new.source) input LIMIT none.causes c.in-Some.ensures.some.1 before small accepted
-    (λ e. calm_source (none.read_fault (ap Err e))) (λ e. none.too_long (ap Err e)) (λ line e. none.not_built line (ap Err e)) (λ line cause e. none.bad_script line cause (ap Err e))))
+pub returns-in-Some-clause-complete : goal.returns-in-Some-clause-complete
+returns-in-Some-clause-complete g c form input before small accepted calm_source calm_sink =
+    let words = texts c.args.words.now in
+    let done = c.in-Some.ensures in
+    complete words (g.S.Source.left c.args.source.now) (g.S.Source.left c.alone.new.source) (g.K.Sink.taken c.args.sink.now) (g.K.Sink.taken c.alone.new.sink)
+    (g.K.Sink.flushed c.args.sink.now) (g.K.Sink.flushed c.alone.new.sink) input c.in-Some.status (done.ends (no_command words form)) form before small accepted
+    (λ e. calm_source (done.read_fault (ap Some e))) (λ e. calm_sink (done.write_fault (ap Some e)))
+
+pub returns-in-Some-command_of-clause-complete : goal.returns-in-Some-command_of-clause-complete
+returns-in-Some-command_of-clause-complete g c form input before small accepted calm_source calm_sink =
+    let command = c.in-Some-command_of.command in
+    let is = c.in-Some-command_of.ensures.some in
+    let done = c.in_threads.ensures in
+    let source = c.in_default.ensures.untouched_source refl in
+    let sink = c.in_default.ensures.untouched_sink refl in
+    complete (words_of command) (g.S.Source.left c.alone.new.source) (g.S.Source.left c.in_threads.new.source) (g.K.Sink.taken c.alone.new.sink) (g.K.Sink.taken c.in_threads.new.sink)
+    (g.K.Sink.flushed c.alone.new.sink) (g.K.Sink.flushed c.in_threads.new.sink) input c.in_threads.result done.ends (command, is.0, refl) (ap (λ s. g.S.Source.left s) source ∙ before) small
+    (subst (λ (ws : List (List ℕ)). IsAccepted ws input) is.1 accepted)
+    (λ e. calm_source (subst (λ s. Rose g.S.Source.last (g.S.Source.faults s) (g.S.Source.faults c.in_threads.new.source)) source (done.read_fault e)))
+    (λ e. calm_sink (subst (λ s. Rose g.K.Sink.last (g.K.Sink.faults s) (g.K.Sink.faults c.in_threads.new.sink)) sink (done.write_fault e)))
+
+pub returns-in-Some-command_of-clause-complete_plan : goal.returns-in-Some-command_of-clause-complete_plan
+returns-in-Some-command_of-clause-complete_plan g c ask input plan before small fits spelled calm_source calm_sink =
+    let command = c.in-Some-command_of.command in
+    let is = c.in-Some-command_of.ensures.some in
+    let done = c.in_threads.ensures in
+    let source = c.in_default.ensures.untouched_source refl in
+    let sink = c.in_default.ensures.untouched_sink refl in
+    plan_runs (words_of command) (g.S.Source.left c.alone.new.source) (g.S.Source.left c.in_threads.new.source) (g.K.Sink.taken c.alone.new.sink) (g.K.Sink.taken c.in_threads.new.sink)
+    (g.K.Sink.flushed c.alone.new.sink) (g.K.Sink.flushed c.in_threads.new.sink) input plan fits spelled (subst AskForPlan is.1 ask) c.in_threads.result done.ends (ap (λ s. g.S.Source.left s) source ∙ before) small
+    (λ e. calm_source (subst (λ s. Rose g.S.Source.last (g.S.Source.faults s) (g.S.Source.faults c.in_threads.new.source)) source (done.read_fault e)))
+    (λ e. calm_sink (subst (λ s. Rose g.K.Sink.last (g.K.Sink.faults s) (g.K.Sink.faults c.in_threads.new.sink)) sink (done.write_fault e)))
+
+pub returns-in-Some-clause-complete_plan : goal.returns-in-Some-clause-complete_plan
+returns-in-Some-clause-complete_plan g c ask input plan before small fits spelled calm_source calm_sink =
+    let none : Some c.in-Some.status ≡ None = c.in-Some.ensures.none.1 (asks_threads (texts c.args.words.now) ask) in
+    absurd cc
+
+pub returns-in-None-clause-complete_plan : goal.returns-in-None-clause-complete_plan
+returns-in-None-clause-complete_plan g c ask input plan before small fits spelled calm_source calm_sink =
+    absurd (c.in-None.ensures.none (plan_form (texts c.args.words.now) ask))

@@ -1,0 +1,35 @@
+-- Which command the words are those of.
+use Rattle.std.proofs.Common.{◌≡◌, ℕ, List, sym, inl, inr, ◌⊎◌, ◌∙◌}
+use Rattle.pasis_shell.specs.Words.{words_of, IsForm, RunsThreads, AskForThreads, AskForPlan}
+use Rattle.pasis_shell.specs.declared.words.Command.{Command}
+use Rattle.pasis_shell.specs.declared.words.Command.TheVariants.{Replay, Run, Trace, Check, Sum, Soak}
+use Rattle.pasis_shell.proofs.WellFormed.{replay_alone, check_alone, sum_alone, run_alone, trace_alone}
+
+quiet : (mine other : Command) → mine ≡ other → (RunsThreads mine → ⊥) → RunsThreads other → ⊥
+quiet mine other e none runs = none (rw e runs)
+
+-- a command without threads has words of no command with threads
+pub runs_none : (words : List (List ℕ)) (command : Command) → words ≡ words_of command → AskForThreads words → RunsThreads command
+runs_none words Replay e ask = absurd (quiet Replay ask.0 (replay_alone ask.0 (sym e ∙ ask.3)) (λ no. no) ask.2)
+runs_none words Run e ask = tt
+runs_none words Trace e ask = tt
+runs_none words Check e ask = absurd (quiet Check ask.0 (check_alone ask.0 (sym e ∙ ask.3)) (λ no. no) ask.2)
+runs_none words Sum e ask = absurd (quiet Sum ask.0 (sum_alone ask.0 (sym e ∙ ask.3)) (λ no. no) ask.2)
+runs_none words (Soak n) e ask = tt
+
+-- words that ask for threads or a plan are a command's
+pub asked_form : (words : List (List ℕ)) → AskForThreads words → IsForm words
+asked_form words ask = (ask.0, ask.1, ask.3)
+
+pub plan_form : (words : List (List ℕ)) → AskForPlan words → IsForm words
+plan_form words (inl e) = (Run, tt, e)
+plan_form words (inr e) = (Trace, tt, e)
+
+pub asks_threads : (words : List (List ℕ)) → AskForPlan words → AskForThreads words
+asks_threads words (inl e) = (Run, tt, tt, e)
+asks_threads words (inr e) = (Trace, tt, tt, e)
+
+-- words of a plan's command are those of no other
+pub plans_only : (words : List (List ℕ)) (command : Command) → words ≡ words_of command → AskForPlan words → (command ≡ Run) ⊎ (command ≡ Trace)
+plans_only words command e (inl run) = inl (sym (run_alone command (sym run ∙ e)))
+plans_only words command e (inr trace) = inr (sym (trace_alone command (sym trace ∙ e)))

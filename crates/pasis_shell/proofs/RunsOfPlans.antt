@@ -1,0 +1,31 @@
+-- What the run of a plan shows.
+use Rattle.std.proofs.Common.{◌≡◌, ℕ, List, refl, subst}
+use Rattle.line_forms.specs.Texts.{IsFaultless}
+use Rattle.event_clock.specs.Passes.{Tally}
+use Rattle.plan_words.specs.declared.plan.Plan.{Plan}
+use Rattle.plan_words.specs.Plans.{Fits}
+use Rattle.plan_text.specs.Plans.{Spells, plan_script}
+use Rattle.client_threads.specs.Ran.{HasFullPass}
+use Rattle.client_threads.specs.declared.run.RunRefusal.{RunRefusal}
+use Rattle.client_threads.specs.declared.run.RunRefusal.TheVariants as runs
+use Rattle.pasis_shell.specs.declared.words.Command.TheVariants.{Run, Trace}
+use Rattle.pasis_shell.specs.Statuses.{refusal_of_run}
+use Rattle.pasis_shell.specs.PlanRuns.{IsPlan}
+use Rattle.pasis_shell.specs.Texts.{Refuses}
+
+-- the plan that was read is the input's
+abbrev pub is_plan : (input text : List ℕ) (plan : Plan) → text ≡ input → Fits plan → Spells text plan → IsFaultless plan_script text → IsPlan input
+is_plan input text plan e fits spelled faultless = record {
+  plan = plan;
+  fits = fits;
+  spelled = subst (λ (t : List ℕ). Spells t plan) e spelled;
+  faultless = subst (λ (t : List ℕ). IsFaultless plan_script t) e faultless;
+}
+
+pub run_refuses : (input : List ℕ) → IsPlan input → (r : RunRefusal) → ((drawn : Tally) → r ≡ runs.ClockFull drawn → HasFullPass drawn) → Refuses Run input (refusal_of_run r)
+run_refuses input is runs.NoMemory full = tt
+run_refuses input is (runs.ClockFull drawn) full = (is, full drawn refl)
+
+pub trace_refuses : (input : List ℕ) → IsPlan input → (r : RunRefusal) → ((drawn : Tally) → r ≡ runs.ClockFull drawn → HasFullPass drawn) → Refuses Trace input (refusal_of_run r)
+trace_refuses input is runs.NoMemory full = tt
+trace_refuses input is (runs.ClockFull drawn) full = (is, full drawn refl)

@@ -1,0 +1,73 @@
+-- The script of a trace replays to the trace's report.
+use Rattle.std.proofs.Common.{◌≡◌, ℕ, ◌+◌, ◌≤◌, List, [], ◌∷◌, length, map, refl, sym, ◌∙◌, ap, subst, arith}
+use Rattle.std.specs.Prelude.{option_map}
+use Rattle.std.proofs.lemmas.List.{length-map}
+use Rattle.quorum_rules.specs.Limits.{Numbers}
+use Rattle.wire_forms.specs.Liars.{Liars, has_number}
+use Rattle.line_forms.specs.Texts.{IsFaultless}
+use Rattle.line_forms.specs.declared.cause.Cause.TheVariants.{Step}
+use Rattle.event_lines.specs.declared.line.ReplayLine.{ReplayLine}
+use Rattle.event_lines.specs.declared.line.ReplayLine.TheVariants.{Plain}
+use Rattle.script_text.specs.Replays.{IsReplay, Spells, event_limit, replay_script, replay_text}
+use Rattle.protocol.specs.Setting.{Setting, first_stamp}
+use Rattle.protocol.specs.Instance.{setting_of}
+use Rattle.protocol.specs.World.{World, start_world}
+use Rattle.protocol.specs.Lines.{Line, StepFault, Run}
+use Rattle.protocol.specs.History.{NoClash}
+use Rattle.history_book.specs.Tellings.{Tells}
+use Rattle.history_book.specs.Judging.{IsLegal, IsInTime}
+use Rattle.run_reports.specs.Registers.{AreRegisters}
+use Rattle.script_run.specs.Performing.{CommandQueues, LeadsTo, start_queues, after_line}
+use Rattle.journals.specs.Journals.{setting_for}
+use Rattle.merge_trace.specs.Traces.{placed}
+use Rattle.plan_words.specs.declared.plan.Plan.{Plan}
+use Rattle.plan_followed.specs.Laws.{OfPlans}
+use Rattle.told_scripts.specs.Declared.{HasScriptLiars}
+use Rattle.plan_reports.specs.Runs.{Reports}
+use Rattle.plan_reports.specs.Traces.{TracesPlan}
+use Rattle.pasis_shell.specs.Replays.{cluster_of, Replays}
+
+module _ (s : Setting) (c : Numbers) where
+  -- lines that are a run take place one after the other
+  leads : (lines : List Line) (d : CommandQueues) (place : ℕ) (w : World) → Run s d.world (placed place lines) w
+      → (last : CommandQueues) × LeadsTo s c d (place + 1) (map Plain lines) last × (last.world ≡ w)
+  leads [] d place w run = (d, refl, sym run)
+  leads (l ∷ lines) d place w run =
+      let rest = leads lines (after_line s c d (place + 1) (Plain l)) (place + 1) w run.3 in
+      (rest.0, (ap (option_map (λ (f : StepFault). Step f)) run.2, rest.1), rest.2)
+
+pub trace_replays : OfPlans HasScriptLiars
+    → ((text : List ℕ) (c : Numbers) (l : Liars) (es : List ReplayLine) → IsReplay c l es → Spells text c l es → IsFaultless replay_script text)
+    → ((c : Numbers) (l : Liars) (es : List ReplayLine) → IsReplay c l es → Spells (replay_text c l es) c l es)
+    → (plan : Plan) (text : List ℕ) → (t : TracesPlan plan text) → length t.run.lines ≤ event_limit plan.config
+    → Replays (replay_text plan.config plan.liars (map Plain t.run.lines)) t.report
+trace_replays declares accepted spelled plan text t few =
+    let run = t.run in
+    let of = run.of_plan.1 in
+    let script = replay_text plan.config plan.liars (map Plain run.lines) in
+    let size : length (map Plain run.lines) ≡ length run.lines = length-map run.lines Plain in
+    let replay : IsReplay plan.config plan.liars (map Plain run.lines) =
+    record { valid = of.fits.valid; lying = declares plan of.fits; events = t.events; limited = omega (arith, size, few) } in
+    let spells = spelled plan.config plan.liars (map Plain run.lines) replay in
+    let same : setting_for run.journals ≡ cluster_of plan.config plan.liars =
+    ap (λ (k : Numbers). setting_of k (has_number run.journals.liars.nodes) (has_number run.journals.liars.clients)) of.follows.are_for.config
+    ∙ ap (λ (l : Liars). setting_of plan.config (has_number l.nodes) (has_number l.clients)) of.follows.are_for.liars in
+    let s = cluster_of plan.config plan.liars in
+    let here : Run s (start_world s) (placed 0 run.lines) run.world = subst (λ (z : Setting). Run z (start_world z) (placed 0 run.lines) run.world) same run.run in
+    let done = leads s plan.config run.lines (start_queues s) 0 run.world here in
+    let reports : Reports s run.world t.report = subst (λ (z : Setting). Reports z run.world t.report) same run.reports in
+    record {
+      config = plan.config;
+      liars = plan.liars;
+      lines = map Plain run.lines;
+      script = record { replay = replay; spelled = spells; faultless = accepted script plan.config plan.liars (map Plain run.lines) replay spells };
+      queues = done.0;
+      run = done.1;
+      history = reports.history;
+      book = reports.book;
+      tells = subst (λ (v : World). Tells v.records (first_stamp s) reports.history reports.book) (sym done.2) reports.tells;
+      shown = reports.shown;
+      registers = subst (λ (v : World). AreRegisters s v reports.history) (sym done.2) reports.registers;
+      told = reports.told;
+      plain = subst (λ (v : World). NoClash s v → IsLegal reports.book.entries × IsInTime reports.book.entries) (sym done.2) reports.plain;
+    }

@@ -1,0 +1,13 @@
+use Rattle.std.proofs.Common.{List, ℕ, subst, sym}
+use Rattle.pasis_shell.specs.PlanRuns.{Runs}
+use Rattle.pasis_shell.proofs.RunsOfPlans.{is_plan}
+use Rattle.pasis_shell.proofs.planned.run_of.Goals as goal
+
+pub run_text-requires : goal.run_text-requires
+run_text-requires g c = (c.in_ok-ran.ran.drawn.count, c.in_ok-ran.ensures.followed)
+
+pub returns-clause-text : goal.returns-clause-text
+returns-clause-text g c =
+    let p = c.in_ok-plan.ensures in
+    let is = is_plan c.args.input.now c.as_slice.result.now c.in_ok-plan.plan c.as_slice.ensures.value p.fits p.spelled p.faultless in
+    (subst (λ (t : List ℕ). Runs c.args.input.now t) (sym c.of.ensures.text) (record { is = is; run = c.in_ok-text.ensures }), c.of.ensures.flaw)
