@@ -44,7 +44,7 @@ fn fragments_of_a_block_are_sound(rt: HostRuntime) -> Result<(), Fail> {
         Verdict::Sound(found) => assert_eq!(rt; found.as_slice(), block.as_slice()),
         Verdict::Poisonous => assert!(rt; false),
     }
-    let found = checked_block(rt.alloc(), &code, 2, &made.sum, &parts)?.ok_or("sound")?;
+    let found = checked_block(rt.alloc(), &code, 2, &made.sum, &parts, &[])?.ok_or("sound")?;
     assert_eq!(rt; found.block.as_slice(), block.as_slice());
     assert_eq!(rt; found.shares.len(), 5);
     for (share, other) in found.shares.as_slice().iter().zip(made.shares.as_slice()) {
@@ -75,7 +75,7 @@ fn fragments_of_two_blocks_are_poisonous(rt: HostRuntime) -> Result<(), Fail> {
             bytes: Bytes::of(rt.alloc(), &[0x0b])?,
         },
     ];
-    assert!(rt; checked_block(rt.alloc(), &code, 2, &sum, &parts)?.is_none());
+    assert!(rt; checked_block(rt.alloc(), &code, 2, &sum, &parts, &[])?.is_none());
     match verdict_of(rt.alloc(), &code, 2, &sum, &parts)? {
         Verdict::Sound(_) => assert!(rt; false),
         Verdict::Poisonous => (),

@@ -1,12 +1,15 @@
 -- The answers that carry the pivot, and what they decode to.
-use Rattle.std.proofs.Common.{◌≡◌, ℕ, zero, suc, ◌-◌, ◌<◌, ◌≤◌, Bool, true, false, cond, List, [], ◌∷◌, length, take, map, Option, refl, sym, ◌∙◌, ap, arith}
+use Rattle.std.proofs.Common.{◌≡◌, ℕ, zero, suc, ◌-◌, ◌<◌, ◌≤◌, Bool, true, false, cond, List, [], ◌∷◌, length, take, map, Option, refl, sym, ◌∙◌, ap, subst, arith}
+use Rattle.std.specs.Prelude.{slice_get}
 use Rattle.std.specs.declared.option.Option.TheVariants.{None, Some}
 use Rattle.std.specs.List.{Contains}
 use Rattle.std.proofs.lemmas.List.{length-map}
+use Rattle.std.proofs.lemmas.Option.{slice_get-get_or}
 use Rattle.quorum_rules.specs.Limits.{Numbers, IsValid}
 use Rattle.stamp_order.specs.declared.Stamp.{Stamp}
 use Rattle.stamp_order.specs.declared.Bound.{Bound}
 use Rattle.stamp_order.specs.Stamps.{same_stamp}
+use Rattle.cross_sum.specs.Digest.{digest}
 use Rattle.cross_sum.specs.declared.part.Part.{Part}
 use Rattle.cross_sum.specs.Parts.{numbers, strings}
 use Rattle.gf_field.specs.Fragments.{AreParts, string_len, decoded}
@@ -26,7 +29,7 @@ use Rattle.protocol.proofs.Cluster.{are_parts, cluster_valid}
 use Rattle.candidate_class.specs.Stamps.{stamp_at, is_stamp}
 use Rattle.candidate_class.proofs.Nodes.{is_stamp-stamp_of}
 use Rattle.read_core.specs.Rounds.{answer_at}
-use Rattle.read_core.specs.Candidates.{found_in, carrier, shown_parts}
+use Rattle.read_core.specs.Candidates.{found_in, carrier, shown_parts, CarryWhole}
 use Rattle.read_core.proofs.Counts.{count_none}
 
 -- an answer carries the stamp if it's valid with it
@@ -75,6 +78,17 @@ module _ (c : Numbers) (good : IsValid c) (bound : Bound) (answers : List (Optio
 
   pub carriers_are : collect c.n (carrier answers stamps p) ≡ carriers (setting c) (answer_at answers) bound p
   carriers_are = ap (λ (f : ℕ → Option (ℕ × Version)). collect c.n f) (funext _ _ carrier-is)
+
+  -- who carries the stamp has its fragment's digest in its own cross checksum
+  pub carry_whole : length answers ≡ c.n → CarryWhole answers stamps p
+  carry_whole places i v l e =
+      let w = carrier_was p i (valid (setting c) i bound (answer_at answers i)) (i, v) (sym (carrier-is i) ∙ e) in
+      let was = valid_was (setting c) i bound (answer_at answers i) w.0 w.1 in
+      let facts = whole_facts (setting c) i w.0 (both_true _ _ was.1).1 in
+      let here : slice_get w.0.sum i ≡ Some (digest w.0.fragment) =
+      slice_get-get_or w.0.sum i [] (let n = facts.sum_length in omega (arith, n, places, l)) ∙ ap (λ (d : List ℕ). Some d) (sym facts.digests) in
+      let same : w.0 ≡ v = ap (λ (q : ℕ × Version). q.1) w.2 in
+      subst (λ (u : Version). slice_get u.sum i ≡ Some (digest u.fragment)) same here
 
   pub support_is : count c.n (λ i. is_stamp p (stamp_at stamps i)) ≡ support (setting c) (answer_at answers) bound p
   support_is =

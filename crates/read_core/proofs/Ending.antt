@@ -22,13 +22,13 @@ use Rattle.protocol.specs.Operations.Stage.{Versions}
 use Rattle.candidate_class.specs.Stamps.{stamp_at, is_stamp}
 use Rattle.read_core.specs.Rounds.{answer_at, new_round, IsRound}
 use Rattle.read_core.specs.Repairs.{ack_of, new_repair}
-use Rattle.read_core.specs.Candidates.{carrier, shown_parts}
+use Rattle.read_core.specs.Candidates.{carrier, shown_parts, CarryWhole}
 use Rattle.read_core.specs.Ends.{decision_of, IsNewNext, IsEnd}
 use Rattle.read_core.specs.declared.stage.Stage.TheVariants.{Asking, Storing}
 use Rattle.read_core.specs.declared.phase_end.PhaseEnd.{PhaseEnd}
 use Rattle.read_core.specs.declared.phase_end.PhaseEnd.TheVariants.{Outvoted, Gives, GoesOn}
 use Rattle.read_core.proofs.Deciding.{too_few, first_is_given, little_is_lower, poison_is_below, complete_is_given, repairable_is_stored}
-use Rattle.read_core.proofs.Choosing.{support_is, sum_is, sum_length, decoded_is, parts_are}
+use Rattle.read_core.proofs.Choosing.{support_is, sum_is, sum_length, decoded_is, parts_are, carry_whole as carries_whole}
 
 -- a round's end by its decision
 ended : (c : Numbers) (bound : Bound) (answers : List (Option Reply)) (end : PhaseEnd)
@@ -59,6 +59,9 @@ module _ (c : Numbers) (first : Stamp) (bound : Bound) (answers : List (Option R
       ∙ ap (λ k. collect k (λ i. kept_where (is_answered (answer_at answers i) && not (is_there (stamp_at stamps i))) i)) h.places
       ∙ ap (λ (f : ℕ → Option Stamp). collect c.n (λ i. kept_where (is_answered (answer_at answers i) && not (is_there (f i))) i)) h.stamps_are in
       ended c bound answers (Outvoted nodes) (λ rounds. ap (λ xs. decision_of rounds (Outvoted xs)) invalid ∙ too_few (setting c) (answer_at answers) bound rounds none) tt
+
+  pub carry_whole : (p : Stamp) → CarryWhole answers stamps p
+  carry_whole p = carries_whole c h.valid bound answers stamps h.stamps_are p h.places
 
   module _ (p : Stamp) (is : pivot (setting c) (answer_at answers) bound ≡ Some p) where
     pub is_first : (value : List ℕ) → same_stamp p first ≡ true → value ≡ replicate c.size 0 → IsEnd c (Versions bound) answers (Gives p value Plain)

@@ -2,6 +2,8 @@
 use Rattle.std.proofs.Common.{◌≡◌, ◌⊎◌, ℕ, zero, suc, ◌+◌, ◌<◌, ◌≤◌, Bool, true, false, List, [], ◌∷◌, ◌++◌, length, take, get_or, map, Option, refl, sym, ◌∙◌, ap, inl, inr, arith, length-take, length-append}
 use Rattle.std.specs.declared.option.Option.TheVariants.{None, Some}
 use Rattle.std.proofs.lemmas.List.{map-append, take_all, take-append-le, length-map, get_or_default}
+use Rattle.std.specs.List.{AllByRecursion}
+use Rattle.frag_check.specs.Known.{HasItsDigest}
 use Rattle.cross_sum.specs.declared.part.Part.{Part}
 use Rattle.wire_forms.specs.declared.message.Version.{Version}
 use Rattle.protocol.specs.Count.{collect, one_more}
@@ -82,3 +84,8 @@ first_stays (suc k) i f q l none e =
 
 pub first_sum_is : (n i : ℕ) (f : ℕ → Option (ℕ × Version)) (v : Version) → i < n → collect i f ≡ [] → f i ≡ Some (i, v) → sum_of_first (collect n f) ≡ v.sum
 first_sum_is n i f v l none e = let r = first_stays n i f (i, v) l none e in ap sum_of_first r.1
+
+-- one more part whose digest is known
+pub known_pushed : (sum : List (List ℕ)) (parts : List Part) (p : Part) → AllByRecursion (HasItsDigest sum) parts → HasItsDigest sum p → AllByRecursion (HasItsDigest sum) (parts ++ p ∷ [])
+known_pushed sum [] p h k = (k, tt)
+known_pushed sum (x ∷ parts) p h k = (h.0, known_pushed sum parts p h.1 k)

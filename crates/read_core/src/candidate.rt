@@ -1,4 +1,5 @@
 ghost use Rattle.std.specs.Prelude.{◌≡◌, ◌≢◌, ◌≤◌, ◌&&◌, not, map, take, length, IfOk, IfSome, IfNone, option_copied};
+ghost use Rattle.std.specs.List.{AllByRecursion};
 ghost use Rattle.gf_field.specs.Fragments.{AreParts, string_len, decoded, fragments_of};
 ghost use Rattle.cross_sum.specs.Parts.{numbers, strings};
 ghost use Rattle.block_rows.specs.Sums.{sum_of};
@@ -6,7 +7,8 @@ ghost use Rattle.protocol.specs.Count.{collect, kept_where};
 ghost use Rattle.protocol.specs.Operations.{is_answered, is_there, sum_of_first, part_of, only_if};
 ghost use Rattle.candidate_class.specs.Stamps.{stamp_at, is_stamp};
 ghost use Rattle.read_core.specs.Rounds.{answer_at};
-ghost use Rattle.read_core.specs.Candidates.{found_in, carrier, shown_parts};
+ghost use Rattle.frag_check.specs.Known.{HasItsDigest};
+ghost use Rattle.read_core.specs.Candidates.{found_in, carrier, shown_parts, CarryWhole};
 
 use candidate_class::is_stamp;
 use cross_sum::{CrossSum, Part};
@@ -91,6 +93,34 @@ pub(crate) fn least_sum(
     CrossSum::of_hashes(alloc, &[])
 }
 
+/// The fragments that came with the stamp in valid answers under just this cross checksum: their
+/// digests are the ones in it.
+pub(crate) fn known_parts(
+    alloc: Global,
+    answers: &[Option<Reply>],
+    stamps: &[Option<Stamp>],
+    stamp: &Stamp,
+    sum: &CrossSum,
+) -> Result<Vec<Part>, NoMemory>
+    requires places { length stamps.now ≡ length answers.now }
+    requires few { length answers.now ≤ 16 }
+    requires whole { CarryWhole answers.now stamps.now stamp.now }
+    ensures { IfOk result (λ parts. AllByRecursion (HasItsDigest sum.now) parts.items) }
+{
+    let mut parts = Vec::new(alloc);
+    for (i, answer) in answers.iter().enumerate() {
+        if let Some(version) = carried(answer, &stamps[i], stamp) {
+            if version.sum.same(sum) {
+                parts.push(Part {
+                    number: i as u8,
+                    bytes: version.fragment.copy()?,
+                })?;
+            }
+        }
+    }
+    Ok(parts)
+}
+
 /// The version of an answer whose stamp, if it's valid, is this one.
 fn carried<'a>(answer: &'a Option<Reply>, of: &Option<Stamp>, stamp: &Stamp) -> Option<&'a Version>
     ensures { option_copied result ≡ only_if (is_stamp stamp.now of.now) (found_in answer.now) }
@@ -104,22 +134,32 @@ fn carried<'a>(answer: &'a Option<Reply>, of: &Option<Stamp>, stamp: &Stamp) -> 
     }
 }
 
-/// The block that `m` fragments decode to, with all its fragments: none where their digests aren't those of `sum`.
+/// The block that `m` fragments decode to, with all its fragments: none where their digests aren't those of `sum`, which has those
+/// of the known ones.
 pub(crate) fn checked(
     alloc: Global,
     config: &Config,
     sum: &CrossSum,
     parts: &[Part],
+    known: &[Part],
 ) -> Result<Option<Checked>, NoMemory>
     requires parts { AreParts config.now.n config.now.m (string_len config.now.m config.now.size) (numbers parts.now) (strings parts.now) }
     requires digests { length sum.now ≡ config.now.n }
+    requires known { AllByRecursion (HasItsDigest sum.now) known.now }
     ensures block { IfOk result (λ found. IfSome found (λ c. c.block ≡ decoded config.now.m config.now.size (numbers parts.now) (strings parts.now))) }
     ensures shares { IfOk result (λ found. IfSome found (λ c. c.shares ≡ fragments_of config.now.n config.now.m c.block)) }
     ensures sound { IfOk result (λ found. IfSome found (λ c. sum_of config.now.n config.now.m c.block ≡ sum.now)) }
     ensures poisonous { IfOk result (λ found. IfNone found
         (sum_of config.now.n config.now.m (decoded config.now.m config.now.size (numbers parts.now) (strings parts.now)) ≢ sum.now)) }
 {
-    checked_block(alloc, &code_of(config), config.size() as usize, sum, parts)
+    checked_block(
+        alloc,
+        &code_of(config),
+        config.size() as usize,
+        sum,
+        parts,
+        known,
+    )
 }
 
 fn code_of(config: &Config) -> Code

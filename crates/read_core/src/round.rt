@@ -9,7 +9,7 @@ ghost use Rattle.read_core.specs.Stages.{counts_in, is_full};
 ghost use Rattle.wire_forms.specs.declared.message.Reply.{Reply as Replies};
 ghost use Rattle.read_core.specs.Ends.{IsHeard, IsEnd};
 
-use crate::candidate::{checked, invalid_nodes, least_sum, parts_of, replies_copy};
+use crate::candidate::{checked, invalid_nodes, known_parts, least_sum, parts_of, replies_copy};
 use crate::phase_end::PhaseEnd;
 use crate::repair::Repair;
 use crate::stage::Stage;
@@ -182,7 +182,14 @@ impl Round {
         let stamps = self.stamps.as_slice();
         let parts = parts_of(alloc, answers, stamps, &pivot, self.config.m() as usize)?;
         let sum = least_sum(alloc, answers, stamps, &pivot)?;
-        match checked(alloc, &self.config, &sum, parts.as_slice())? {
+        let known = known_parts(alloc, answers, stamps, &pivot, &sum)?;
+        match checked(
+            alloc,
+            &self.config,
+            &sum,
+            parts.as_slice(),
+            known.as_slice(),
+        )? {
             None => self.asks(Bound::Below(pivot)),
             Some(Checked { block, shares }) => {
                 if is_complete {

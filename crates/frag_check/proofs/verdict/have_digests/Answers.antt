@@ -3,4 +3,4 @@ use Rattle.frag_check.proofs.Digests.{same_digests}
 use Rattle.frag_check.proofs.verdict.have_digests.Goals as goal
 
 pub returns : goal.returns
-returns c = (λ _. same_digests c.args.shares.now c.args.sum.now c.requires (λ k hk. c.loop-i.invariant k (omega arith)), λ _. refl)
+returns c = (λ _. same_digests c.args.shares.now c.args.sum.now c.requires.count (λ k hk. c.loop-i.invariant k (omega arith)), λ _. refl)

@@ -7,7 +7,7 @@ use Rattle.protocol.specs.Operations.Stage.{Versions}
 use Rattle.read_core.specs.Rounds.{answer_at}
 use Rattle.read_core.specs.Ends.{IsEnd}
 use Rattle.read_core.proofs.Results.{if_ok_is}
-use Rattle.read_core.proofs.Ending.{are_parts, sum_has_all, is_poison, is_complete, is_repairable}
+use Rattle.read_core.proofs.Ending.{are_parts, sum_has_all, carry_whole, is_poison, is_complete, is_repairable}
 use Rattle.read_core.proofs.round.Round.judged.Goals as goal
 
 pub checked-requires-clause-parts : goal.checked-requires-clause-parts
@@ -27,6 +27,11 @@ checked-requires-clause-digests c =
     let shown = rw (c.m.ensures.is, c.as_slice-answers.ensures.value, c.as_slice-stamps.ensures.value) at c.in_ok-parts.ensures in
     let least = rw (c.as_slice-answers.ensures.value, c.as_slice-stamps.ensures.value) at c.in_ok-sum.ensures in
     sum_has_all r.config r.first r.bound r.answers.items r.stamps.items r.heard c.self.invariant c.args.pivot p.is p.later enough c.in_ok-parts.parts.items shown c.in_ok-sum.sum least
+
+pub known_parts-requires-clause-whole : goal.known_parts-requires-clause-whole
+known_parts-requires-clause-whole c =
+    let r = c.self.inside in
+    rw (c.as_slice-answers.ensures.value, c.as_slice-stamps.ensures.value) (carry_whole r.config r.first r.bound r.answers.items r.stamps.items r.heard c.self.invariant c.args.pivot)
 
 pub returns-in-None : goal.returns-in-None
 returns-in-None c =
