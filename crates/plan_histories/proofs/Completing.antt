@@ -57,7 +57,7 @@ module _ (plan : Plan) (j : Journals) (drawn : ℕ) (h : AreOfPlan plan j drawn)
   steps : List BlockStep
   steps = steps_for plan.config c plan.work
 
-  correct : has_number j.liars.clients c ≡ false
+  pub correct : has_number j.liars.clients c ≡ false
   correct = ap (λ (l : Liars). has_number l.clients c) h.follows.are_for.liars ∙ steady.0
 
   follows : ClientFollows plan c h.follows.phases (at_desk j c)
@@ -72,7 +72,7 @@ module _ (plan : Plan) (j : Journals) (drawn : ℕ) (h : AreOfPlan plan j drawn)
   by_done (inl finished) = finished
   by_done (inr cut) = absurd (let some = cut.count in let none = steady.1 in cc)
 
-  finished : IsFinished plan c (steps_for plan.config c plan.work) (at_desk j c)
+  pub finished : IsFinished plan c (steps_for plan.config c plan.work) (at_desk j c)
   finished = by_done follows.done
 
   same : ended_by j c ≡ (client_after plan c (at_desk j c)).ended

@@ -76,13 +76,13 @@ told_keeps c t m (Asks ask) = tt
 told_keeps c t m (Answers reply) = either t _ (hearing (setting c.config) c.id t m.node m.tag reply) Ignored (heard (setting c.config) c.id t m.node m.tag reply) tt
 
 -- the operation under way after an answer
-abbrev task_after : Option SeenTask → Hearing → Option SeenTask
+abbrev pub task_after : Option SeenTask → Hearing → Option SeenTask
 task_after task Ignored = task
 task_after task (Counted t) = Some t
 task_after task (Begins t) = Some t
 task_after task (Ends_ outcome) = None
 
-task_is : (c : ClientView) (h : Hearing) → (by_hearing c h).seen.task ≡ task_after c.seen.task h
+pub task_is : (c : ClientView) (h : Hearing) → (by_hearing c h).seen.task ≡ task_after c.seen.task h
 task_is c Ignored = refl
 task_is c (Counted t) = refl
 task_is c (Begins t) = refl

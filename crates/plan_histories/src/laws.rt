@@ -1,6 +1,7 @@
 //! Laws of the lines and histories of runs of plans, each the contract of a function that does nothing.
 
 ghost use Rattle.plan_histories.specs.Shown.{HistoriesAreComplete};
+ghost use Rattle.plan_histories.specs.Steady.{RecordsAreSteady};
 ghost use Rattle.plan_histories.specs.Told.{LinesAreTold};
 
 /// In the run of a plan's journals each step of each client that neither lies nor crashes was done to its end, in order, and stands
@@ -11,6 +12,18 @@ pub fn complete_histories()
     protocol::laws::bounds();
     protocol::laws::records();
     protocol::laws::spent();
+    journals::laws::merged_runs();
+    plan_followed::laws::followed_plans();
+}
+
+/// In the run of a plan none of whose clients lies or crashes no operation is left open: the records are those of the operations
+/// that the clients ended, and each client's came one after another.
+pub fn steady_records()
+    ensures { RecordsAreSteady }
+{
+    protocol::laws::refusals();
+    protocol::laws::runs();
+    protocol::laws::replacements();
     journals::laws::merged_runs();
     plan_followed::laws::followed_plans();
 }
