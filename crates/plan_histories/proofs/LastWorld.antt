@@ -1,8 +1,9 @@
 -- The records of a plan's run are those of the operations that its clients ended, where none of them lies or crashes.
-use Rattle.std.proofs.Common.{◌≡◌, ℕ, zero, suc, ◌+◌, ◌<◌, ◌≤◌, Bool, true, cond, List, [], ◌∷◌, length, take, Option, refl, sym, ◌∙◌, ap, subst, inl, inr, arith, ltb}
+use Rattle.std.proofs.Common.{◌≡◌, ℕ, ◌+◌, ◌<◌, true, List, [], ◌∷◌, length, Option, refl, sym, ◌∙◌, ap, subst, inl, inr, arith, ltb}
 use Rattle.std.specs.declared.option.Option.TheVariants.{None, Some}
 use Rattle.std.specs.List.{Contains}
 use Rattle.std.proofs.lemmas.Bool.Decides.{nat_tests}
+use Rattle.std.proofs.lemmas.List.{take_all}
 use Rattle.quorum_rules.specs.Limits.{Numbers}
 use Rattle.wire_forms.specs.Liars.{has_number}
 use Rattle.protocol.specs.Setting.{Setting}
@@ -19,10 +20,10 @@ use Rattle.journals.specs.declared.desk.DeskAct.TheVariants.{Start, Crash, Call}
 use Rattle.journals.specs.Desks.{DeskState, Ended, by_hearing, new_desk, desk_after, desk_after_all}
 use Rattle.journals.specs.Steps.Step.{AtNode, AtDesk}
 use Rattle.journals.specs.declared.whole.Journals.{Journals}
-use Rattle.journals.specs.Journals.{setting_for, at_desk, desks_before, cluster_at, IsMerge, AreOfRun}
+use Rattle.journals.specs.Journals.{setting_for, at_desk, cluster_at, IsMerge, AreOfRun}
 use Rattle.journals.specs.Agreement.{IsDesk, IsEnded, Reaches, ended_record}
 use Rattle.journals.specs.Merged.{OfMerged, AllReach, AllRecorded}
-use Rattle.journals.proofs.Lists.{Contains-head, Contains-rest}
+use Rattle.node_core.proofs.Changes.{filter-all}
 use Rattle.plan_words.specs.declared.plan.Plan.{Plan}
 use Rattle.plan_followed.specs.Asked.{conduct_of}
 use Rattle.plan_followed.specs.Followed.{AreOfPlan}
@@ -33,25 +34,14 @@ use Rattle.plan_histories.proofs.Completing.{correct, finished}
 use Rattle.plan_histories.proofs.Ongoing.{GoesFrom, OpenGoOn}
 use Rattle.plan_histories.proofs.Turns.{come_in_turn}
 
-take_beyond : {A : Type 0} (xs : List A) (n : ℕ) → length xs ≤ n → take n xs ≡ xs
-take_beyond [] zero l = refl
-take_beyond [] (suc n) l = refl
-take_beyond (x ∷ xs) zero l = absurd (omega (arith, l))
-take_beyond {A} (x ∷ xs) (suc n) l = ap (λ (ys : List A). x ∷ ys) (take_beyond xs n (omega (arith, l)))
-
 -- a run has one last world
 last_once : (s : Setting) (lines : List (ℕ × Line)) (w a b : World) → Run s w lines a → Run s w lines b → a ≡ b
 last_once s [] w a b h k = h ∙ sym k
 last_once s (l ∷ ls) w a b h k = last_once s ls (plays s w l.0 l.1) a b h.3 k.3
 
--- entries with numbers below k all stand before it
-before_all : (es : List DeskEntry) (k : ℕ) → ((e : DeskEntry) → Contains es e → e.number < k) → desks_before k es ≡ es
-before_all [] k low = refl
-before_all (e ∷ es) k low =
-    let first = low e (Contains-head e es) in
-    let head : ltb e.number k ≡ true = grind (arith, nat_tests) in
-    ap (λ (b : Bool). cond b (e ∷ desks_before k es) (desks_before k es)) head
-    ∙ ap (λ (xs : List DeskEntry). e ∷ xs) (before_all es k (λ x there. low x (Contains-rest x e es there)))
+-- a lower number stands before
+is_before : (k n : ℕ) → n < k → ltb n k ≡ true
+is_before k n l = grind (arith, nat_tests)
 
 -- ---- no act of a desk brings its client back
 
@@ -84,7 +74,7 @@ module _ (reach : OfMerged AllReach) (recorded : OfMerged AllRecorded) (going : 
 
   whole : Reaches (setting_for j) (start_world (setting_for j)) lines (cluster_at (conduct_of plan.rules) j n)
   whole =
-      subst (λ (ls : List (ℕ × Line)). Reaches (setting_for j) (start_world (setting_for j)) ls (cluster_at (conduct_of plan.rules) j n)) (take_beyond lines n (omega arith))
+      subst (λ (ls : List (ℕ × Line)). Reaches (setting_for j) (start_world (setting_for j)) ls (cluster_at (conduct_of plan.rules) j n)) (take_all n lines (omega arith))
       (reach (conduct_of plan.rules) j lines of merge n)
 
   last_is : whole.last ≡ w
@@ -103,7 +93,7 @@ module _ (reach : OfMerged AllReach) (recorded : OfMerged AllRecorded) (going : 
   desk c = desk_after_all (new_desk j.config c) (at_desk j c)
 
   desk_is : (c : ℕ) → (cluster_at (conduct_of plan.rules) j n).desks c ≡ desk c
-  desk_is c = ap (desk_after_all (new_desk j.config c)) (before_all (at_desk j c) n (low c))
+  desk_is c = ap (desk_after_all (new_desk j.config c)) (filter-all (λ e. ltb e.number n) (at_desk j c) (λ e there. is_before n e.number (low c e there)))
 
   agrees : (c : ℕ) → IsDesk (setting_for j) w c (desk c)
   agrees c =
@@ -120,10 +110,10 @@ module _ (reach : OfMerged AllReach) (recorded : OfMerged AllRecorded) (going : 
   first_life c = (agrees c).life ∙ life_all (at_desk j c) (new_desk j.config c)
 
   -- the record is that of an operation that its client ended
-  abbrev IsOwn : Record → Type 0
-  IsOwn r = (x : Ended) × Contains (ended_by j r.client) x × (r ≡ ended_record r.client x)
+  abbrev IsOwned : Record → Type 0
+  IsOwned r = (x : Ended) × Contains (ended_by j r.client) x × (r ≡ ended_record r.client x)
 
-  owned : (r : Record) → IsEnded (setting_for j) (cluster_at (conduct_of plan.rules) j n) r → IsOwn r
+  owned : (r : Record) → IsEnded (setting_for j) (cluster_at (conduct_of plan.rules) j n) r → IsOwned r
   owned r told =
       let who : told.client ≡ r.client = sym (ap (λ (x : Record). x.client) told.is) in
       let there : Contains (ended_by j told.client) told.operation = subst (λ (d : DeskState). Contains d.ended told.operation) (desk_is told.client) told.there in
@@ -133,7 +123,7 @@ module _ (reach : OfMerged AllReach) (recorded : OfMerged AllRecorded) (going : 
   none_goes_on r (inl busy) = let e = busy.1 in let f = idle r.client in cc
   none_goes_on r (inr back) = let e = first_life r.client in omega (arith, back, e)
 
-  own_by : (r : Record) → Contains w.records r → (o : Option Outcome) → r.outcome ≡ o → IsOwn r
+  own_by : (r : Record) → Contains w.records r → (o : Option Outcome) → r.outcome ≡ o → IsOwned r
   own_by r there (Some outcome) e = owned r (whole.tells.told r outcome (subst (λ (v : World). Contains v.records r) (sym last_is) there) e)
   own_by r there None e = absurd (none_goes_on r (going j.config (has_number j.liars.nodes) (has_number j.liars.clients) of.cluster lines w run r there e))
 
