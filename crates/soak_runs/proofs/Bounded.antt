@@ -1,7 +1,6 @@
 -- How many writes of a block have chosen a stamp.
-use Rattle.std.proofs.Common.{◌≡◌, ℕ, ◌+◌, ◌<◌, ◌≤◌, Bool, true, false, ◌||◌, ◌&&◌, cond, List, [], ◌∷◌, length, map, Option, refl, sym, ap, subst, ◌∙◌, ◌⊎◌, inl, inr, arith}
-use Rattle.std.specs.Prelude.{nat_eq, ◌==◌, max, if◌then◌else◌}
-use Rattle.std.specs.declared.option.Option.TheVariants.{None, Some}
+use Rattle.std.proofs.Common.{◌≡◌, ℕ, ◌+◌, ◌<◌, ◌≤◌, Bool, true, false, ◌||◌, ◌&&◌, List, [], ◌∷◌, length, map, Option, refl, sym, ap, subst, ◌∙◌, inl, inr, arith}
+use Rattle.std.specs.Prelude.{nat_eq, ◌==◌, if◌then◌else◌}
 use Rattle.std.specs.List.{Contains, AllByRecursion, IsDistinct}
 use Rattle.std.specs.Set.{is_member}
 use Rattle.std.proofs.lemmas.Bool.{cases_Bool, eqb-true}
@@ -14,9 +13,9 @@ use Rattle.wire_forms.specs.declared.Body.TheVariants.{Ask as Asks, Answer as An
 use Rattle.protocol.specs.Setting.{Setting}
 use Rattle.protocol.specs.Operations.{Work}
 use Rattle.protocol.specs.Operations.Work.{Reads, Writes}
-use Rattle.protocol.specs.World.{World, Record}
+use Rattle.protocol.specs.World.{Record}
 use Rattle.protocol.specs.Report.{Ascend}
-use Rattle.protocol.specs.Bounds.{is_chosen, choices, lied, lied_time, ceiling}
+use Rattle.protocol.specs.Bounds.{is_chosen, choices, lied, lied_time}
 use Rattle.protocol.proofs.Lists.{Contains-head, Contains-rest, Contains-none, Contains-cons_cases}
 use Rattle.soak_runs.proofs.Records.{writes_by, IsWriting}
 

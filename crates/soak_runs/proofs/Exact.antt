@@ -1,5 +1,5 @@
 -- The entries of operations that come one after another are those of the history.
-use Rattle.std.proofs.Common.{◌≡◌, ℕ, zero, suc, ◌+◌, ◌<◌, ◌≤◌, true, false, List, [], ◌∷◌, ◌++◌, map, Option, refl, sym, ap, subst, ◌∙◌, ◌⊎◌, inl, inr, arith}
+use Rattle.std.proofs.Common.{◌≡◌, ℕ, zero, suc, ◌+◌, ◌<◌, ◌≤◌, false, List, ◌++◌, map, Option, refl, sym, ap, subst, ◌∙◌, ◌⊎◌, inl, inr, arith}
 use Rattle.std.specs.declared.option.Option.TheVariants.{None, Some}
 use Rattle.std.specs.List.{Contains, flat_map, range_with_len}
 use Rattle.std.proofs.lemmas.List.Elements.{Contains-append_left, Contains-append_right}
@@ -9,18 +9,18 @@ use Rattle.protocol.specs.Setting.{Setting, first_stamp}
 use Rattle.protocol.specs.Operations.{Work, Outcome, How}
 use Rattle.protocol.specs.Operations.Work.{Reads, Writes}
 use Rattle.protocol.specs.World.{World, Record}
-use Rattle.protocol.specs.Facts.{IsTold, IsHonest, IsKnown, IsComplete}
-use Rattle.protocol.specs.History.{Entry, IsEntry, IsForeign, HasRead, HasWrite, HasLie}
+use Rattle.protocol.specs.Facts.{IsKnown, IsComplete}
+use Rattle.protocol.specs.History.{Entry, IsEntry, IsForeign}
 use Rattle.protocol.specs.Laws.{RecordsAreTold, CompletedIsHeld, AcceptedIsKnown}
 use Rattle.protocol.proofs.Counting.{some_passes}
 use Rattle.protocol.proofs.Lists.{Contains-map, Contains-map_cases}
 use Rattle.protocol.proofs.Entries.{same_entry}
 use Rattle.soak_runs.specs.Serial.{IsDone, AreSerial}
-use Rattle.soak_runs.proofs.Records.{stamp_in, stamp_of, given_in, value_by, kind_by, entry_of, stamped, ended, IsWriting}
+use Rattle.soak_runs.proofs.Records.{stamp_in, stamp_of, given_in, value_by, kind_by, record_entry, stamped, ended, IsWriting}
 use Rattle.soak_runs.proofs.Sorted.{in_flat}
 
 abbrev pub block_entries : (ℕ → List Record) → ℕ → List Entry
-block_entries rs block = map entry_of (rs block)
+block_entries rs block = map record_entry (rs block)
 
 abbrev pub all_entries : ℕ → (ℕ → List Record) → List Entry
 all_entries blocks rs = flat_map (block_entries rs) (range_with_len 0 blocks)
@@ -57,10 +57,10 @@ module _ (s : Setting) (w : World) (rs : ℕ → List Record) (serial : AreSeria
   end_is r there = ended w r (told r there) (done_in r there)
 
   -- a record's entry stands in the history
-  is_entry : (r : Record) → Contains w.records r → IsEntry w.records (first_stamp s) (entry_of r)
+  is_entry : (r : Record) → Contains w.records r → IsEntry w.records (first_stamp s) (record_entry r)
   is_entry r there = by r.work r.outcome refl refl (done_in r there)
     where
-      by : (work : Work) (outcome : Option Outcome) → r.work ≡ work → r.outcome ≡ outcome → IsDone work r.client outcome → IsEntry w.records (first_stamp s) (entry_of r)
+      by : (work : Work) (outcome : Option Outcome) → r.work ≡ work → r.outcome ≡ outcome → IsDone work r.client outcome → IsEntry w.records (first_stamp s) (record_entry r)
       by Reads (Some (Gave stamp value how rounds)) p q d =
           inl (
             r,
@@ -96,16 +96,16 @@ module _ (s : Setting) (w : World) (rs : ℕ → List Record) (serial : AreSeria
       by (Writes value) (Some Spent) p q d = absurd d
       by (Writes value) (Some (Outvoted nodes)) p q d = absurd d
 
-  in_all : (r : Record) → Contains w.records r → Contains (all_entries s.blocks rs) (entry_of r)
+  in_all : (r : Record) → Contains w.records r → Contains (all_entries s.blocks rs) (record_entry r)
   in_all r there =
       let a = serial.all r there in
-      in_range (block_entries rs) 0 s.blocks r.block (entry_of r) (omega arith) (omega (arith, a.0)) (Contains-map entry_of (rs r.block) r a.1)
+      in_range (block_entries rs) 0 s.blocks r.block (record_entry r) (omega arith) (omega (arith, a.0)) (Contains-map record_entry (rs r.block) r a.1)
 
   -- which record an entry is of
-  pub record_of : (e : Entry) → Contains (all_entries s.blocks rs) e → (r : Record) × Contains w.records r × (e ≡ entry_of r)
+  pub record_of : (e : Entry) → Contains (all_entries s.blocks rs) e → (r : Record) × Contains w.records r × (e ≡ record_entry r)
   record_of e there =
       let f = in_flat (block_entries rs) 0 s.blocks e there in
-      let m = Contains-map_cases entry_of (rs f.0) e f.3 in
+      let m = Contains-map_cases record_entry (rs f.0) e f.3 in
       (m.0, (serial.only f.0 m.0 m.1).0, m.2)
 
   module _ (some : 1 ≤ s.qc) (held : CompletedIsHeld s w) (known : AcceptedIsKnown s w) (honest : (client : ℕ) → s.lying_client client ≡ false) where
@@ -150,13 +150,13 @@ module _ (s : Setting) (w : World) (rs : ℕ → List Record) (serial : AreSeria
     pub exact : (e : Entry) → IsEntry w.records (first_stamp s) e → Contains (all_entries s.blocks rs) e
     exact e (inl (r, there, how, rounds, gave, kind, block, client, start, end)) =
         let reads = gave_reads r.work r.client r.outcome e.stamp e.value how rounds (done_in r there) gave in
-        let same : e ≡ entry_of r =
-        same_entry e (entry_of r) block (sym (ap stamp_in gave)) (kind ∙ sym (ap kind_by reads)) client start end
+        let same : e ≡ record_entry r =
+        same_entry e (record_entry r) block (sym (ap stamp_in gave)) (kind ∙ sym (ap kind_by reads)) client start end
         (sym (ap (λ (k : Work). value_by k r.outcome) reads ∙ ap given_in gave)) in
         subst (Contains (all_entries s.blocks rs)) (sym same) (in_all r there)
     exact e (inr (inl (r, there, work, stamp, kind, block, client, start, end, how))) =
-        let same : e ≡ entry_of r =
-        same_entry e (entry_of r) block (same_some r.stamp e.stamp (stamp_of r) stamp (stamp_is r there)) (kind ∙ sym (ap kind_by work)) client start end
+        let same : e ≡ record_entry r =
+        same_entry e (record_entry r) block (same_some r.stamp e.stamp (stamp_of r) stamp (stamp_is r there)) (kind ∙ sym (ap kind_by work)) client start end
         (sym (ap (λ (k : Work). value_by k r.outcome) work)) in
         subst (Contains (all_entries s.blocks rs)) (sym same) (in_all r there)
     exact e (inr (inr (other, foreign))) = absurd (not_foreign e other foreign)

@@ -1,5 +1,5 @@
 -- What is told by the records of operations that are done.
-use Rattle.std.proofs.Common.{◌≡◌, ℕ, ◌<◌, ◌≤◌, Bool, true, false, List, [], ◌∷◌, length, map, Option, refl, sym, ap, subst, ◌∙◌, ◌⊎◌, inl, inr, arith}
+use Rattle.std.proofs.Common.{◌≡◌, ℕ, ◌≤◌, List, [], ◌∷◌, Option, refl, ◌⊎◌, inl, inr}
 use Rattle.std.specs.declared.option.Option.TheVariants.{None, Some}
 use Rattle.std.specs.List.{Contains, AllByRecursion}
 use Rattle.stamp_order.specs.declared.Stamp.{Stamp}
@@ -11,7 +11,7 @@ use Rattle.protocol.specs.Facts.{IsTold, IsOutcomeOf}
 use Rattle.protocol.specs.History.{Entry, Kind}
 use Rattle.protocol.specs.History.Kind.{Read as ReadKind, Write as WriteKind}
 use Rattle.protocol.proofs.Lists.{Contains-head, Contains-rest}
-use Rattle.soak_runs.specs.Serial.{IsPast, AreInTurn, IsDone}
+use Rattle.soak_runs.specs.Serial.{IsDone}
 
 -- the stamp and the value of an outcome
 abbrev pub stamp_in : Option Outcome → Stamp
@@ -35,8 +35,8 @@ abbrev pub stamp_of : Record → Stamp
 stamp_of r = stamp_in r.outcome
 
 -- the entry of a record that is done
-abbrev pub entry_of : Record → Entry
-entry_of r = record { block = r.block; stamp = stamp_of r; kind = kind_by r.work; client = r.client; start = Some r.start; end = r.end; value = value_by r.work r.outcome }
+abbrev pub record_entry : Record → Entry
+record_entry r = record { block = r.block; stamp = stamp_of r; kind = kind_by r.work; client = r.client; start = Some r.start; end = r.end; value = value_by r.work r.outcome }
 
 -- how many of these write
 abbrev pub writes_by : Work → ℕ

@@ -1,6 +1,6 @@
 -- The values that the operations of a block give and write.
-use Rattle.std.proofs.Common.{◌≡◌, ℕ, zero, suc, ◌+◌, ◌<◌, ◌≤◌, Bool, true, false, cond, List, [], ◌∷◌, ◌++◌, map, Option, refl, sym, ap, subst, ◌∙◌, ◌⊎◌, inl, inr, arith}
-use Rattle.std.specs.Prelude.{nat_eq, ◌==◌}
+use Rattle.std.proofs.Common.{◌≡◌, ℕ, zero, suc, ◌+◌, ◌<◌, ◌≤◌, false, List, [], ◌∷◌, ◌++◌, map, refl, sym, ap, subst, ◌∙◌, ◌⊎◌, inl, inr, arith}
+use Rattle.std.specs.Prelude.{◌==◌}
 use Rattle.std.specs.List.{Contains, flat_map, range_with_len}
 use Rattle.std.proofs.lemmas.Bool.Decides.{nat_tests}
 use Rattle.protocol.specs.Count.{update}
@@ -11,7 +11,7 @@ use Rattle.protocol.specs.History.{Entry, Kind, LegalFrom, legal_at, values_afte
 use Rattle.protocol.specs.History.Kind.{Read, Write, Foreign}
 use Rattle.protocol.proofs.Lists.{Contains-head, Contains-rest}
 use Rattle.protocol.proofs.Counting.{update-same}
-use Rattle.soak_runs.proofs.Records.{entry_of, value_by}
+use Rattle.soak_runs.proofs.Records.{record_entry, value_by}
 
 abbrev after_all : List Entry → (ℕ → List ℕ) → ℕ → List ℕ
 after_all [] values = values
@@ -72,30 +72,30 @@ Valued value [] = Unit {0}
 Valued value (r ∷ rs) = IsGiven r.work value (value_by r.work r.outcome) × Valued (next_value r.work value) rs
 
 pub valued : (block : ℕ) (value : List ℕ) (values : ℕ → List ℕ) (rs : List Record) → values block ≡ value → ((r : Record) → Contains rs r → r.block ≡ block)
-    → LegalFrom values (map entry_of rs) → Valued value rs
+    → LegalFrom values (map record_entry rs) → Valued value rs
 valued block value values [] at is h = tt
 valued block value values (r ∷ rs) at is h = by r.work refl (λ v vs e k. valued block v vs rs e (λ x i. is x (Contains-rest x r rs i)) k)
   where
     here : r.block ≡ block
     here = is r (Contains-head r rs)
 
-    by : (work : Work) → r.work ≡ work → ((v : List ℕ) (vs : ℕ → List ℕ) → vs block ≡ v → LegalFrom vs (map entry_of rs) → Valued v rs) → IsGiven work value (value_by work r.outcome) × Valued (next_value work value) rs
+    by : (work : Work) → r.work ≡ work → ((v : List ℕ) (vs : ℕ → List ℕ) → vs block ≡ v → LegalFrom vs (map record_entry rs) → Valued v rs) → IsGiven work value (value_by work r.outcome) × Valued (next_value work value) rs
     by Reads e go =
-        let legal : value_by Reads r.outcome ≡ values r.block = subst (λ (k : Work). legal_at (kind_of k) (at_work k) values) e h.0 in
-        let rest : LegalFrom values (map entry_of rs) = subst (λ (k : Work). LegalFrom (values_after (kind_of k) (at_work k) values) (map entry_of rs)) e h.1 in
+        let legal : value_by Reads r.outcome ≡ values r.block = subst (λ (k : Work). legal_at (kind_at k) (at_work k) values) e h.0 in
+        let rest : LegalFrom values (map record_entry rs) = subst (λ (k : Work). LegalFrom (values_after (kind_at k) (at_work k) values) (map record_entry rs)) e h.1 in
         (legal ∙ ap values here ∙ at, go value values at rest)
       where
-        kind_of : Work → Kind
-        kind_of k = (entry_of (record r { work = k })).kind
+        kind_at : Work → Kind
+        kind_at k = (record_entry (record r { work = k })).kind
 
         at_work : Work → Entry
-        at_work k = entry_of (record r { work = k })
+        at_work k = record_entry (record r { work = k })
     by (Writes written) e go =
-        let rest : LegalFrom (update values r.block written) (map entry_of rs) = subst (λ (k : Work). LegalFrom (values_after (kind_of k) (at_work k) values) (map entry_of rs)) e h.1 in
+        let rest : LegalFrom (update values r.block written) (map record_entry rs) = subst (λ (k : Work). LegalFrom (values_after (kind_at k) (at_work k) values) (map record_entry rs)) e h.1 in
         (tt, go written (update values r.block written) (ap (update values r.block written) (sym here) ∙ update-same values r.block written) rest)
       where
-        kind_of : Work → Kind
-        kind_of k = (entry_of (record r { work = k })).kind
+        kind_at : Work → Kind
+        kind_at k = (record_entry (record r { work = k })).kind
 
         at_work : Work → Entry
-        at_work k = entry_of (record r { work = k })
+        at_work k = record_entry (record r { work = k })

@@ -1,32 +1,31 @@
 -- The history of operations that come one after another is that of plain registers.
-use Rattle.std.proofs.Common.{◌≡◌, ℕ, zero, suc, ◌+◌, ◌<◌, ◌≤◌, false, List, [], ◌∷◌, ◌++◌, map, Option, refl, sym, ap, subst, ◌∙◌, ◌⊎◌, inl, inr, arith}
+use Rattle.std.proofs.Common.{◌≡◌, ℕ, zero, suc, ◌+◌, ◌<◌, ◌≤◌, false, List, [], ◌∷◌, ◌++◌, map, refl, sym, ap, subst, ◌∙◌, inl, inr, arith}
 use Rattle.std.specs.declared.option.Option.TheVariants.{None, Some}
 use Rattle.std.specs.List.{Contains, flat_map, range_with_len}
 use Rattle.std.proofs.lemmas.List.{map-append}
-use Rattle.quorum_rules.specs.Limits.{Numbers}
 use Rattle.stamp_order.specs.declared.Stamp.{Stamp}
 use Rattle.protocol.specs.Setting.{Setting, IsValid, zeros, first_stamp}
 use Rattle.protocol.specs.Operations.{Work}
 use Rattle.protocol.specs.Operations.Work.{Reads, Writes}
 use Rattle.protocol.specs.World.{World, Record}
 use Rattle.protocol.specs.Facts.{HasEnded}
-use Rattle.protocol.specs.Bounds.{IsLow, choices, lied, ceiling}
+use Rattle.protocol.specs.Bounds.{IsLow}
 use Rattle.protocol.specs.History.{Entry, NoClash}
-use Rattle.protocol.specs.Report.{mark, AreRivals}
+use Rattle.protocol.specs.Report.{mark}
 use Rattle.protocol.specs.Laws.{InEachCluster, HistoriesAreLegal, HistoriesAreOne, RecordsAreTold, CompletedIsHeld, AcceptedIsKnown, WritesDrawAbove, ReadsGiveUp, StartsAscend, MarksAreOne, MarksFollow}
 use Rattle.protocol.specs.Instance.{InEachRun}
-use Rattle.protocol.proofs.Lists.{Contains-head, Contains-rest, Contains-map, Contains-map_cases}
+use Rattle.protocol.proofs.Lists.{Contains-head, Contains-rest, Contains-map_cases}
 use Rattle.history_book.specs.declared.entry.Entry.{Entry as BookEntry}
 use Rattle.history_book.specs.declared.entry.Kind.{Kind}
 use Rattle.history_book.specs.declared.entry.Kind.TheVariants.{Read as ReadKind, Write as WriteKind}
 use Rattle.history_book.specs.Books.{Book}
 use Rattle.history_book.specs.Tellings.{Tells, told_entry, told_with}
 use Rattle.soak_text.specs.Soaks.{plain_line}
-use Rattle.soak_text.specs.Plain.{Register, Deed, first_register, after, entry_of as entry_left, entries_from}
-use Rattle.soak_runs.specs.Serial.{IsPast, AreInTurn, AreSerial, deed_of, op_by, SerialRunsArePlain}
-use Rattle.soak_runs.proofs.Records.{stamp_of, entry_of, value_by, kind_by, IsWriting, IsReading, done_write}
+use Rattle.soak_text.specs.Plain.{Register, first_register, entry_of, entries_from}
+use Rattle.soak_runs.specs.Serial.{IsPast, AreSerial, record_deed, op_by, SerialRunsArePlain}
+use Rattle.soak_runs.proofs.Records.{stamp_of, record_entry, value_by, kind_by, IsWriting, IsReading, done_write}
 use Rattle.soak_runs.proofs.Bounded.{writes, choices_few, no_lies}
-use Rattle.soak_runs.proofs.Walk.{Stamped, IsNext, next_stamp, AreOrdered, Stands, walk, one_time, room}
+use Rattle.soak_runs.proofs.Walk.{Stamped, IsNext, next_stamp, AreOrdered, Stands, walk, one_time}
 use Rattle.soak_runs.proofs.Sorted.{sorted, sorted_flat}
 use Rattle.soak_runs.proofs.Exact.{block_entries, all_entries, stamp_is, end_is, record_of, origin, exact, entries_there}
 use Rattle.soak_runs.proofs.Values.{Valued, IsGiven, next_value, legal_in, valued}
@@ -43,38 +42,38 @@ abbrev register_of : Stamp → List ℕ → Register
 register_of last value = record { time = last.time; writer = last.client; value = value }
 
 -- the lines of a block's entries are those of its operations on a register
-block_lines : (h : List Entry) (last : Stamp) (value : List ℕ) (rs : List Record) → ((r : Record) → Contains rs r → mark h (entry_of r) ≡ 1) → Stamped last rs → Valued value rs
-    → map (λ e. plain_line (told_entry h e)) (map entry_of rs) ≡ map plain_line (entries_from (register_of last value) (map deed_of rs))
+block_lines : (h : List Entry) (last : Stamp) (value : List ℕ) (rs : List Record) → ((r : Record) → Contains rs r → mark h (record_entry r) ≡ 1) → Stamped last rs → Valued value rs
+    → map (λ e. plain_line (told_entry h e)) (map record_entry rs) ≡ map plain_line (entries_from (register_of last value) (map record_deed rs))
 block_lines h last value [] marks stamps values = refl
 block_lines h last value (r ∷ rs) marks stamps values = by r.work refl (λ l v a b. block_lines h l v rs (λ q i. marks q (Contains-rest q r rs i)) a b)
   where
-    m : mark h (entry_of r) ≡ 1
+    m : mark h (record_entry r) ≡ 1
     m = marks r (Contains-head r rs)
 
     Rest : Type 0
-    Rest = (l : Stamp) (v : List ℕ) → Stamped l rs → Valued v rs → map (λ e. plain_line (told_entry h e)) (map entry_of rs) ≡ map plain_line (entries_from (register_of l v) (map deed_of rs))
+    Rest = (l : Stamp) (v : List ℕ) → Stamped l rs → Valued v rs → map (λ e. plain_line (told_entry h e)) (map record_entry rs) ≡ map plain_line (entries_from (register_of l v) (map record_deed rs))
 
     Goal : Work → Type 0
     Goal work =
-        plain_line (told_with (mark h (entry_of r)) (record (entry_of r) { kind = kind_by work; value = value_by work r.outcome })) ∷ map (λ e. plain_line (told_entry h e)) (map entry_of rs)
-        ≡ map plain_line (entries_from (register_of last value) (record { client = r.client; op = op_by r.block work } ∷ map deed_of rs))
+        plain_line (told_with (mark h (record_entry r)) (record (record_entry r) { kind = kind_by work; value = value_by work r.outcome })) ∷ map (λ e. plain_line (told_entry h e)) (map record_entry rs)
+        ≡ map plain_line (entries_from (register_of last value) (record { client = r.client; op = op_by r.block work } ∷ map record_deed rs))
 
     at : (work : Work) → r.work ≡ work → Rest → Goal work
     at Reads e rest =
         let next : stamp_of r ≡ last = subst (λ (k : Work). IsNext k r.client last (stamp_of r)) e stamps.0 in
         let given : value_by Reads r.outcome ≡ value = subst (λ (k : Work). IsGiven k value (value_by k r.outcome)) e values.0 in
         let more = rest last value (subst (λ (k : Work). Stamped (next_stamp k last (stamp_of r)) rs) e stamps.1) (subst (λ (k : Work). Valued (next_value k value) rs) e values.1) in
-        ap (λ (l : List ℕ). l ∷ map (λ e. plain_line (told_entry h e)) (map entry_of rs))
+        ap (λ (l : List ℕ). l ∷ map (λ e. plain_line (told_entry h e)) (map record_entry rs))
         (same_line r.block r.client ReadKind _ _ _ _ _ _ _ _ (ap (λ (t : Stamp). t.time) next) (ap (λ (t : Stamp). t.client) next) m given)
-        ∙ ap (λ (ls : List (List ℕ)). plain_line (entry_left (record { client = r.client; op = op_by r.block Reads }) (register_of last value)) ∷ ls) more
+        ∙ ap (λ (ls : List (List ℕ)). plain_line (entry_of (record { client = r.client; op = op_by r.block Reads }) (register_of last value)) ∷ ls) more
     at (Writes written) e rest =
         let next = subst (λ (k : Work). IsNext k r.client last (stamp_of r)) e stamps.0 in
         let more = rest (stamp_of r) written (subst (λ (k : Work). Stamped (next_stamp k last (stamp_of r)) rs) e stamps.1) (subst (λ (k : Work). Valued (next_value k value) rs) e values.1) in
         let left : register_of (stamp_of r) written ≡ record { time = last.time + 1; writer = r.client; value = written } = same_register _ _ _ _ next.0 next.1 in
-        ap (λ (l : List ℕ). l ∷ map (λ e. plain_line (told_entry h e)) (map entry_of rs))
+        ap (λ (l : List ℕ). l ∷ map (λ e. plain_line (told_entry h e)) (map record_entry rs))
         (same_line r.block r.client WriteKind _ _ _ _ _ _ _ _ next.0 next.1 m refl)
-        ∙ ap (λ (ls : List (List ℕ)). plain_line (entry_left (record { client = r.client; op = op_by r.block (Writes written) }) (record { time = last.time + 1; writer = r.client; value = written })) ∷ ls)
-        (more ∙ ap (λ (reg : Register). map plain_line (entries_from reg (map deed_of rs))) left)
+        ∙ ap (λ (ls : List (List ℕ)). plain_line (entry_of (record { client = r.client; op = op_by r.block (Writes written) }) (record { time = last.time + 1; writer = r.client; value = written })) ∷ ls)
+        (more ∙ ap (λ (reg : Register). map plain_line (entries_from reg (map record_deed rs))) left)
       where
         at_time : ℕ → ℕ → Register
         at_time t c = record { time = t; writer = c; value = written }
@@ -82,7 +81,7 @@ block_lines h last value (r ∷ rs) marks stamps values = by r.work refl (λ l v
         same_register : (t u c d : ℕ) → t ≡ u → c ≡ d → at_time t c ≡ at_time u d
         same_register t u c d a b i = at_time (a i) (b i)
 
-    by : (work : Work) → r.work ≡ work → Rest → map (λ e. plain_line (told_entry h e)) (map entry_of (r ∷ rs)) ≡ map plain_line (entries_from (register_of last value) (map deed_of (r ∷ rs)))
+    by : (work : Work) → r.work ≡ work → Rest → map (λ e. plain_line (told_entry h e)) (map record_entry (r ∷ rs)) ≡ map plain_line (entries_from (register_of last value) (map record_deed (r ∷ rs)))
     by work e rest = subst Goal (sym e) (at work e rest)
 
 all_lines : (F : Entry → List ℕ) (g : ℕ → List Entry) (k : ℕ → List BookEntry) (a n : ℕ) → ((b : ℕ) → b < a + n → map F (g b) ≡ map plain_line (k b))
@@ -164,7 +163,7 @@ module _ (s : Setting) (w : World) (h : List Entry) (rs : ℕ → List Record) (
     stamps block = walk (first_stamp s) (rs block) (writes (rs block)) (stands block)
 
     in_block : (b : ℕ) (e : Entry) → Contains (block_entries rs b) e → e.block ≡ b
-    in_block b e i = let m = Contains-map_cases entry_of (rs b) e i in ap (λ (x : Entry). x.block) m.2 ∙ (serial.only b m.0 m.1).1
+    in_block b e i = let m = Contains-map_cases record_entry (rs b) e i in ap (λ (x : Entry). x.block) m.2 ∙ (serial.only b m.0 m.1).1
 
     in_order : (block : ℕ) (r : Record) → Contains (rs block) r → (end : ℕ) × (r.end ≡ Some end) × (r.start ≤ end)
     in_order block r i =
@@ -180,8 +179,8 @@ module _ (s : Setting) (w : World) (h : List Entry) (rs : ℕ → List Record) (
         λ e. (entries_there s w rs serial told e, exact s w rs serial told some held known honest e),
       )
 
-      marked : (block : ℕ) (r : Record) → Contains (rs block) r → mark h (entry_of r) ≡ 1
-      marked block r i = elim (marks_follow (entry_of r)) [
+      marked : (block : ℕ) (r : Record) → Contains (rs block) r → mark h (record_entry r) ≡ 1
+      marked block r i = elim (marks_follow (record_entry r)) [
         | inl one ↦ one
         | inr f ↦ absurd (
             let q = record_of s w rs serial told f.0 (subst (λ (es : List Entry). Contains es f.0) is_all f.1) in
@@ -189,7 +188,7 @@ module _ (s : Setting) (w : World) (h : List Entry) (rs : ℕ → List Record) (
             let there : Contains (rs block) q.0 = subst (λ (b : ℕ). Contains (rs b) q.0) here (serial.all q.0 q.1).1 in
             let time : (stamp_of q.0).time ≡ (stamp_of r).time = ap (λ (e : Entry). e.stamp.time) (sym q.2) ∙ f.2.time in
             let same : stamp_of q.0 ≡ stamp_of r = one_time (first_stamp s) (rs block) (stamps block) q.0 r there i time in
-            let equal : mark h f.0 ≡ mark h (entry_of r) = marks_one f.0 (entry_of r) f.2.block (ap (λ (e : Entry). e.stamp) q.2 ∙ same) in
+            let equal : mark h f.0 ≡ mark h (record_entry r) = marks_one f.0 (record_entry r) f.2.block (ap (λ (e : Entry). e.stamp) q.2 ∙ same) in
             let next = f.3 in
             omega arith)
       ]
@@ -200,12 +199,12 @@ module _ (s : Setting) (w : World) (h : List Entry) (rs : ℕ → List Record) (
           let here = legal_in (block_entries rs) in_block 0 s.blocks block (omega arith) (omega arith) (λ b. zeros s) all in
           valued block (zeros s) here.0 (rs block) here.1 (λ r i. (serial.only block r i).1) here.2
 
-      pub plain : map plain_line book.entries ≡ map plain_line (flat_map (λ block. entries_from (first_register s.size) (map deed_of (rs block))) (range_with_len 0 s.blocks))
+      pub plain : map plain_line book.entries ≡ map plain_line (flat_map (λ block. entries_from (first_register s.size) (map record_deed (rs block))) (range_with_len 0 s.blocks))
       plain =
           ap (map plain_line) tells.entries
           ∙ map_map plain_line (told_entry h) h
           ∙ ap (map (λ e. plain_line (told_entry h e))) is_all
-          ∙ all_lines (λ e. plain_line (told_entry h e)) (block_entries rs) (λ block. entries_from (first_register s.size) (map deed_of (rs block))) 0 s.blocks
+          ∙ all_lines (λ e. plain_line (told_entry h e)) (block_entries rs) (λ block. entries_from (first_register s.size) (map record_deed (rs block))) 0 s.blocks
           (λ b below. block_lines h (first_stamp s) (zeros s) (rs b) (marked b) (stamps b) (values b (omega arith)))
 
 pub serial_plain : InEachCluster IsValid → InEachRun HistoriesAreLegal → InEachRun HistoriesAreOne → InEachRun RecordsAreTold → InEachRun CompletedIsHeld → InEachRun AcceptedIsKnown

@@ -1,6 +1,6 @@
 -- Runs in which the operations of each block come one after another.
 use Rattle.std.specs.Prelude.{◌≡◌, ℕ, ◌<◌, ◌≤◌, false, List, [], ◌∷◌, map, Option}
-use Rattle.std.specs.declared.option.Option.TheVariants.{None, Some}
+use Rattle.std.specs.declared.option.Option.TheVariants.{Some}
 use Rattle.std.specs.List.{Contains, AllByRecursion, flat_map, range_with_len}
 use Rattle.wire_forms.specs.declared.op.Op.{Op}
 use Rattle.wire_forms.specs.declared.op.Op.TheVariants.{Read, Write}
@@ -42,8 +42,8 @@ abbrev pub op_by : ℕ → Work → Op
 op_by block Reads = Read block
 op_by block (Writes value) = Write block value
 
-abbrev pub deed_of : Record → Deed
-deed_of r = record { client = r.client; op = op_by r.block r.work }
+abbrev pub record_deed : Record → Deed
+record_deed r = record { client = r.client; op = op_by r.block r.work }
 
 -- where no client lies and no two strings that were seen clash, the history of such a run tells, its places aside, what its operations
 -- do on plain registers, block by block, in the order in which they came
@@ -54,4 +54,4 @@ SerialRunsArePlain s w =
     → Tells w.records (first_stamp s) h book
     → ((client : ℕ) → s.lying_client client ≡ false)
     → AreSerial s w rs
-    → map plain_line book.entries ≡ map plain_line (flat_map (λ block. entries_from (first_register s.size) (map deed_of (rs block))) (range_with_len 0 s.blocks))
+    → map plain_line book.entries ≡ map plain_line (flat_map (λ block. entries_from (first_register s.size) (map record_deed (rs block))) (range_with_len 0 s.blocks))

@@ -6,11 +6,12 @@ use Rattle.text_lines.specs.Lines.{text_of_lines}
 use Rattle.quorum_rules.specs.Limits.{Numbers}
 use Rattle.wire_forms.specs.declared.op.Op.{Op}
 use Rattle.wire_forms.specs.declared.op.Op.TheVariants.{Read as ReadOp, Write as WriteOp}
+use Rattle.protocol.specs.Seen.{block_of}
 use Rattle.history_book.specs.declared.entry.Kind.{Kind}
 use Rattle.history_book.specs.declared.entry.Kind.TheVariants.{Read, Write}
 use Rattle.history_book.specs.declared.entry.Entry.{Entry}
 use Rattle.plan_words.specs.declared.job.Job.{Job}
-use Rattle.plan_words.specs.declared.job.Job.TheVariants.{Block, Device, Phase}
+use Rattle.plan_words.specs.declared.job.Job.TheVariants.{Block}
 use Rattle.plan_words.specs.declared.plan.Plan.{Plan}
 use Rattle.soak_text.specs.Soaks.{soak_line}
 
@@ -26,10 +27,6 @@ deed_of _ = None
 -- the operations of a plan's work that has no commands of the device
 abbrev pub deeds_of : List Job → List Deed
 deeds_of work = filter_map deed_of work
-
-abbrev pub block_of : Op → ℕ
-block_of (ReadOp block) = block
-block_of (WriteOp block value) = block
 
 abbrev pub kind_of : Op → Kind
 kind_of (ReadOp block) = Read
