@@ -5,3 +5,9 @@ mod Sorted
 mod Exact
 mod Values
 mod Whole
+mod OwnStamps
+mod Parts
+mod OwnedWork
+mod BlockRecords
+mod PlainPlans
+mod Loads
