@@ -32,6 +32,7 @@ use Rattle.client_work.specs.declared.work.Work.{Work}
 use Rattle.client_work.specs.declared.work.Work.TheVariants.{Client, Lying, Courier}
 use Rattle.client_work.specs.declared.worker.Worker.{Worker}
 use Rattle.client_work.specs.Work.{given_by, all_given, Stands}
+use Rattle.client_threads.specs.Pruned.{pruning_of}
 use Rattle.client_threads.specs.Reads.{reads_in, reads_of, block_stamp, early_reads, late_reads, AreParted, IsPartedAs, IsParted}
 use Rattle.client_threads.specs.Running.{StandsAt, desks_of}
 use Rattle.locked_nodes.specs.Cells.{CellView}
@@ -272,9 +273,6 @@ module _ (plan : Plan) (k from : ℕ) (seats : List (Seat Work)) (counted : List
   listed_in s among Courier is at correct x block stamp there g = absurd at
 
 -- ---- the prunes of a phase
-
-abbrev pub pruning_of : BlockStamp → Pruning
-pruning_of x = record { block = x.block; stamp = x.stamp }
 
 module _ (plan : Plan) (k from : ℕ) (seats : List (Seat Work)) (counted : List ℕ)
     (works : All (λ s. StandsAt plan k s.duty s.desk) seats) (parted : AllZip (IsParted from) seats counted)

@@ -4,31 +4,29 @@ use Rattle.std.specs.List.{Contains, AllZip, All}
 use Rattle.std.proofs.Math.Seq.{drop-append_seam}
 use Rattle.std.proofs.lemmas.List.Elements.{Contains-append_cases, Contains-append_left, Contains-append_right, All-nil, All-cons, All-contains, filter_map-append}
 use Rattle.protocol.proofs.Lists.{Contains-head, Contains-rest}
-use Rattle.quorum_rules.specs.Limits.{Numbers}
 use Rattle.event_clock.specs.Passes.{ClockId}
 use Rattle.journals.specs.Desks.{Ended}
-use Rattle.locked_nodes.specs.Cells.{CellView, KeptCell}
+use Rattle.locked_nodes.specs.Cells.{KeptCell}
 use Rattle.client_desks.specs.Desks.{DeskView}
 use Rattle.plan_words.specs.declared.plan.Plan.{Plan}
 use Rattle.plan_prunes.specs.declared.BlockStamp.{BlockStamp}
 use Rattle.plan_prunes.specs.Prunings.{ArePrunings}
 use Rattle.plan_phases.specs.Closed.{next_begin}
-use Rattle.run_journals.specs.Standing.{AreCells, IsDeskAt}
+use Rattle.run_journals.specs.Standing.{AreCells, AreInside, ArePlanned, IsDeskAt}
 use Rattle.phase_threads.specs.declared.duty.Seat.{Seat}
 use Rattle.client_work.specs.declared.reads.GivenRead.{GivenRead}
 use Rattle.client_work.specs.declared.work.Work.{Work}
 use Rattle.client_work.specs.declared.work.Work.TheVariants.{Client, Lying, Courier}
 use Rattle.client_work.specs.Work.{given_by, all_given}
-use Rattle.client_threads.specs.Met.{IsKeeper}
+use Rattle.client_threads.specs.Met.{IsKeeper, HasMetCell}
 use Rattle.client_threads.specs.Meeting.{HasMetAll}
-use Rattle.client_threads.specs.Pruned.{IsOpenCell, HasPrunedSome}
+use Rattle.client_threads.specs.Pruned.{HasMorePrunes, reopened}
 use Rattle.client_threads.specs.Reads.{reads_in, reads_of, early_reads, late_reads, IsPartedAs, IsParted}
 use Rattle.client_threads.specs.Running.{StandsAt, IsOpen, IsWorked, plan_of, clients_of}
 use Rattle.client_threads.specs.declared.state.Run.{Run}
 use Rattle.client_threads.proofs.Gathering.{FromSeat, from_early, from_late, reads_are}
-use Rattle.client_threads.proofs.Phasing.{all_both, all_map, zip_left, works_met, parted_on, pruned_fixed}
-use Rattle.client_threads.proofs.Rounds.{all_from}
-use Rattle.client_threads.proofs.Working.{IsFixedAs, cells_fixed, zip_long}
+use Rattle.client_threads.proofs.Phasing.{zip_left, works_met, parted_on, pruned_fixed}
+use Rattle.client_threads.proofs.Working.{IsFixedAs, fixed_same, cells_fixed, inside_fixed, planned_fixed, zip_map, zip_long}
 
 -- ---- reads
 
@@ -70,20 +68,6 @@ module _ (plan : Plan) (k from : ℕ) (seats : List (Seat Work)) (counted : List
         | inr late ↦ inside_from drop x (λ n l r h. subst (λ (m : List GivenRead). Contains m r) (take-append-drop n l) (Contains-append_right (take n l) (drop n l) r h)) (from_late from seats counted parted x late)
       ])
 
--- ---- cells
-
--- nodes may prune blocks of what reads gave
-pub may_prune : (config : Numbers) (clock : ClockId) (low high : ℕ) (cells : List CellView) (reads late ps : List BlockStamp)
-    → AreCells config clock cells → All (λ c. (low ≤ c.pass.seen) × (c.pass.seen ≤ high)) cells → All (λ x. x.block < config.blocks) reads → ArePrunings reads late ps
-    → All (IsOpenCell clock high ps) cells
-may_prune config clock low high cells reads late ps at seen inside are =
-    let blocks : All (λ x. x.block < config.blocks) ps = all_where (λ (x : BlockStamp). x.block < config.blocks) ps (λ x there. All-contains (λ (y : BlockStamp). y.block < config.blocks) reads x inside (are.given x there)) in
-    let each : All (λ c. (c.charter.config ≡ config) × ((c.charter.shard ≡ 0) × (c.charter.shards ≡ 1)) × (c.charter.pass.clock ≡ clock)) cells =
-    all_from (λ (c : CellView). (c.charter.config ≡ config) × ((c.charter.shard ≡ 0) × (c.charter.shards ≡ 1)) × (c.charter.pass.clock ≡ clock)) cells (λ i c here. let a = at.each i c here in (a.cluster, a.whole, a.ticks)) in
-    all_map (λ (c : CellView). ((c.charter.config ≡ config) × ((c.charter.shard ≡ 0) × (c.charter.shards ≡ 1)) × (c.charter.pass.clock ≡ clock)) × ((low ≤ c.pass.seen) × (c.pass.seen ≤ high))) (IsOpenCell clock high ps) cells
-    (λ c h. record { whole = h.0.1; ticks = h.0.2; seen = h.1.1; blocks = subst (λ (n : Numbers). All (λ x. x.block < n.blocks) ps) (sym h.0.0) blocks })
-    (all_both (λ (c : CellView). (c.charter.config ≡ config) × ((c.charter.shard ≡ 0) × (c.charter.shards ≡ 1)) × (c.charter.pass.clock ≡ clock)) (λ (c : CellView). (low ≤ c.pass.seen) × (c.pass.seen ≤ high)) cells each seen)
-
 -- ---- a phase that is worked off
 
 module _ (k : ℕ) (run0 run1 : Run) (b : IsWorked k run0) (m : HasMetAll run0 run1) (seats : List (Seat Work)) (counted : List ℕ)
@@ -119,17 +103,24 @@ module _ (k : ℕ) (run0 run1 : Run) (b : IsWorked k run0) (m : HasMetAll run0 r
         (subst (λ (n : ℕ). ArePrunings (early ++ late) (drop n (early ++ late)) ps) (few ∙ ap length (reads_on early_reads))
         (subst (λ (l : List BlockStamp). ArePrunings l (drop fresh l) ps) given_is h))
 
-    pub ready_cells : IsOpen run1 → (ps : List BlockStamp) → ArePrunings given (drop fresh given) ps → All (IsOpenCell run1.clock run1.keeper.seen ps) run1.cells.items
-    ready_cells is_open ps h =
-        may_prune (plan_of run1).config run1.clock run0.keeper.seen run1.keeper.seen run1.cells.items given (drop fresh given) ps is_open.cells m.cells_seen
-        (subst (λ (p : Plan). All (λ (x : BlockStamp). x.block < p.config.blocks) given) (sym m.plan) inside_met) h
+    -- and they are of the cluster's blocks
+    pub blocks_met : (ps : List BlockStamp) → ArePrunings given (drop fresh given) ps → All (λ x. x.block < (plan_of run0).config.blocks) ps
+    blocks_met ps h = all_where (λ (x : BlockStamp). x.block < (plan_of run0).config.blocks) ps
+        (λ x there. All-contains (λ (y : BlockStamp). y.block < (plan_of run0).config.blocks) given x inside_met (h.given x there))
+
+-- after the first meeting the cells are those of the plan
+pub planned_met : (k : ℕ) (run0 run1 : Run) → IsWorked k run0 → HasMetAll run0 run1 → ArePlanned (plan_of run0) run1.clock run1.cells.items
+planned_met k run0 run1 b m =
+    subst (λ (c : ClockId). ArePlanned (plan_of run0) c run1.cells.items) (sym m.clock)
+    (planned_fixed (plan_of run0) run0.clock run0.cells.items run1.cells.items (zip_map HasMetCell IsFixedAs run0.cells.items run1.cells.items (λ x y q. fixed_same x y q.charter) m.cells) b.standing.planned)
 
 -- a run whose nodes pruned is open as before
 pub open_pruned : (old new : Run) → plan_of new ≡ plan_of old → new.clock ≡ old.clock → new.clients.items ≡ old.clients.items → new.courier ≡ old.courier → IsKeeper old.keeper new.keeper
-    → AllZip HasPrunedSome old.cells.items new.cells.items → All KeptCell old.cells.items → IsOpen old → IsOpen new
+    → AllZip HasMorePrunes (reopened old.cells.items) new.cells.items → All KeptCell old.cells.items → IsOpen old → IsOpen new
 open_pruned old new plan clock clients courier keeper some kept o = record {
   cells = subst (λ (p : Plan). AreCells p.config new.clock new.cells.items) (sym plan) (subst (λ (c : ClockId). AreCells (plan_of old).config c new.cells.items) (sym clock)
       (cells_fixed (plan_of old).config old.clock old.cells.items new.cells.items fixed o.cells));
+  inside = subst (λ (p : Plan). AreInside p.config new.cells.items) (sym plan) (inside_fixed (plan_of old).config old.cells.items new.cells.items fixed o.inside);
   desks = subst (λ (p : Plan). All (IsDeskAt p.config new.clock) (clients_of new)) (sym plan) (subst (λ (c : ClockId). All (IsDeskAt (plan_of old).config c) (clients_of new)) (sym clock)
       (subst (λ (l : List (Seat Work)). All (IsDeskAt (plan_of old).config old.clock) (map (λ s. s.desk) l)) (sym clients) o.desks));
   courier = subst (λ (p : Plan). IsDeskAt p.config new.clock new.courier) (sym plan) (subst (λ (c : ClockId). IsDeskAt (plan_of old).config c new.courier) (sym clock)
@@ -137,11 +128,11 @@ open_pruned old new plan clock clients courier keeper some kept o = record {
   keeper = (keeper.clock ∙ o.keeper.0 ∙ sym clock, keeper.drawn ∙ o.keeper.1);
   passes =
       let a = ap (λ (c : ClockId). c.passes) clock in
-      let b = zip_long HasPrunedSome old.cells.items new.cells.items some in
+      let b = zip_long IsFixedAs old.cells.items new.cells.items fixed in
       let c = ap length clients in
       let d = o.passes in
       omega (arith, a, b, c, d);
 }
   where
     fixed : AllZip IsFixedAs old.cells.items new.cells.items
-    fixed = zip_left HasPrunedSome IsFixedAs KeptCell old.cells.items new.cells.items (λ x y h q. pruned_fixed x y h q) some kept
+    fixed = pruned_fixed old.cells.items new.cells.items kept some

@@ -1,3 +1,4 @@
+mod Adding
 mod Beginning
 mod Counting
 mod Gathering
@@ -7,12 +8,12 @@ mod Mailing
 mod Newcomers
 mod Pairs
 mod Parting
+mod Places
 mod Phasing
 mod Prunes
 mod Reading
 mod Rounds
 mod Stepping
-mod Takings
 mod Threading
 mod Together
 mod Walking

@@ -1,5 +1,5 @@
 -- The cells, desks and passes that a run begins with.
-use Rattle.std.proofs.Common.{◌≡◌, ◌⊎◌, ℕ, zero, suc, ◌+◌, ◌<◌, ◌≤◌, ltb, eqb, Bool, true, false, List, [], ◌∷◌, ◌++◌, length, map, length-append, refl, sym, ◌∙◌, ap, subst, inl, inr, arith}
+use Rattle.std.proofs.Common.{◌≡◌, ◌⊎◌, ℕ, zero, suc, ◌+◌, ◌*◌, ◌<◌, ◌≤◌, ltb, eqb, Bool, true, false, List, [], ◌∷◌, ◌++◌, length, map, length-append, refl, sym, ◌∙◌, ap, subst, inl, inr, arith}
 use Rattle.std.specs.Prelude.{Option, slice_get, fold, replicate}
 use Rattle.std.specs.declared.option.Option.TheVariants.{None, Some}
 use Rattle.std.specs.List.{Contains, All, AllByRecursion, filter_map, cons_option}
@@ -11,11 +11,13 @@ use Rattle.std.proofs.lemmas.List.Elements.{Contains-get_or, Contains-append_lef
 use Rattle.std.proofs.lemmas.Option.{slice_get_within}
 use Rattle.protocol.specs.Report.{Ascend}
 use Rattle.journals.proofs.Lists.{number_of}
-use Rattle.protocol.proofs.Lists.{Contains-none, Contains-head, Contains-rest, Contains-cons_cases, Contains-map, Contains-map_cases}
+use Rattle.protocol.proofs.Lists.{Contains-none, Contains-head, Contains-rest, Contains-cons_cases, Contains-map, Contains-map_cases, Contains-slice_get}
 use Rattle.quorum_rules.specs.Limits.{Numbers}
 use Rattle.wire_forms.specs.Liars.{has_number}
 use Rattle.event_clock.specs.Passes.{ClockId, Holder, IsUnused, unused}
 use Rattle.locked_nodes.specs.Cells.{CellView}
+use Rattle.locked_nodes.specs.declared.slot.Slot.{Slot}
+use Rattle.locked_nodes.specs.Slots.{slot_of}
 use Rattle.client_desks.specs.Desks.{DeskView, first_desk}
 use Rattle.plan_words.specs.declared.fault.Fault.{Fault}
 use Rattle.plan_words.specs.declared.fault.Fault.TheVariants.{LiarNode, LiarSound, LiarMix, LiarFlood, CrashNode, CrashClient, Drop, Hold}
@@ -28,41 +30,117 @@ use Rattle.plan_followed.proofs.Plans.{IsNumber, liar_there}
 use Rattle.plan_phases.specs.Closed.{Begins}
 use Rattle.plan_tasks.specs.declared.task.Task.{Task}
 use Rattle.plan_tasks.specs.Tasks.{client_of}
-use Rattle.run_journals.specs.Standing.{IsDeskAt}
+use Rattle.run_journals.specs.Standing.{IsDeskAt, shards_of}
+use Rattle.run_journals.proofs.Sharded.{one_or_four}
 use Rattle.run_journals.specs.Ended.{AreClients}
 use Rattle.phase_threads.specs.declared.duty.Seat.{Seat}
+use Rattle.phase_threads.proofs.Places.{get_front, get_last, get_snoc}
 use Rattle.client_work.specs.declared.work.Work.{Work}
 use Rattle.client_work.specs.declared.work.Work.TheVariants.{Client, Lying}
 use Rattle.client_work.specs.declared.worker.Worker.{Worker}
 use Rattle.client_work.specs.declared.liar.Liar.{Liar}
 use Rattle.client_work.specs.Work.{IsReady, HasMail, phase_at}
-use Rattle.client_threads.specs.Opened.{IsUnusedPass, IsNewCell, AreNewCells, IsNewSeat}
+use Rattle.client_threads.specs.Opened.{IsUnusedPass, IsNewCell, AreNewCells, IsBefore, IsNewSeat, cell_count}
 use Rattle.client_threads.specs.declared.state.Run.{Run}
 use Rattle.client_threads.specs.Running.{desks_of, plan_of, LiarsNamed, IsBetween}
 use Rattle.client_threads.proofs.Beginning.{cells_planned, is_first}
 
 -- ---- cells
 
-get_snoc : {A : Type 0} (xs : List A) (y : A) (i : ℕ) (x : A) → slice_get (xs ++ y ∷ []) i ≡ Some x → (slice_get xs i ≡ Some x) ⊎ ((i ≡ length xs) × (x ≡ y))
-get_snoc [] y zero x at = let e : x ≡ y = cc in inr (refl, e)
-get_snoc [] y (suc i) x at = absurd cc
-get_snoc (z ∷ xs) y zero x at = inl at
-get_snoc (z ∷ xs) y (suc i) x at = elim (get_snoc xs y i x at) [ inl h ↦ inl h | inr h ↦ inr (ap suc h.0, h.1) ]
-
-pub none_new : (plan : Plan) (clock : ClockId) (cells : List CellView) → cells ≡ [] → AreNewCells plan clock 0 cells
+pub none_new : (plan : Plan) (clock : ClockId) (cells : List CellView) → cells ≡ [] → AreNewCells plan clock 0 0 cells
 none_new plan clock cells none = record {
   count = ap length none;
-  each = λ i cell at. absurd (let e : slice_get [] i ≡ Some cell = subst (λ (l : List CellView). slice_get l i ≡ Some cell) none at in cc);
+  each = λ k cell at. absurd (empty k cell at);
+  before = λ k cell at. absurd (empty k cell at);
+  own = λ k m a b at there same. absurd (empty k a at);
+  all = λ i s first l. absurd (elim first [ inl x ↦ omega (arith, x) | inr x ↦ (let y = x.1 in omega (arith, y)) ]);
 }
+  where
+    empty : (k : ℕ) (cell : CellView) → slice_get cells k ≡ Some cell → ⊥
+    empty k cell at = Contains-none cell (Contains-slice_get [] k cell (subst (λ (l : List CellView). slice_get l k ≡ Some cell) none at))
 
-pub one_new : (plan : Plan) (clock : ClockId) (n : ℕ) (cells more : List CellView) (cell : CellView) → AreNewCells plan clock n cells → more ≡ cells ++ cell ∷ [] → IsNewCell plan clock n cell → AreNewCells plan clock (n + 1) more
-one_new plan clock n cells more cell h is new = record {
-  count = ap length is ∙ omega (arith, length-append cells (cell ∷ []), h.count);
-  each = λ i x at. elim (get_snoc cells cell i x (subst (λ (l : List CellView). slice_get l i ≡ Some x) is at)) [
-    | inl was ↦ h.each i x was
-    | inr q ↦ subst (λ (k : ℕ). IsNewCell plan clock k x) (sym (q.0 ∙ h.count)) (subst (IsNewCell plan clock n) (sym q.1) new)
+-- one shard more
+pub one_new : (plan : Plan) (clock : ClockId) (n s : ℕ) (cells more : List CellView) (cell : CellView) → AreNewCells plan clock n s cells → more ≡ cells ++ cell ∷ [] → IsNewCell plan clock n s cell → AreNewCells plan clock n (s + 1) more
+one_new plan clock n s cells more cell h is new = subst (AreNewCells plan clock n (s + 1)) (sym is) (record {
+  count = omega (arith, length-append cells (cell ∷ []), h.count);
+  each = λ k x at. elim (get_snoc cells cell k x at) [
+    | inl was ↦ h.each k x was
+    | inr q ↦ subst (λ (y : CellView). IsNewCell plan clock y.charter.number y.charter.shard y) (sym q.1) mine
   ];
+  before = λ k x at. elim (get_snoc cells cell k x at) [
+    | inl was ↦ elim (h.before k x was) [ inl less ↦ inl less | inr q ↦ (let l = q.1 in inr (q.0, omega (arith, l))) ]
+    | inr q ↦ inr (ap (λ (y : CellView). y.charter.number) q.1 ∙ number, (let e = ap (λ (y : CellView). y.charter.shard) q.1 ∙ shard in omega (arith, e)))
+  ];
+  own = λ k m a b at there same. elim (get_snoc cells cell k a at) [
+    | inl was ↦ elim (get_snoc cells cell m b there) [
+      | inl also ↦ h.own k m a b was also same
+      | inr q ↦ absurd (apart k a was (same ∙ ap (λ (y : CellView). slot_of y.charter) q.1))
+    ]
+    | inr p ↦ elim (get_snoc cells cell m b there) [
+      | inl also ↦ absurd (apart m b also (sym same ∙ ap (λ (y : CellView). slot_of y.charter) p.1))
+      | inr q ↦ q.0 ∙ sym p.0
+    ]
+  ];
+  all = λ i t first l. elim (cut i t first) [
+    | inl was ↦ (let c = h.all i t was l in (c.0, c.1, get_front cells (cell ∷ []) c.0 c.1 c.2, c.3, c.4))
+    | inr q ↦ (length cells, cell, get_last cells cell [], number ∙ sym q.0, shard ∙ sym q.1)
+  ];
+})
+  where
+    number : cell.charter.number ≡ n
+    number = ap (λ (y : CellView). y.charter.number) new.is
+
+    shard : cell.charter.shard ≡ s
+    shard = ap (λ (y : CellView). y.charter.shard) new.is
+
+    mine : IsNewCell plan clock cell.charter.number cell.charter.shard cell
+    mine = subst (λ (k : ℕ). IsNewCell plan clock k cell.charter.shard cell) (sym number) (subst (λ (k : ℕ). IsNewCell plan clock n k cell) (sym shard) new)
+
+    -- its slot had no cell
+    apart : (k : ℕ) (x : CellView) → slice_get cells k ≡ Some x → slot_of x.charter ≡ slot_of cell.charter → ⊥
+    apart k x at same =
+        let i = ap (λ (y : Slot). y.node) same ∙ number in
+        let t = ap (λ (y : Slot). y.shard) same ∙ shard in
+        elim (h.before k x at) [ inl less ↦ omega (arith, less, i) | inr q ↦ (let l = q.1 in omega (arith, l, t)) ]
+
+    cut : (i t : ℕ) → IsBefore n (s + 1) i t → IsBefore n s i t ⊎ ((i ≡ n) × (t ≡ s))
+    cut i t (inl less) = inl (inl less)
+    cut i t (inr q) = elim (eqb_tells t s) [ inl same ↦ inr (q.0, same.1) | inr other ↦ (let l = q.1 in let ne = other.1 in inl (inr (q.0, omega (arith, l, ne)))) ]
+
+-- how many cells there are with one node more
+pub count_next : (plan : Plan) (n : ℕ) → cell_count plan (n + 1) ≡ cell_count plan n + shards_of plan n
+count_next plan n = let e : n + 1 ≡ suc n = omega arith in ap (cell_count plan) e
+
+-- the next node
+pub next_new : (plan : Plan) (clock : ClockId) (n s : ℕ) (cells : List CellView) → s ≡ shards_of plan n → AreNewCells plan clock n s cells → AreNewCells plan clock (n + 1) 0 cells
+next_new plan clock n s cells end h = record {
+  count = (let c = h.count in let e = count_next plan n in omega (arith, c, e, end));
+  each = h.each;
+  before = λ k cell at. elim (h.before k cell at) [ inl less ↦ inl (omega (arith, less)) | inr q ↦ (let e = q.0 in inl (omega (arith, e))) ];
+  own = h.own;
+  all = λ i t first l. h.all i t (was i t first l) l;
 }
+  where
+    was : (i t : ℕ) → IsBefore (n + 1) 0 i t → t < shards_of plan i → IsBefore n s i t
+    was i t (inr q) l = absurd (let x = q.1 in omega (arith, x))
+    was i t (inl less) l = elim (eqb_tells i n) [
+      | inl same ↦ (let e = ap (shards_of plan) same.1 in inr (same.1, omega (arith, l, e, end)))
+      | inr other ↦ (let ne = other.1 in inl (omega (arith, less, ne)))
+    ]
+
+-- how many there are so far
+pub count_on : (plan : Plan) (n m : ℕ) → n < m → cell_count plan n + shards_of plan n ≤ cell_count plan m
+count_on plan n zero l = absurd (omega (arith, l))
+count_on plan n (suc m) l = elim (eqb_tells n m) [
+  | inl same ↦ (let e : cell_count plan n + shards_of plan n ≡ cell_count plan m + shards_of plan m = ap (λ (k : ℕ). cell_count plan k + shards_of plan k) same.1 in omega (arith, e))
+  | inr other ↦ (let ne = other.1 in let rest = count_on plan n m (omega (arith, l, ne)) in omega (arith, rest))
+]
+
+pub count_few : (plan : Plan) (n : ℕ) → cell_count plan n ≤ 4 * n
+count_few plan zero = omega arith
+count_few plan (suc n) =
+    let rest = count_few plan n in
+    elim (one_or_four plan n) [ inl one ↦ omega (arith, rest, one) | inr four ↦ (let e = four.0 in omega (arith, rest, e)) ]
 
 -- ---- passes
 
@@ -282,14 +360,14 @@ liars_named plan h c lies =
 
 -- the parts of a run in which nobody has done anything
 pub record IsNewRun (run : Run) (plan : Plan) : Type 0 where
-  pub cells : AreNewCells plan run.clock plan.config.n run.cells.items
+  pub cells : AreNewCells plan run.clock plan.config.n 0 run.cells.items
   pub seats : All (IsNewSeat plan run.clock) run.clients.items
   pub ids : map (λ s. s.desk.id) run.clients.items ≡ ascending (clients plan.rules plan.work)
   pub pass : Holder
   pub unused : IsUnusedPass run.clock pass
   pub courier : run.courier ≡ first_desk plan.config 0 true pass
   pub keeper : IsUnusedPass run.clock run.keeper
-  pub passes : run.clock.passes ≡ plan.config.n + length run.clients.items + 2
+  pub passes : run.clock.passes ≡ cell_count plan plan.config.n + length run.clients.items + 2
   pub counted : run.counted.items ≡ replicate (length run.clients.items) 0
   pub named : LiarsNamed plan
 
@@ -298,6 +376,7 @@ first_of begins run h =
     is_first begins run
     (record {
       cells = (cells_planned (plan_of run) run.clock run.cells.items h.cells).cells;
+      inside = (cells_planned (plan_of run) run.clock run.cells.items h.cells).inside;
       desks = desks_at (plan_of run) run.clock run.clients.items h.seats;
       courier = record { cluster = ap (λ (d : DeskView). d.config) h.courier; ticks = ap (λ (d : DeskView). d.pass.clock) h.courier ∙ h.unused.ticks };
       keeper = (h.keeper.ticks, h.keeper.drawn);

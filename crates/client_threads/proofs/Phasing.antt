@@ -1,30 +1,30 @@
 -- A phase that is worked off closes: one pass meets all others, nodes prune, and the pass meets all others again.
-use Rattle.std.proofs.Common.{◌≡◌, ℕ, ◌+◌, ◌<◌, ◌≤◌, Bool, true, false, cond, List, [], ◌∷◌, ◌++◌, length, map, refl, sym, ◌∙◌, ap, subst, inl, inr, arith, append_assoc, length-append}
+use Rattle.std.proofs.Common.{◌≡◌, ℕ, ◌+◌, ◌<◌, ◌≤◌, cond, List, [], ◌∷◌, ◌++◌, length, map, refl, sym, ◌∙◌, ap, subst, inl, inr, arith, append_assoc, length-append}
 use Rattle.std.specs.declared.option.Option.TheVariants.{None}
-use Rattle.std.specs.List.{Contains, AllZip, All}
-use Rattle.std.proofs.lemmas.List.Elements.{Contains-append_cases, All-nil, All-cons, All-head, All-tail}
+use Rattle.std.specs.Prelude.{fold, ◌==◌}
+use Rattle.std.specs.List.{Contains, AllZip, All, range_with_len}
+use Rattle.std.proofs.lemmas.List.Elements.{Contains-append_cases, All-nil, All-cons, All-head, All-tail, All-contains}
 use Rattle.protocol.specs.Count.{update}
-use Rattle.protocol.proofs.Lists.{append_nil, Contains-none, Contains-map, Contains-map_cases}
+use Rattle.protocol.proofs.Lists.{append_nil, Contains-none}
 use Rattle.wire_forms.specs.Liars.{has_number}
 use Rattle.protocol.specs.Report.{Ascend}
 use Rattle.plan_words.specs.Named.{clients}
 use Rattle.event_clock.specs.Passes.{ClockId}
 use Rattle.journals.specs.declared.node.NodeAct.{NodeAct}
-use Rattle.journals.specs.declared.node.NodeAct.TheVariants.{Pruned}
+use Rattle.journals.specs.declared.node.NodeAct.TheVariants.{Answered, Lied, Silent, CrashedAt, Delivered, LateLost, Pruned}
 use Rattle.journals.specs.declared.node.NodeEntry.{NodeEntry}
 use Rattle.journals.specs.declared.desk.DeskEntry.{DeskEntry}
 use Rattle.journals.specs.declared.whole.Journals.{Journals}
-use Rattle.journals.specs.Acts.{can_prune}
 use Rattle.run_journals.proofs.Cells.{desk_rises}
 use Rattle.journals.specs.Phases.{Phase}
 use Rattle.journals.specs.Steps.{side}
-use Rattle.locked_nodes.specs.Cells.{CellView, KeptCell, state_of}
+use Rattle.locked_nodes.specs.Cells.{CellView, KeptCell, IsPrune}
+use Rattle.locked_nodes.specs.Joined.{join}
 use Rattle.client_desks.specs.Desks.{DeskView, KeptDesk}
 use Rattle.plan_words.specs.declared.plan.Plan.{Plan}
-use Rattle.plan_followed.specs.Nodes.{act_of}
 use Rattle.plan_followed.specs.Followed.{ArePrunes}
 use Rattle.plan_phases.specs.Closed.{next_begin, HaveClosed, IsWorkedOff, AreBelow, HavePruned, Closes}
-use Rattle.run_journals.specs.Standing.{ArePlanned, HaveSeen, AreKept, HasDonePrunes, JournalsBelow, CellsPrune, journal_at, journals_of}
+use Rattle.run_journals.specs.Standing.{ArePlanned, HaveSeen, AreKept, JournalsBelow, CellsPrune, add_cell, node_journal, journal_at, journals_of}
 use Rattle.run_journals.specs.Ended.{AreClients}
 use Rattle.phase_threads.specs.declared.duty.Seat.{Seat}
 use Rattle.plan_prunes.specs.declared.BlockStamp.{BlockStamp}
@@ -33,14 +33,15 @@ use Rattle.client_work.specs.declared.work.Work.{Work}
 use Rattle.client_work.specs.declared.work.Work.TheVariants.{Client, Lying, Courier}
 use Rattle.client_threads.specs.Met.{IsKeeper, HasMetCell, HasMetDesk, HasMetSeat}
 use Rattle.client_threads.specs.Meeting.{HasMetAll}
-use Rattle.client_threads.specs.Pruned.{HasPrunedSome, HasPrunedAll, prune_of}
+use Rattle.client_threads.specs.Pruned.{HasMorePrunes, AllPruned, reopened, prunings_of}
 use Rattle.client_threads.specs.Reads.{reads_in, reads_of, early_reads, late_reads, AreParted, IsPartedAs, IsParted}
 use Rattle.client_threads.specs.Running.{desks_of, clients_of, plan_of, StandsAt, LiarsNamed, IsOpen, IsBetween, IsWorked}
 use Rattle.client_threads.specs.declared.state.Run.{Run}
 use Rattle.client_threads.proofs.Pairs.{HasMoreAlone, HasSameEntries, pairs_on}
 use Rattle.client_threads.proofs.Parting.{parted_all}
-use Rattle.client_threads.proofs.Gathering.{pruning_of, prunes_are, reads_are}
-use Rattle.client_threads.proofs.Working.{zip_map, zip_then, zip_all, zip_long, IsFixedAs, fixed_same, planned_fixed}
+use Rattle.client_threads.proofs.Gathering.{prunes_are, reads_are}
+use Rattle.client_threads.proofs.Places.{reopened_fixed}
+use Rattle.client_threads.proofs.Working.{zip_map, zip_then, zip_all, IsFixedAs, fixed_same, planned_fixed}
 
 -- ---- desks that met a pass
 
@@ -104,14 +105,20 @@ desk_journals [] (y ∷ ys) z = absurd z
 desk_journals (x ∷ xs) [] z = absurd z
 desk_journals (x ∷ xs) (y ∷ ys) z = λ i. record { client = z.0.id i; entries = z.0.entries i } ∷ desk_journals xs ys z.1 i
 
-cell_journals : (xs ys : List CellView) → AllZip HasMetCell xs ys → map (λ c. c.journal) ys ≡ map (λ c. c.journal) xs
-cell_journals [] [] z = refl
-cell_journals [] (y ∷ ys) z = absurd z
-cell_journals (x ∷ xs) [] z = absurd z
-cell_journals (x ∷ xs) (y ∷ ys) z = λ i. z.0.journal i ∷ cell_journals xs ys z.1 i
+-- so are those of nodes
+cells_same : (i : ℕ) (xs ys : List CellView) (acc : List NodeEntry) → AllZip HasMetCell xs ys → fold (add_cell i) acc ys ≡ fold (add_cell i) acc xs
+cells_same i [] [] acc z = refl
+cells_same i [] (y ∷ ys) acc z = absurd z
+cells_same i (x ∷ xs) [] acc z = absurd z
+cells_same i (x ∷ xs) (y ∷ ys) acc z =
+    (λ t. fold (add_cell i) (cond ((z.0.charter t).number == i) (join acc (z.0.journal t)) acc) ys) ∙ cells_same i xs ys (add_cell i acc x) z.1
+
+node_same : (xs ys : List CellView) → AllZip HasMetCell xs ys → (i : ℕ) → node_journal ys i ≡ node_journal xs i
+node_same xs ys z i = cells_same i xs ys [] z
 
 journals_met : (plan : Plan) (xs ys : List CellView) (ds es : List DeskView) → AllZip HasMetCell xs ys → AllZip HasMetDesk ds es → journals_of plan ys es ≡ journals_of plan xs ds
-journals_met plan xs ys ds es zc zd = λ i. record { config = plan.config; liars = plan.liars; nodes = cell_journals xs ys zc i; desks = desk_journals ds es zd i }
+journals_met plan xs ys ds es zc zd =
+    λ i. record { config = plan.config; liars = plan.liars; nodes = map (λ node. node_same xs ys zc node i) (range_with_len 0 plan.config.n); desks = desk_journals ds es zd i }
 
 -- ---- one more phase
 
@@ -123,14 +130,6 @@ next_is_end (q ∷ ps) p = last (q ∷ ps)
     last [] = refl
     last (r ∷ []) = refl
     last (r ∷ s ∷ qs) = last (s ∷ qs)
-
--- prunes of a list of blocks are those of the plan's words
-acts_same : (ps : List BlockStamp) → map prune_of ps ≡ map act_of (map pruning_of ps)
-acts_same [] = refl
-acts_same (p ∷ ps) = ap (λ (l : List NodeAct). Pruned p.block p.stamp ∷ l) (acts_same ps)
-
-if_same : (b : Bool) (xs ys : List NodeAct) → xs ≡ ys → cond b xs [] ≡ cond b ys []
-if_same b xs ys e = ap (λ (l : List NodeAct). cond b l []) e
 
 -- ---- lists
 
@@ -150,8 +149,8 @@ zip_left R S P (x ∷ xs) (y ∷ ys) h z a = (h x y z.0 (All-head P x xs a), zip
 
 -- ---- cells with entries more
 
-more_then : (a b c : CellView) → HasMoreAlone a b → HasMoreAlone b c → HasMoreAlone a c
-more_then a b c x y = record {
+alone_then : (a b c : CellView) → HasMoreAlone a b → HasMoreAlone b c → HasMoreAlone a c
+alone_then a b c x y = record {
   more = x.more ++ y.more;
   grew = y.grew ∙ ap (λ (es : List NodeEntry). es ++ y.more) x.grew ∙ append_assoc a.journal x.more y.more;
   alone = λ e there. elim (Contains-append_cases x.more y.more e there) [ inl l ↦ x.alone e l | inr r ↦ y.alone e r ];
@@ -211,23 +210,13 @@ pub record HasPruned (ps : List BlockStamp) (old new : Run) : Type 0 where
   pub courier : new.courier ≡ old.courier
   pub keeper : IsKeeper old.keeper new.keeper
   pub counted : new.counted.items ≡ map (λ s. length (reads_of s)) old.clients.items
-  pub some : AllZip HasPrunedSome old.cells.items new.cells.items
-  pub all : AllZip (HasPrunedAll old.keeper.seen ps) old.cells.items new.cells.items
+  pub some : AllZip HasMorePrunes (reopened old.cells.items) new.cells.items
+  pub all : AllPruned (plan_of old) old.keeper.seen ps old.cells.items new.cells.items
   pub seen : All (λ c. c.pass.seen ≤ new.keeper.seen) new.cells.items
 
 -- what is fixed about cells that met a pass, or pruned
 met_fixed : (a b : CellView) → HasMetCell a b → IsFixedAs a b
 met_fixed a b h = fixed_same a b h.charter
-
-pub pruned_fixed : (a b : CellView) → HasPrunedSome a b → KeptCell a → IsFixedAs a b
-pruned_fixed a b h k = record {
-  config = h.config;
-  number = h.number;
-  whole = h.shard;
-  nature = h.nature;
-  crash = h.crash;
-  clock = h.clock ∙ k.own.0;
-}
 
 fixed_then : (a b c : CellView) → IsFixedAs a b → IsFixedAs b c → IsFixedAs a c
 fixed_then a b c x y = record {
@@ -239,13 +228,28 @@ fixed_then a b c x y = record {
   clock = y.clock ∙ x.clock;
 }
 
+pub pruned_fixed : (old new : List CellView) → All KeptCell old → AllZip HasMorePrunes (reopened old) new → AllZip IsFixedAs old new
+pruned_fixed old new kept z =
+    zip_then IsFixedAs IsFixedAs IsFixedAs old (reopened old) new fixed_then (reopened_fixed old kept) (zip_map HasMorePrunes IsFixedAs (reopened old) new (λ x y h. fixed_same x y h.charter) z)
+
 -- prunes have no client's side
-no_sides : (ps : List BlockStamp) (b : Bool) (more : List NodeEntry) → map (λ e. e.act) more ≡ cond b (map prune_of ps) [] → (e : NodeEntry) → Contains more e → side e.act ≡ None
-no_sides ps b more is e there = at b (subst (λ (l : List NodeAct). Contains l e.act) is (Contains-map (λ (x : NodeEntry). x.act) more e there))
-  where
-    at : (b : Bool) → Contains (cond b (map prune_of ps) []) e.act → side e.act ≡ None
-    at true h = (let q = Contains-map_cases prune_of ps e.act h in ap side q.2)
-    at false h = absurd (Contains-none e.act h)
+no_side : (a : NodeAct) → IsPrune a → side a ≡ None
+no_side (Pruned block stamp) h = refl
+no_side (Answered ask reply) h = absurd h
+no_side (Lied ask reply) h = absurd h
+no_side (Silent ask why) h = absurd h
+no_side (CrashedAt ask late) h = absurd h
+no_side (Delivered ask reply) h = absurd h
+no_side (LateLost ask) h = absurd h
+
+pruned_alone : (old new : List CellView) → AllZip HasMorePrunes (reopened old) new → AllZip HasMoreAlone old new
+pruned_alone [] [] z = tt
+pruned_alone [] (y ∷ ys) z = absurd z
+pruned_alone (x ∷ xs) [] z = absurd z
+pruned_alone (x ∷ xs) (y ∷ ys) z = (
+  record { more = z.0.more; grew = z.0.grown; alone = λ e there. no_side e.act (All-contains (λ (e : NodeEntry). IsPrune e.act) z.0.more e z.0.prunes there) },
+  pruned_alone xs ys z.1,
+)
 
 module _ (below : JournalsBelow) (prune : CellsPrune) (close : Closes) (k : ℕ) (run0 run1 run2 run3 : Run) (ps : List BlockStamp)
     (b : IsWorked k run0) (m : HasMetAll run0 run1) (did : HasPruned ps run1 run2) (n : HasMetAll run2 run3)
@@ -278,8 +282,17 @@ module _ (below : JournalsBelow) (prune : CellsPrune) (close : Closes) (k : ℕ)
   j1_is : j1 ≡ j0
   j1_is = journals_met P run0.cells.items run1.cells.items (clients_of run0) (clients_of run1) m.cells seats1
 
+  planned1 : ArePlanned P run0.clock run1.cells.items
+  planned1 = planned_fixed P run0.clock run0.cells.items run1.cells.items (zip_map HasMetCell IsFixedAs run0.cells.items run1.cells.items met_fixed m.cells) b.standing.planned
+
+  pruned_zip : AllZip IsFixedAs run1.cells.items run2.cells.items
+  pruned_zip = pruned_fixed run1.cells.items run2.cells.items kept1.cells did.some
+
+  planned2 : ArePlanned P run0.clock run2.cells.items
+  planned2 = planned_fixed P run0.clock run1.cells.items run2.cells.items pruned_zip planned1
+
   low : AreBelow p.close j1
-  low = below P p.close run1.cells.items (clients_of run1) (record {
+  low = below P p.close run1.cells.items (clients_of run1) planned1.inside (record {
     cells = all_map (λ c. (run0.keeper.seen ≤ c.pass.seen) × (c.pass.seen ≤ run1.keeper.seen)) (λ c. c.pass.seen ≤ p.close) run1.cells.items (λ c h. h.1) m.cells_seen;
     desks = all_map (λ d. (run0.keeper.seen ≤ d.pass.seen) × (d.pass.seen ≤ run1.keeper.seen)) (λ d. d.pass.seen ≤ p.close) (clients_of run1) (λ d h. h.1) m.desks_seen;
   }) kept1
@@ -288,7 +301,7 @@ module _ (below : JournalsBelow) (prune : CellsPrune) (close : Closes) (k : ℕ)
   longer = did.keeper.seen
 
   high : AreBelow p.end j2
-  high = below P p.end run2.cells.items (clients_of run1) (record {
+  high = below P p.end run2.cells.items (clients_of run1) planned2.inside (record {
     cells = did.seen;
     desks = all_map (λ d. (run0.keeper.seen ≤ d.pass.seen) × (d.pass.seen ≤ run1.keeper.seen)) (λ d. d.pass.seen ≤ p.end) (clients_of run1) (λ d h. (let a = h.1 in let l = longer in omega (arith, a, l))) m.desks_seen;
   }) (record { cells = kept2; desks = kept1.desks })
@@ -305,22 +318,18 @@ module _ (below : JournalsBelow) (prune : CellsPrune) (close : Closes) (k : ℕ)
   parted1 : AllZip (IsParted (next_begin b.phases)) run1.clients.items run1.counted.items
   parted1 = parted_on k run0 run1 b m
 
-  prunes : ArePrunes P j1 (next_begin b.phases) p (map pruning_of ps)
+  prunes : ArePrunes P j1 (next_begin b.phases) p (prunings_of ps)
   prunes = prunes_are P (k + 1) (next_begin b.phases) run1.clients.items run1.counted.items works1 parted1 clients1 run1.cells.items p low ps are
 
-  planned1 : ArePlanned P run0.clock run1.cells.items
-  planned1 = planned_fixed P run0.clock run0.cells.items run1.cells.items (zip_map HasMetCell IsFixedAs run0.cells.items run1.cells.items met_fixed m.cells) b.standing.planned
-
-  pruned : HavePruned P p (map pruning_of ps) j1 j2
-  pruned = prune P run0.clock p (map pruning_of ps) run1.cells.items run2.cells.items (clients_of run1) planned1 (zip_long HasPrunedSome run1.cells.items run2.cells.items did.some)
-      (zip_map (HasPrunedAll p.close ps) (HasDonePrunes P p.close (map pruning_of ps)) run1.cells.items run2.cells.items
-      (λ x y h. record { more = h.more; grown = h.grown; later = h.later; acts = h.acts ∙ if_same (can_prune (state_of x) x.charter.nature) (map prune_of ps) (map act_of (map pruning_of ps)) (acts_same ps) }) did.all)
+  pruned : HavePruned P p (prunings_of ps) j1 j2
+  pruned = prune P run0.clock p (prunings_of ps) run1.cells.items run2.cells.items (clients_of run1) planned1 planned2
+      (subst (λ (q : Plan). AllPruned q p.close ps run1.cells.items run2.cells.items) same1 did.all)
 
   abbrev phases3 : List Phase
   phases3 = b.phases ++ p ∷ []
 
-  closed2 : HaveClosed P j2 phases3 (update b.prunes (length b.phases) (map pruning_of ps))
-  closed2 = close P j1 j2 b.phases b.prunes p (map pruning_of ps) (subst (λ (j : Journals). HaveClosed P j b.phases b.prunes) (sym j1_is) b.closed) (subst (λ (j : Journals). IsWorkedOff P j b.phases) (sym j1_is) b.off) after longer low prunes pruned high
+  closed2 : HaveClosed P j2 phases3 (update b.prunes (length b.phases) (prunings_of ps))
+  closed2 = close P j1 j2 b.phases b.prunes p (prunings_of ps) (subst (λ (j : Journals). HaveClosed P j b.phases b.prunes) (sym j1_is) b.closed) (subst (λ (j : Journals). IsWorkedOff P j b.phases) (sym j1_is) b.off) after longer low prunes pruned high
 
   -- after the last meeting
   seats3 : AllZip HasMetSeat run1.clients.items run3.clients.items
@@ -336,14 +345,11 @@ module _ (below : JournalsBelow) (prune : CellsPrune) (close : Closes) (k : ℕ)
   fixed = zip_then IsFixedAs IsFixedAs IsFixedAs run0.cells.items run2.cells.items run3.cells.items fixed_then
       (zip_then IsFixedAs IsFixedAs IsFixedAs run0.cells.items run1.cells.items run2.cells.items fixed_then (zip_map HasMetCell IsFixedAs run0.cells.items run1.cells.items met_fixed m.cells) pruned_zip)
       (zip_map HasMetCell IsFixedAs run2.cells.items run3.cells.items met_fixed n.cells)
-    where
-      pruned_zip : AllZip IsFixedAs run1.cells.items run2.cells.items
-      pruned_zip = zip_left HasPrunedSome IsFixedAs KeptCell run1.cells.items run2.cells.items (λ x y h q. pruned_fixed x y h q) did.some kept1.cells
 
   alone : AllZip HasMoreAlone run0.cells.items run3.cells.items
-  alone = zip_then HasMoreAlone HasMoreAlone HasMoreAlone run0.cells.items run2.cells.items run3.cells.items more_then
-      (zip_then HasMoreAlone HasMoreAlone HasMoreAlone run0.cells.items run1.cells.items run2.cells.items more_then (zip_map HasMetCell HasMoreAlone run0.cells.items run1.cells.items met_alone m.cells)
-      (zip_map (HasPrunedAll p.close ps) HasMoreAlone run1.cells.items run2.cells.items (λ x y h. record { more = h.more; grew = h.grown; alone = no_sides ps (can_prune (state_of x) x.charter.nature) h.more h.acts }) did.all))
+  alone = zip_then HasMoreAlone HasMoreAlone HasMoreAlone run0.cells.items run2.cells.items run3.cells.items alone_then
+      (zip_then HasMoreAlone HasMoreAlone HasMoreAlone run0.cells.items run1.cells.items run2.cells.items alone_then (zip_map HasMetCell HasMoreAlone run0.cells.items run1.cells.items met_alone m.cells)
+      (pruned_alone run1.cells.items run2.cells.items did.some))
       (zip_map HasMetCell HasMoreAlone run2.cells.items run3.cells.items met_alone n.cells)
 
   entries : AllZip HasSameEntries (clients_of run0) (clients_of run3)
@@ -372,9 +378,9 @@ module _ (below : JournalsBelow) (prune : CellsPrune) (close : Closes) (k : ℕ)
     };
     phases = phases3;
     count = (let c = b.count in let e : length phases3 ≡ length b.phases + 1 = length-append b.phases (p ∷ []) in omega (arith, c, e));
-    prunes = update b.prunes (length b.phases) (map pruning_of ps);
-    closed = subst (λ (q : Plan). HaveClosed q (journals_of q run3.cells.items (clients_of run3)) phases3 (update b.prunes (length b.phases) (map pruning_of ps))) (sym same3)
-        (subst (λ (j : Journals). HaveClosed P j phases3 (update b.prunes (length b.phases) (map pruning_of ps))) (sym j3_is) closed2);
+    prunes = update b.prunes (length b.phases) (prunings_of ps);
+    closed = subst (λ (q : Plan). HaveClosed q (journals_of q run3.cells.items (clients_of run3)) phases3 (update b.prunes (length b.phases) (prunings_of ps))) (sym same3)
+        (subst (λ (j : Journals). HaveClosed P j phases3 (update b.prunes (length b.phases) (prunings_of ps))) (sym j3_is) closed2);
     low = subst (λ (q : Plan). AreBelow (next_begin phases3) (journals_of q run3.cells.items (clients_of run3))) (sym same3)
         (subst (λ (x : ℕ). AreBelow x (journals_of P run3.cells.items (clients_of run3))) (sym (next_is_end b.phases p)) (subst (AreBelow p.end) (sym j3_is) high));
     seen = subst (λ (x : ℕ). HaveSeen x run3.cells.items (clients_of run3)) (sym (next_is_end b.phases p)) (record {

@@ -1,183 +1,224 @@
--- Prunes that follow one another.
-use Rattle.std.proofs.Common.{◌≡◌, ℕ, ◌+◌, ◌≤◌, Bool, true, false, List, [], ◌∷◌, ◌++◌, length, map, refl, sym, ◌∙◌, ap, subst, inl, inr, arith, append_assoc}
-use Rattle.std.specs.Prelude.{if◌then◌else◌}
-use Rattle.std.specs.List.{AllZip}
+-- Prunes that follow one another in the cells of a node.
+use Rattle.std.proofs.Common.{◌≡◌, ℕ, zero, suc, ◌+◌, ◌<◌, ◌≤◌, Bool, true, false, cond, List, [], ◌∷◌, ◌++◌, map, set, get_or, refl, sym, ◌∙◌, ap, subst, inl, inr, arith, append_assoc}
+use Rattle.std.specs.Prelude.{slice_get}
+use Rattle.std.specs.declared.option.Option.TheVariants.{Some}
+use Rattle.std.specs.List.{AllZip, All, AllByRecursion}
 use Rattle.std.proofs.lemmas.List.{map-append}
-use Rattle.std.proofs.lemmas.List.Elements.{Contains-append_cases}
+use Rattle.std.proofs.lemmas.List.Elements.{Contains-append_cases, All-nil, All-cons, All-head, All-tail, All-append, recursion_from_All}
 use Rattle.protocol.proofs.Lists.{append_nil, Contains-none, Contains-one}
 use Rattle.event_clock.specs.Passes.{ClockId, Holder}
-use Rattle.stamp_order.specs.declared.Stamp.{Stamp}
 use Rattle.journals.specs.declared.node.Nature.{Nature}
 use Rattle.journals.specs.declared.node.Nature.TheVariants.{Honest, Lying as Lies}
 use Rattle.journals.specs.declared.node.NodeAct.{NodeAct}
-use Rattle.journals.specs.declared.node.NodeAct.TheVariants.{Pruned}
+use Rattle.journals.specs.declared.node.NodeAct.TheVariants.{Answered, Lied, Silent, CrashedAt, Delivered, LateLost, Pruned}
 use Rattle.journals.specs.declared.node.NodeEntry.{NodeEntry}
-use Rattle.journals.specs.Acts.{NodeState, after, can_prune}
-use Rattle.locked_nodes.specs.Cells.{CellView, KeptCell, state_of, first_state, entry, with_entry, with_seen, rechartered}
-use Rattle.locked_nodes.specs.declared.answers.Pruning.{Pruning}
+use Rattle.journals.specs.Acts.{NodeState, after, after_all, can_prune}
+use Rattle.locked_nodes.specs.Cells.{CellView, IsPrune, state_of, first_state, entry, with_entry, with_seen}
+use Rattle.locked_nodes.specs.declared.answers.Pruning.{Pruning as Answer}
 use Rattle.locked_nodes.specs.declared.answers.Pruning.TheVariants.{Pruned as PrunedAt, Skipped}
+use Rattle.locked_nodes.specs.Slots.{slot_of, slots_of}
+use Rattle.plan_followed.specs.Nodes.{act_of}
 use Rattle.plan_prunes.specs.declared.BlockStamp.{BlockStamp}
+use Rattle.run_journals.specs.Standing.{node_journal}
+use Rattle.run_journals.proofs.Nodes.{journal_snoc, journal_other}
 use Rattle.client_threads.specs.Met.{IsKeeper}
-use Rattle.client_threads.specs.Pruned.{IsOpenCell, HasPrunedSome, HasPrunedAll, prune_of}
-use Rattle.client_threads.proofs.Mailing.{after_one}
+use Rattle.client_threads.specs.Pruned.{IsOpenCell, HasMorePrunes, AllPrune, NodePruned, OthersStay, prunings_of, pruning_of}
+use Rattle.client_threads.proofs.Keepers.{all_of, same_keeper, set_all}
+use Rattle.client_threads.proofs.Working.{beside_at}
 
--- a cell whose node did these prunes, under numbers from one on
-pub record IsPruning (from high : ℕ) (ps : List BlockStamp) (old new : CellView) : Type 0 where
-  pub charter : new.charter ≡ old.charter
-  pub all : HasPrunedAll from ps old new
-  pub may : can_prune (state_of new) old.charter.nature ≡ can_prune (state_of old) old.charter.nature
-  pub seen : new.pass.seen ≤ high
+-- ---- a cell with prunes more
 
-no_acts : (b : Bool) (xs : List NodeAct) → xs ≡ [] → xs ≡ (if b then [] else [])
-no_acts true xs e = e
-no_acts false xs e = e
+pub no_more : (c : CellView) → HasMorePrunes c c
+no_more c = record { charter = refl; more = []; grown = append_nil c.journal; prunes = All-nil (λ (e : NodeEntry). IsPrune e.act) }
 
-more_acts : (b : Bool) → b ≡ true → (xs ys : List NodeAct) (x : NodeAct) → xs ≡ (if b then ys else []) → xs ++ x ∷ [] ≡ (if b then ys ++ x ∷ [] else [])
-more_acts true is xs ys x e = ap (λ l. l ++ x ∷ []) e
+pub more_then : (a b c : CellView) → HasMorePrunes a b → HasMorePrunes b c → HasMorePrunes a c
+more_then a b c x y = record {
+  charter = y.charter ∙ x.charter;
+  more = x.more ++ y.more;
+  grown = y.grown ∙ ap (λ (es : List NodeEntry). es ++ y.more) x.grown ∙ append_assoc a.journal x.more y.more;
+  prunes = All-append (λ (e : NodeEntry). IsPrune e.act) x.more y.more x.prunes y.prunes;
+}
+
+one_more : (c : CellView) (n : ℕ) (x : BlockStamp) → HasMorePrunes c (with_entry c n (Pruned x.block x.stamp))
+one_more c n x = record {
+  charter = refl;
+  more = entry n (Pruned x.block x.stamp) ∷ [];
+  grown = refl;
+  prunes = All-cons (λ (e : NodeEntry). IsPrune e.act) (entry n (Pruned x.block x.stamp)) [] tt (All-nil (λ (e : NodeEntry). IsPrune e.act));
+}
+
+-- a prune leaves a node up that was up
+still_may : (s : NodeState) (nature : Nature) (a : NodeAct) → IsPrune a → can_prune (after s a) nature ≡ can_prune s nature
+still_may s Honest (Pruned block stamp) h = refl
+still_may s (Lies rule) (Pruned block stamp) h = refl
+still_may s nature (Answered ask reply) h = absurd h
+still_may s nature (Lied ask reply) h = absurd h
+still_may s nature (Silent ask why) h = absurd h
+still_may s nature (CrashedAt ask late) h = absurd h
+still_may s nature (Delivered ask reply) h = absurd h
+still_may s nature (LateLost ask) h = absurd h
+
+may_after : (s : NodeState) (nature : Nature) (es : List NodeEntry) → All (λ e. IsPrune e.act) es → can_prune (after_all s es) nature ≡ can_prune s nature
+may_after s nature [] all = refl
+may_after s nature (e ∷ es) all =
+    may_after (after s e.act) nature es (All-tail (λ (e : NodeEntry). IsPrune e.act) e es all) ∙ still_may s nature e.act (All-head (λ (e : NodeEntry). IsPrune e.act) e es all)
+
+after_append : (s : NodeState) (es more : List NodeEntry) → after_all s (es ++ more) ≡ after_all (after_all s es) more
+after_append s [] more = refl
+after_append s (e ∷ es) more = after_append (after s e.act) es more
+
+pub same_may : (x y : CellView) → HasMorePrunes x y → can_prune (state_of y) y.charter.nature ≡ can_prune (state_of x) x.charter.nature
+same_may x y h =
+    ap (λ c. can_prune (after_all (first_state c) y.journal) c.nature) h.charter ∙ ap (λ (es : List NodeEntry). can_prune (after_all (first_state x.charter) es) x.charter.nature) h.grown
+    ∙ ap (λ (s : NodeState). can_prune s x.charter.nature) (after_append (first_state x.charter) x.journal h.more) ∙ may_after (state_of x) x.charter.nature h.more h.prunes
+
+-- ---- the cells of a run
+
+pub none_more : (cells : List CellView) → AllZip HasMorePrunes cells cells
+none_more [] = tt
+none_more (c ∷ cells) = (no_more c, none_more cells)
+
+pub slots_same : (xs ys : List CellView) → AllZip HasMorePrunes xs ys → slots_of ys ≡ slots_of xs
+slots_same [] [] z = refl
+slots_same [] (y ∷ ys) z = absurd z
+slots_same (x ∷ xs) [] z = absurd z
+slots_same (x ∷ xs) (y ∷ ys) z = λ i. slot_of (z.0.charter i) ∷ slots_same xs ys z.1 i
+
+-- one item beside another becomes another one
+zip_set : {X : Type 0} (R : X → X → Type 0) (xs ys : List X) (k : ℕ) (x y : X) → AllZip R xs ys → slice_get ys k ≡ Some x → ((a : X) → R a x → R a y) → AllZip R xs (set ys k y)
+zip_set R [] [] k x y z at h = tt
+zip_set R [] (b ∷ ys) k x y z at h = absurd z
+zip_set R (a ∷ xs) [] k x y z at h = absurd z
+zip_set R (a ∷ xs) (b ∷ ys) zero x y z at h = (let same : b ≡ x = cc in (h a (subst (R a) same z.0), z.1))
+zip_set R (a ∷ xs) (b ∷ ys) (suc k) x y z at h = (z.0, zip_set R xs ys k x y z.1 at h)
+
+set_same : {X : Type 0} (xs : List X) (k : ℕ) (x : X) → slice_get xs k ≡ Some x → set xs k x ≡ xs
+set_same [] k x at = refl
+set_same (a ∷ xs) zero x at = (let same : a ≡ x = cc in ap (λ y. y ∷ xs) (sym same))
+set_same (a ∷ xs) (suc k) x at = ap (λ (l : List _). a ∷ l) (set_same xs k x at)
+
+-- a cell of the node may prune as its cells all do
+may_is : (node k : ℕ) (may : Bool) (old now : List CellView) (cell : CellView) → AllPrune node may old → AllZip HasMorePrunes old now → slice_get now k ≡ Some cell → cell.charter.number ≡ node → can_prune (state_of cell) cell.charter.nature ≡ may
+may_is node k may old now cell alike z at is =
+    let q = beside_at HasMorePrunes old now z k cell at in
+    same_may q.0 cell q.2 ∙ all_of (λ (c : CellView). c.charter.number ≡ node → can_prune (state_of c) c.charter.nature ≡ may) old k q.0 alike q.1 (ap (λ c. c.number) (sym q.2.charter) ∙ is)
+
+-- ---- the prunes of a node
+
+-- the node did these prunes so far
+pub record IsPruning (clock : ClockId) (first keeper : Holder) (all : List BlockStamp) (node : ℕ) (ps : List BlockStamp) (old now : List CellView) : Type 0 where
+  pub goes : IsKeeper first keeper
+  pub cells : All (IsOpenCell clock keeper.seen all) now
+  pub some : AllZip HasMorePrunes old now
+  pub done : NodePruned first.seen ps node old now
+  pub others : OthersStay node old now
+
+no_acts : (b : Bool) → ◌≡◌ {A = List NodeAct} [] (cond b [] [])
+no_acts true = refl
+no_acts false = refl
+
+more_acts : (b : Bool) → b ≡ true → (xs ys : List NodeAct) (x : NodeAct) → xs ≡ cond b ys [] → xs ++ x ∷ [] ≡ cond b (ys ++ x ∷ []) []
+more_acts true is xs ys x e = ap (λ (l : List NodeAct). l ++ x ∷ []) e
 more_acts false is xs ys x e = absurd (cc)
 
-same_acts : (b : Bool) → b ≡ false → (xs ys zs : List NodeAct) → xs ≡ (if b then ys else []) → xs ≡ (if b then zs else [])
+same_acts : (b : Bool) → b ≡ false → (xs ys zs : List NodeAct) → xs ≡ cond b ys [] → xs ≡ cond b zs []
 same_acts true is xs ys zs e = absurd (cc)
 same_acts false is xs ys zs e = e
 
-pub prunes_none : (from high : ℕ) (c : CellView) → c.pass.seen ≤ high → IsPruning from high [] c c
-prunes_none from high c le = record {
-  charter = refl;
-  all = record { more = []; grown = append_nil c.journal; later = λ e there. absurd (Contains-none e there); acts = no_acts (can_prune (state_of c) c.charter.nature) [] refl };
-  may = refl;
-  seen = le;
+pub prunes_none : (clock : ClockId) (first : Holder) (all : List BlockStamp) (node : ℕ) (cells : List CellView) → All (IsOpenCell clock first.seen all) cells → IsPruning clock first first all node [] cells cells
+prunes_none clock first all node cells h = record {
+  goes = same_keeper first;
+  cells = h;
+  some = none_more cells;
+  done = λ may alike. record { more = []; grown = append_nil (node_journal cells node); later = λ e there. absurd (Contains-none e there); acts = no_acts may };
+  others = λ i not. refl;
 }
 
-still_may : (s : NodeState) (nature : Nature) (block : ℕ) (stamp : Stamp) → can_prune (after s (Pruned block stamp)) nature ≡ can_prune s nature
-still_may s Honest block stamp = refl
-still_may s (Lies rule) block stamp = refl
+acts_of : (ps : List BlockStamp) (x : BlockStamp) → map act_of (prunings_of (ps ++ x ∷ [])) ≡ map act_of (prunings_of ps) ++ act_of (pruning_of x) ∷ []
+acts_of ps x = ap (map act_of) (map-append pruning_of ps (x ∷ [])) ∙ map-append act_of (prunings_of ps) (pruning_of x ∷ [])
 
-may_one : (c : CellView) (n : ℕ) (nature : Nature) (block : ℕ) (stamp : Stamp) → can_prune (state_of (with_entry c n (Pruned block stamp))) nature ≡ can_prune (state_of c) nature
-may_one c n nature block stamp =
-    ap (λ (s : NodeState). can_prune s nature) (after_one (first_state c.charter) c.journal (entry n (Pruned block stamp))) ∙ still_may (state_of c) nature block stamp
+weaker : (clock : ClockId) (low high : ℕ) (all : List BlockStamp) (cells : List CellView) → low ≤ high → All (IsOpenCell clock low all) cells → All (IsOpenCell clock high all) cells
+weaker clock low high all cells le h = λ k d lt. (let c = h k d lt in record { ticks = c.ticks; may = c.may; blocks = c.blocks; seen = (let s = c.seen in omega (arith, s, le)); below = λ i e at. (let b = c.below i e at in omega (arith, b, le)) })
 
--- one more prune is done
-pub prunes_more : (from high n : ℕ) (ps : List BlockStamp) (x : BlockStamp) (old new : CellView) → from ≤ n → can_prune (state_of new) new.charter.nature ≡ true
-    → IsPruning from high ps old new → IsPruning from (n + 1) (ps ++ x ∷ []) old (with_entry new n (Pruned x.block x.stamp))
-prunes_more from high n ps x old new le can h =
-    let e = entry n (Pruned x.block x.stamp) in
-    let could : can_prune (state_of old) old.charter.nature ≡ true = sym h.may ∙ ap (λ c. can_prune (state_of new) c.nature) (sym h.charter) ∙ can in
-    record {
-      charter = h.charter;
-      all = record {
-        more = h.all.more ++ e ∷ [];
-        grown = ap (λ (l : List NodeEntry). l ++ e ∷ []) h.all.grown ∙ append_assoc old.journal h.all.more (e ∷ []);
-        later = λ y there. elim (Contains-append_cases h.all.more (e ∷ []) y there) [
-          | inl early ↦ h.all.later y early
-          | inr last ↦ subst (λ (z : NodeEntry). from ≤ z.number) (sym (Contains-one y e last)) le
-        ];
-        acts =
-            map-append (λ (y : NodeEntry). y.act) h.all.more (e ∷ [])
-            ∙ more_acts (can_prune (state_of old) old.charter.nature) could (map (λ (y : NodeEntry). y.act) h.all.more) (map prune_of ps) (prune_of x) h.all.acts
-            ∙ ap (λ (l : List NodeAct). if can_prune (state_of old) old.charter.nature then l else []) (sym (map-append prune_of ps (x ∷ [])));
-      };
-      may = may_one new n old.charter.nature x.block x.stamp ∙ h.may;
+module _ (clock : ClockId) (first keeper : Holder) (all : List BlockStamp) (node : ℕ) (ps : List BlockStamp) (x : BlockStamp) (old now : List CellView) (k : ℕ) (cell : CellView)
+    (at : slice_get now k ≡ Some cell) (is : cell.charter.number ≡ node) (h : IsPruning clock first keeper all node ps old now) where
+  abbrev noted : ℕ → NodeEntry
+  noted n = entry n (Pruned x.block x.stamp)
+
+  abbrev after_it : ℕ → CellView
+  after_it n = with_entry cell n (Pruned x.block x.stamp)
+
+  c : IsOpenCell clock keeper.seen all cell
+  c = all_of (IsOpenCell clock keeper.seen all) now k cell h.cells at
+
+  under : (n : ℕ) → keeper.seen ≤ n → All (λ c. AllByRecursion (λ e. e.number < n) c.journal) now
+  under n le = λ i d lt. recursion_from_All (λ (e : NodeEntry). e.number < n) (get_or now i d).journal (λ j z within. (let b = (h.cells i d lt).below j z within in omega (arith, b, le)))
+
+  grows : (n : ℕ) → keeper.seen ≤ n → node_journal (set now k (after_it n)) node ≡ node_journal now node ++ noted n ∷ []
+  grows n le = subst (λ (m : ℕ). node_journal (set now k (after_it n)) m ≡ node_journal now m ++ noted n ∷ []) is (journal_snoc now k cell (after_it n) (noted n) at refl refl (under n le))
+
+  -- one more prune is done
+  pruned : (n : ℕ) → keeper.seen ≤ n → can_prune (state_of cell) cell.charter.nature ≡ true → IsPruning clock first (with_seen keeper (n + 1)) all node (ps ++ x ∷ []) old (set now k (with_entry cell n (Pruned x.block x.stamp)))
+  pruned n le can = record {
+    goes = record { clock = h.goes.clock; number = h.goes.number; drawn = h.goes.drawn; seen = (let s = h.goes.seen in omega (arith, s, le)) };
+    cells = set_all (IsOpenCell clock (n + 1) all) now k (after_it n) (weaker clock keeper.seen (n + 1) all now (omega (arith, le)) h.cells) (record {
+      ticks = c.ticks;
+      may = c.may;
+      blocks = c.blocks;
       seen = omega arith;
-    }
+      below = All-append (λ (e : NodeEntry). e.number < n + 1) cell.journal (noted n ∷ []) (λ i d lt. (let b = c.below i d lt in omega (arith, b, le))) (All-cons (λ (e : NodeEntry). e.number < n + 1) (noted n) [] (omega arith) (All-nil (λ (e : NodeEntry). e.number < n + 1)));
+    });
+    some = zip_set HasMorePrunes old now k cell (after_it n) h.some at (λ a r. more_then a cell (after_it n) r (one_more cell n x));
+    done = λ may alike. (
+        let d = h.done may alike in
+        record {
+          more = d.more ++ noted n ∷ [];
+          grown = grows n le ∙ ap (λ (l : List NodeEntry). l ++ noted n ∷ []) d.grown ∙ append_assoc (node_journal old node) d.more (noted n ∷ []);
+          later = λ z there. elim (Contains-append_cases d.more (noted n ∷ []) z there) [
+            | inl early ↦ d.later z early
+            | inr last ↦ subst (λ (w : NodeEntry). first.seen ≤ w.number) (sym (Contains-one z (noted n) last)) (let s = h.goes.seen in omega (arith, s, le))
+          ];
+          acts =
+              map-append (λ (z : NodeEntry). z.act) d.more (noted n ∷ [])
+              ∙ more_acts may (sym (may_is node k may old now cell alike h.some at is) ∙ can) (map (λ (z : NodeEntry). z.act) d.more) (map act_of (prunings_of ps)) (act_of (pruning_of x)) d.acts
+              ∙ ap (λ (l : List NodeAct). cond may l []) (sym (acts_of ps x));
+        }
+        );
+    others = λ i not. journal_other now k i cell (after_it n) at refl (λ q. not (sym q ∙ is)) ∙ h.others i not;
+  }
 
--- or none is
-pub prunes_skip : (from high : ℕ) (ps : List BlockStamp) (x : BlockStamp) (old new : CellView) → can_prune (state_of new) new.charter.nature ≡ false
-    → IsPruning from high ps old new → IsPruning from high (ps ++ x ∷ []) old new
-prunes_skip from high ps x old new can h =
-    let could : can_prune (state_of old) old.charter.nature ≡ false = sym h.may ∙ ap (λ c. can_prune (state_of new) c.nature) (sym h.charter) ∙ can in
-    record {
-      charter = h.charter;
-      all = record {
-        more = h.all.more;
-        grown = h.all.grown;
-        later = h.all.later;
-        acts = same_acts (can_prune (state_of old) old.charter.nature) could (map (λ (y : NodeEntry). y.act) h.all.more) (map prune_of ps) (map prune_of (ps ++ x ∷ [])) h.all.acts;
-      };
-      may = h.may;
-      seen = h.seen;
-    }
+  -- or the cell skips it
+  skipped : can_prune (state_of cell) cell.charter.nature ≡ false → IsPruning clock first keeper all node (ps ++ x ∷ []) old now
+  skipped cannot = record {
+    goes = h.goes;
+    cells = h.cells;
+    some = h.some;
+    done = λ may alike. (
+        let d = h.done may alike in
+        let no : may ≡ false = sym (may_is node k may old now cell alike h.some at is) ∙ cannot in
+        record { more = d.more; grown = d.grown; later = d.later; acts = same_acts may no (map (λ (z : NodeEntry). z.act) d.more) (map act_of (prunings_of ps)) (map act_of (prunings_of (ps ++ x ∷ []))) d.acts }
+        );
+    others = h.others;
+  }
 
-pub pruned_some : (from high : ℕ) (ps : List BlockStamp) (old new : CellView) → KeptCell old → IsPruning from high ps old new → HasPrunedSome old new
-pruned_some from high ps old new kept h = record {
-  config = ap (λ c. c.config) h.charter;
-  number = ap (λ c. c.number) h.charter;
-  shard = (ap (λ c. c.shard) h.charter, ap (λ c. c.shards) h.charter);
-  nature = ap (λ c. c.nature) h.charter;
-  crash = ap (λ c. c.crash_after) h.charter;
-  clock = ap (λ c. c.pass.clock) h.charter ∙ sym kept.own.0;
-}
+  not_false : (b : Bool) → (b ≡ false → ⊥) → b ≡ true
+  not_false true n = refl
+  not_false false n = absurd (n refl)
 
--- ---- cells under a new charter
-
-pub some_first : (c : CellView) → HasPrunedSome c (rechartered c true)
-some_first c = record { config = refl; number = refl; shard = (refl, refl); nature = refl; crash = refl; clock = refl }
-
-pub some_on : (c new : CellView) → HasPrunedSome (rechartered c true) new → HasPrunedSome c new
-some_on c new h = record { config = h.config; number = h.number; shard = h.shard; nature = h.nature; crash = h.crash; clock = h.clock }
-
-pub all_on : (from high : ℕ) (ps : List BlockStamp) (c new : CellView) → from ≤ high → HasPrunedAll high ps (rechartered c true) new → HasPrunedAll from ps c new
-all_on from high ps c new le h = record {
-  more = h.more;
-  grown = h.grown;
-  later = λ e there. (let l = h.later e there in omega (arith, l, le));
-  acts = h.acts;
-}
-
-pub open_on : (clock : ClockId) (from high : ℕ) (ps : List BlockStamp) (c : CellView) → from ≤ high → KeptCell c → IsOpenCell clock from ps c → IsOpenCell clock high ps (rechartered c true)
-open_on clock from high ps c le kept h = record { whole = h.whole; ticks = kept.own.0 ∙ h.ticks; seen = omega (arith, h.seen, le); blocks = h.blocks }
-
--- ---- a list that is taken apart
-
--- these items were taken, and so many are left
-abbrev pub Walked : {A : Type 0} → List A → List A → List A → ℕ → Type 0
-Walked all done rest n = (all ≡ done ++ rest) × (n ≡ length rest)
-
-pub walk_on : {A : Type 0} (all done rest next : List A) (x : A) (n m : ℕ) → Walked all done rest n → rest ≡ x ∷ next → m + 1 ≡ n → Walked all (done ++ x ∷ []) next m
-walk_on all done rest next x n m walked is one =
-    let few = ap length is in (
-      walked.0 ∙ ap (λ l. done ++ l) is ∙ sym (append_assoc done (x ∷ []) next),
-      omega (arith, few, walked.1, one),
-    )
-
-none_of : {A : Type 0} (xs : List A) → 0 ≡ length xs → xs ≡ []
-none_of [] is = refl
-none_of (x ∷ xs) is = absurd (omega (arith, is))
-
-pub walk_end : {A : Type 0} (all done rest : List A) (n : ℕ) → Walked all done rest n → n ≡ 0 → all ≡ done
-walk_end all done rest n walked none = walked.0 ∙ ap (λ l. done ++ l) (none_of rest (sym none ∙ walked.1)) ∙ sym (append_nil done)
-
-pub zip_more : {X Y : Type 0} (R : X → Y → Type 0) (xs : List X) (ys : List Y) (x : X) (y : Y) → AllZip R xs ys → R x y → AllZip R (xs ++ x ∷ []) (ys ++ y ∷ [])
-zip_more R [] [] x y z r = (r, tt)
-zip_more R [] (b ∷ ys) x y z r = absurd z
-zip_more R (a ∷ xs) [] x y z r = absurd z
-zip_more R (a ∷ xs) (b ∷ ys) x y z r = (z.0, zip_more R xs ys x y z.1 r)
-
--- ---- one step
-
-not_false : (b : Bool) → (b ≡ false → ⊥) → b ≡ true
-not_false true h = refl
-not_false false h = absurd (h refl)
-
-pub prune_step : (first keeper next : Holder) (ps : List BlockStamp) (x : BlockStamp) (old cell new : CellView) (r : Pruning)
-    → ((n : ℕ) → r ≡ PrunedAt n → (new ≡ with_entry cell n (Pruned x.block x.stamp)) × (keeper.seen ≤ n) × (next ≡ with_seen keeper (n + 1)))
-    → (can_prune (state_of cell) cell.charter.nature ≡ false → r ≡ Skipped) → (r ≡ Skipped → can_prune (state_of cell) cell.charter.nature ≡ false)
-    → (r ≡ Skipped → (new ≡ cell) × (next ≡ keeper))
-    → IsKeeper first keeper → IsPruning first.seen keeper.seen ps old cell → IsKeeper first next × IsPruning first.seen next.seen (ps ++ x ∷ []) old new
-prune_step first keeper next ps x old cell new (PrunedAt n) pruned skips skipped same k h =
-    let p = pruned n refl in
-    let can = not_false (can_prune (state_of cell) cell.charter.nature) (λ e. let bad = skips e in cc) in
-    let le : first.seen ≤ n = omega (arith, k.seen, p.1) in
-    let seen = ap (λ (q : Holder). q.seen) p.2 in
-    let step = prunes_more first.seen keeper.seen n ps x old cell le can h in (
-      record { clock = ap (λ (q : Holder). q.clock) p.2 ∙ k.clock; number = ap (λ (q : Holder). q.number) p.2 ∙ k.number; drawn = ap (λ (q : Holder). q.drawn) p.2 ∙ k.drawn; seen = omega (arith, k.seen, p.1, seen) },
-      subst (λ (c : CellView). IsPruning first.seen next.seen (ps ++ x ∷ []) old c) (sym p.0) (subst (λ (m : ℕ). IsPruning first.seen m (ps ++ x ∷ []) old (with_entry cell n (Pruned x.block x.stamp))) (sym seen) step),
-    )
-prune_step first keeper next ps x old cell new Skipped pruned skips skipped same k h =
-    let s = same refl in
-    let step = prunes_skip first.seen keeper.seen ps x old cell (skipped refl) h in (
-      subst (IsKeeper first) (sym s.1) k,
-      subst (λ (c : CellView). IsPruning first.seen next.seen (ps ++ x ∷ []) old c) (sym s.0) (subst (λ (q : Holder). IsPruning first.seen q.seen (ps ++ x ∷ []) old cell) (sym s.1) step),
-    )
+  pub prune_step : (next : Holder) (new : CellView) (r : Answer)
+      → ((n : ℕ) → r ≡ PrunedAt n → (new ≡ with_entry cell n (Pruned x.block x.stamp)) × (keeper.seen ≤ n) × (next ≡ with_seen keeper (n + 1)))
+      → (can_prune (state_of cell) cell.charter.nature ≡ false → r ≡ Skipped) → (r ≡ Skipped → can_prune (state_of cell) cell.charter.nature ≡ false)
+      → (r ≡ Skipped → (new ≡ cell) × (next ≡ keeper))
+      → IsPruning clock first next all node (ps ++ x ∷ []) old (set now k new)
+  prune_step next new (PrunedAt n) did skips none same =
+      let p = did n refl in
+      let can = not_false (can_prune (state_of cell) cell.charter.nature) (λ e. let bad = skips e in cc) in
+      let step = pruned n p.1 can in
+      subst (λ (q : Holder). IsPruning clock first q all node (ps ++ x ∷ []) old (set now k new)) (sym p.2) (subst (λ (c : CellView). IsPruning clock first (with_seen keeper (n + 1)) all node (ps ++ x ∷ []) old (set now k c)) (sym p.0) step)
+  prune_step next new Skipped did skips none same =
+      let s = same refl in
+      let stays : set now k new ≡ now = ap (set now k) s.0 ∙ set_same now k cell at in
+      subst (λ (q : Holder). IsPruning clock first q all node (ps ++ x ∷ []) old (set now k new)) (sym s.1) (subst (IsPruning clock first keeper all node (ps ++ x ∷ []) old) (sym stays) (skipped (none refl)))
 
 -- what stands for a prune that isn't there
 abbrev pub none_named : BlockStamp

@@ -51,13 +51,7 @@ late_end all given ss ns i l is = append_none given (late_reads (drop i ss) (dro
     append_none : (xs ys : List BlockStamp) → ys ≡ [] → xs ≡ xs ++ ys
     append_none xs ys e = sym (ap (λ l. xs ++ l) e ∙ append-nil xs)
 
--- lists beside each other are as long, and what is said of two items at one place
-pub zip_count : {X Y : Type 0} (R : X → Y → Type 0) (xs : List X) (ys : List Y) → AllZip R xs ys → length ys ≡ length xs
-zip_count R [] [] z = refl
-zip_count R [] (y ∷ ys) z = absurd z
-zip_count R (x ∷ xs) [] z = absurd z
-zip_count R (x ∷ xs) (y ∷ ys) z = ap suc (zip_count R xs ys z.1)
-
+-- what is said of two items at one place of lists beside each other
 pub zip_at : {X Y : Type 0} (R : X → Y → Type 0) (xs : List X) (ys : List Y) (i : ℕ) (x : X) (y : Y) → AllZip R xs ys → slice_get xs i ≡ Some x → slice_get ys i ≡ Some y → R x y
 zip_at R [] ys i x y z a b = absurd (cc)
 zip_at R (v ∷ xs) [] i x y z a b = absurd z

@@ -9,18 +9,18 @@ use Rattle.quorum_rules.specs.Limits.{Numbers}
 use Rattle.event_clock.specs.Passes.{ClockId, Holder}
 use Rattle.locked_nodes.specs.Cells.{CellView}
 use Rattle.client_desks.specs.Desks.{DeskView, met_desk}
-use Rattle.run_journals.specs.Standing.{AreCells, IsDeskAt}
+use Rattle.run_journals.specs.Standing.{AreCells, AreInside, IsDeskAt}
 use Rattle.phase_threads.specs.declared.duty.Seat.{Seat}
 use Rattle.client_work.specs.declared.work.Work.{Work}
 use Rattle.client_threads.specs.Met.{HasMetCell, HasMetSeat}
 use Rattle.client_threads.specs.Running.{desks_of}
-use Rattle.client_threads.proofs.Working.{zip_map, IsFixedAs, fixed_same, cells_fixed}
+use Rattle.client_threads.proofs.Working.{zip_map, IsFixedAs, fixed_same, cells_fixed, inside_fixed}
 
 pub all_from : {A : Type 0} (P : A → Type 0) (xs : List A) → ((k : ℕ) (x : A) → slice_get xs k ≡ Some x → P x) → All P xs
 all_from P xs f k d lt = f k (get_or xs k d) (slice_get-get_or xs k d lt)
 
 pub cells_tick : (config : Numbers) (clock : ClockId) (xs : List CellView) → AreCells config clock xs → All (λ c. c.charter.pass.clock ≡ clock) xs
-cells_tick config clock xs h = all_from (λ (c : CellView). c.charter.pass.clock ≡ clock) xs (λ k x at. (h.each k x at).ticks)
+cells_tick config clock xs h = λ k d lt. (h.each k d lt).ticks
 
 pub seats_tick : (config : Numbers) (clock : ClockId) (ss : List (Seat Work)) → All (IsDeskAt config clock) (desks_of ss) → All (λ s. s.desk.pass.clock ≡ clock) ss
 seats_tick config clock [] h = All-nil (λ (s : Seat Work). s.desk.pass.clock ≡ clock)
@@ -29,6 +29,9 @@ seats_tick config clock (s ∷ ss) h =
 
 pub cells_met : (config : Numbers) (clock : ClockId) (xs ys : List CellView) → AllZip HasMetCell xs ys → AreCells config clock xs → AreCells config clock ys
 cells_met config clock xs ys z h = cells_fixed config clock xs ys (zip_map HasMetCell IsFixedAs xs ys (λ x y m. fixed_same x y m.charter) z) h
+
+pub inside_met : (config : Numbers) (xs ys : List CellView) → AllZip HasMetCell xs ys → AreInside config xs → AreInside config ys
+inside_met config xs ys z h = inside_fixed config xs ys (zip_map HasMetCell IsFixedAs xs ys (λ x y m. fixed_same x y m.charter) z) h
 
 pub seats_met : (config : Numbers) (clock : ClockId) (ss ts : List (Seat Work)) → AllZip HasMetSeat ss ts → All (IsDeskAt config clock) (desks_of ss) → All (IsDeskAt config clock) (desks_of ts)
 seats_met config clock [] [] z h = All-nil (IsDeskAt config clock)

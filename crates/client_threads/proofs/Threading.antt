@@ -1,9 +1,9 @@
 -- The threads of a phase: what they may begin with, and what they leave.
 use Rattle.std.proofs.Common.{◌≡◌, ◌⊎◌, ℕ, zero, suc, ◌+◌, ◌<◌, ◌≤◌, true, List, [], ◌∷◌, ◌++◌, length, map, refl, sym, ◌∙◌, ap, subst, inl, inr, arith}
 use Rattle.std.specs.List.{Contains, AllZip, All}
-use Rattle.std.proofs.lemmas.List.Elements.{Contains-append_cases, Contains-append_left, All-nil, All-cons, All-head, All-tail}
+use Rattle.std.proofs.lemmas.List.Elements.{Contains-append_cases, Contains-append_left, All-nil, All-cons, All-head, All-tail, All-contains}
 use Rattle.protocol.specs.Report.{Ascend}
-use Rattle.protocol.proofs.Lists.{Contains-none, Contains-one}
+use Rattle.protocol.proofs.Lists.{Contains-none, Contains-one, Contains-slice_get}
 use Rattle.plan_words.specs.Named.{clients}
 use Rattle.wire_forms.specs.Liars.{has_number}
 use Rattle.event_clock.specs.Passes.{ClockId}
@@ -12,38 +12,58 @@ use Rattle.journals.specs.declared.node.NodeEntry.{NodeEntry}
 use Rattle.journals.specs.declared.desk.DeskAct.{DeskAct}
 use Rattle.journals.specs.declared.desk.DeskEntry.{DeskEntry}
 use Rattle.locked_nodes.specs.Cells.{CellView, KeptCell}
+use Rattle.locked_nodes.specs.declared.slot.Slot.{Slot}
+use Rattle.locked_nodes.specs.Slots.{slot_of, slots_of, IsWholeAt}
 use Rattle.client_desks.specs.Desks.{DeskView, desk_entry}
 use Rattle.client_desks.specs.Later.{IsLater}
 use Rattle.plan_words.specs.declared.plan.Plan.{Plan}
-use Rattle.run_journals.specs.Standing.{IsDeskAt, AreCells, HasSideOn, PairsStand, HasWorked, ArePlanned}
+use Rattle.plan_followed.specs.Asked.{holds}
+use Rattle.run_journals.specs.Standing.{IsDeskAt, AreCells, AreInside, IsPlanned, shards_of, HasSideOn, PairsStand, HasWorked, ArePlanned}
 use Rattle.run_journals.specs.Ended.{AreClients}
+use Rattle.run_journals.proofs.Sharded.{holds_one}
 use Rattle.phase_threads.specs.declared.duty.Seat.{Seat}
+use Rattle.phase_threads.proofs.Places.{map_get}
 use Rattle.client_work.specs.declared.work.Work.{Work}
 use Rattle.client_work.specs.declared.work.Work.TheVariants.{Client, Lying, Courier}
 use Rattle.client_work.specs.Work.{Ready, Done}
 use Rattle.client_threads.specs.Running.{desks_of, clients_of, plan_of, StandsAt, cuts, LiarsNamed, IsOpen, IsStanding, HasDonePhase}
 use Rattle.client_threads.specs.declared.state.Run.{Run}
-use Rattle.client_threads.proofs.Working.{IsFixedAs, zip_all, zip_long, cells_fixed, planned_fixed}
+use Rattle.client_threads.proofs.Working.{IsFixedAs, zip_all, zip_long, cells_fixed, inside_fixed, planned_fixed}
 
 -- ---- before the phase
 
-ready_of : (plan : Plan) (k : ℕ) → k ≤ cuts plan → (w : Work) (d : DeskView) → StandsAt plan k w d → Ready w d
-ready_of plan k few (Client w) d h = record {
-  stands = h.1;
-  left =
-      let c : cuts w.plan.value ≡ cuts plan = ap cuts h.0 in
-      let at = h.2 in
-      omega (arith, c, at, few);
-}
-ready_of plan k few (Lying w) d h = h.1
-ready_of plan k few Courier d h = absurd h
+-- a node that is to hold back asks stands in one cell
+pub whole_where : (plan : Plan) (clock : ClockId) (cells : List CellView) → ArePlanned plan clock cells → (c node : ℕ) → 0 < holds plan.rules c node → IsWholeAt (slots_of cells) node
+whole_where plan clock cells h c node some place s there of =
+    let q = map_get (λ (x : CellView). slot_of x.charter) cells place s there in
+    let p = All-contains (IsPlanned plan) cells q.0 h.each (Contains-slice_get cells place q.0 q.1) in
+    let number : q.0.charter.number ≡ node = ap (λ (x : Slot). x.node) q.2 ∙ of in
+    ap (λ (x : Slot). x.shards) (sym q.2) ∙ p.shards ∙ ap (shards_of plan) number ∙ holds_one plan c node some
 
-pub all_ready : (plan : Plan) (k : ℕ) → k ≤ cuts plan → (seats : List (Seat Work)) (courier : DeskView) → All (λ s. StandsAt plan k s.duty s.desk) seats → courier.entries ≡ []
-    → All (λ s. Ready s.duty s.desk) (seats ++ record { desk = courier; duty = Courier } ∷ [])
-all_ready plan k few [] courier works quiet = All-cons (λ s. Ready s.duty s.desk) (record { desk = courier; duty = Courier }) [] quiet (All-nil (λ s. Ready s.duty s.desk))
-all_ready plan k few (s ∷ seats) courier works quiet =
-    All-cons (λ s. Ready s.duty s.desk) s (seats ++ record { desk = courier; duty = Courier } ∷ []) (ready_of plan k few s.duty s.desk (All-head (λ s. StandsAt plan k s.duty s.desk) s seats works))
-    (all_ready plan k few seats courier (All-tail (λ s. StandsAt plan k s.duty s.desk) s seats works) quiet)
+-- the slots of cells in which such nodes are whole
+abbrev pub AreWhole : Plan → List Slot → Type 0
+AreWhole plan slots = (c node : ℕ) → 0 < holds plan.rules c node → IsWholeAt slots node
+
+ready_of : (plan : Plan) (k : ℕ) → k ≤ cuts plan → (slots : List Slot) → AreWhole plan slots → (w : Work) (d : DeskView) → StandsAt plan k w d → Ready w slots d
+ready_of plan k few slots whole (Client w) d h = (
+  record {
+    stands = h.1;
+    left =
+        let c : cuts w.plan.value ≡ cuts plan = ap cuts h.0 in
+        let at = h.2 in
+        omega (arith, c, at, few);
+  },
+  λ node some. whole w.client node (subst (λ (p : Plan). 0 < holds p.rules w.client node) h.0 some),
+)
+ready_of plan k few slots whole (Lying w) d h = h.1
+ready_of plan k few slots whole Courier d h = absurd h
+
+pub all_ready : (plan : Plan) (k : ℕ) → k ≤ cuts plan → (slots : List Slot) → AreWhole plan slots → (seats : List (Seat Work)) (courier : DeskView) → All (λ s. StandsAt plan k s.duty s.desk) seats → courier.entries ≡ []
+    → All (λ s. Ready s.duty slots s.desk) (seats ++ record { desk = courier; duty = Courier } ∷ [])
+all_ready plan k few slots whole [] courier works quiet = All-cons (λ s. Ready s.duty slots s.desk) (record { desk = courier; duty = Courier }) [] quiet (All-nil (λ s. Ready s.duty slots s.desk))
+all_ready plan k few slots whole (s ∷ seats) courier works quiet =
+    All-cons (λ s. Ready s.duty slots s.desk) s (seats ++ record { desk = courier; duty = Courier } ∷ []) (ready_of plan k few slots whole s.duty s.desk (All-head (λ s. StandsAt plan k s.duty s.desk) s seats works))
+    (all_ready plan k few slots whole seats courier (All-tail (λ s. StandsAt plan k s.duty s.desk) s seats works) quiet)
 
 pub desks_pushed : (seats : List (Seat Work)) (s : Seat Work) → desks_of (seats ++ s ∷ []) ≡ desks_of seats ++ s.desk ∷ []
 desks_pushed [] s = refl
@@ -220,6 +240,7 @@ module _ (old new : Run) (seats : List (Seat Work)) (last : Seat Work) (e : HasE
   pub open_after : IsOpen old → IsOpen new
   open_after h = record {
     cells = subst (λ (p : Plan). AreCells p.config new.clock new.cells.items) (sym e.plan) (subst (λ (c : ClockId). AreCells (plan_of old).config c new.cells.items) (sym e.clock) (cells_fixed (plan_of old).config old.clock old.cells.items new.cells.items fixed h.cells));
+    inside = subst (λ (p : Plan). AreInside p.config new.cells.items) (sym e.plan) (inside_fixed (plan_of old).config old.cells.items new.cells.items fixed h.inside);
     desks = subst (λ (p : Plan). All (IsDeskAt p.config new.clock) (clients_of new)) (sym e.plan) (subst (λ (c : ClockId). All (IsDeskAt (plan_of old).config c) (clients_of new)) (sym e.clock) (desks_tick (plan_of old).config old.clock (clients_of old) (clients_of new) later h.desks));
     courier = record {
       cluster = ap (λ (d : DeskView). d.config) e.courier ∙ split.1.config ∙ h.courier.cluster ∙ ap (λ (p : Plan). p.config) (sym e.plan);

@@ -5,7 +5,6 @@ use Rattle.std.proofs.lemmas.List.{map_push}
 use Rattle.std.proofs.lemmas.List.Sums.{sum_by_push}
 use Rattle.std.proofs.lemmas.List.Elements.{Contains-get_or, All-append, All-push, All-contains}
 use Rattle.protocol.proofs.Lists.{Contains-map, Contains-map_cases}
-use Rattle.journals.proofs.Lists.{number_of}
 use Rattle.quorum_rules.specs.Limits.{Numbers}
 use Rattle.event_clock.specs.declared.rule.Share.{Share}
 use Rattle.event_clock.specs.Passes.{ClockId, Holder, Tally, share_of}
@@ -19,6 +18,7 @@ use Rattle.client_work.specs.declared.work.Work.{Work}
 use Rattle.client_threads.specs.Ran.{HasFullPass, IsOneFull}
 use Rattle.client_threads.specs.Running.{desks_of}
 use Rattle.client_threads.proofs.Threading.{desks_pushed}
+use Rattle.client_threads.proofs.Rounds.{cells_tick}
 use Rattle.client_threads.proofs.Walking.{Walked, walk_on, made_more}
 
 -- all passes, in the order in which they are put together
@@ -36,11 +36,10 @@ together cells desks courier pass keeper a b c d e none row table more is last =
 all_by : {X : Type 0} (P : X → Type 0) (xs : List X) → ((x : X) → Contains xs x → P x) → All P xs
 all_by P xs f k d lt = f _ (Contains-get_or xs k d lt)
 
-cells_tick : (config : Numbers) (clock : ClockId) (cells : List CellView) → AreCells config clock cells → All KeptCell cells → All (λ p. p.clock ≡ clock) (map (λ (c : CellView). c.pass) cells)
-cells_tick config clock cells are kept = all_by (λ (p : Holder). p.clock ≡ clock) (map (λ (c : CellView). c.pass) cells) (λ p there.
+row_ticks : (config : Numbers) (clock : ClockId) (cells : List CellView) → AreCells config clock cells → All KeptCell cells → All (λ p. p.clock ≡ clock) (map (λ (c : CellView). c.pass) cells)
+row_ticks config clock cells are kept = all_by (λ (p : Holder). p.clock ≡ clock) (map (λ (c : CellView). c.pass) cells) (λ p there.
     let q = Contains-map_cases (λ (c : CellView). c.pass) cells p there in
-    let at = number_of cells q.0 q.1 in
-    ap (λ (h : Holder). h.clock) q.2 ∙ (All-contains KeptCell cells q.0 kept q.1).own.0 ∙ (are.each at.0 q.0 at.1).ticks)
+    ap (λ (h : Holder). h.clock) q.2 ∙ (All-contains KeptCell cells q.0 kept q.1).own.0 ∙ All-contains (λ (c : CellView). c.charter.pass.clock ≡ clock) cells q.0 (cells_tick config clock cells are) q.1)
 
 desks_tick : (config : Numbers) (clock : ClockId) (desks : List DeskView) → All (IsDeskAt config clock) desks → All (λ p. p.clock ≡ clock) (map (λ (d : DeskView). d.pass) desks)
 desks_tick config clock desks are = all_by (λ (p : Holder). p.clock ≡ clock) (map (λ (d : DeskView). d.pass) desks) (λ p there.
@@ -54,7 +53,7 @@ all_tick config clock cells desks courier keeper are kept at c k =
     let P = λ (p : Holder). p.clock ≡ clock in
     let row = map (λ (x : CellView). x.pass) cells in
     let table = map (λ (x : DeskView). x.pass) desks in
-    All-push P ((row ++ table) ++ courier ∷ []) keeper (All-push P (row ++ table) courier (All-append P row table (cells_tick config clock cells are kept) (desks_tick config clock desks at)) c) k
+    All-push P ((row ++ table) ++ courier ∷ []) keeper (All-push P (row ++ table) courier (All-append P row table (row_ticks config clock cells are kept) (desks_tick config clock desks at)) c) k
 
 -- a pass that drew nothing changes nothing
 undrawn : (x : ℕ) (ps : List Holder) (p : Holder) → p.drawn ≡ [] → times_drawn x (map share_of (ps ++ p ∷ [])) ≡ times_drawn x (map share_of ps)

@@ -21,14 +21,14 @@ use Rattle.plan_words.specs.declared.plan.Plan.{Plan}
 use Rattle.plan_words.specs.declared.job.Job.{Job}
 use Rattle.plan_words.specs.declared.job.Job.TheVariants.{Block, Device, Phase as PhaseEnd}
 use Rattle.plan_words.specs.Named.{job_client, clients, lying_clients, asking_clients, troubled_client}
-use Rattle.plan_followed.specs.Asked.{steps_for, first_phases, messages}
+use Rattle.plan_followed.specs.Asked.{steps_for, first_phases, messages, nature, crash_after}
 use Rattle.plan_followed.specs.Clients.{InEach, GoesByPlan, IsDone, all_asked}
 use Rattle.plan_followed.specs.Nodes.{node_after}
 use Rattle.plan_phases.specs.Closed.{next_begin, HaveClosed, AreWorked, FinishedAs, IsWorkedOff, GoesOn}
-use Rattle.run_journals.specs.Standing.{IsCellAt, IsDeskAt, AreCells, HasWorked, ArePlanned, HaveSeen, PairsStand, PhasesWork, journals_of}
+use Rattle.locked_nodes.specs.Slots.{slot_of, slots_of, Cover}
+use Rattle.run_journals.specs.Standing.{IsCellOf, IsDeskAt, AreCells, AreInside, IsPlanned, shards_of, HaveOwnSlots, HasWorked, ArePlanned, HaveSeen, PairsStand, PhasesWork, NothingLate, journals_of}
 use Rattle.run_journals.specs.Ended.{AreClients}
-use Rattle.run_journals.proofs.Cells.{journal_of, node_at, entries_at, desk_at, rises_from}
-use Rattle.run_journals.proofs.Working.{state_is}
+use Rattle.run_journals.proofs.Cells.{journal_of, journal_is, entries_at, desk_at, rises_from}
 use Rattle.phase_threads.specs.declared.duty.Seat.{Seat}
 use Rattle.client_work.specs.declared.work.Work.{Work}
 use Rattle.client_work.specs.declared.work.Work.TheVariants.{Client, Lying, Courier}
@@ -170,15 +170,6 @@ seen_on from a b w k l =
     let r = rises_from b.charter.pass.seen (numbers (drop b.charter.base b.journal)) b.pass.seen k.since in
     omega (arith, e, r, l)
 
--- cells whose charters say the same
-pub cells_alike : (config : Numbers) (clock : ClockId) (i : ℕ) (a b : CellView) → b.charter ≡ a.charter → IsCellAt config clock i a → IsCellAt config clock i b
-cells_alike config clock i a b e h = record {
-  cluster = ap (λ c. c.config) e ∙ h.cluster;
-  number = ap (λ c. c.number) e ∙ h.number;
-  whole = (ap (λ c. c.shard) e ∙ h.whole.0, ap (λ c. c.shards) e ∙ h.whole.1);
-  ticks = ap (λ c. c.pass.clock) e ∙ h.ticks;
-}
-
 -- the item beside one at its place
 pub beside_at : {X Y : Type 0} (R : X → Y → Type 0) (xs : List X) (ys : List Y) → AllZip R xs ys → (i : ℕ) (y : Y) → slice_get ys i ≡ Some y → (x : X) × (slice_get xs i ≡ Some x) × R x y
 beside_at R [] [] z i y at = absurd (Contains-none y (Contains-slice_get [] i y at))
@@ -212,25 +203,45 @@ fixed_same a b e = record {
   clock = ap (λ c. c.pass.clock) e;
 }
 
+slots_fixed : (xs ys : List CellView) → AllZip IsFixedAs xs ys → slots_of ys ≡ slots_of xs
+slots_fixed [] [] z = refl
+slots_fixed [] (y ∷ ys) z = absurd z
+slots_fixed (x ∷ xs) [] z = absurd z
+slots_fixed (x ∷ xs) (y ∷ ys) z = λ i. record { node = z.0.number i; shard = z.0.whole.0 i; shards = z.0.whole.1 i } ∷ slots_fixed xs ys z.1 i
+
 pub cells_fixed : (config : Numbers) (clock : ClockId) (xs ys : List CellView) → AllZip IsFixedAs xs ys → AreCells config clock xs → AreCells config clock ys
 cells_fixed config clock xs ys z h = record {
-  count = zip_long IsFixedAs xs ys z ∙ h.count;
-  each = λ i y at. (
-      let q = beside_at IsFixedAs xs ys z i y at in
-      let x = h.each i q.0 q.1 in
-      let f = q.2 in
-      record { cluster = f.config ∙ x.cluster; number = f.number ∙ x.number; whole = (f.whole.0 ∙ x.whole.0, f.whole.1 ∙ x.whole.1); ticks = f.clock ∙ x.ticks }
-      );
+  each = zip_all IsFixedAs (IsCellOf config clock) (IsCellOf config clock) xs ys (λ x y f q. record { cluster = f.config ∙ q.cluster; some = subst (λ (k : ℕ). 0 < k) (sym f.whole.1) q.some; ticks = f.clock ∙ q.ticks }) z h.each;
+  cover = subst (Cover config.n) (sym (slots_fixed xs ys z)) h.cover;
+}
+
+pub inside_fixed : (config : Numbers) (xs ys : List CellView) → AllZip IsFixedAs xs ys → AreInside config xs → AreInside config ys
+inside_fixed config xs ys z h =
+    zip_all IsFixedAs (λ c. c.charter.number < config.n) (λ c. c.charter.number < config.n) xs ys (λ x y f q. subst (λ (k : ℕ). k < config.n) (sym f.number) q) z h
+
+slot_fixed : (a b : CellView) → IsFixedAs a b → slot_of b.charter ≡ slot_of a.charter
+slot_fixed a b f = λ i. record { node = f.number i; shard = f.whole.0 i; shards = f.whole.1 i }
+
+own_fixed : (xs ys : List CellView) → AllZip IsFixedAs xs ys → HaveOwnSlots xs → HaveOwnSlots ys
+own_fixed xs ys z h k m a b at there same =
+    let p = beside_at IsFixedAs xs ys z k a at in
+    let q = beside_at IsFixedAs xs ys z m b there in
+    h k m p.0 q.0 p.1 q.1 (sym (slot_fixed p.0 a p.2) ∙ same ∙ slot_fixed q.0 b q.2)
+
+cell_fixed : (plan : Plan) (a b : CellView) → IsFixedAs a b → IsPlanned plan a → IsPlanned plan b
+cell_fixed plan a b f h = record {
+  shard = (let s = f.whole.0 in let t = f.whole.1 in let l = h.shard in omega (arith, s, t, l));
+  shards = f.whole.1 ∙ h.shards ∙ ap (shards_of plan) (sym f.number);
+  nature = f.nature ∙ h.nature ∙ ap (nature plan.rules) (sym f.number);
+  crash = f.crash ∙ h.crash ∙ ap (crash_after plan.rules) (sym f.number);
 }
 
 pub planned_fixed : (plan : Plan) (clock : ClockId) (xs ys : List CellView) → AllZip IsFixedAs xs ys → ArePlanned plan clock xs → ArePlanned plan clock ys
 planned_fixed plan clock xs ys z h = record {
   cells = cells_fixed plan.config clock xs ys z h.cells;
-  conduct = λ i y at. (
-      let q = beside_at IsFixedAs xs ys z i y at in
-      let c = h.conduct i q.0 q.1 in
-      (q.2.nature ∙ c.0, q.2.crash ∙ c.1)
-      );
+  inside = inside_fixed plan.config xs ys z h.inside;
+  own = own_fixed xs ys z h.own;
+  each = zip_all IsFixedAs (IsPlanned plan) (IsPlanned plan) xs ys (cell_fixed plan) z h.each;
 }
 
 -- ---- clients
@@ -275,7 +286,8 @@ pub record IsMailed (old new : Run) : Type 0 where
 pub open_mailed : (old new : Run) → IsMailed old new → IsOpen old → IsOpen new
 open_mailed old new m h = record {
   cells = subst (λ (p : Plan). AreCells p.config new.clock new.cells.items) (sym m.plan) (subst (λ (c : ClockId). AreCells (plan_of old).config c new.cells.items) (sym m.clock)
-      (cells_fixed (plan_of old).config old.clock old.cells.items new.cells.items (zip_map Brings IsFixedAs old.cells.items new.cells.items (λ x y b. fixed_same x y b.charter) m.cells) h.cells));
+      (cells_fixed (plan_of old).config old.clock old.cells.items new.cells.items fixed h.cells));
+  inside = subst (λ (p : Plan). AreInside p.config new.cells.items) (sym m.plan) (inside_fixed (plan_of old).config old.cells.items new.cells.items fixed h.inside);
   desks = subst (λ (l : List (Seat Work)). All (IsDeskAt (plan_of new).config new.clock) (desks_of l)) (sym m.clients)
       (subst (λ (p : Plan). All (IsDeskAt p.config new.clock) (clients_of old)) (sym m.plan) (subst (λ (c : ClockId). All (IsDeskAt (plan_of old).config c) (clients_of old)) (sym m.clock) h.desks));
   courier = record {
@@ -290,6 +302,9 @@ open_mailed old new m h = record {
       let d = h.passes in
       omega (arith, a, b, c, d);
 }
+  where
+    fixed : AllZip IsFixedAs old.cells.items new.cells.items
+    fixed = zip_map Brings IsFixedAs old.cells.items new.cells.items (λ x y b. fixed_same x y b.charter) m.cells
 
 pub standing_mailed : (k : ℕ) (old new : Run) → IsMailed old new → IsStanding k old → IsStanding k new
 standing_mailed k old new m h = record {
@@ -306,7 +321,7 @@ standing_mailed k old new m h = record {
   named = subst LiarsNamed (sym m.plan) h.named;
 }
 
-module _ (works : PhasesWork) (goes : GoesOn) (k : ℕ) (run mid new : Run) (b : IsBetween k run) (d : HasDonePhase k run mid) (m : IsMailed mid new)
+module _ (works : PhasesWork) (goes : GoesOn) (nothing : NothingLate) (k : ℕ) (run mid new : Run) (b : IsBetween k run) (d : HasDonePhase k run mid) (m : IsMailed mid new)
     (kept : All KeptCell new.cells.items) (none : All HasNoLateMail new.cells.items) where
   abbrev plan : Plan
   plan = plan_of run
@@ -327,7 +342,7 @@ module _ (works : PhasesWork) (goes : GoesOn) (k : ℕ) (run mid new : Run) (b :
       subst (λ (l : List (Seat Work)). AllZip (λ d e. has_number plan.liars.clients d.id ≡ true → (b.phases ≡ []) ⊎ (e.entries ≡ d.entries)) (clients_of run) (desks_of l)) (sym m.clients) q
 
   journals_go : AreWorked plan b.phases (journals_in run) (journals_of plan new.cells.items (clients_of new))
-  journals_go = works plan b.phases run.cells.items (clients_of run) new.cells.items (clients_of new) b.seen (record { cells = worked; desks = later; quiet = quiet }) kept
+  journals_go = works plan b.phases run.cells.items (clients_of run) new.cells.items (clients_of new) b.low b.standing.planned.inside b.seen (record { cells = worked; desks = later; quiet = quiet }) kept
 
   closed : HaveClosed plan (journals_of plan new.cells.items (clients_of new)) b.phases b.prunes
   closed = goes plan (journals_in run) (journals_of plan new.cells.items (clients_of new)) b.phases b.prunes b.closed journals_go
@@ -351,16 +366,10 @@ module _ (works : PhasesWork) (goes : GoesOn) (k : ℕ) (run mid new : Run) (b :
           let e : suc k ≡ length b.phases + 1 = (let n = b.count in omega (arith, n)) in
           subst (λ (n : ℕ). FinishedAs (has_number plan.liars.clients c) plan n c (entries_at (clients_of new) c)) e (all_finished plan k new.clients.items are b.standing.named parts c)
 
-      late_off : (i : ℕ) → i < plan.config.n → (node_after plan i (journal_of new.cells.items i)).late ≡ []
-      late_off i l = elim (node_at new.cells.items i).is [
-        | inl q ↦ (
-            let planned = subst (λ (p : Plan). ArePlanned p new.clock new.cells.items) same_plan standing.planned in
-            let s = state_is plan new.clock new.cells.items planned i q.0 q.1 in
-            let n = All-contains HasNoLateMail new.cells.items q.0 none (Contains-slice_get new.cells.items i q.0 q.1) in
-            ap (λ (es : List NodeEntry). (node_after plan i es).late) q.2 ∙ ap (λ s. s.late) (sym s) ∙ n
-            )
-        | inr q ↦ ap (λ (es : List NodeEntry). (node_after plan i es).late) q.1
-      ]
+      late_off : (i : ℕ) → i < plan.config.n → (node_after plan i (journal_of plan.config new.cells.items i)).late ≡ []
+      late_off i l =
+          let planned = subst (λ (p : Plan). ArePlanned p new.clock new.cells.items) same_plan standing.planned in
+          ap (λ (es : List NodeEntry). (node_after plan i es).late) (journal_is plan.config new.cells.items planned.inside i) ∙ nothing plan new.clock new.cells.items planned kept none i l
 
   seen : HaveSeen (next_begin b.phases) new.cells.items (clients_of new)
   seen = record {

@@ -1,18 +1,20 @@
 -- A run of a plan, between its phases and in them.
 use Rattle.std.specs.Prelude.{◌≡◌, ◌⊎◌, ℕ, ◌+◌, ◌<◌, ◌≤◌, true, List, [], ◌++◌, length, map, count_by, All}
-use Rattle.std.specs.List.{AllZip, Contains}
+use Rattle.std.specs.List.{AllZip, Contains, range_with_len}
 use Rattle.wire_forms.specs.Liars.{has_number}
 use Rattle.event_clock.specs.declared.rule.Share.{Share}
 use Rattle.event_clock.specs.Passes.{share_of}
 use Rattle.journals.specs.declared.whole.Journals.{Journals}
 use Rattle.journals.specs.Phases.{Phase}
+use Rattle.journals.specs.declared.node.NodeEntry.{NodeEntry}
+use Rattle.locked_nodes.specs.Cells.{CellView}
 use Rattle.client_desks.specs.Desks.{DeskView}
 use Rattle.client_desks.specs.Later.{IsLater}
 use Rattle.plan_words.specs.declared.plan.Plan.{Plan}
 use Rattle.plan_words.specs.Named.{is_phase, clients}
 use Rattle.plan_followed.specs.Nodes.{Pruning}
 use Rattle.plan_phases.specs.Closed.{next_begin, HaveClosed, IsWorkedOff, AreBelow}
-use Rattle.run_journals.specs.Standing.{AreCells, IsDeskAt, PairsStand, HasWorked, ArePlanned, HaveSeen, journals_of}
+use Rattle.run_journals.specs.Standing.{AreCells, AreInside, IsDeskAt, PairsStand, HasWorked, ArePlanned, HaveSeen, node_journal, journals_of}
 use Rattle.run_journals.specs.Ended.{AreClients}
 use Rattle.phase_threads.specs.declared.duty.Seat.{Seat}
 use Rattle.client_work.specs.declared.work.Work.{Work}
@@ -35,6 +37,10 @@ plan_of run = run.plan.value
 -- what the passes of cells and clients drew
 abbrev pub shares_of : Run → List Share
 shares_of run = map (λ c. share_of c.pass) run.cells.items ++ map (λ d. share_of d.pass) (clients_of run)
+
+-- the journals of so many nodes
+abbrev pub node_journals : List CellView → ℕ → List (List NodeEntry)
+node_journals cells count = map (node_journal cells) (range_with_len 0 count)
 
 -- the journals that it has so far
 abbrev pub journals_in : Run → Journals
@@ -59,6 +65,7 @@ LiarsNamed plan = (c : ℕ) → has_number plan.liars.clients c ≡ true → Con
 -- all passes are those of its clock, and the keeper's drew nothing
 pub record IsOpen (run : Run) : Type 0 where
   pub cells : AreCells (plan_of run).config run.clock run.cells.items
+  pub inside : AreInside (plan_of run).config run.cells.items
   pub desks : All (IsDeskAt (plan_of run).config run.clock) (clients_of run)
   pub courier : IsDeskAt (plan_of run).config run.clock run.courier
   pub keeper : (run.keeper.clock ≡ run.clock) × (run.keeper.drawn ≡ [])

@@ -12,18 +12,19 @@ use lists::NoMemory;
 use locked_nodes::CellRefusal;
 use plan_phases::laws::phases_close;
 use plan_prunes::prunings;
+use plan_words::Plan;
 use run_journals::laws::phases_work;
 use std::alloc::Global;
 
-/// Closes a phase that is worked off: one pass meets all others, the nodes prune what was read in the phase, and the pass meets all
-/// others again. It hands the run back with the refusal that came, if one did.
+/// Closes a phase of the plan's run that is worked off: one pass meets all others, the nodes prune what was read in the phase, and
+/// the pass meets all others again. It hands the run back with the refusal that came, if one did.
 pub(crate) fn close_phase(
     alloc: Global,
-    blocks: u32,
+    plan: &Plan,
     run: Run,
 ) -> Result<(Run, Option<CellRefusal>), NoMemory>
     requires worked { (k : ℕ) × IsWorked k run }
-    requires blocks { blocks ≡ (plan_of run).config.blocks }
+    requires plan { plan_of run ≡ plan.now }
     ensures open { IfOk result (λ r. IsOpen r.0) }
     ensures plan { IfOk result (λ r. plan_of r.0 ≡ plan_of run) }
     ensures closed { IfOk result (λ r. r.1 ≡ None → (k : ℕ) → IsWorked k run → IsBetween (k + 1) r.0) }
@@ -33,9 +34,10 @@ pub(crate) fn close_phase(
     let mut run = run;
     meet_all(&mut run);
     let reads = gather(alloc, run.clients.as_slice(), run.counted.as_slice())?;
+    let blocks = plan.config.blocks();
     let prunings = prunings(alloc, blocks, reads.given.as_slice(), reads.early)?;
     let Run {
-        plan,
+        plan: snapshot,
         clock,
         cells,
         clients,
@@ -43,10 +45,10 @@ pub(crate) fn close_phase(
         mut keeper,
         mut counted,
     } = run;
-    let (cells, refused) = prune_all(alloc, &clock, &mut keeper, cells, prunings.as_slice())?;
+    let (cells, refused) = prune_all(alloc, plan, &clock, &mut keeper, cells, prunings.as_slice())?;
     count(counted.as_mut_slice(), clients.as_slice());
     let mut run = Run {
-        plan,
+        plan: snapshot,
         clock,
         cells,
         clients,

@@ -1,21 +1,23 @@
 //! The end of a run: journals and passes are taken out, and the clock is closed.
-ghost use Rattle.std.specs.Prelude.{◌≡◌, ◌++◌, [], map, All, true, IsTrue, IfOk, OnOk};
+ghost use Rattle.std.specs.Prelude.{◌≡◌, ◌<◌, ◌++◌, [], map, All, length, replicate, slice_set, slice_index_or, true, IsTrue, IfOk, OnOk};
 ghost use Rattle.event_clock.specs.Passes.{Tally};
 ghost use Rattle.event_clock.specs.Views.{IsDrawnOnce};
 ghost use Rattle.locked_nodes.specs.Cells.{KeptCell};
 ghost use Rattle.client_desks.specs.Desks.{KeptDesk};
 ghost use Rattle.client_threads.specs.Ran.{HasFullPass, IsOneFull};
-ghost use Rattle.client_threads.specs.Running.{IsOpen, desks_of, shares_of};
+ghost use Rattle.client_threads.specs.Running.{IsOpen, desks_of, node_journals, plan_of, shares_of};
 ghost use Rattle.run_journals.specs.Standing.{journal_at};
+ghost use Rattle.locked_nodes.specs.Joined as joined;
 
 use crate::run::RunRefusal;
 use crate::state::Run;
 use client_work::Work;
 use event_clock::{Drawn, Passes};
-use journals::{DeskJournals, NodeJournals};
+use journals::{DeskJournals, NodeJournal, NodeJournals};
 use lists::{ItemList, NoMemory};
-use locked_nodes::{CellRefusal, NodeCell};
+use locked_nodes::{CellRefusal, NodeCell, join};
 use phase_threads::Seat;
+use plan_words::Plan;
 use std::alloc::Global;
 
 /// What a run leaves when its clock is closed.
@@ -28,10 +30,11 @@ pub(crate) struct Closed {
     pub(crate) full: bool,
 }
 
-/// Takes all journals out of the run, and closes its clock.
-pub(crate) fn close(alloc: Global, run: Run) -> Result<Closed, NoMemory>
-    requires { IsOpen run }
-    ensures nodes { IfOk result (λ r. r.nodes ≡ map (λ c. c.journal) run.cells.items) }
+/// Takes all journals out of the plan's run, and closes its clock.
+pub(crate) fn close(alloc: Global, plan: &Plan, run: Run) -> Result<Closed, NoMemory>
+    requires opened { IsOpen run }
+    requires plan { plan_of run ≡ plan.now }
+    ensures nodes { IfOk result (λ r. r.nodes ≡ node_journals run.cells.items plan.now.config.n) }
     ensures desks { IfOk result (λ r. r.desks ≡ map journal_at (desks_of run.clients.items)) }
     ensures drawn { IfOk result (λ r. run.courier.entries ≡ [] → IsDrawnOnce r.drawn.count (shares_of run)) }
     ensures full { IfOk result (λ r. r.full ≡ true → HasFullPass r.drawn) }
@@ -48,7 +51,7 @@ pub(crate) fn close(alloc: Global, run: Run) -> Result<Closed, NoMemory>
         counted: _counted,
     } = run;
     let mut passes = ItemList::new(alloc);
-    let nodes = finish_cells(alloc, cells, &mut passes)?;
+    let nodes = finish_cells(alloc, plan.config.n(), cells, &mut passes)?;
     let desks = finish_desks(alloc, clients, &mut passes)?;
     let (_empty, pass) = courier.finish();
     passes.push(pass)?;
@@ -64,36 +67,66 @@ pub(crate) fn close(alloc: Global, run: Run) -> Result<Closed, NoMemory>
 }
 
 /// Why a run stops: for want of memory, or since its clock is full. Then a pass has drawn as many numbers as it may.
-pub(crate) fn stop(alloc: Global, run: Run, refusal: CellRefusal) -> RunRefusal
-    requires { IsOpen run }
+pub(crate) fn stop(alloc: Global, plan: &Plan, run: Run, refusal: CellRefusal) -> RunRefusal
+    requires opened { IsOpen run }
+    requires plan { plan_of run ≡ plan.now }
     ensures { (drawn : Tally) → result ≡ RunRefusal.ClockFull drawn → HasFullPass drawn }
 {
     let CellRefusal::ClockFull = refusal else {
         return RunRefusal::NoMemory;
     };
-    match close(alloc, run) {
+    match close(alloc, plan, run) {
         Ok(closed) if closed.full => RunRefusal::ClockFull(closed.drawn),
         _ => RunRefusal::NoMemory,
     }
 }
 
-// The journals of the cells, whose passes are added to the others.
+// The journals of so many nodes, each of its cells' entries by number. The cells' passes are added to the others.
 fn finish_cells(
     alloc: Global,
+    count: u32,
     cells: Vec<NodeCell>,
     passes: &mut Passes,
 ) -> Result<NodeJournals, NoMemory>
-    ensures nodes { IfOk result (λ nodes. nodes ≡ map (λ c. c.journal) cells.items) }
+    requires { All (λ c. c.charter.number < count) cells.items }
+    ensures nodes { IfOk result (λ nodes. nodes ≡ node_journals cells.items count) }
     ensures passes { OnOk result (passes.new ≡ passes.old ++ map (λ c. c.pass) cells.items) }
     ensures kept { OnOk result (All KeptCell cells.items) }
 {
-    let mut nodes = ItemList::new(alloc);
+    let mut nodes = empty_journals(alloc, count)?;
     for cell in cells {
+        let node = usize::from(cell.number());
         let (journal, pass) = cell.finish();
         passes.push(pass)?;
-        nodes.push(journal)?;
+        add_journal(alloc, &mut nodes, node, journal)?;
     }
     Ok(nodes)
+}
+
+// So many journals without entries.
+fn empty_journals(alloc: Global, count: u32) -> Result<NodeJournals, NoMemory>
+    ensures { IfOk result (λ nodes. nodes ≡ replicate count []) }
+{
+    let mut nodes = ItemList::new(alloc);
+    for _ in 0..count {
+        nodes.push(ItemList::new(alloc))?;
+    }
+    Ok(nodes)
+}
+
+// Joins a journal to a node's.
+fn add_journal(
+    alloc: Global,
+    nodes: &mut NodeJournals,
+    node: usize,
+    journal: NodeJournal,
+) -> Result<(), NoMemory>
+    requires { node < length nodes.old }
+    ensures { OnOk result (nodes.new ≡ slice_set nodes.old node (joined.join (slice_index_or nodes.old node []) journal)) }
+{
+    let before = nodes.replace(node, ItemList::new(alloc));
+    let _empty = nodes.replace(node, join(alloc, before, journal)?);
+    Ok(())
 }
 
 // The journals of the desks, whose passes are added to the others.

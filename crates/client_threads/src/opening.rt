@@ -3,7 +3,8 @@ ghost use Rattle.std.specs.Prelude.{◌≡◌, ◌≤◌, ◌<◌, ◌+◌, [], 
 ghost use Rattle.plan_words.specs.Plans.{Fits};
 ghost use Rattle.plan_tasks.specs.Tasks.{IsTaskOf, client_of};
 ghost use Rattle.client_threads.specs.Running.{IsBetween, IsOpen, StandsAt, desks_of, plan_of};
-ghost use Rattle.client_threads.specs.Opened.{IsUnusedPass, IsNewCell, AreNewCells, IsNewSeat};
+ghost use Rattle.run_journals.specs.Standing.{needs_whole, shards_of};
+ghost use Rattle.client_threads.specs.Opened.{IsUnusedPass, AreNewCells, IsNewSeat, cell_count};
 
 use crate::state::Run;
 use client_desks::Desk;
@@ -14,7 +15,7 @@ use locked_nodes::NodeCell;
 use phase_threads::Seat;
 use plan_phases::laws::phases_close;
 use plan_tasks::{Task, crash_after, nature_of, tasks_of};
-use plan_words::Plan;
+use plan_words::{Fault, Plan};
 use std::alloc::Global;
 use std::snapshot::Snapshot;
 
@@ -30,7 +31,7 @@ pub(crate) fn open(alloc: Global, plan: &Plan) -> Result<Run, NoMemory>
     phases_close();
     let tasks = tasks_of(alloc, plan)?;
     let clients = tasks.len() as u32;
-    let (clock, mut passes) = Clock::start(alloc, plan.config.n() + clients + 2)?;
+    let (clock, mut passes) = Clock::start(alloc, count_cells(plan) + clients + 2)?;
     let cells = open_cells(alloc, plan, &clock, &mut passes)?;
     let clients = open_seats(alloc, plan, &clock, tasks, &mut passes)?;
     let Some(pass) = passes.pop() else {
@@ -59,22 +60,92 @@ fn open_cells(
     clock: &Clock,
     passes: &mut Passes,
 ) -> Result<Vec<NodeCell>, NoMemory>
+    requires fits { Fits plan.now }
     requires unused { All (IsUnusedPass clock.now) passes.old }
-    requires enough { plan.now.config.n ≤ length passes.old }
-    ensures cells { IfOk result (λ cells. AreNewCells plan.now clock.now plan.now.config.n cells.items) }
+    requires enough { cell_count plan.now plan.now.config.n ≤ length passes.old }
+    ensures cells { IfOk result (λ cells. AreNewCells plan.now clock.now plan.now.config.n 0 cells.items) }
     ensures unused { OnOk result (All (IsUnusedPass clock.now) passes.new) }
-    ensures left { OnOk result (length passes.new + plan.now.config.n ≡ length passes.old) }
+    ensures left { OnOk result (length passes.new + cell_count plan.now plan.now.config.n ≡ length passes.old) }
 {
     let mut cells = Vec::new(alloc);
     for number in 0..plan.config.n() as u8 {
+        open_node(alloc, plan, number, clock, passes, &mut cells)?;
+    }
+    Ok(cells)
+}
+
+// The cells of one node more.
+fn open_node(
+    alloc: Global,
+    plan: &Plan,
+    number: u8,
+    clock: &Clock,
+    passes: &mut Passes,
+    cells: &mut Vec<NodeCell>,
+) -> Result<(), NoMemory>
+    requires number { number < plan.now.config.n }
+    requires cells { AreNewCells plan.now clock.now number 0 cells.old.items }
+    requires unused { All (IsUnusedPass clock.now) passes.old }
+    requires enough { shards_of plan.now number ≤ length passes.old }
+    ensures cells { OnOk result (AreNewCells plan.now clock.now (number + 1) 0 cells.new.items) }
+    ensures unused { OnOk result (All (IsUnusedPass clock.now) passes.new) }
+    ensures left { OnOk result (length passes.new + shards_of plan.now number ≡ length passes.old) }
+{
+    let nature = nature_of(plan, number);
+    let crash_after = crash_after(plan, number);
+    let shards = shard_count(plan, number);
+    for shard in 0..shards {
         let Some(pass) = passes.pop() else {
             unreachable!()
         };
-        let nature = nature_of(plan, number);
-        let crash_after = crash_after(plan, number);
-        cells.push(NodeCell::new(alloc, &plan.config, number, 0, 1, nature, crash_after, pass)?)?;
+        let config = &plan.config;
+        let cell = NodeCell::new(
+            alloc,
+            config,
+            number,
+            shard,
+            shards,
+            nature,
+            crash_after,
+            pass,
+        )?;
+        cells.push(cell)?;
     }
-    Ok(cells)
+    Ok(())
+}
+
+// How many cells all nodes have.
+fn count_cells(plan: &Plan) -> u32
+    requires { Fits plan.now }
+    ensures { result ≡ cell_count plan.now plan.now.config.n }
+{
+    let mut count = 0;
+    for node in 0..plan.config.n() as u8 {
+        count += shard_count(plan, node);
+    }
+    count
+}
+
+// How many cells a node has: one where it is to crash or to hold asks back, and else four.
+fn shard_count(plan: &Plan, node: u8) -> u32
+    ensures { result ≡ shards_of plan.now node }
+{
+    for rule in plan.rules.as_slice() {
+        if is_whole_by(rule, node) {
+            return 1;
+        }
+    }
+    4
+}
+
+// Whether the rule has the node crash, or hold asks back.
+fn is_whole_by(rule: &Fault, node: u8) -> bool
+    ensures { result ≡ needs_whole node rule.now }
+{
+    match rule {
+        Fault::CrashNode { node: named, .. } | Fault::Hold { node: named, .. } => *named == node,
+        _ => false,
+    }
 }
 
 // The desks of all clients, each with a pass of its own and what its thread is to do.

@@ -1,64 +1,133 @@
 //! Nodes prune between phases.
-ghost use Rattle.std.specs.Prelude.{◌≡◌, ◌≤◌, All, true, None, IfOk, OnOk};
+ghost use Rattle.std.specs.Prelude.{◌≡◌, ◌≤◌, ◌<◌, All, None, IfOk, OnOk};
 ghost use Rattle.std.specs.List.{AllZip};
 ghost use Rattle.locked_nodes.specs.Cells.{KeptCell};
+ghost use Rattle.locked_nodes.specs.Slots.{slots_of};
+ghost use Rattle.run_journals.specs.Standing.{ArePlanned};
 ghost use Rattle.client_threads.specs.Met.{IsKeeper};
-ghost use Rattle.client_threads.specs.Pruned.{IsOpenCell, HasPrunedAll, HasPrunedSome};
+ghost use Rattle.client_threads.specs.Pruned.{IsOpenCell, HasMorePrunes, IsServed, ArePlaces, NodePruned, OthersStay, AllPruned, reopened};
 
+use crate::state::know_cells;
 use event_clock::{Clock, Pass};
 use lists::NoMemory;
-use locked_nodes::{CellRefusal, NodeCell};
+use locked_nodes::{CellRefusal, NodeCell, Slot, place_of, slots_in};
 use plan_prunes::BlockStamp;
+use plan_words::Plan;
+use run_journals::laws::phases_work;
 use std::alloc::Global;
 
-/// Lets each node prune these blocks, in order, node by node. It hands the cells back with the refusal that came, if one did.
+/// Lets each of the plan's nodes prune these blocks, in order, node by node. It hands the cells back with the refusal that came,
+/// if one did.
 pub(crate) fn prune_all(
     alloc: Global,
+    plan: &Plan,
     clock: &Clock,
     keeper: &mut Pass,
     cells: Vec<NodeCell>,
     prunings: &[BlockStamp],
 ) -> Result<(Vec<NodeCell>, Option<CellRefusal>), NoMemory>
     requires keeper { keeper.old.clock ≡ clock.now }
-    requires cells { All (IsOpenCell clock.now keeper.old.seen prunings.now) cells.items }
+    requires planned { ArePlanned plan.now clock.now cells.items }
+    requires known { All KeptCell cells.items }
+    requires seen { All (λ c. c.pass.seen ≤ keeper.old.seen) cells.items }
+    requires blocks { All (λ x. x.block < plan.now.config.blocks) prunings.now }
     ensures keeper { IsKeeper keeper.old keeper.new }
-    ensures some { IfOk result (λ r. AllZip HasPrunedSome cells.items r.0.items) }
-    ensures all { IfOk result (λ r. r.1 ≡ None → AllZip (HasPrunedAll keeper.old.seen prunings.now) cells.items r.0.items) }
+    ensures some { IfOk result (λ r. AllZip HasMorePrunes (reopened cells.items) r.0.items) }
+    ensures all { IfOk result (λ r. r.1 ≡ None → AllPruned plan.now keeper.old.seen prunings.now cells.items r.0.items) }
     ensures seen { IfOk result (λ r. All (λ c. c.pass.seen ≤ keeper.new.seen) r.0.items) }
     ensures kept { IfOk result (λ r. All KeptCell r.0.items) }
 {
-    let mut pruned = Vec::new(alloc);
-    let mut refused = None;
-    for cell in cells {
-        cell.known();
-        let mut cell = cell.go_on(true);
-        if refused.is_none() {
-            refused = prune(clock, keeper, &mut cell, prunings).err();
-        }
-        cell.known();
-        pruned.push(cell)?;
-    }
-    Ok((pruned, refused))
+    let mut cells = reopen(alloc, cells)?;
+    let refused = prune_nodes(alloc, plan, clock, keeper, cells.as_mut_slice(), prunings).err();
+    know_cells(cells.as_slice());
+    Ok((cells, refused))
 }
 
-// Lets one node prune these blocks, in order.
-fn prune(
+// The cells under charters by which prunes may follow.
+fn reopen(alloc: Global, cells: Vec<NodeCell>) -> Result<Vec<NodeCell>, NoMemory>
+    ensures cells { IfOk result (λ opened. opened.items ≡ reopened cells.items) }
+    ensures kept { IfOk result (λ opened. All KeptCell opened.items) }
+{
+    let mut opened = Vec::new(alloc);
+    for cell in cells {
+        let cell = cell.go_on(true);
+        cell.known();
+        opened.push(cell)?;
+    }
+    Ok(opened)
+}
+
+// Lets all nodes prune, in order, until one refuses.
+fn prune_nodes(
+    alloc: Global,
+    plan: &Plan,
     clock: &Clock,
     keeper: &mut Pass,
-    cell: &mut NodeCell,
+    cells: &mut [NodeCell],
     prunings: &[BlockStamp],
 ) -> Result<(), CellRefusal>
     requires keeper { keeper.old.clock ≡ clock.now }
-    requires cell { IsOpenCell clock.now keeper.old.seen prunings.now cell.old }
-    requires may { cell.old.charter.prunes ≡ true }
+    requires planned { ArePlanned plan.now clock.now cells.old }
+    requires known { All KeptCell cells.old }
+    requires cells { All (IsOpenCell clock.now keeper.old.seen prunings.now) cells.old }
     ensures keeper { IsKeeper keeper.old keeper.new }
-    ensures some { HasPrunedSome cell.old cell.new }
-    ensures all { OnOk result (HasPrunedAll keeper.old.seen prunings.now cell.old cell.new) }
-    ensures seen { cell.new.pass.seen ≤ keeper.new.seen }
+    ensures cells { All (IsOpenCell clock.now keeper.new.seen prunings.now) cells.new }
+    ensures some { AllZip HasMorePrunes cells.old cells.new }
+    ensures all { OnOk result (AllPruned plan.now keeper.old.seen prunings.now cells.old cells.new) }
 {
-    cell.known();
-    for pruning in prunings {
-        let _pruning = cell.prune(clock, keeper, pruning.block, &pruning.stamp)?;
+    phases_work();
+    let slots = slots_in(alloc, cells)?;
+    for node in 0..plan.config.n() as u8 {
+        prune(
+            alloc,
+            clock,
+            keeper,
+            cells,
+            slots.as_slice(),
+            node,
+            prunings,
+        )?;
     }
     Ok(())
+}
+
+// Lets one node prune these blocks, in order, each in its cell.
+fn prune(
+    alloc: Global,
+    clock: &Clock,
+    keeper: &mut Pass,
+    cells: &mut [NodeCell],
+    slots: &[Slot],
+    node: u8,
+    prunings: &[BlockStamp],
+) -> Result<(), CellRefusal>
+    requires keeper { keeper.old.clock ≡ clock.now }
+    requires cells { All (IsOpenCell clock.now keeper.old.seen prunings.now) cells.old }
+    requires slots { slots.now ≡ slots_of cells.old }
+    requires served { IsServed slots.now node }
+    ensures keeper { IsKeeper keeper.old keeper.new }
+    ensures cells { All (IsOpenCell clock.now keeper.new.seen prunings.now) cells.new }
+    ensures some { AllZip HasMorePrunes cells.old cells.new }
+    ensures all { OnOk result (NodePruned keeper.old.seen prunings.now node cells.old cells.new) }
+    ensures others { OthersStay node cells.old cells.new }
+{
+    let places = places_of(alloc, slots, node)?;
+    for pruning in prunings {
+        let place = places[pruning.block as usize % places.len()];
+        let _pruning = cells[place].prune(clock, keeper, pruning.block, &pruning.stamp)?;
+    }
+    Ok(())
+}
+
+// The places of a node's cells, by shard.
+fn places_of(alloc: Global, slots: &[Slot], node: u8) -> Result<Vec<usize>, NoMemory>
+    requires { IsServed slots.now node }
+    ensures { IfOk result (λ places. ArePlaces slots.now node places.items) }
+{
+    let shards = slots[place_of(slots, node, 0)].shards;
+    let mut places = Vec::new(alloc);
+    for shard in 0..shards {
+        places.push(place_of(slots, node, shard))?;
+    }
+    Ok(places)
 }

@@ -66,11 +66,11 @@ pub fn run_plan<R: Threads + Wait + Sync, G: Gate + Sync>(
     let mut run = open(alloc, plan)?;
     for job in plan.work.as_slice() {
         if let Job::Phase = job {
-            run = work_off(rt, alloc, gate, run)?;
-            run = cut(alloc, plan.config.blocks(), run)?;
+            run = work_off(rt, alloc, gate, plan, run)?;
+            run = cut(alloc, plan, run)?;
         }
     }
-    let run = work_off(rt, alloc, gate, run)?;
+    let run = work_off(rt, alloc, gate, plan, run)?;
     finish(alloc, plan, liars, run)
 }
 
@@ -79,9 +79,11 @@ fn work_off<R: Threads + Wait + Sync, G: Gate + Sync>(
     rt: &R,
     alloc: Global,
     gate: &G,
+    plan: &Plan,
     run: Run,
 ) -> Result<Run, RunRefusal>
-    requires { (k : ℕ) × IsBetween k run × (k ≤ cuts (plan_of run)) }
+    requires between { (k : ℕ) × IsBetween k run × (k ≤ cuts (plan_of run)) }
+    requires plan { plan_of run ≡ plan.now }
     ensures plan { IfOk result (λ r. plan_of r ≡ plan_of run) }
     ensures worked { IfOk result (λ r. (k : ℕ) → IsBetween k run → IsWorked k r) }
     ensures full { (drawn : Tally) → result ≡ Err (RunRefusal.ClockFull drawn) → HasFullPass drawn }
@@ -90,27 +92,27 @@ fn work_off<R: Threads + Wait + Sync, G: Gate + Sync>(
     phases_close();
     let (mut run, refused) = work(rt, alloc, gate, run)?;
     if let Some(refusal) = refused {
-        return Err(stop(alloc, run, refusal));
+        return Err(stop(alloc, plan, run, refusal));
     }
     let brought = bring_all(rt, &run.clock, &mut run.courier, run.cells.as_mut_slice());
     match brought {
         Ok(()) => Ok(run),
-        Err(refusal) => Err(stop(alloc, run, refusal)),
+        Err(refusal) => Err(stop(alloc, plan, run, refusal)),
     }
 }
 
 // Closes the phase that is worked off.
-fn cut(alloc: Global, blocks: u32, run: Run) -> Result<Run, RunRefusal>
+fn cut(alloc: Global, plan: &Plan, run: Run) -> Result<Run, RunRefusal>
     requires worked { (k : ℕ) × IsWorked k run }
-    requires blocks { blocks ≡ (plan_of run).config.blocks }
+    requires plan { plan_of run ≡ plan.now }
     ensures plan { IfOk result (λ r. plan_of r ≡ plan_of run) }
     ensures closed { IfOk result (λ r. (k : ℕ) → IsWorked k run → IsBetween (k + 1) r) }
     ensures full { (drawn : Tally) → result ≡ Err (RunRefusal.ClockFull drawn) → HasFullPass drawn }
 {
-    let (run, refused) = close_phase(alloc, blocks, run)?;
+    let (run, refused) = close_phase(alloc, plan, run)?;
     match refused {
         None => Ok(run),
-        Some(refusal) => Err(stop(alloc, run, refusal)),
+        Some(refusal) => Err(stop(alloc, plan, run, refusal)),
     }
 }
 
@@ -124,7 +126,7 @@ fn finish(alloc: Global, plan: &Plan, liars: Liars, run: Run) -> Result<Ran, Run
     ensures memory { IfErr result (λ e. e ≡ RunRefusal.NoMemory) }
 {
     runs_end();
-    let closed = close(alloc, run)?;
+    let closed = close(alloc, plan, run)?;
     let journals = Journals {
         config: plan.config,
         liars,

@@ -16,7 +16,7 @@ pub(crate) struct Run {
     /// The plan, in proofs alone.
     pub(crate) plan: Snapshot<Plan>,
     pub(crate) clock: Clock,
-    /// By node.
+    /// By node, and then by shard.
     pub(crate) cells: Vec<NodeCell>,
     /// By ascending client.
     pub(crate) clients: Vec<Seat<Work>>,

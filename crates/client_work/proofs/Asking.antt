@@ -20,6 +20,7 @@ use Rattle.client_desks.specs.Desks.{DeskView, state_at, task_at, asks_of as ask
 use Rattle.plan_followed.specs.Asked.{drops, holds, client_crash}
 use Rattle.plan_followed.specs.Clients.{InEach, GoesByPlan, IsNext, IsCutOff, client_after, times, asks, asks_of, last_of, turn_after, way_of}
 use Rattle.plan_followed.proofs.Entries as followed
+use Rattle.desk_keys.specs.Keys.{IsAskOn, AsksOn}
 use Rattle.client_work.specs.declared.worker.Worker.{Worker}
 use Rattle.client_work.specs.declared.reads.GivenRead.{GivenRead}
 use Rattle.client_work.specs.Work.{given_by, all_given, asks_left, Counts, HasReads, Goes, IsWholeIn, counted, HasCounted, IsOn}
@@ -54,6 +55,14 @@ asked_now d node t ask e a =
     let o : t.op ≡ ops_of (state_at d).client.seen = omega (arith, ap (λ (x : ℕ). x * 2 ^ 32) life) in
     let p : t.phase ≡ phase_of (task_at d) = ap phase_of (sym e) in
     (h.0, h.1 ∙ ap (λ (x : ℕ). tag x t.phase) o ∙ ap (tag (ops_of (state_at d).client.seen)) p)
+
+-- what is asked is on the operation's block
+pub asks_block : (d : DeskView) (node block : ℕ) → IsOn block d → AsksOn d node block
+asks_block d node block on ask asked = at (nat_lt node d.config.n) (ap (λ (x : Option SeenTask). outstanding_of (setting d.config) d.id x node) (sym on.1) ∙ asked)
+  where
+    at : (b : Bool) → cond b (Some (outstanding (setting d.config) d.id (whole_task 0 on.0) node)) None ≡ Some ask → IsAskOn block ask.body
+    at true e = let same : outstanding (setting d.config) d.id (whole_task 0 on.0) node ≡ ask = cc in subst (λ (m : Message). IsAskOn block m.body) same on.2
+    at false e = absurd (cc)
 
 next_is : (n m : ℕ) (o p : Option SeenTask) (from to i j : ℕ) → n ≡ m → o ≡ p → from ≡ to → i ≡ j → IsNext n o from i → IsNext m p to j
 next_is n m o p from to i j a b c e h =

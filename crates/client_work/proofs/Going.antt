@@ -13,13 +13,15 @@ use Rattle.journals.specs.declared.desk.DeskAct.{DeskAct}
 use Rattle.journals.specs.declared.desk.DeskAct.TheVariants.{Start, Crash, Call}
 use Rattle.journals.specs.declared.desk.DeskEntry.{DeskEntry}
 use Rattle.journals.specs.Desks.{DeskState, new_desk, desk_after, desk_after_all}
+use Rattle.locked_nodes.specs.declared.slot.Slot.{Slot}
+use Rattle.locked_nodes.specs.Slots.{IsWholeAt}
 use Rattle.client_desks.specs.Desks.{DeskView, state_at, with_own, desk_entry}
 use Rattle.plan_followed.specs.Asked.{drops, holds, client_crash}
 use Rattle.plan_followed.specs.Clients.{client_after, times, starts, asks, asks_of, way_of, op_of}
 use Rattle.plan_followed.proofs.Entries as followed
 use Rattle.plan_tasks.specs.declared.task.Ways.{Ways}
 use Rattle.client_work.specs.declared.worker.Worker.{Worker}
-use Rattle.client_work.specs.Work.{all_given, ways_left, asks_left, every_step, IsItsDesk, Counts, HasReads, Goes, counted, HasCounted}
+use Rattle.client_work.specs.Work.{all_given, ways_left, asks_left, every_step, IsItsDesk, Counts, HasReads, Goes, counted, HasCounted, HoldsWhole}
 use Rattle.client_work.proofs.Heard.{state_snoc, times_snoc}
 
 -- ---- lists
@@ -191,3 +193,21 @@ way_is w es node way w' below h c =
     let k = holds w.plan.value.rules w.client node in
     let was : c.was ≡ ways_left d k (times (asks_of node) es) = (let a = c.there in let b = h.ways node below in cc) in
     c.goes ∙ ap (λ (x : Ways). way_of x.drops x.holds 0) was ∙ way_on d k (times (asks_of node) es)
+
+-- an ask that is held back is one that the plan holds
+held_some : (drops holds : ℕ) → way_of drops holds 0 ≡ ByHold → 0 < holds
+held_some drops holds e = at (nat_lt 0 drops) (nat_lt 0 (drops + holds)) refl refl e
+  where
+    at : (b c : Bool) → nat_lt 0 drops ≡ b → nat_lt 0 (drops + holds) ≡ c → cond b ByDrop (cond c ByHold ByCall) ≡ ByHold → 0 < holds
+    at true c x y e = absurd (cc)
+    at false true x y e = grind (arith, nat_tests)
+    at false false x y e = absurd (cc)
+
+pub held_whole : (w : Worker) (es : List DeskEntry) (node : ℕ) (way : Way) (w' : Worker) (slots : List Slot) → node < w.plan.value.config.n → Counts w es → HasCounted w node way w' → HoldsWhole w slots → way ≡ ByHold → IsWholeAt slots node
+held_whole w es node way w' slots below h c whole is =
+    let d = drops w.plan.value.rules w.client node in
+    let k = holds w.plan.value.rules w.client node in
+    let was : c.was ≡ ways_left d k (times (asks_of node) es) = (let a = c.there in let b = h.ways node below in cc) in
+    let some = held_some c.was.drops c.was.holds (sym c.goes ∙ is) in
+    let left : c.was.holds ≡ k - (times (asks_of node) es - d) = ap (λ (x : Ways). x.holds) was in
+    whole node (omega (arith, some, left))

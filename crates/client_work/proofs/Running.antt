@@ -9,6 +9,9 @@ use Rattle.quorum_rules.specs.Limits.{Numbers}
 use Rattle.wire_forms.specs.declared.op.Op.{Op}
 use Rattle.block_device.specs.declared.steps.BlockStep.{BlockStep}
 use Rattle.locked_nodes.specs.declared.answers.CellRefusal.{CellRefusal}
+use Rattle.locked_nodes.specs.declared.slot.Slot.{Slot}
+use Rattle.plan_words.specs.declared.plan.Plan.{Plan}
+use Rattle.plan_followed.specs.Asked.{holds}
 use Rattle.protocol.specs.Count.{one_more}
 use Rattle.protocol.specs.Operations.{Outcome}
 use Rattle.protocol.specs.Seen.{block_of}
@@ -21,7 +24,7 @@ use Rattle.client_desks.specs.Later.{IsLater}
 use Rattle.plan_followed.specs.Clients.{IsNext, client_after, op_of, last_of, turn_after, times, starts}
 use Rattle.client_work.specs.declared.worker.Worker.{Worker}
 use Rattle.client_work.specs.declared.reads.GivenRead.{GivenRead}
-use Rattle.client_work.specs.Work.{given_by, every_step, Goes, IsWholeIn, HasCounted, HasAskedOn, IsOn, IsOpOf, IsSame, MoreReads, block_in}
+use Rattle.client_work.specs.Work.{given_by, every_step, Goes, IsWholeIn, HasCounted, HasAskedOn, IsOn, IsOpOf, IsSame, MoreReads, HoldsWhole, block_in}
 use Rattle.client_work.proofs.Heard.{config_all}
 use Rattle.client_work.proofs.Going.{same_times, start_goes, crash_goes}
 use Rattle.client_work.proofs.Asking.{tag_at, asked_goes, asked_on, asked_up, ended_goes, ended_idle, ended_up, crash_cuts}
@@ -38,6 +41,10 @@ same_on a b c x y = record {
   client = y.client ∙ x.client;
   reads = (x.reads.0 ++ y.reads.0, y.reads.1 ∙ ap (λ (rs : List GivenRead). rs ++ y.reads.0) x.reads.1 ∙ append_assoc a.reads x.reads.0 y.reads.0);
 }
+
+pub whole_on : (a b : Worker) (slots : List Slot) → IsSame a b → HoldsWhole a slots → HoldsWhole b slots
+whole_on a b slots x whole node some =
+    whole node (subst (λ (c : ℕ). 0 < holds a.plan.value.rules c node) x.client (subst (λ (p : Plan). 0 < holds p.rules b.client node) x.plan some))
 
 -- a worker that noted what an operation gave
 abbrev pub noted_by : Worker → ℕ → Outcome → Worker

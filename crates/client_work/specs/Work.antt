@@ -12,6 +12,8 @@ use Rattle.run_words.specs.declared.outcome.Outcome.TheVariants.{Gave}
 use Rattle.plan_words.specs.declared.plan.Plan.{Plan}
 use Rattle.plan_words.specs.Named.{is_phase}
 use Rattle.journals.specs.declared.desk.DeskEntry.{DeskEntry}
+use Rattle.locked_nodes.specs.declared.slot.Slot.{Slot}
+use Rattle.locked_nodes.specs.Slots.{IsWholeAt}
 use Rattle.journals.specs.declared.desk.Way.{Way}
 use Rattle.journals.specs.Desks.{Ended, DeskState, FitsOp}
 use Rattle.client_desks.specs.Desks.{DeskView, state_at, task_at}
@@ -107,6 +109,10 @@ module _ (w : Worker) where
     pub goes : Goes d
     pub done : IsDone w.plan.value w.client (steps_of_first w.plan.value w.client (phase_at w)) d.entries
     pub steps : HasSteps w.plan.value w.client w.phases.items
+
+-- a node that is to hold back asks of the client stands in one cell
+abbrev pub HoldsWhole : Worker → List Slot → Type 0
+HoldsWhole w slots = (node : ℕ) → 0 < holds w.plan.value.rules w.client node → IsWholeAt slots node
 
 -- the new reads are the old ones, and perhaps more
 abbrev pub MoreReads : List GivenRead → List GivenRead → Type 0
@@ -222,10 +228,10 @@ pub record HasSentAll (old : Liar) (before : DeskView) (new : Liar) (d : DeskVie
 -- ---- all threads
 
 -- the thread may do its part of a phase
-abbrev pub Ready : Work → DeskView → Type 0
-Ready (Client w) d = IsReady w d
-Ready (Lying w) d = HasMail w d
-Ready Courier d = d.entries ≡ []
+abbrev pub Ready : Work → List Slot → DeskView → Type 0
+Ready (Client w) slots d = IsReady w d × HoldsWhole w slots
+Ready (Lying w) slots d = HasMail w d
+Ready Courier slots d = d.entries ≡ []
 
 -- it did its part
 abbrev pub Done : Work → DeskView → Work → DeskView → Type 0

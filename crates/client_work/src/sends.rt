@@ -31,7 +31,7 @@ impl Liar {
 /// How often the courier goes round.
 const ROUNDS: u32 = 64;
 
-/// Lets held asks come late at each node in turn, again and again, until the rounds are over or the keys note a refusal.
+/// Lets held asks come late at each cell in turn, again and again, until the rounds are over or the keys note a refusal.
 pub fn carry<R: Wait>(rt: &R, floor: &Floor, keys: &mut Keys)
     requires fit { Fit keys.old floor.now }
     requires sound { keys.old.refused ≡ None }
@@ -41,8 +41,8 @@ pub fn carry<R: Wait>(rt: &R, floor: &Floor, keys: &mut Keys)
 {
     desks_go_on();
     for _round in 0..ROUNDS {
-        for node in 0..keys.desk().nodes() {
-            if keys.deliver(rt, floor, node).is_err() {
+        for place in 0..floor.places() {
+            if keys.deliver(rt, floor, place).is_err() {
                 return;
             }
         }

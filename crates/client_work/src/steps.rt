@@ -5,7 +5,7 @@ ghost use Rattle.client_desks.specs.Desks.{CanStart, state_at};
 ghost use Rattle.client_desks.specs.Later.{IsLater};
 ghost use Rattle.plan_followed.specs.Clients.{starts, times};
 ghost use Rattle.desk_keys.specs.Keys.{Fit};
-ghost use Rattle.client_work.specs.Work.{every_step, Goes, IsSame, IsReady, HasWorked, HasStepped, IsOn, IsAmidOrOff, HasAskedOn, StepsFit, block_in};
+ghost use Rattle.client_work.specs.Work.{every_step, Goes, IsSame, IsReady, HasWorked, HasStepped, IsOn, IsAmidOrOff, HoldsWhole, HasAskedOn, StepsFit, block_in};
 
 use crate::turns::next_node;
 use crate::worker::Worker;
@@ -22,6 +22,7 @@ impl Worker {
         requires fit { Fit keys.old floor.now }
         requires sound { keys.old.refused ≡ None }
         requires ready { IsReady self.old keys.old.desk }
+        requires whole { HoldsWhole self.old floor.now.slots }
         ensures fit { Fit keys.new floor.now }
         ensures later { IsLater keys.old.desk keys.new.desk }
         ensures done { keys.new.refused ≡ None → HasWorked self.old self.new keys.new.desk }
@@ -45,6 +46,7 @@ impl Worker {
         requires goes { Goes self.old keys.old.desk }
         requires amid { IsAmidOrOff self.old steps keys.old.desk }
         requires steps { StepsFit self.old.plan.value self.old.client self.old.phases.items steps }
+        requires whole { HoldsWhole self.old floor.now.slots }
         ensures fit { Fit keys.new floor.now }
         ensures later { IsLater keys.old.desk keys.new.desk }
         ensures same { keys.new.refused ≡ None → IsSame self.old self.new × (self.new.phases.items ≡ self.old.phases.items) }
@@ -79,6 +81,7 @@ impl Worker {
         requires goes { Goes self.old keys.old.desk }
         requires next { slice_get (every_step self.old.plan.value self.old.client) (times starts keys.old.desk.entries) ≡ Some step }
         requires fits { StepFits self.old.plan.value.config step }
+        requires whole { HoldsWhole self.old floor.now.slots }
         ensures fit { Fit keys.new floor.now }
         ensures later { IsLater keys.old.desk keys.new.desk }
         ensures stepped { keys.new.refused ≡ None → HasStepped self.old keys.old.desk self.new keys.new.desk }
@@ -113,6 +116,7 @@ impl Worker {
         requires up { (state_at keys.old.desk).crashed ≡ false }
         requires on { IsOn block keys.old.desk }
         requires there { block < self.old.plan.value.config.blocks }
+        requires whole { HoldsWhole self.old floor.now.slots }
         ensures fit { Fit keys.new floor.now }
         ensures later { IsLater keys.old.desk keys.new.desk }
         ensures asked { keys.new.refused ≡ None → HasAskedOn self.old keys.old.desk self.new keys.new.desk }
@@ -128,7 +132,7 @@ impl Worker {
                 continue;
             };
             let way = self.count_ask(node);
-            let Ok(answer) = keys.call(rt, gate, floor, node, way) else {
+            let Ok(answer) = keys.call(rt, gate, floor, node, block, way) else {
                 return false;
             };
             if let Some(outcome) = answer {

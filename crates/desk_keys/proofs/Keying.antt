@@ -23,7 +23,10 @@ use Rattle.locked_nodes.specs.declared.charter.Item.{Item}
 use Rattle.locked_nodes.specs.declared.charter.Item.TheVariants.{Entry}
 use Rattle.locked_nodes.specs.Cells.{entry}
 use Rattle.client_desks.specs.Desks.{DeskView, desk_entry, with_own, KeepsDesk}
-use Rattle.desk_keys.specs.Keys.{FloorView, IsFloor, KeysView, Knows, IsSide, Agree, AreKeys, Fit, refusal_in, AddSides, AddCall, AddSent, LeavesNoSide}
+use Rattle.quorum_rules.specs.Limits.{Numbers}
+use Rattle.locked_nodes.specs.declared.slot.Slot.{Slot}
+use Rattle.locked_nodes.specs.Slots.{IsPlace}
+use Rattle.desk_keys.specs.Keys.{FloorView, IsHead, IsFloor, KeysView, Knows, IsSide, Agree, AreKeys, Fit, refusal_in, AddSides, AddCall, AddSent, LeavesNoSide}
 use Rattle.desk_keys.proofs.Lists.{get_set, set_at, still_there}
 
 contains_one : {X : Type 0} (x y : X) (k : ℕ) → k < 1 → get_or (y ∷ []) k x ≡ x → x ≡ y
@@ -231,6 +234,26 @@ sent_stays (Err e) ask old new was now add kept = kept_stays old new kept
 -- the chit of a node is one for its vault
 same_length : (chits : List (Chit Item)) (vaults : List (Deposit Item)) → map (λ (c : Chit Item). c.vault) chits ≡ map (λ (v : Deposit Item). v.id) vaults → length chits ≡ length vaults
 same_length chits vaults own = sym (length-map chits (λ (c : Chit Item). c.vault)) ∙ ap length own ∙ length-map vaults (λ (v : Deposit Item). v.id)
+
+pub place_in : (config : Numbers) (floor : FloorView) (place node block : ℕ) → IsFloor config floor → IsPlace floor.slots place node block → place < length floor.vaults
+place_in config floor place node block h p =
+    let within = slice_get_within floor.slots place p.slot p.there in
+    let count = h.count in
+    omega (arith, within, count)
+
+pub chit_in : (chits : List (Chit Item)) (vaults : List (Deposit Item)) (place : ℕ) → map (λ (c : Chit Item). c.vault) chits ≡ map (λ (v : Deposit Item). v.id) vaults → place < length vaults → place < length chits
+chit_in chits vaults place own within = let same = same_length chits vaults own in omega (arith, within, same)
+
+-- the cell at a place is in a slot
+pub head_at : (config : Numbers) (floor : FloorView) (place : ℕ) (v : Deposit Item) → IsFloor config floor → slice_get floor.vaults place ≡ Some v → (s : Slot) × IsHead config floor.clock s v.id.begun
+head_at config floor place v h there =
+    let s = slot_there floor.slots place (let within = slice_get_within floor.vaults place v there in let count = h.count in omega (arith, within, count)) in
+    (s.0, h.each place s.0 v s.1 there)
+  where
+    slot_there : (slots : List Slot) (k : ℕ) → k < length slots → (s : Slot) × (slice_get slots k ≡ Some s)
+    slot_there [] k lt = absurd (omega arith)
+    slot_there (s ∷ slots) zero lt = (s, refl)
+    slot_there (s ∷ slots) (suc k) lt = slot_there slots k (omega arith)
 
 pub chit_at : (chits : List (Chit Item)) (vaults : List (Deposit Item)) (i : ℕ) (c : Chit Item) (v : Deposit Item) → map (λ (x : Chit Item). x.vault) chits ≡ map (λ (x : Deposit Item). x.id) vaults → slice_get vaults i ≡ Some v → c ≡ get_or chits i c → slice_get chits i ≡ Some c
 chit_at chits vaults i c v own there at =

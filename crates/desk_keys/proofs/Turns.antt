@@ -1,34 +1,69 @@
 -- What a turn at a cell leaves in a chit and at a desk.
-use Rattle.std.proofs.Common.{◌≡◌, ℕ, List, [], ◌∷◌, ◌++◌, length, map, Option, Result, Ok, Err, refl, sym, ap, subst, ◌∙◌, inl, inr, append-nil}
+use Rattle.std.proofs.Common.{◌≡◌, ℕ, ◌%◌, List, [], ◌∷◌, ◌++◌, length, map, Option, Result, Ok, Err, refl, sym, ap, subst, ◌∙◌, inl, inr, append-nil}
 use Rattle.std.specs.declared.option.Option.TheVariants.{Some}
 use Rattle.std.specs.Prelude.{IfOk, OnOk, drop}
 use Rattle.std.proofs.lemmas.List.{map-append}
 use Rattle.quorum_rules.specs.Limits.{Numbers}
 use Rattle.protocol.specs.Operations.{Outcome}
-use Rattle.protocol.specs.Messages.{Message}
+use Rattle.protocol.specs.Instance.{setting}
+use Rattle.protocol.specs.Messages.{Message, Body}
+use Rattle.wire_forms.specs.declared.message.Body.TheVariants.{Ask as Asks, Answer as Answers}
 use Rattle.event_clock.specs.Passes.{ClockId}
 use Rattle.receipt_lock.specs.Turns.{Begins, new_entries, placed_from}
 use Rattle.receipt_lock.specs.Chits.{Holder as Chit, took, gave, found_list}
 use Rattle.journals.specs.declared.desk.Way.{Way}
-use Rattle.journals.specs.declared.desk.Way.TheVariants.{Call as ByCall}
+use Rattle.journals.specs.declared.desk.Way.TheVariants.{Call as ByCall, Drop, Hold}
 use Rattle.journals.specs.declared.node.NodeAct.{NodeAct}
 use Rattle.journals.specs.declared.node.NodeEntry.{NodeEntry}
 use Rattle.locked_nodes.specs.declared.answers.CellRefusal.{CellRefusal}
 use Rattle.locked_nodes.specs.declared.charter.Charter.{Charter}
 use Rattle.locked_nodes.specs.declared.charter.Item.{Item}
 use Rattle.locked_nodes.specs.declared.charter.Item.TheVariants.{Head, Entry}
-use Rattle.locked_nodes.specs.Cells.{CellView, entry, items, with_entry}
-use Rattle.client_desks.specs.Desks.{DeskView, state_at, asks_of, done_by, reply_by, ending, AddPair, Calls, Delivers}
-use Rattle.desk_keys.specs.Keys.{IsHead, HasLeft, AddSides, AddCall, AddSent, LeavesNoSide}
+use Rattle.locked_nodes.specs.Cells.{CellView, IsShare, Serves, HoldsWhole, entry, items, with_entry}
+use Rattle.locked_nodes.specs.declared.slot.Slot.{Slot}
+use Rattle.locked_nodes.specs.Slots.{slot_of, IsFor}
+use Rattle.client_desks.proofs.Desking.{asks_node}
+use Rattle.client_desks.specs.Desks.{DeskView, CanCall, state_at, task_at, asks_of, done_by, reply_by, ending, AddPair, Calls, Delivers}
+use Rattle.desk_keys.specs.Keys.{IsHead, IsAskOn, AsksOn, HasLeft, AddSides, AddCall, AddSent, LeavesNoSide}
 
 -- whoever takes a cell knows its charter
-pub charter_of : (config : Numbers) (clock : ClockId) (i : ℕ) (begun : List Item) (cell : CellView) (head : IsHead config clock i begun) → Begins begun (items cell) → cell.charter ≡ head.charter
-charter_of config clock i begun cell head begins =
-    let same : Head cell.charter ∷ map (λ e. Entry e) cell.journal ≡ Head head.charter ∷ (head.rest ++ begins.0) = begins.1 ∙ ap (λ l. l ++ begins.0) head.begins in
-    cc
+module _ (config : Numbers) (clock : ClockId) (slot : Slot) (begun : List Item) (cell : CellView) (head : IsHead config clock slot begun) (begins : Begins begun (items cell)) where
+  charter_of : cell.charter ≡ head.charter
+  charter_of =
+      let same : Head cell.charter ∷ map (λ e. Entry e) cell.journal ≡ Head head.charter ∷ (head.rest ++ begins.0) = begins.1 ∙ ap (λ l. l ++ begins.0) head.begins in
+      cc
 
-pub number_is : (config : Numbers) (clock : ClockId) (i : ℕ) (begun : List Item) (cell : CellView) → IsHead config clock i begun → Begins begun (items cell) → cell.charter.number ≡ i
-number_is config clock i begun cell head begins = ap (λ (c : Charter). c.number) (charter_of config clock i begun cell head begins) ∙ head.number
+  pub clock_is : cell.charter.pass.clock ≡ clock
+  clock_is = ap (λ (c : Charter). c.pass.clock) charter_of ∙ head.ticks
+
+  slot_is : slot_of cell.charter ≡ slot
+  slot_is = ap slot_of charter_of ∙ head.serves
+
+  module _ (node block : ℕ) (is : IsFor slot node block) where
+    pub number_is : cell.charter.number ≡ node
+    number_is = ap (λ (s : Slot). s.node) slot_is ∙ is.of
+
+    on_shard : (body : Body) → IsAskOn block body → IsShare cell.charter.shard cell.charter.shards body
+    on_shard (Asks ask) on =
+        ap (λ (b : ℕ). b % cell.charter.shards) on ∙ ap (λ (s : Slot). block % s.shards) slot_is ∙ is.share ∙ ap (λ (s : Slot). s.shard) (sym slot_is)
+    on_shard (Answers reply) on = absurd on
+
+    -- so the cell serves an ask to the node, on the block
+    pub serves : (m : Message) → m.node ≡ node → IsAskOn block m.body → Serves cell.charter m
+    serves m to on = (to ∙ sym number_is, on_shard m.body on)
+
+    pub can_call : (d : DeskView) → CanCall d node → CanCall d cell.charter.number
+    can_call d can = subst (CanCall d) (sym number_is) can
+
+    pub serves_asked : (d : DeskView) → AsksOn d node block → (ask : Message) → asks_of d cell.charter.number ≡ Some ask → Serves cell.charter ask
+    serves_asked d on ask asked =
+        let at : asks_of d node ≡ Some ask = ap (asks_of d) (sym number_is) ∙ asked in
+        serves ask (asks_node (setting d.config) d.id (task_at d) node ask at) (on ask at)
+
+  pub whole_way : (way : Way) → (way ≡ Hold → slot.shards ≡ 1) → HoldsWhole cell.charter way
+  whole_way ByCall may = tt
+  whole_way Drop may = tt
+  whole_way Hold may = ap (λ (s : Slot). s.shards) slot_is ∙ may refl
 
 -- the chit gets the entry that the cell got
 items_snoc : (cell : CellView) (n : ℕ) (a : NodeAct) → items (with_entry cell n a) ≡ items cell ++ Entry (entry n a) ∷ []

@@ -1,5 +1,5 @@
 -- A desk with a chit for each cell, what the two say of each other, and what each call adds.
-use Rattle.std.specs.Prelude.{◌≡◌, ◌⊎◌, ℕ, ◌≤◌, List, [], ◌∷◌, ◌++◌, length, map, All, Option, slice_get}
+use Rattle.std.specs.Prelude.{◌≡◌, ◌⊎◌, ℕ, ◌<◌, ◌≤◌, List, [], ◌∷◌, ◌++◌, length, map, All, Option, slice_get}
 use Rattle.std.specs.declared.option.Option.TheVariants.{None, Some}
 use Rattle.std.specs.declared.result.Result.{Result}
 use Rattle.std.specs.declared.result.Result.TheVariants.{Ok, Err}
@@ -13,7 +13,7 @@ use Rattle.receipt_lock.specs.Chits.{Holder as Chit, Deposit}
 use Rattle.journals.specs.declared.node.NodeAct.{NodeAct}
 use Rattle.journals.specs.declared.node.NodeEntry.{NodeEntry}
 use Rattle.journals.specs.declared.desk.Way.{Way}
-use Rattle.journals.specs.declared.desk.Way.TheVariants.{Call as ByCall}
+use Rattle.journals.specs.declared.desk.Way.TheVariants.{Call as ByCall, Hold}
 use Rattle.journals.specs.declared.desk.DeskAct.{DeskAct}
 use Rattle.journals.specs.declared.desk.DeskAct.TheVariants.{Call}
 use Rattle.journals.specs.declared.desk.DeskEntry.{DeskEntry}
@@ -23,27 +23,31 @@ use Rattle.locked_nodes.specs.declared.charter.Charter.{Charter}
 use Rattle.locked_nodes.specs.declared.charter.Item.{Item}
 use Rattle.locked_nodes.specs.declared.charter.Item.TheVariants.{Head, Entry}
 use Rattle.locked_nodes.specs.Cells.{entry}
+use Rattle.locked_nodes.specs.declared.slot.Slot.{Slot}
+use Rattle.locked_nodes.specs.Slots.{slot_of, IsFor, Cover}
 use Rattle.client_desks.specs.Desks.{DeskView, state_at, asks_of, desk_entry, with_call, ending}
 
--- how the list of the cell of node i begins, in a cluster of these numbers, by this clock: with the charter of a node's only cell
-pub record IsHead (config : Numbers) (clock : ClockId) (i : ℕ) (begun : List Item) : Type 0 where
+-- how the list of the cell in a slot begins, in a cluster of these numbers, by this clock: with a charter for the slot
+pub record IsHead (config : Numbers) (clock : ClockId) (slot : Slot) (begun : List Item) : Type 0 where
   pub charter : Charter
   pub rest : List Item
   pub begins : begun ≡ Head charter ∷ rest
   pub cluster : charter.config ≡ config
-  pub number : charter.number ≡ i
-  pub whole : (charter.shard ≡ 0) × (charter.shards ≡ 1)
+  pub serves : slot_of charter ≡ slot
   pub ticks : charter.pass.clock ≡ clock
 
--- which clock and which vaults threads share
+-- which clock and which vaults threads share, and the slots of the vaults' cells
 pub record FloorView : Type 0 where
   pub clock : ClockId
+  pub slots : List Slot
   pub vaults : List (Deposit Item)
 
--- there is a vault for the cell of each node, in the nodes' order
+-- each vault has the cell in its slot, and each block of a node has its place
 pub record IsFloor (config : Numbers) (floor : FloorView) : Type 0 where
-  pub count : length floor.vaults ≡ config.n
-  pub each : (i : ℕ) (v : Deposit Item) → slice_get floor.vaults i ≡ Some v → IsHead config floor.clock i v.id.begun
+  pub count : length floor.slots ≡ length floor.vaults
+  pub some : All (λ s. 0 < s.shards) floor.slots
+  pub cover : Cover config.n floor.slots
+  pub each : (k : ℕ) (s : Slot) (v : Deposit Item) → slice_get floor.slots k ≡ Some s → slice_get floor.vaults k ≡ Some v → IsHead config floor.clock s v.id.begun
 
 -- a desk, a chit for each cell, and the refusal that ended its work, if one came
 pub record KeysView : Type 0 where
@@ -88,10 +92,31 @@ abbrev pub refusal_in : {A : Type 0} → Result A CellRefusal → Option CellRef
 refusal_in (Ok x) = None
 refusal_in (Err e) = Some e
 
--- the body is an ask
-abbrev pub IsAsk : Body → Type 0
-IsAsk (Asks ask) = Unit {0}
-IsAsk (Answers reply) = ⊥
+-- the body is an ask on this block
+abbrev pub IsAskOn : ℕ → Body → Type 0
+IsAskOn block (Asks ask) = ask.block ≡ block
+IsAskOn block (Answers reply) = ⊥
+
+-- what the client's phase asks of the node is on this block
+abbrev pub AsksOn : DeskView → ℕ → ℕ → Type 0
+AsksOn d node block = (ask : Message) → asks_of d node ≡ Some ask → IsAskOn block ask.body
+
+-- a list that begins so is that of a cell which serves what the client's phase asks of the node, and to which it may come this way
+pub record CanMeet (d : DeskView) (clock : ClockId) (node : ℕ) (way : Way) (begun : List Item) : Type 0 where
+  pub slot : Slot
+  pub head : IsHead d.config clock slot begun
+  pub block : ℕ
+  pub is : IsFor slot node block
+  pub on : AsksOn d node block
+  pub whole : way ≡ Hold → slot.shards ≡ 1
+
+-- a list that begins so is that of a cell which serves the ask
+pub record CanTake (d : DeskView) (clock : ClockId) (ask : Message) (begun : List Item) : Type 0 where
+  pub slot : Slot
+  pub head : IsHead d.config clock slot begun
+  pub block : ℕ
+  pub is : IsFor slot ask.node block
+  pub on : IsAskOn block ask.body
 
 -- the desk asked the node this, in this way, and has the call and its reply, under a number not below any that its pass had seen
 pub record HasAsked (old : DeskView) (way : Way) (ask : Message) (reply : Option Message) (new : DeskView) : Type 0 where

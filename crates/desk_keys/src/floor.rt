@@ -1,16 +1,18 @@
 //! What the threads of a run share.
-ghost use Rattle.std.specs.Prelude.{◌≡◌, ◌<◌, length, Some, slice_get};
+ghost use Rattle.std.specs.Prelude.{◌≡◌, ◌<◌, ℕ, length, Some, All, slice_get};
+ghost use Rattle.locked_nodes.specs.Slots.{IsPlace};
 ghost use Rattle.desk_keys.specs.Keys.{FloorView};
 
 use event_clock::Clock;
-use locked_nodes::NodeCell;
+use locked_nodes::{NodeCell, Slot, place_of};
 use receipt_lock::Vault;
 use std::marker::Model;
 
-/// The vaults of all nodes' cells, in the nodes' order, and the clock. Threads share it by reference. Contracts see which clock
-/// and which vaults these are.
+/// The vaults of all cells, with their slots, place by place, and the clock. Threads share it by reference. Contracts see which
+/// clock, slots and vaults these are.
 #[derive(Drop)]
 pub struct Floor {
+    slots: Vec<Slot>,
     vaults: Vec<Vault<NodeCell>>,
     clock: Clock,
 }
@@ -20,15 +22,19 @@ impl Model for Floor {
 
     ghost Value = { FloorView };
 
-    ghost view = { λ f. record { clock = f.clock; vaults = f.vaults.items } };
+    ghost view = { λ f. record { clock = f.clock; slots = f.slots.items; vaults = f.vaults.items } };
 }
 
 impl Floor {
-    /// The floor with this clock and these vaults.
-    pub fn new(clock: Clock, vaults: Vec<Vault<NodeCell>>) -> Floor
-        ensures { result ≡ record { clock = clock; vaults = vaults.items } }
+    /// The floor with this clock and these vaults, of cells in these slots.
+    pub fn new(clock: Clock, slots: Vec<Slot>, vaults: Vec<Vault<NodeCell>>) -> Floor
+        ensures { result ≡ record { clock = clock; slots = slots.items; vaults = vaults.items } }
     {
-        Floor { vaults, clock }
+        Floor {
+            slots,
+            vaults,
+            clock,
+        }
     }
 
     /// The clock.
@@ -38,12 +44,28 @@ impl Floor {
         &self.clock
     }
 
-    /// The vault of a node's cell.
-    pub fn vault(&self, node: usize) -> &Vault<NodeCell>
-        requires { node < length self.now.vaults }
-        ensures { slice_get self.now.vaults node ≡ Some result.now }
+    /// How many vaults there are.
+    pub fn places(&self) -> usize
+        ensures { result ≡ length self.now.vaults }
     {
-        &self.vaults[node]
+        self.vaults.len()
+    }
+
+    /// The place of the cell that serves this block of this node.
+    pub fn place(&self, node: u8, block: u32) -> usize
+        requires some { All (λ s. 0 < s.shards) self.now.slots }
+        requires there { (place : ℕ) × IsPlace self.now.slots place node block }
+        ensures { IsPlace self.now.slots result node block }
+    {
+        place_of(self.slots.as_slice(), node, block)
+    }
+
+    /// The vault at a place.
+    pub fn vault(&self, place: usize) -> &Vault<NodeCell>
+        requires { place < length self.now.vaults }
+        ensures { slice_get self.now.vaults place ≡ Some result.now }
+    {
+        &self.vaults[place]
     }
 
     /// The clock and the vaults.
@@ -51,7 +73,11 @@ impl Floor {
         ensures clock { result.0 ≡ self.clock }
         ensures vaults { result.1.items ≡ self.vaults }
     {
-        let Floor { vaults, clock } = self;
+        let Floor {
+            slots: _slots,
+            vaults,
+            clock,
+        } = self;
         (clock, vaults)
     }
 }

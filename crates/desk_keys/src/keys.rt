@@ -1,11 +1,14 @@
-//! A client's desk, with a chit for each node's cell.
-ghost use Rattle.std.specs.Prelude.{◌≡◌, ◌↔◌, ℕ, ◌<◌, ◌≤◌, All, None, Some, Ok, Err, true, IfOk, OnOk, OnErr};
+//! A client's desk, with a chit for each cell.
+ghost use Rattle.std.specs.Prelude.{◌≡◌, ◌↔◌, ℕ, ◌<◌, ◌≤◌, All, None, Some, Ok, Err, true, IfOk, OnOk, OnErr, length};
 ghost use Rattle.protocol.specs.Messages.{IsFormedBody};
+ghost use Rattle.liar_rules.specs.Answers.{IsAsk};
 ghost use Rattle.event_clock.specs.Passes.{left_of};
 ghost use Rattle.journals.specs.Desks.{FitsOp};
 ghost use Rattle.client_desks.specs.Desks.{IsUp, CanStart, CanCall, with_own, KeepsDesk};
 ghost use Rattle.client_desks.specs.Later.{IsLater};
-ghost use Rattle.desk_keys.specs.Keys.{KeysView, IsHead, Agree, Fit, refusal_in, IsAsk, HasCalled, HasSent, AddCall, AddSent, LeavesNoSide};
+ghost use Rattle.locked_nodes.specs.declared.slot.Slot.{Slot};
+ghost use Rattle.locked_nodes.specs.Slots.{IsWholeAt};
+ghost use Rattle.desk_keys.specs.Keys.{KeysView, IsHead, Agree, Fit, refusal_in, IsAskOn, AsksOn, CanMeet, CanTake, HasCalled, HasSent, AddCall, AddSent, LeavesNoSide};
 
 use crate::floor::Floor;
 use crate::gate::{Edge, Gate};
@@ -18,9 +21,9 @@ use receipt_lock::{Chit, Vault};
 use run_words::Outcome;
 use std::marker::Model;
 use std::sync::Wait;
-use wire_forms::{Message, Op};
+use wire_forms::{Body, Message, Op};
 
-/// A client's desk, with a chit for each node's cell. Until a refusal comes, each entry that a chit left and of which a client has a
+/// A client's desk, with a chit for each cell. Until a refusal comes, each entry that a chit left and of which a client has a
 /// side stands on the desk, and each entry of the desk is its own or the side of one that a cell has. Contracts see the desk, the
 /// chits, and the first refusal, after which the keys do nothing more.
 #[derive(Drop)]
@@ -41,7 +44,7 @@ impl Model for Keys {
 }
 
 impl Keys {
-    /// The keys of a desk and chits that agree. The chits stand in the nodes' order.
+    /// The keys of a desk and chits that agree. The chits stand in the cells' order.
     pub fn new(desk: Desk, chits: Vec<Chit<NodeCell>>) -> Keys
         requires rest { All (λ c. c.holds ≡ None) chits.items }
         requires agree { Agree desk chits.items }
@@ -115,8 +118,8 @@ impl Keys {
         answer
     }
 
-    /// Waits for a node's cell, asks the node what the client's phase asks of it, hears the reply, if there is one, and gives the
-    /// cell back. It answers the outcome exactly where the reply ends the operation. `ClockFull` comes where the cell's pass or the
+    /// Waits for the node's cell for the block of the operation under way, asks the node what the client's phase asks of it, hears the
+    /// reply, if there is one, and gives the cell back. An ask is held back only by a node with one cell. It answers the outcome exactly where the reply ends the operation. `ClockFull` comes where the cell's pass or the
     /// chit is used up, each after more than 10^12 calls.
     pub fn call<R: Wait, G: Gate>(
         &mut self,
@@ -124,18 +127,22 @@ impl Keys {
         gate: &G,
         floor: &Floor,
         node: u8,
+        block: u32,
         way: Way,
     ) -> Result<Option<Outcome>, CellRefusal>
         requires fit { Fit self.old floor.now }
         requires sound { self.old.refused ≡ None }
+        requires node { node < self.old.desk.config.n }
         requires can { CanCall self.old.desk node }
+        requires on { AsksOn self.old.desk node block }
+        requires whole { way ≡ Way.Hold → IsWholeAt floor.now.slots node }
         ensures called { IfOk result (λ outcome. HasCalled self.old.desk node way outcome self.new.desk) }
         ensures err { OnErr result (KeepsDesk self.old.desk self.new.desk) }
         ensures refused { self.new.refused ≡ refusal_in result }
         ensures later { IsLater self.old.desk self.new.desk }
         ensures fit { Fit self.new floor.now }
     {
-        let place = usize::from(node);
+        let place = floor.place(node, block);
         desks_go_on();
         let answer = call_in(
             rt,
@@ -151,7 +158,7 @@ impl Keys {
         answer
     }
 
-    /// Waits for the cell of the node to which a lying client's ask goes, sends the ask, and gives the cell back. `ClockFull` comes
+    /// Waits for the cell that serves a lying client's ask, sends the ask, and gives the cell back. `ClockFull` comes
     /// where the cell's pass or the chit is used up, each after more than 10^12 calls.
     pub fn send<R: Wait>(&mut self, rt: &R, floor: &Floor, ask: &Message) -> Result<(), CellRefusal>
         requires fit { Fit self.old floor.now }
@@ -167,7 +174,7 @@ impl Keys {
         ensures later { IsLater self.old.desk self.new.desk }
         ensures fit { Fit self.new floor.now }
     {
-        let place = usize::from(ask.node);
+        let place = floor.place(ask.node, block_of(ask));
         desks_go_on();
         let answer = send_in(
             rt,
@@ -181,18 +188,22 @@ impl Keys {
         answer
     }
 
-    /// Waits for a node's cell, lets the oldest ask that it holds back come late, and gives the cell back. The desk gets no entry.
+    /// Waits for the cell at a place, lets the oldest ask that it holds back come late, and gives the cell back. The desk gets no entry.
     /// `ClockFull` comes where the cell's pass or the chit is used up, each after more than 10^12 calls.
-    pub fn deliver<R: Wait>(&mut self, rt: &R, floor: &Floor, node: u8) -> Result<Late, CellRefusal>
+    pub fn deliver<R: Wait>(
+        &mut self,
+        rt: &R,
+        floor: &Floor,
+        place: usize,
+    ) -> Result<Late, CellRefusal>
         requires fit { Fit self.old floor.now }
         requires sound { self.old.refused ≡ None }
-        requires node { node < self.old.desk.config.n }
+        requires place { place < length floor.now.vaults }
         ensures kept { KeepsDesk self.old.desk self.new.desk }
         ensures refused { self.new.refused ≡ refusal_in result }
         ensures later { IsLater self.old.desk self.new.desk }
         ensures fit { Fit self.new floor.now }
     {
-        let place = usize::from(node);
         desks_go_on();
         let answer = deliver_in(
             rt,
@@ -221,6 +232,17 @@ impl Keys {
     }
 }
 
+// The block of an ask.
+fn block_of(ask: &Message) -> u32
+    requires { IsAsk ask.now.body }
+    ensures { IsAskOn result ask.now.body }
+{
+    match &ask.body {
+        Body::Ask(asked) => asked.block,
+        Body::Answer(_) => unreachable!(),
+    }
+}
+
 fn refusal_of<T>(answer: &Result<T, CellRefusal>) -> Option<CellRefusal>
     ensures { result ≡ refusal_in answer.now }
 {
@@ -243,7 +265,7 @@ fn call_in<R: Wait, G: Gate>(
 ) -> Result<Option<Outcome>, CellRefusal>
     requires own { chit.old.vault ≡ vault.now.id }
     requires rests { chit.old.holds ≡ None }
-    requires head { IsHead desk.old.config clock.now node vault.now.id.begun }
+    requires meets { CanMeet desk.old clock.now node way vault.now.id.begun }
     requires clock { desk.old.pass.clock ≡ clock.now }
     requires can { CanCall desk.old node }
     ensures own { chit.new.vault ≡ chit.old.vault }
@@ -272,12 +294,11 @@ fn send_in<R: Wait>(
 ) -> Result<(), CellRefusal>
     requires own { chit.old.vault ≡ vault.now.id }
     requires rests { chit.old.holds ≡ None }
-    requires head { IsHead desk.old.config clock.now ask.now.node vault.now.id.begun }
+    requires takes { CanTake desk.old clock.now ask.now vault.now.id.begun }
     requires clock { desk.old.pass.clock ≡ clock.now }
     requires lying { desk.old.lying ≡ true }
     requires client { ask.now.client ≡ desk.old.id }
     requires formed { IsFormedBody ask.now.body }
-    requires asks { IsAsk ask.now.body }
     ensures own { chit.new.vault ≡ chit.old.vault }
     ensures rests { chit.new.holds ≡ None }
     ensures both { OnOk result (AddSent desk.old chit.old ask.now desk.new chit.new) }
@@ -302,7 +323,7 @@ fn deliver_in<R: Wait>(
 ) -> Result<Late, CellRefusal>
     requires own { chit.old.vault ≡ vault.now.id }
     requires rests { chit.old.holds ≡ None }
-    requires head { (i : ℕ) × IsHead desk.old.config clock.now i vault.now.id.begun }
+    requires head { (slot : Slot) × IsHead desk.old.config clock.now slot vault.now.id.begun }
     requires clock { desk.old.pass.clock ≡ clock.now }
     ensures own { chit.new.vault ≡ chit.old.vault }
     ensures rests { chit.new.holds ≡ None }

@@ -2,7 +2,8 @@
 use Rattle.std.proofs.Common.{◌≡◌, ℕ, ◌+◌, ◌<◌, List, [], ◌∷◌, refl, sym, ap, subst, ◌∙◌, inl, inr, arith}
 use Rattle.std.specs.Prelude.{All, filter, slice_get}
 use Rattle.std.specs.declared.option.Option.TheVariants.{None, Some}
-use Rattle.std.specs.List.{AllByRecursion}
+use Rattle.std.specs.List.{AllByRecursion, Contains}
+use Rattle.std.proofs.lemmas.List.Elements.{recursion_from_All}
 use Rattle.std.proofs.lemmas.Option.{slice_get_cases}
 use Rattle.quorum_rules.specs.Limits.{Numbers}
 use Rattle.protocol.specs.Report.{Ascend}
@@ -11,9 +12,9 @@ use Rattle.journals.specs.declared.node.NodeEntry.{NodeEntry}
 use Rattle.journals.specs.Acts.{NodeState, new_state, NodeKept}
 use Rattle.locked_nodes.specs.declared.charter.Charter.{Charter}
 use Rattle.locked_nodes.specs.Cells.{CellView, Rises, numbers, first_state, state_of, IsOfShard}
-use Rattle.locked_nodes.specs.Shards.{is_of_shard, AreShards, AreJoined, OneCell, SeveralCells}
+use Rattle.locked_nodes.specs.Shards.{is_of_shard, AreShards, AreJoined, OneCell, SeveralCells, SeveralCalm}
 use Rattle.locked_nodes.proofs.Growing.{cell_rises}
-use Rattle.locked_nodes.proofs.Sharding.{IsPart, AreAlike, IsCalm, parts_kept}
+use Rattle.locked_nodes.proofs.Sharding.{IsPart, AreAlike, IsCalm, IsPlain, parts_kept, all_plain, plain_calm}
 
 rises_above : (low : ℕ) (xs : List ℕ) (high m : ℕ) → m < low → Rises low xs high → AllByRecursion (λ y. m < y) xs
 rises_above low [] high m lt rises = tt
@@ -69,3 +70,19 @@ several_cells config number nature shards cells es several are joined = record {
   ascends = joined.ascends;
   goes = parts_kept nature shards several es (new_state config number None) (λ i. new_state config number None) (part_at config number nature shards cells es several are joined);
 }
+
+pub several_calm : SeveralCalm
+several_calm config number nature shards es several from =
+    let start : NodeState = new_state config number None in
+    let calm = plain_calm start es plain (record { up = refl; lasting = refl; clear = refl }) in
+    (calm.up, calm.clear)
+  where
+    plain : (e : NodeEntry) → Contains es e → IsPlain e.act
+    plain e there =
+        let q = from e there in
+        let c = q.cell in
+        let of = q.serves in
+        let share : AllByRecursion (λ e. IsOfShard c.charter.shard shards e.act) c.journal =
+        recursion_from_All (λ e. IsOfShard c.charter.shard shards e.act) c.journal (subst (λ (n : ℕ). All (λ e. IsOfShard c.charter.shard n e.act) c.journal) of.share.0 of.kept.share) in
+        all_plain nature shards c.charter.shard several (new_state config number None) c.journal (record { up = refl; lasting = refl; clear = refl })
+        (kept_of c.charter config number nature c.journal of.cluster of.node of.conduct.0 of.conduct.1 of.kept.kept) share e q.stands

@@ -5,3 +5,4 @@ pub mod Growing
 pub mod Sharding
 pub mod Joining
 pub mod Conducting
+pub mod Joins

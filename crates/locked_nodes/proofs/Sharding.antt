@@ -6,7 +6,9 @@ use Rattle.std.proofs.Math.Nat.{mod-lt}
 use Rattle.std.proofs.lemmas.Bool.{eq-eqb}
 use Rattle.std.proofs.lemmas.Bool.Decides.{eqb_tells}
 use Rattle.std.proofs.lemmas.List.{get_or-set_other, length-set}
+use Rattle.std.specs.List.{Contains, AllByRecursion}
 use Rattle.std.proofs.lemmas.List.Elements.{All-head, All-tail}
+use Rattle.protocol.proofs.Lists.{Contains-none, Contains-head, Contains-rest, Contains-cons_cases}
 use Rattle.quorum_rules.specs.Limits.{Numbers}
 use Rattle.protocol.specs.Messages.{Message, Body, Ask, Stamp, Version}
 use Rattle.wire_forms.specs.declared.message.Body.TheVariants.{Ask as Asks, Answer as Answers}
@@ -24,7 +26,7 @@ use Rattle.journals.specs.declared.node.Silence.TheVariants.{Crashed, Dropped, H
 use Rattle.journals.specs.declared.node.NodeAct.{NodeAct}
 use Rattle.journals.specs.declared.node.NodeAct.TheVariants.{Answered, Lied, Silent, CrashedAt, Delivered, LateLost, Pruned}
 use Rattle.journals.specs.declared.node.NodeEntry.{NodeEntry}
-use Rattle.journals.specs.Acts.{NodeState, Cause, act, answers, lied, true_answer, with_reply, is_spent, one_less, can_prune, after, held_back, served, cause_of, way_of, act_by, MayCome, IsAct, NodeKept}
+use Rattle.journals.specs.Acts.{NodeState, Cause, act, answers, lied, true_answer, with_reply, is_spent, one_less, can_prune, after, after_all, held_back, served, cause_of, way_of, act_by, MayCome, IsAct, NodeKept}
 use Rattle.journals.specs.Acts.Cause.{Comes, ComesLate, Prunes}
 use Rattle.locked_nodes.specs.Cells.{IsShare, IsWhole, IsOfShard, ComesTo}
 use Rattle.locked_nodes.specs.Shards.{block_for, is_of_shard}
@@ -53,7 +55,7 @@ call_is : (nature : Nature) (s : NodeState) (ask : Message) → IsCalm s → act
 call_is nature s ask calm = call_answers s nature ask calm.up (ap is_spent calm.lasting)
 
 -- what a calm node does, where an ask isn't held back
-abbrev IsPlain : NodeAct → Type 0
+abbrev pub IsPlain : NodeAct → Type 0
 IsPlain (Answered ask reply) = Unit {0}
 IsPlain (Lied ask reply) = Unit {0}
 IsPlain (Silent ask why) = why ≢ Held
@@ -278,3 +280,20 @@ module _ (nature : Nature) (shards : ℕ) (several : 1 < shards) where
   pub parts_kept : (es : List NodeEntry) (s : NodeState) (t : ℕ → NodeState) → ((i : ℕ) → i < shards → IsPart s (t i) i (part i es)) → NodeKept nature s es
   parts_kept [] s t parts = tt
   parts_kept (e ∷ es) s t parts = (is_done e es s t parts, parts_kept es (after s e.act) (moved t e) (next_part e es s t parts))
+
+-- ---- a node that stands in several cells stays calm
+
+-- the entries of one of its cells are plain
+module _ (nature : Nature) (shards shard : ℕ) (several : 1 < shards) where
+  pub all_plain : (s : NodeState) (es : List NodeEntry) → IsCalm s → NodeKept nature s es → AllByRecursion (λ e. IsOfShard shard shards e.act) es → (e : NodeEntry) → Contains es e → IsPlain e.act
+  all_plain s [] calm kept share e there = absurd (Contains-none e there)
+  all_plain s (x ∷ es) calm kept share e there =
+      let plain = is_plain nature shards shard s x.act several calm kept.0 share.0 in
+      elim (Contains-cons_cases e x es there) [
+        | inl is ↦ subst (λ (k : NodeEntry). IsPlain k.act) (sym is) plain
+        | inr then ↦ all_plain (after s x.act) es (after_calm s x.act plain calm) kept.1 share.1 e then
+      ]
+
+pub plain_calm : (s : NodeState) (es : List NodeEntry) → ((e : NodeEntry) → Contains es e → IsPlain e.act) → IsCalm s → IsCalm (after_all s es)
+plain_calm s [] each calm = calm
+plain_calm s (x ∷ es) each calm = plain_calm (after s x.act) es (λ e there. each e (Contains-rest e x es there)) (after_calm s x.act (each x (Contains-head x es)) calm)

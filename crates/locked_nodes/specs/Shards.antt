@@ -1,13 +1,14 @@
 -- A node that stands in several cells, each of which serves the blocks of its shard.
-use Rattle.std.specs.Prelude.{◌≡◌, ℕ, ◌<◌, ◌%◌, ◌==◌, Bool, List, length, filter, Option, slice_get}
+use Rattle.std.specs.Prelude.{◌≡◌, ℕ, ◌<◌, ◌%◌, ◌==◌, Bool, false, List, [], length, filter, Option, slice_get}
 use Rattle.std.specs.declared.option.Option.TheVariants.{None, Some}
+use Rattle.std.specs.List.{Contains}
 use Rattle.quorum_rules.specs.Limits.{Numbers}
 use Rattle.protocol.specs.Messages.{Body}
 use Rattle.protocol.specs.Report.{Ascend}
 use Rattle.wire_forms.specs.declared.message.Body.TheVariants.{Ask as Asks, Answer as Answers}
 use Rattle.journals.specs.declared.node.Nature.{Nature}
 use Rattle.journals.specs.declared.node.NodeEntry.{NodeEntry}
-use Rattle.journals.specs.Acts.{Cause, cause_of, new_state, NodeKept}
+use Rattle.journals.specs.Acts.{Cause, cause_of, new_state, after_all, NodeKept}
 use Rattle.journals.specs.Acts.Cause.{Comes, ComesLate, Prunes}
 use Rattle.locked_nodes.specs.Cells.{CellView, KeptCell, numbers}
 
@@ -49,6 +50,12 @@ pub record AreJoined (cells : List CellView) (es : List NodeEntry) : Type 0 wher
   pub ascends : Ascend (numbers es)
   pub each : (i : ℕ) (cell : CellView) → slice_get cells i ≡ Some cell → filter (is_of_shard i (length cells)) es ≡ cell.journal
 
+-- the entry stands in a cell that serves a shard of the node
+pub record IsFromShard (config : Numbers) (number : ℕ) (nature : Nature) (shards : ℕ) (e : NodeEntry) : Type 0 where
+  pub cell : CellView
+  pub serves : IsShardOf config number nature shards cell.charter.shard cell
+  pub stands : Contains cell.journal e
+
 -- a cell's journal is kept, from the node that its charter tells of
 abbrev pub OneCell : Type 0
 OneCell = (cell : CellView) → KeptCell cell → IsJournal cell.charter.config cell.charter.number cell.charter.nature cell.charter.crash_after cell.journal
@@ -58,3 +65,10 @@ abbrev pub SeveralCells : Type 0
 SeveralCells =
     (config : Numbers) (number : ℕ) (nature : Nature) (shards : ℕ) (cells : List CellView) (es : List NodeEntry)
     → 1 < shards → AreShards config number nature shards cells → AreJoined cells es → IsJournal config number nature None es
+
+-- a node that such entries leave hasn't crashed, and holds nothing back
+abbrev pub SeveralCalm : Type 0
+SeveralCalm =
+    (config : Numbers) (number : ℕ) (nature : Nature) (shards : ℕ) (es : List NodeEntry)
+    → 1 < shards → ((e : NodeEntry) → Contains es e → IsFromShard config number nature shards e)
+    → ((after_all (new_state config number None) es).crashed ≡ false) × ((after_all (new_state config number None) es).late ≡ [])

@@ -2,10 +2,12 @@
 ghost use Rattle.std.specs.Prelude.{◌≡◌, ◌↔◌, ◌+◌, ◌<◌, ◌≤◌, ◌%◌, [], ◌∷◌, ◌++◌, length, ℕ, Ok, Err, true, false, if◌then◌else◌, IfOk, OnErr, vec_len, vec_capacity};
 ghost use Rattle.event_clock.specs.Passes.{left_of, drew, met};
 ghost use Rattle.journals.specs.Acts.{act, answer_of, can_prune};
+ghost use Rattle.locked_nodes.specs.Slots.{slot_of, slots_of};
 ghost use Rattle.locked_nodes.specs.Cells.{Serves, HoldsWhole, KeptCell, HasNoLateMail, CameLate, state_of, loses, told_as, number_of, entry, with_entry, with_seen, rechartered, new_cell, met_cell, items};
 
 use crate::answers::{CellRefusal, Late, Pruning, Told};
 use crate::charter::{Item, Terms};
+use crate::slot::Slot;
 use crate::state::State;
 use event_clock::{Clock, Pass};
 use journals::laws::acts;
@@ -105,6 +107,13 @@ impl NodeCell {
         ensures { result ≡ self.now.charter.number }
     {
         self.terms.number()
+    }
+
+    /// Which blocks of which node the cell serves.
+    pub fn slot(&self) -> Slot
+        ensures { result ≡ slot_of self.now.charter }
+    {
+        self.terms.slot()
     }
 
     /// How many numbers the cell's pass may still draw.
@@ -326,4 +335,15 @@ fn late_told(lost: bool, number: u64) -> Late
     } else {
         Late::Delivered { number }
     }
+}
+
+/// The slots of the cells, in their order.
+pub fn slots_in(alloc: Global, cells: &[NodeCell]) -> Result<Vec<Slot>, NoMemory>
+    ensures { IfOk result (λ slots. slots.items ≡ slots_of cells.now) }
+{
+    let mut slots = Vec::new(alloc);
+    for cell in cells {
+        slots.push(cell.slot())?;
+    }
+    Ok(slots)
 }

@@ -1,7 +1,9 @@
 //! What is fixed about a cell, as the head of its list.
 ghost use Rattle.std.specs.Prelude.{◌≡◌};
 ghost use Rattle.locked_nodes.specs.Cells.{next_terms};
+ghost use Rattle.locked_nodes.specs.Slots.{slot_of};
 
+use crate::slot::Slot;
 use event_clock::Pass;
 use journals::{Nature, NodeEntry};
 use quorum_rules::Config;
@@ -72,6 +74,17 @@ impl Terms {
         ensures { result ≡ self.now.number }
     {
         self.number
+    }
+
+    /// Which blocks of which node the cell serves.
+    pub(crate) fn slot(&self) -> Slot
+        ensures { result ≡ slot_of self.now }
+    {
+        Slot {
+            node: self.number,
+            shard: self.shard,
+            shards: self.shards,
+        }
     }
 
     /// The same cell's next charter, from where its pass and its journal stand now.

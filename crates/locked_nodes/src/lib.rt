@@ -4,11 +4,15 @@
 #![tactic(auto)]
 
 pub mod answers;
+pub mod by_number;
 pub mod cell;
 pub mod charter;
 pub mod laws;
+pub mod slot;
 mod state;
 
 pub use answers::{CellRefusal, Late, Pruning, Told};
-pub use cell::NodeCell;
+pub use by_number::join;
+pub use cell::{NodeCell, slots_in};
 pub use charter::{Charter, Item};
+pub use slot::{Slot, place_of};

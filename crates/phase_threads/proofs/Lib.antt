@@ -1,4 +1,4 @@
-mod Places
+pub mod Places
 mod Opening
 mod Closing
 mod Pairing

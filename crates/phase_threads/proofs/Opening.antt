@@ -1,9 +1,9 @@
 -- Vaults, hands and posts before the threads start.
-use Rattle.std.proofs.Common.{◌≡◌, ℕ, suc, List, [], ◌∷◌, ◌++◌, length, map, Result, Ok, Err, refl, sym, ap, subst, ◌∙◌, arith, inl, inr}
+use Rattle.std.proofs.Common.{◌≡◌, ℕ, suc, ◌<◌, List, [], ◌∷◌, ◌++◌, length, map, Result, Ok, Err, refl, sym, ap, subst, ◌∙◌, arith, inl, inr}
 use Rattle.std.specs.declared.option.Option.TheVariants.{None, Some}
 use Rattle.std.specs.Prelude.{All, IfOk, false, slice_get}
 use Rattle.std.specs.List.{Contains}
-use Rattle.std.proofs.lemmas.List.{map-append}
+use Rattle.std.proofs.lemmas.List.{map-append, length-map}
 use Rattle.std.proofs.lemmas.Option.{get_or_from_slice_get}
 use Rattle.quorum_rules.specs.Limits.{Numbers}
 use Rattle.event_clock.specs.Passes.{ClockId}
@@ -15,10 +15,12 @@ use Rattle.locked_nodes.specs.declared.charter.Item.{Item}
 use Rattle.locked_nodes.specs.declared.charter.Item.TheVariants.{Head, Entry}
 use Rattle.locked_nodes.specs.Cells.{CellView, next_charter}
 use Rattle.client_desks.specs.Desks.{DeskView}
-use Rattle.desk_keys.specs.Keys.{KeysView, IsHead, IsFloor, IsSide, Agree, Fit}
-use Rattle.run_journals.specs.Standing.{AreCells, IsCellAt, IsDeskAt, HasSideIn, PairsStand}
+use Rattle.locked_nodes.specs.declared.slot.Slot.{Slot}
+use Rattle.locked_nodes.specs.Slots.{slot_of, slots_of}
+use Rattle.desk_keys.specs.Keys.{KeysView, FloorView, IsHead, IsFloor, IsSide, Agree, Fit}
+use Rattle.run_journals.specs.Standing.{AreCells, IsCellOf, IsDeskAt, HasSideIn, PairsStand}
 use Rattle.phase_threads.specs.Phased.{Beside, IsVaultOf, new_hand}
-use Rattle.phase_threads.proofs.Places.{place_of, contains_at, all_from, get_map, map_get, right_of, left_of}
+use Rattle.phase_threads.proofs.Places.{place_of, contains_at, all_at, all_from, get_map, map_get, right_of}
 
 -- the chits of a new vault are all alike
 pub all_new : {E : Type 0} {X : Type 0} (result : Result (Deposit X × List (Chit X)) E) (clients : ℕ) → IfOk result (λ r. length r.1 ≡ clients) → IfOk result (λ r. AreNew r.0.id r.1 clients) → IfOk result (λ r. All (λ c. c ≡ new_chit r.0.id) r.1)
@@ -76,29 +78,36 @@ module _ (count : ℕ) (cells : List CellView) (vaults : List (Deposit Item)) (o
     asked = λ e has. elim (pairs.answered d e there has) [ inl own ↦ inl own | inr s ↦ inr (side_of d.id e s) ];
   }
 
-  head_of : (config : Numbers) (clock : ClockId) (i : ℕ) (cell : CellView) (v : Deposit Item) → IsCellAt config clock i cell → IsVaultOf count i cell v → IsHead config clock i v.id.begun
+  head_of : (config : Numbers) (clock : ClockId) (i : ℕ) (cell : CellView) (v : Deposit Item) → IsCellOf config clock cell → IsVaultOf count i cell v → IsHead config clock (slot_of cell.charter) v.id.begun
   head_of config clock i cell v at is = record {
     charter = next_charter cell false;
     rest = map (λ e. Entry e) cell.journal;
     begins = is.begun;
     cluster = at.cluster;
-    number = at.number;
-    whole = at.whole;
+    serves = refl;
     ticks = is.ticks ∙ at.ticks;
   }
 
-  pub floor_of : (config : Numbers) (clock : ClockId) → AreCells config clock cells → IsFloor config (record { clock = clock; vaults = vaults })
+  abbrev pub floor_at : ClockId → FloorView
+  floor_at clock = record { clock = clock; slots = slots_of cells; vaults = vaults }
+
+  pub floor_of : (config : Numbers) (clock : ClockId) → AreCells config clock cells → IsFloor config (floor_at clock)
   floor_of config clock are = record {
-    count = sym opened.count ∙ are.count;
-    each = λ i v at.
-        let cell = left_of (IsVaultOf count) cells vaults i v opened at in
-        head_of config clock i cell.0 v (are.each i cell.0 cell.1) cell.2;
+    count = length-map cells (λ (c : CellView). slot_of c.charter) ∙ opened.count;
+    some = all_from (λ (s : Slot). 0 < s.shards) (slots_of cells) (λ k s at.
+        let cell = map_get (λ (c : CellView). slot_of c.charter) cells k s at in
+        subst (λ (x : Slot). 0 < x.shards) cell.2 (all_at (IsCellOf config clock) cells k cell.0 are.each cell.1).some);
+    cover = are.cover;
+    each = λ k s v at there.
+        let cell = map_get (λ (c : CellView). slot_of c.charter) cells k s at in
+        let is = opened.each k cell.0 v cell.1 there in
+        subst (λ (x : Slot). IsHead config clock x v.id.begun) cell.2 (head_of config clock k cell.0 v (all_at (IsCellOf config clock) cells k cell.0 are.each cell.1) is);
   }
 
   -- new keys fit
-  pub new_fit : (config : Numbers) (clock : ClockId) (keys : KeysView) → AreCells config clock cells → IsDeskAt config clock keys.desk → keys.chits ≡ new_hand vaults → Fit keys (record { clock = clock; vaults = vaults })
+  pub new_fit : (config : Numbers) (clock : ClockId) (keys : KeysView) → AreCells config clock cells → IsDeskAt config clock keys.desk → keys.chits ≡ new_hand vaults → Fit keys (floor_at clock)
   new_fit config clock keys are desk hand = record {
-    floor = subst (λ c. IsFloor c (record { clock = clock; vaults = vaults })) (sym desk.cluster) (floor_of config clock are);
+    floor = subst (λ c. IsFloor c (floor_at clock)) (sym desk.cluster) (floor_of config clock are);
     ticks = desk.ticks;
     own = ap (map (λ (c : Chit Item). c.vault)) hand ∙ hand_vaults vaults;
   }

@@ -8,6 +8,8 @@ use Rattle.quorum_rules.specs.Limits.{Numbers}
 use Rattle.event_clock.specs.Passes.{ClockId}
 use Rattle.receipt_lock.specs.Chits.{Holder as Chit, Deposit}
 use Rattle.locked_nodes.specs.declared.charter.Item.{Item}
+use Rattle.locked_nodes.specs.declared.slot.Slot.{Slot}
+use Rattle.locked_nodes.specs.Slots.{slots_of}
 use Rattle.locked_nodes.specs.Cells.{CellView}
 use Rattle.client_desks.specs.Desks.{DeskView}
 use Rattle.client_desks.specs.Later.{IsLater}
@@ -34,9 +36,12 @@ hands_agree {T = T} count cells vaults seats hands opened pairs same = all_from 
     let agree = agree_new count cells vaults opened (desks_of seats) s.desk pairs (contains_at (desks_of seats) i s.desk (get_map (λ (x : Seat T). x.desk) seats i s here)) in
     all_from (λ (h : List (Chit Item)). Agree s.desk h) hands (λ k h at. subst (Agree s.desk) (sym (all_at (λ (g : List (Chit Item)). g ≡ new_hand vaults) hands k h same at)) agree))
 
+abbrev pub floor_with : ClockId → List (Deposit Item) → List Slot → FloorView
+floor_with clock vaults slots = record { clock = clock; slots = slots; vaults = vaults }
+
 -- new posts are ready
 module _ {T : Type 0} (count : ℕ) (cells : List CellView) (vaults : List (Deposit Item)) (seats : List (Seat T)) (posts : List (Post T)) (opened : Beside (IsVaultOf count) cells vaults) (posted : Beside (IsPostOf (new_hand vaults)) seats posts) where
-  pub posts_fit : (config : Numbers) (clock : ClockId) (floor : FloorView) → floor ≡ record { clock = clock; vaults = vaults } → AreCells config clock cells → All (λ (s : Seat T). IsDeskAt config clock s.desk) seats → All (λ (p : Post T). Fit p.keys floor) posts
+  pub posts_fit : (config : Numbers) (clock : ClockId) (floor : FloorView) → floor ≡ record { clock = clock; slots = slots_of cells; vaults = vaults } → AreCells config clock cells → All (λ (s : Seat T). IsDeskAt config clock s.desk) seats → All (λ (p : Post T). Fit p.keys floor) posts
   posts_fit config clock floor is are desks = all_from (λ (p : Post T). Fit p.keys floor) posts (λ i p at.
       let s = left_of (IsPostOf (new_hand vaults)) seats posts i p posted at in
       let desk : IsDeskAt config clock p.keys.desk = subst (IsDeskAt config clock) (sym (ap (λ (k : KeysView). k.desk) s.2.keys)) (all_at (λ (x : Seat T). IsDeskAt config clock x.desk) seats i s.0 desks s.1) in

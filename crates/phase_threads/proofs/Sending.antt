@@ -162,7 +162,9 @@ pub vault_sync : (T E : RattleType) (g : kept.Ghosts T.Denot E.Denot) → IsSend
 vault_sync T E g s = search all depth 60 fits 50000
 
 inside_sync : IsSync (row_of inside.the_type)
-inside_sync = recorded_sync _ _ _ (inside.the_type.to_one) (struct_sync (shape_of inside.the_type) (search (sendable, std.crosses, vault_sync, cell_send) depth 20, (search (sendable, clock_sync) depth 20, tt)))
+inside_sync =
+    recorded_sync _ _ _ (inside.the_type.to_one)
+    (struct_sync (shape_of inside.the_type) (search (sendable, std.crosses) depth 20, (search (sendable, std.crosses, vault_sync, cell_send) depth 20, (search (sendable, clock_sync) depth 20, tt))))
 
 pub floor_sync : IsSync floor.the_row
 floor_sync = search (sendable, inside_sync) depth 20

@@ -32,7 +32,7 @@ impl<T: Duty> Crew<Post<T>> for Floor {
     ghost use Rattle.desk_keys.specs.Keys.{Fit};
     ghost use Rattle.client_desks.specs.Later.{IsLater};
 
-    ghost can_work = { λ f p. Fit p.keys f × (p.keys.refused ≡ None) × T.ready p.duty p.keys.desk };
+    ghost can_work = { λ f p. Fit p.keys f × (p.keys.refused ≡ None) × T.ready p.duty f.slots p.keys.desk };
 
     ghost works = { λ f p q. Fit q.keys f × IsLater p.keys.desk q.keys.desk × (q.keys.refused ≡ None → T.done p.duty p.keys.desk q.duty q.keys.desk) };
 
@@ -68,7 +68,7 @@ pub fn work_all<R: Threads + Wait + Sync, G: Gate + Sync, T: Duty + Send>(
 ) -> Vec<Post<T>>
     requires fit { All (λ p. Fit p.keys floor.now) posts.items }
     requires sound { All (λ p. p.keys.refused ≡ None) posts.items }
-    requires ready { All (λ p. T.ready p.duty p.keys.desk) posts.items }
+    requires ready { All (λ p. T.ready p.duty floor.now.slots p.keys.desk) posts.items }
     ensures fit { All (λ p. Fit p.keys floor.now) result.items }
     ensures later { Beside (λ i p q. IsLater p.keys.desk q.keys.desk) posts.items result.items }
     ensures done { Beside (λ i p q. q.keys.refused ≡ None → T.done p.duty p.keys.desk q.duty q.keys.desk) posts.items result.items }

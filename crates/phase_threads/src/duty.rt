@@ -1,5 +1,6 @@
 //! What threads do in a phase.
-ghost use Rattle.std.specs.Prelude.{◌≡◌, None};
+ghost use Rattle.std.specs.Prelude.{◌≡◌, None, List};
+ghost use Rattle.locked_nodes.specs.declared.slot.Slot.{Slot};
 ghost use Rattle.desk_keys.specs.Keys.{Fit};
 ghost use Rattle.client_desks.specs.Desks.{DeskView};
 ghost use Rattle.client_desks.specs.Later.{IsLater};
@@ -10,10 +11,12 @@ use std::sync::Wait;
 
 /// What a desk's thread does in a phase, with the keys of its desk. It may change itself.
 pub trait Duty: Drop {
+    ghost use Rattle.std.specs.Prelude.{List};
+    ghost use Rattle.locked_nodes.specs.declared.slot.Slot.{Slot};
     ghost use Rattle.client_desks.specs.Desks.{DeskView};
 
-    /// What must hold of the duty and the desk before the phase.
-    ghost ready: { Self → DeskView → Type 0 };
+    /// What must hold of the duty, the cells' slots and the desk before the phase.
+    ghost ready: { Self → List Slot → DeskView → Type 0 };
 
     /// What holds of both before and both after it, if no refusal came.
     ghost done: { Self → DeskView → Self → DeskView → Type 0 };
@@ -22,7 +25,7 @@ pub trait Duty: Drop {
     fn work<R: Wait, G: Gate>(&mut self, rt: &R, gate: &G, floor: &Floor, keys: &mut Keys)
         requires fit { Fit keys.old floor.now }
         requires sound { keys.old.refused ≡ None }
-        requires ready { ready self.old keys.old.desk }
+        requires ready { ready self.old floor.now.slots keys.old.desk }
         ensures fit { Fit keys.new floor.now }
         ensures later { IsLater keys.old.desk keys.new.desk }
         ensures done { keys.new.refused ≡ None → done self.old keys.old.desk self.new keys.new.desk };

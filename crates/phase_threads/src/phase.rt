@@ -2,6 +2,7 @@
 ghost use Rattle.std.specs.Prelude.{◌≡◌, ◌≤◌, length, map, All, None, IfOk};
 ghost use Rattle.std.specs.List.{AllZip};
 ghost use Rattle.quorum_rules.specs.Limits.{Numbers};
+ghost use Rattle.locked_nodes.specs.Slots.{slots_of};
 ghost use Rattle.client_desks.specs.Later.{IsLater};
 ghost use Rattle.run_journals.specs.Standing.{AreCells, IsDeskAt, PairsStand, HasWorked};
 
@@ -12,7 +13,7 @@ use crate::open::{open_posts, open_row};
 use desk_keys::{Floor, Gate};
 use event_clock::Clock;
 use lists::NoMemory;
-use locked_nodes::{CellRefusal, NodeCell};
+use locked_nodes::{CellRefusal, NodeCell, slots_in};
 use std::alloc::Global;
 use std::sync::Wait;
 use std::thread::Threads;
@@ -41,7 +42,7 @@ pub fn run_phase<R: Threads + Wait + Sync, G: Gate + Sync, T: Duty + Send>(
 ) -> Result<(Clock, Left<T>), NoMemory>
     requires cluster { (config : Numbers) × AreCells config clock cells.items × All (λ s. IsDeskAt config clock s.desk) seats.items }
     requires pairs { PairsStand cells.items (map (λ s. s.desk) seats.items) }
-    requires ready { All (λ s. T.ready s.duty s.desk) seats.items }
+    requires ready { All (λ s. T.ready s.duty (slots_of cells.items) s.desk) seats.items }
     requires count { (1 ≤ length seats.items) × (length seats.items ≤ 65536) }
     ensures clock { IfOk result (λ r. r.0 ≡ clock) }
     ensures cells { IfOk result (λ r. AllZip HasWorked cells.items r.1.cells.items) }
@@ -50,9 +51,10 @@ pub fn run_phase<R: Threads + Wait + Sync, G: Gate + Sync, T: Duty + Send>(
     ensures pairs { IfOk result (λ r. r.1.refused ≡ None → PairsStand r.1.cells.items (map (λ s. s.desk) r.1.seats.items)) }
 {
     let count = seats.len() as u32;
+    let slots = slots_in(alloc, cells.as_slice())?;
     let (vaults, hands) = open_row(alloc, cells, count)?;
     let posts = open_posts(alloc, hands, seats)?;
-    let floor = Floor::new(clock, vaults);
+    let floor = Floor::new(clock, slots, vaults);
     let posts = work_all(rt, gate, &floor, posts);
     let (clock, vaults) = floor.into_parts();
     let Parted {

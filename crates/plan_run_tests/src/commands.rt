@@ -1,7 +1,7 @@
-//! The command `run` on a plan of two clients that write to two blocks, under gates that hold them.
+//! The command `run` on plans of two clients that write to two blocks, under gates that hold them.
 
 use crate::gates::{InBetween, SideBySide};
-use crate::tests::TWO_WRITES;
+use crate::tests::{TWO_SHARDS, TWO_WRITES};
 use client_threads::Gate;
 use cross_sum::Bytes;
 use outside_io::{Calls, MemorySink, MemorySource};
@@ -11,15 +11,16 @@ use std::sync::Wait;
 use std::test::Fail;
 use std::thread::Threads;
 
-// How `run` of the plan ends under a gate, and where it wrote.
+// How `run` of a plan ends under a gate, and where it wrote.
 fn ran<R: Threads + Wait + Sync, G: Gate + Sync>(
     rt: &R,
     alloc: Global,
+    plan: &[u8],
     gate: &G,
 ) -> Result<(Status, MemorySink), Fail> {
     let mut words = Vec::new(alloc);
     words.push(String::from_str(alloc, "run")?)?;
-    let input = Bytes::from_vec(Vec::from_slice(alloc, TWO_WRITES)?);
+    let input = Bytes::from_vec(Vec::from_slice(alloc, plan)?);
     let mut source = MemorySource::new(input, 4096, Calls::new(alloc));
     let mut sink = MemorySink::new(alloc, 4096, Calls::new(alloc));
     let status = pasis(rt, alloc, words.as_slice(), &mut source, &mut sink, gate);
@@ -36,7 +37,7 @@ const BEGINNINGS: [&str; 3] = [
 #[test]
 fn a_run_has_both_clients_at_work(rt: HostRuntime) -> Result<(), Fail> {
     let gate = SideBySide::new();
-    let (status, sink) = ran(&rt, rt.alloc(), &gate)?;
+    let (status, sink) = ran(&rt, rt.alloc(), TWO_WRITES, &gate)?;
     assert!(rt; status.is_done());
     assert!(rt; gate.first.is_met());
     assert!(rt; gate.second.is_met());
@@ -51,13 +52,30 @@ fn a_run_has_both_clients_at_work(rt: HostRuntime) -> Result<(), Fail> {
 // The gate fixes the order of all steps: all of client 2's stand between the first and the second of client 1.
 #[test]
 fn a_run_reports_the_order_of_its_steps(rt: HostRuntime) -> Result<(), Fail> {
-    let gate = InBetween::new();
-    let (status, sink) = ran(&rt, rt.alloc(), &gate)?;
+    let gate = InBetween::new(2);
+    let (status, sink) = ran(&rt, rt.alloc(), TWO_WRITES, &gate)?;
     assert!(rt; status.is_done());
     assert!(rt; gate.locked.is_met());
     assert!(rt; gate.ended.is_met());
     let report = b"0 1.1.1 write 1 1 18 x0100
 1 1.2.1 write 2 2 10 x0200
+end done=2 spent=0 pending=0 repaired=0 rounds=0
+";
+    assert!(rt; sink.taken() == report.as_slice());
+    Ok(())
+}
+
+// The gate fixes the order here too: all steps of client 6, at node 1 too, stand between the first and the second of client 1.
+#[test]
+fn a_run_reports_two_clients_at_one_node(rt: HostRuntime) -> Result<(), Fail> {
+    let gate = InBetween::new(6);
+    let (status, sink) = ran(&rt, rt.alloc(), TWO_SHARDS, &gate)?;
+    assert!(rt; status.is_done());
+    assert!(rt; gate.locked.is_met());
+    assert!(rt; gate.beside.is_met());
+    assert!(rt; gate.ended.is_met());
+    let report = b"0 1.1.1 write 1 1 18 x0100
+1 1.6.1 write 6 2 10 x0200
 end done=2 spent=0 pending=0 repaired=0 rounds=0
 ";
     assert!(rt; sink.taken() == report.as_slice());

@@ -1,4 +1,4 @@
-//! Gates that hold clients 1 and 2.
+//! Gates that hold two clients.
 
 use client_threads::{Edge, Gate};
 use std::sync::atomic::{AtomicBool, Ordering};
@@ -72,18 +72,22 @@ impl Gate for SideBySide {
     }
 }
 
-/// Holds client 2 at the beginning of its operation until client 1 has node 1 in hand for the first time, and client 1 there until
-/// client 2 has ended its operation.
+/// Holds another client at the beginning of its operation until client 1 has node 1 in hand for the first time, and client 1 there
+/// until the other has ended its operation. It sees whether the other had node 1 in hand too.
 #[derive(Drop)]
 pub struct InBetween {
+    other: u32,
     pub locked: Mark,
+    pub beside: Mark,
     pub ended: Mark,
 }
 
 impl InBetween {
-    pub fn new() -> InBetween {
+    pub fn new(other: u32) -> InBetween {
         InBetween {
+            other,
             locked: Mark::new(),
+            beside: Mark::new(),
             ended: Mark::new(),
         }
     }
@@ -91,14 +95,16 @@ impl InBetween {
 
 impl Gate for InBetween {
     fn at(&self, client: u32, _op: u64, edge: Edge) {
-        match (client, edge) {
-            (2, Edge::Begin) => self.locked.wait(),
-            (2, Edge::End) => self.ended.see(),
-            (1, Edge::Locked(1)) => {
-                self.locked.see();
-                self.ended.wait();
+        if client == self.other {
+            match edge {
+                Edge::Begin => self.locked.wait(),
+                Edge::Locked(1) => self.beside.see(),
+                Edge::End => self.ended.see(),
+                Edge::Locked(_) => {}
             }
-            _ => {}
+        } else if edge == Edge::Locked(1) {
+            self.locked.see();
+            self.ended.wait();
         }
     }
 }

@@ -17,6 +17,13 @@ write 1 0 x0100
 write 2 1 x0200
 ";
 
+/// Two clients write that both begin at node 1, where their blocks are of two cells.
+pub const TWO_SHARDS: &[u8] = b"pasis 1
+cluster 5 1 1 3 2 2 2
+write 1 0 x0100
+write 6 1 x0200
+";
+
 const FAULTS: &[u8] = b"pasis 1
 cluster 5 1 1 3 2 2 2
 liar node 4 top
@@ -64,9 +71,20 @@ fn clients_run_side_by_side(rt: HostRuntime) -> Result<(), Fail> {
 // Client 2 asks nodes 2, 3, 4 and 0 while client 1 holds node 1, at its first ask.
 #[test]
 fn a_client_holds_one_node(rt: HostRuntime) -> Result<(), Fail> {
-    let gate = InBetween::new();
+    let gate = InBetween::new(2);
     let _ran = ran(&rt, rt.alloc(), TWO_WRITES, &gate)?;
     assert!(rt; gate.locked.is_met());
+    assert!(rt; gate.ended.is_met());
+    Ok(())
+}
+
+// Client 6 has node 1 in hand for block 1, and ends its whole operation, while client 1 has it in hand for block 0, at its first ask.
+#[test]
+fn clients_of_two_blocks_hold_one_node(rt: HostRuntime) -> Result<(), Fail> {
+    let gate = InBetween::new(6);
+    let _ran = ran(&rt, rt.alloc(), TWO_SHARDS, &gate)?;
+    assert!(rt; gate.locked.is_met());
+    assert!(rt; gate.beside.is_met());
     assert!(rt; gate.ended.is_met());
     Ok(())
 }

@@ -1,37 +1,41 @@
 -- The journals of cells and of desks, at their numbers.
-use Rattle.std.proofs.Common.{◌≡◌, ◌⊎◌, ℕ, zero, suc, ◌+◌, ◌<◌, ◌≤◌, Bool, true, false, cond, List, [], ◌∷◌, ◌++◌, length, map, take, drop, refl, sym, ◌∙◌, ap, subst, inl, inr, arith}
-use Rattle.std.specs.Prelude.{Option, slice_get, ◌==◌, slice_index_or}
-use Rattle.std.specs.declared.option.Option.TheVariants.{None, Some}
-use Rattle.std.specs.List.{Contains, AllZip, AllByRecursion}
+use Rattle.std.proofs.Common.{◌≡◌, ◌⊎◌, ℕ, zero, suc, ◌+◌, ◌<◌, ◌≤◌, List, [], ◌∷◌, map, refl, sym, ◌∙◌, ap, inl, inr, arith}
+use Rattle.std.specs.Prelude.{slice_index_or}
+use Rattle.std.specs.List.{Contains, range_with_len}
+use Rattle.std.proofs.lemmas.List.Elements.{All-contains}
+use Rattle.quorum_rules.specs.Limits.{Numbers}
+use Rattle.run_journals.specs.Standing.{node_journal}
+use Rattle.locked_nodes.proofs.Joins.{below_tells}
 use Rattle.std.proofs.lemmas.Bool.Decides.{eqb_tells}
 use Rattle.protocol.proofs.Lists.{Contains-none, Contains-head, Contains-rest, Contains-cons_cases}
 use Rattle.journals.specs.declared.node.NodeEntry.{NodeEntry}
 use Rattle.journals.specs.declared.desk.DeskEntry.{DeskEntry}
-use Rattle.journals.specs.declared.desk.DeskJournal.{DeskJournal}
 use Rattle.journals.specs.Journals.{entries_of}
 use Rattle.locked_nodes.specs.Cells.{CellView, Rises, numbers}
 use Rattle.client_desks.specs.Desks.{DeskView, numbers_of}
-use Rattle.run_journals.specs.Standing.{journal_at}
+use Rattle.run_journals.specs.Standing.{journal_at, AreInside}
+use Rattle.run_journals.proofs.Nodes.{journal_none}
 
--- what stands at a node's number: the journal of its cell, or nothing
-pub record NodeAt (cells : List CellView) (i : ℕ) (es : List NodeEntry) : Type 0 where
-  pub is : ((cell : CellView) × (slice_get cells i ≡ Some cell) × (es ≡ cell.journal)) ⊎ ((slice_get cells i ≡ None) × (es ≡ []))
+-- what stands at a node's number: the entries of its cells, by number
+abbrev pub journal_of : Numbers → List CellView → ℕ → List NodeEntry
+journal_of config cells i = slice_index_or (map (node_journal cells) (range_with_len 0 config.n)) i []
 
-abbrev pub journal_of : List CellView → ℕ → List NodeEntry
-journal_of cells i = slice_index_or (map (λ c. c.journal) cells) i []
+at_range : (f : ℕ → List NodeEntry) (from n i : ℕ) → i < n → slice_index_or (map f (range_with_len from n)) i [] ≡ f (from + i)
+at_range f from zero i l = absurd (omega (arith, l))
+at_range f from (suc n) zero l = (let e : from ≡ from + 0 = omega arith in ap f e)
+at_range f from (suc n) (suc i) l = (let e : from + 1 + i ≡ from + suc i = omega arith in at_range f (from + 1) n i (omega (arith, l)) ∙ ap f e)
 
-pub node_at : (cells : List CellView) (i : ℕ) → NodeAt cells i (journal_of cells i)
-node_at [] i = record { is = inr (none i, nothing i) }
-  where
-    none : (i : ℕ) → ◌≡◌ {A = Option CellView} (slice_get [] i) None
-    none zero = refl
-    none (suc i) = refl
+pub past_range : (f : ℕ → List NodeEntry) (from n i : ℕ) → n ≤ i → slice_index_or (map f (range_with_len from n)) i [] ≡ []
+past_range f from zero zero l = refl
+past_range f from zero (suc i) l = refl
+past_range f from (suc n) zero l = absurd (omega (arith, l))
+past_range f from (suc n) (suc i) l = past_range f (from + 1) n i (omega (arith, l))
 
-    nothing : (i : ℕ) → journal_of [] i ≡ []
-    nothing zero = refl
-    nothing (suc i) = refl
-node_at (c ∷ cells) zero = record { is = inl (c, refl, refl) }
-node_at (c ∷ cells) (suc i) = record { is = (node_at cells i).is }
+pub journal_is : (config : Numbers) (cells : List CellView) → AreInside config cells → (i : ℕ) → journal_of config cells i ≡ node_journal cells i
+journal_is config cells inside i = elim (below_tells i config.n) [
+  | inl within ↦ at_range (node_journal cells) 0 config.n i within.1 ∙ (let e : 0 + i ≡ i = omega arith in ap (node_journal cells) e)
+  | inr past ↦ past_range (node_journal cells) 0 config.n i past.1 ∙ sym (journal_none cells i (λ c there is. (let l = All-contains (λ c. c.charter.number < config.n) cells c inside there in let g = past.1 in omega (arith, l, is, g))))
+]
 
 -- numbers that rise are not below where they begin, and below where they end
 pub rises_from : (low : ℕ) (ns : List ℕ) (high : ℕ) → Rises low ns high → low ≤ high

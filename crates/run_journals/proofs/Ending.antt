@@ -1,21 +1,21 @@
 -- The journals of a run that has ended are those of a run of its plan.
-use Rattle.std.proofs.Common.{◌≡◌, ◌⊎◌, ℕ, zero, suc, ◌+◌, ◌<◌, ◌≤◌, Bool, true, false, cond, List, [], ◌∷◌, ◌++◌, length, map, refl, sym, ◌∙◌, ap, subst, inl, inr, arith, append_assoc}
-use Rattle.std.specs.Prelude.{Option, slice_get, ◌==◌, slice_index_or, count_by, sum_by, nat_lt}
-use Rattle.std.specs.declared.option.Option.TheVariants.{None, Some}
+use Rattle.std.proofs.Common.{◌≡◌, ◌⊎◌, ℕ, ◌+◌, ◌<◌, ◌≤◌, Bool, true, false, cond, List, [], ◌∷◌, ◌++◌, length, map, refl, sym, ◌∙◌, ap, subst, inl, inr, arith}
+use Rattle.std.specs.Prelude.{◌==◌, count_by, nat_lt}
+use Rattle.std.specs.declared.option.Option.TheVariants.{Some}
 use Rattle.std.specs.List.{Contains, All, AllByRecursion}
 use Rattle.std.proofs.lemmas.Bool.Decides.{eqb_tells, nat_tests}
 use Rattle.std.proofs.lemmas.List.Sums.{sum_by-cons, sum_by-append}
+use Rattle.std.proofs.lemmas.List.FromFn.{length-map-range_with_len}
 use Rattle.std.proofs.lemmas.List.Elements.{Contains-append_cases, Contains-append_left, Contains-append_right, All-head, All-tail, All-contains}
 use Rattle.wire_forms.specs.Liars.{has_number}
 use Rattle.protocol.specs.Report.{Ascend}
-use Rattle.protocol.proofs.Lists.{Contains-none, Contains-head, Contains-rest, Contains-cons_cases, Contains-slice_get, Contains-map, Contains-map_cases}
+use Rattle.protocol.proofs.Lists.{Contains-none, Contains-head, Contains-rest, Contains-cons_cases, Contains-map, Contains-map_cases}
 use Rattle.quorum_rules.specs.Limits.{Numbers}
 use Rattle.event_clock.specs.declared.rule.Share.{Share}
-use Rattle.event_clock.specs.Passes.{ClockId, Holder, share_of}
-use Rattle.event_clock.specs.Views.{times, times_drawn, once_below, IsDrawnOnce}
+use Rattle.event_clock.specs.Passes.{ClockId, share_of}
+use Rattle.event_clock.specs.Views.{times, times_drawn, once_below}
 use Rattle.journals.specs.declared.node.NodeAct.{NodeAct}
 use Rattle.journals.specs.declared.node.NodeEntry.{NodeEntry}
-use Rattle.journals.specs.declared.node.Nature.{Nature}
 use Rattle.journals.specs.declared.desk.DeskAct.{DeskAct}
 use Rattle.journals.specs.declared.desk.DeskAct.TheVariants.{Start, Crash, Call}
 use Rattle.journals.specs.declared.desk.DeskEntry.{DeskEntry}
@@ -25,23 +25,25 @@ use Rattle.journals.specs.Acts.{new_state, NodeKept}
 use Rattle.journals.specs.Desks.{new_desk, DeskKept}
 use Rattle.journals.specs.Steps.{Step, side, IsOwn}
 use Rattle.journals.specs.Steps.Step.{AtNode, AtDesk}
-use Rattle.journals.specs.Journals.{at_node, at_desk, IsNodeKept, IsDeskKept, AreKept as JournalsKept, PairsAgree, HasSide, IsEntry, NumbersBelow}
+use Rattle.journals.specs.Journals.{IsNodeKept, IsDeskKept, PairsAgree, HasSide, IsEntry, NumbersBelow}
 use Rattle.journals.specs.Phases.{Phase}
-use Rattle.journals.proofs.Lists.{number_of}
 use Rattle.locked_nodes.specs.Cells.{CellView, KeptCell, Rises, numbers}
-use Rattle.locked_nodes.specs.Shards.{IsJournal, OneCell}
+use Rattle.locked_nodes.specs.Shards.{OneCell, SeveralCells}
+use Rattle.run_journals.specs.Standing.{node_journal}
+use Rattle.locked_nodes.proofs.Joins.{below_tells}
 use Rattle.client_desks.specs.Desks.{DeskView, KeptDesk, own_of, own_numbers, numbers_of, desk_entry}
 use Rattle.plan_words.specs.declared.plan.Plan.{Plan}
-use Rattle.plan_words.specs.Plans.{Fits}
 use Rattle.plan_words.specs.Named.{clients}
 use Rattle.plan_followed.specs.Asked.{nature, crash_after, conduct_of}
 use Rattle.plan_followed.specs.Nodes.{Pruning}
-use Rattle.plan_followed.specs.Followed.{AreFor, AreOfPlan}
+use Rattle.plan_followed.specs.Followed.{AreFor}
 use Rattle.plan_followed.specs.Laws.{OfPlans, HasConduct}
 use Rattle.plan_phases.specs.Closed.{Ends}
-use Rattle.run_journals.specs.Standing.{ArePlanned, AreKept, PairsStand, HasSideIn, HasSideOn, journal_at, journals_of}
-use Rattle.run_journals.specs.Ended.{AreClients, HasEnded, RunsEnd}
-use Rattle.run_journals.proofs.Cells.{NodeAt, journal_of, node_at, DeskAt, entries_at, desk_at}
+use Rattle.run_journals.specs.Standing.{HasSideIn, journal_at, journals_of}
+use Rattle.run_journals.specs.Ended.{HasEnded, RunsEnd}
+use Rattle.run_journals.proofs.Nodes.{AreApart, journal_cases, journal_has, journal_ascends}
+use Rattle.run_journals.proofs.Sharded.{node_is_kept}
+use Rattle.run_journals.proofs.Cells.{journal_of, journal_is, past_range, entries_at, desk_at}
 
 -- ---- numbers
 
@@ -62,9 +64,9 @@ desk_steps (d ∷ ds) = own_steps d.id d.entries ++ desk_steps ds
 abbrev node_step : ℕ → NodeEntry → ℕ × Step
 node_step i e = (e.number, AtNode i e.act)
 
-abbrev cell_steps : ℕ → List CellView → List (ℕ × Step)
-cell_steps i [] = []
-cell_steps i (c ∷ cs) = map (node_step i) c.journal ++ cell_steps (suc i) cs
+abbrev cell_steps : List CellView → List (ℕ × Step)
+cell_steps [] = []
+cell_steps (c ∷ cs) = map (node_step c.charter.number) c.journal ++ cell_steps cs
 
 -- how often a number stands
 abbrev count : ℕ → List (ℕ × Step) → ℕ
@@ -93,13 +95,13 @@ node_count x i [] = refl
 node_count x i (e ∷ es) =
     count-cons x (node_step i e) (map (node_step i) es) ∙ ap (λ (k : ℕ). cond (e.number == x) 1 0 + k) (node_count x i es) ∙ sym (times-cons x e.number (numbers es))
 
-cells_count : (x i : ℕ) (cells : List CellView) → All KeptCell cells → count x (cell_steps i cells) ≡ times_drawn x (map (λ c. share_of c.pass) cells)
-cells_count x i [] k = refl
-cells_count x i (c ∷ cs) k =
+cells_count : (x : ℕ) (cells : List CellView) → All KeptCell cells → count x (cell_steps cells) ≡ times_drawn x (map (λ c. share_of c.pass) cells)
+cells_count x [] k = refl
+cells_count x (c ∷ cs) k =
     let kept = All-head KeptCell c cs k in
-    count-append x (map (node_step i) c.journal) (cell_steps (suc i) cs)
-    ∙ ap (λ (n : ℕ). n + count x (cell_steps (suc i) cs)) (node_count x i c.journal ∙ ap (times x) (sym kept.drawn))
-    ∙ ap (λ (n : ℕ). times x c.pass.drawn + n) (cells_count x (suc i) cs (All-tail KeptCell c cs k))
+    count-append x (map (node_step c.charter.number) c.journal) (cell_steps cs)
+    ∙ ap (λ (n : ℕ). n + count x (cell_steps cs)) (node_count x c.charter.number c.journal ∙ ap (times x) (sym kept.drawn))
+    ∙ ap (λ (n : ℕ). times x c.pass.drawn + n) (cells_count x cs (All-tail KeptCell c cs k))
     ∙ sym (drawn-cons x (share_of c.pass) (map (λ c. share_of c.pass) cs))
 
 own_count : (x c : ℕ) (es : List DeskEntry) → count x (own_steps c es) ≡ times x (own_numbers es)
@@ -174,42 +176,53 @@ only x (p ∷ ps) e f l h k = elim (eqb_tells p.0 x) [
 
 -- ---- steps are the entries of the journals
 
--- the steps of cells from a number on
-in_cells : (i : ℕ) (cells : List CellView) (k n : ℕ) (a : NodeAct) → Contains (journal_of cells k) (record { number = n; act = a }) → Contains (cell_steps i cells) (n, AtNode (i + k) a)
-in_cells i [] zero n a there = absurd (Contains-none _ there)
-in_cells i [] (suc k) n a there = absurd (Contains-none _ there)
-in_cells i (c ∷ cs) zero n a there =
-    let m = Contains-map (node_step i) c.journal (record { number = n; act = a }) there in
-    let e : i + zero ≡ i = omega arith in
-    rw e (Contains-append_left (map (node_step i) c.journal) (cell_steps (suc i) cs) (n, AtNode i a) m)
-in_cells i (c ∷ cs) (suc k) n a there =
-    let m = in_cells (suc i) cs k n a there in
-    let e : suc i + k ≡ i + suc k = omega arith in
-    Contains-append_right (map (node_step i) c.journal) (cell_steps (suc i) cs) (n, AtNode (i + suc k) a) (subst (λ (j : ℕ). Contains (cell_steps (suc i) cs) (n, AtNode j a)) e m)
-
--- a step of a cell is an entry of its journal
-record FromCell (cells : List CellView) (i n : ℕ) (s : Step) : Type 0 where
-  place : ℕ
-  act : NodeAct
-  is : s ≡ AtNode (i + place) act
-  there : Contains (journal_of cells place) (record { number = n; act = act })
-
-of_cells : (i : ℕ) (cells : List CellView) (n : ℕ) (s : Step) → Contains (cell_steps i cells) (n, s) → FromCell cells i n s
-of_cells i [] n s there = absurd (Contains-none _ there)
-of_cells i (c ∷ cs) n s there = elim (Contains-append_cases (map (node_step i) c.journal) (cell_steps (suc i) cs) (n, s) there) [
-  | inl here ↦ (
-      let q = Contains-map_cases (node_step i) c.journal (n, s) here in
-      let e : n ≡ q.0.number = ap (λ (p : ℕ × Step). p.0) q.2 in
-      let f : s ≡ AtNode i q.0.act = ap (λ (p : ℕ × Step). p.1) q.2 in
-      let z : i ≡ i + zero = omega arith in
-      record { place = zero; act = q.0.act; is = f ∙ ap (λ (j : ℕ). AtNode j q.0.act) z; there = subst (λ (m : ℕ). Contains c.journal (record { number = m; act = q.0.act })) (sym e) q.1 }
-      )
-  | inr later ↦ (
-      let q = of_cells (suc i) cs n s later in
-      let z : suc i + q.place ≡ i + suc q.place = omega arith in
-      record { place = suc q.place; act = q.act; is = q.is ∙ ap (λ (j : ℕ). AtNode j q.act) z; there = q.there }
-      )
+-- an entry of a cell is a step of its node
+in_cells : (cells : List CellView) (cell : CellView) (e : NodeEntry) → Contains cells cell → Contains cell.journal e → Contains (cell_steps cells) (e.number, AtNode cell.charter.number e.act)
+in_cells [] cell e there at = absurd (Contains-none cell there)
+in_cells (c ∷ cs) cell e there at = elim (Contains-cons_cases cell c cs there) [
+  | inl same ↦ Contains-append_left (map (node_step c.charter.number) c.journal) (cell_steps cs) (e.number, AtNode cell.charter.number e.act)
+      (subst (λ (x : CellView). Contains (map (node_step x.charter.number) x.journal) (e.number, AtNode cell.charter.number e.act)) same (Contains-map (node_step cell.charter.number) cell.journal e at))
+  | inr rest ↦ Contains-append_right (map (node_step c.charter.number) c.journal) (cell_steps cs) (e.number, AtNode cell.charter.number e.act) (in_cells cs cell e rest at)
 ]
+
+-- a step of a node is an entry of one of its cells
+record FromCell (cells : List CellView) (n : ℕ) (s : Step) : Type 0 where
+  cell : CellView
+  among : Contains cells cell
+  act : NodeAct
+  is : s ≡ AtNode cell.charter.number act
+  there : Contains cell.journal (record { number = n; act = act })
+
+of_cells : (cells : List CellView) (n : ℕ) (s : Step) → Contains (cell_steps cells) (n, s) → FromCell cells n s
+of_cells [] n s there = absurd (Contains-none _ there)
+of_cells (c ∷ cs) n s there = elim (Contains-append_cases (map (node_step c.charter.number) c.journal) (cell_steps cs) (n, s) there) [
+  | inl here ↦ (
+      let q = Contains-map_cases (node_step c.charter.number) c.journal (n, s) here in
+      let e : n ≡ q.0.number = ap (λ (p : ℕ × Step). p.0) q.2 in
+      record {
+        cell = c;
+        among = Contains-head c cs;
+        act = q.0.act;
+        is = ap (λ (p : ℕ × Step). p.1) q.2;
+        there = subst (λ (m : ℕ). Contains c.journal (record { number = m; act = q.0.act })) (sym e) q.1;
+      }
+      )
+  | inr later ↦ (let q = of_cells cs n s later in record { cell = q.cell; among = Contains-rest q.cell c cs q.among; act = q.act; is = q.is; there = q.there })
+]
+
+-- cells whose numbers stand once each are apart
+apart_once : (i : ℕ) (cells : List CellView) → ((x : ℕ) → count x (cell_steps cells) ≤ 1) → AreApart i cells
+apart_once i [] once = tt
+apart_once i (c ∷ cs) once = (
+  (λ x y is mine other same.
+      let n = x.number in
+      let all = count-append n (map (node_step c.charter.number) c.journal) (cell_steps cs) in
+      let a = counted n (map (node_step c.charter.number) c.journal) (AtNode c.charter.number x.act) (Contains-map (node_step c.charter.number) c.journal x mine) in
+      let b = counted n (cell_steps cs) (AtNode other.cell.charter.number y.act) (subst (λ (k : ℕ). Contains (cell_steps cs) (k, AtNode other.cell.charter.number y.act)) (sym same) (in_cells cs other.cell y other.there other.stands)) in
+      let most = once n in
+      omega (arith, all, a, b, most)),
+  apart_once i cs (λ x. (let all = count-append x (map (node_step c.charter.number) c.journal) (cell_steps cs) in let most = once x in omega (arith, all, most))),
+)
 
 in_own : (c : ℕ) (es : List DeskEntry) (e : DeskEntry) → Contains es e → IsOwn e.act → Contains (own_steps c es) (e.number, AtDesk c e.act)
 in_own c [] e there own = absurd (Contains-none e there)
@@ -302,39 +315,39 @@ module _ (plan : Plan) (clock : ClockId) (cells : List CellView) (desks : List D
   abbrev j : Journals
   j = journals_of plan cells desks
 
-  node_is : (i : ℕ) (cell : CellView) → slice_get cells i ≡ Some cell → journal_of cells i ≡ cell.journal
-  node_is i cell at = elim (node_at cells i).is [
-    | inl q ↦ (let same : q.0 ≡ cell = cc (q.1, at) in q.2 ∙ ap (λ (c : CellView). c.journal) same)
-    | inr q ↦ absurd (let e = q.0 in cc (e, at))
-  ]
+  node_is : (i : ℕ) → journal_of plan.config cells i ≡ node_journal cells i
+  node_is i = journal_is plan.config cells h.cells.inside i
 
   abbrev all_steps : List (ℕ × Step)
-  all_steps = cell_steps 0 cells ++ desk_steps desks
+  all_steps = cell_steps cells ++ desk_steps desks
 
   counts : (x : ℕ) → count x all_steps ≡ once_below drawn x
   counts x =
-      count-append x (cell_steps 0 cells) (desk_steps desks)
-      ∙ ap (λ (n : ℕ). n + count x (desk_steps desks)) (cells_count x 0 cells h.kept.cells)
+      count-append x (cell_steps cells) (desk_steps desks)
+      ∙ ap (λ (n : ℕ). n + count x (desk_steps desks)) (cells_count x cells h.kept.cells)
       ∙ ap (λ (n : ℕ). times_drawn x (map (λ c. share_of c.pass) cells) + n) (desks_count x desks h.kept.desks)
       ∙ sym (drawn-append x (map (λ c. share_of c.pass) cells) (map (λ d. share_of d.pass) desks)) ∙ h.numbers x
 
   entry_step : (n : ℕ) (s : Step) → IsEntry j n s → Contains all_steps (n, s)
-  entry_step n (AtNode i act) there = Contains-append_left (cell_steps 0 cells) (desk_steps desks) (n, AtNode i act) (let z : 0 + i ≡ i = omega arith in subst (λ (k : ℕ). Contains (cell_steps 0 cells) (n, AtNode k act)) z (in_cells 0 cells i n act there))
+  entry_step n (AtNode i act) there =
+      let e : NodeEntry = record { number = n; act = act } in
+      let q = journal_cases cells i e (subst (λ (l : List NodeEntry). Contains l e) (node_is i) there) in
+      Contains-append_left (cell_steps cells) (desk_steps desks) (n, AtNode i act) (subst (λ (k : ℕ). Contains (cell_steps cells) (n, AtNode k act)) q.number (in_cells cells q.cell e q.there q.stands))
   entry_step n (AtDesk c act) there = elim (desk_at desks c).is [
     | inl q ↦ (
         let e : DeskEntry = record { number = n; act = act } in
         let m = in_desks desks q.0 e q.1 (subst (λ (es : List DeskEntry). Contains es e) q.3 there.1) there.0 in
-        Contains-append_right (cell_steps 0 cells) (desk_steps desks) (n, AtDesk c act) (subst (λ (k : ℕ). Contains (desk_steps desks) (n, AtDesk k act)) q.2 m)
+        Contains-append_right (cell_steps cells) (desk_steps desks) (n, AtDesk c act) (subst (λ (k : ℕ). Contains (desk_steps desks) (n, AtDesk k act)) q.2 m)
         )
     | inr none ↦ absurd (Contains-none _ (subst (λ (es : List DeskEntry). Contains es (record { number = n; act = act })) none.0 there.1))
   ]
 
   step_entry : (n : ℕ) (s : Step) → Contains all_steps (n, s) → IsEntry j n s
-  step_entry n s there = elim (Contains-append_cases (cell_steps 0 cells) (desk_steps desks) (n, s) there) [
+  step_entry n s there = elim (Contains-append_cases (cell_steps cells) (desk_steps desks) (n, s) there) [
     | inl at ↦ (
-        let q = of_cells 0 cells n s at in
-        let z : q.place ≡ 0 + q.place = omega arith in
-        let there : Contains (journal_of cells (0 + q.place)) (record { number = n; act = q.act }) = subst (λ (k : ℕ). Contains (journal_of cells k) (record { number = n; act = q.act })) z q.there in
+        let q = of_cells cells n s at in
+        let i = q.cell.charter.number in
+        let there = subst (λ (l : List NodeEntry). Contains l (record { number = n; act = q.act })) (sym (node_is i)) (journal_has cells q.cell (record { number = n; act = q.act }) q.among q.there) in
         subst (λ (t : Step). IsEntry j n t) (sym q.is) there
         )
     | inr at ↦ (
@@ -344,18 +357,18 @@ module _ (plan : Plan) (clock : ClockId) (cells : List CellView) (desks : List D
         )
   ]
 
+  at_most : (n : ℕ) → once_below drawn n ≤ 1
+  at_most n = at (nat_lt n drawn)
+    where
+      at : (b : Bool) → cond b 1 0 ≤ 1
+      at true = omega arith
+      at false = omega arith
+
   numbers_below : NumbersBelow j drawn
   numbers_below = record { some = some; below = below; once = once }
     where
       one_at : (n : ℕ) → n < drawn → once_below drawn n ≡ 1
       one_at n l = (let b : nat_lt n drawn ≡ true = grind (arith, nat_tests) in rw b refl)
-
-      at_most : (n : ℕ) → once_below drawn n ≤ 1
-      at_most n = at (nat_lt n drawn)
-        where
-          at : (b : Bool) → cond b 1 0 ≤ 1
-          at true = omega arith
-          at false = omega arith
 
       some : (n : ℕ) → n < drawn → (s : Step) × IsEntry j n s
       some n l =
@@ -383,21 +396,18 @@ module _ (plan : Plan) (clock : ClockId) (cells : List CellView) (desks : List D
   pairs_agree : PairsAgree j
   pairs_agree = record { called = called; answered = answered }
     where
-      called : (i c : ℕ) (e : NodeEntry) (act : DeskAct) → Contains (journal_of cells i) e → side e.act ≡ Some (c, act) → Contains (entries_at desks c) (record { number = e.number; act = act })
-      called i c e act there is = elim (node_at cells i).is [
-        | inl q ↦ (
-            let on = h.pairs.called q.0 e c act (Contains-slice_get cells i q.0 q.1) (subst (λ (es : List NodeEntry). Contains es e) q.2 there) is in
-            let at = subst (λ (es : List DeskEntry). Contains es (desk_entry e.number act)) (sym (entries_are desks h.clients.ascend on.desk on.there)) on.stands in
-            subst (λ (k : ℕ). Contains (entries_at desks k) (desk_entry e.number act)) on.client at
-            )
-        | inr q ↦ absurd (Contains-none e (subst (λ (es : List NodeEntry). Contains es e) q.1 there))
-      ]
+      called : (i c : ℕ) (e : NodeEntry) (act : DeskAct) → Contains (journal_of plan.config cells i) e → side e.act ≡ Some (c, act) → Contains (entries_at desks c) (record { number = e.number; act = act })
+      called i c e act there is =
+          let q = journal_cases cells i e (subst (λ (l : List NodeEntry). Contains l e) (node_is i) there) in
+          let on = h.pairs.called q.cell e c act q.there q.stands is in
+          let at = subst (λ (es : List DeskEntry). Contains es (desk_entry e.number act)) (sym (entries_are desks h.clients.ascend on.desk on.there)) on.stands in
+          subst (λ (k : ℕ). Contains (entries_at desks k) (desk_entry e.number act)) on.client at
 
       found : (c : ℕ) (e : DeskEntry) → HasSideIn cells c e → HasSide j c e
       found c e q =
-          let k = number_of cells q.cell q.there in
-          let at : Contains (journal_of cells k.0) q.of = subst (λ (es : List NodeEntry). Contains es q.of) (sym (node_is k.0 q.cell k.1)) q.stands in
-          (k.0, q.of.act, subst (λ (n : ℕ). Contains (journal_of cells k.0) (record { number = n; act = q.of.act })) q.number at, q.agree)
+          let k = q.cell.charter.number in
+          let at : Contains (journal_of plan.config cells k) q.of = subst (λ (es : List NodeEntry). Contains es q.of) (sym (node_is k)) (journal_has cells q.cell q.of q.there q.stands) in
+          (k, q.of.act, subst (λ (n : ℕ). Contains (journal_of plan.config cells k) (record { number = n; act = q.of.act })) q.number at, q.agree)
 
       answered : (c : ℕ) (e : DeskEntry) → Contains (entries_at desks c) e → IsOwn e.act ⊎ HasSide j c e
       answered c e there = elim (desk_at desks c).is [
@@ -410,25 +420,23 @@ module _ (plan : Plan) (clock : ClockId) (cells : List CellView) (desks : List D
 
   -- ---- kept
 
-  node_kept : OneCell → (i : ℕ) → IsNodeKept (conduct_of plan.rules) j i
-  node_kept one i = elim (node_at cells i).is [
-    | inl q ↦ of_cell q.0 q.1 q.2
-    | inr q ↦ record { ascends = subst (λ (es : List NodeEntry). Ascend (map (λ e. e.number) es)) (sym q.1) tt; goes = subst (NodeKept (nature plan.rules i) (new_state plan.config i (crash_after plan.rules i))) (sym q.1) tt }
+  node_kept : OneCell → SeveralCells → (i : ℕ) → IsNodeKept (conduct_of plan.rules) j i
+  node_kept one several i = elim (below_tells i plan.config.n) [
+    | inl within ↦ (
+        let once : (x : ℕ) → count x (cell_steps cells) ≤ 1 = λ x. (let all = counts x in let parts = count-append x (cell_steps cells) (desk_steps desks) in let most = at_most x in omega (arith, all, parts, most)) in
+        let ups : All (λ c. Ascend (numbers c.journal)) cells = λ k d lt. (one _ (h.kept.cells k d lt)).ascends in
+        let up = journal_ascends cells i ups (apart_once i cells once) in
+        let k = node_is_kept plan clock cells h.cells h.kept.cells i within.1 up one several in
+        record {
+          ascends = subst (λ (es : List NodeEntry). Ascend (map (λ e. e.number) es)) (sym (node_is i)) k.ascends;
+          goes = subst (NodeKept (nature plan.rules i) (new_state plan.config i (crash_after plan.rules i))) (sym (node_is i)) k.goes;
+        }
+        )
+    | inr past ↦ (
+        let none = past_range (node_journal cells) 0 plan.config.n i past.1 in
+        record { ascends = subst (λ (es : List NodeEntry). Ascend (map (λ e. e.number) es)) (sym none) tt; goes = subst (NodeKept (nature plan.rules i) (new_state plan.config i (crash_after plan.rules i))) (sym none) tt }
+        )
   ]
-    where
-      of_cell : (cell : CellView) → slice_get cells i ≡ Some cell → journal_of cells i ≡ cell.journal → IsNodeKept (conduct_of plan.rules) j i
-      of_cell cell at is =
-          let k = one cell (All-contains KeptCell cells cell h.kept.cells (Contains-slice_get cells i cell at)) in
-          let a = h.cells.cells.each i cell at in
-          let c = h.cells.conduct i cell at in
-          let goes1 = subst (λ (n : Numbers). NodeKept cell.charter.nature (new_state n cell.charter.number cell.charter.crash_after) cell.journal) a.cluster k.goes in
-          let goes2 = subst (λ (m : ℕ). NodeKept cell.charter.nature (new_state plan.config m cell.charter.crash_after) cell.journal) a.number goes1 in
-          let goes3 = subst (λ (o : Option ℕ). NodeKept cell.charter.nature (new_state plan.config i o) cell.journal) c.1 goes2 in
-          let goes4 = subst (λ (m : Nature). NodeKept m (new_state plan.config i (crash_after plan.rules i)) cell.journal) c.0 goes3 in
-          record {
-            ascends = subst (λ (es : List NodeEntry). Ascend (map (λ e. e.number) es)) (sym is) k.ascends;
-            goes = subst (NodeKept (nature plan.rules i) (new_state plan.config i (crash_after plan.rules i))) (sym is) goes4;
-          }
 
   desk_kept : (c : ℕ) → IsDeskKept j c
   desk_kept c = elim (desk_at desks c).is [
@@ -448,11 +456,7 @@ module _ (plan : Plan) (clock : ClockId) (cells : List CellView) (desks : List D
   ]
 
   journals_long : length j.nodes ≡ plan.config.n
-  journals_long = length_map cells ∙ h.cells.cells.count
-    where
-      length_map : (cs : List CellView) → length (map (λ c. c.journal) cs) ≡ length cs
-      length_map [] = refl
-      length_map (c ∷ cs) = ap suc (length_map cs)
+  journals_long = length-map-range_with_len (node_journal cells) 0 plan.config.n
 
   are_for : AreFor plan j
   are_for = record {
@@ -466,13 +470,13 @@ module _ (plan : Plan) (clock : ClockId) (cells : List CellView) (desks : List D
       ids [] = refl
       ids (d ∷ ds) = ap (λ (l : List ℕ). d.id ∷ l) (ids ds)
 
-pub runs_end : OneCell → OfPlans HasConduct → Ends → RunsEnd
-runs_end one conduct ends plan clock cells desks drawn phases prunes fits h = record {
+pub runs_end : OneCell → SeveralCells → OfPlans HasConduct → Ends → RunsEnd
+runs_end one several conduct ends plan clock cells desks drawn phases prunes fits h = record {
   fits = fits;
   kept = record {
     behave = conduct plan fits;
     count = journals_long plan clock cells desks drawn phases prunes h;
-    nodes = node_kept plan clock cells desks drawn phases prunes h one;
+    nodes = node_kept plan clock cells desks drawn phases prunes h one several;
     desks = desk_kept plan clock cells desks drawn phases prunes h;
   };
   pairs = pairs_agree plan clock cells desks drawn phases prunes h;

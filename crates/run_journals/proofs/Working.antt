@@ -1,35 +1,31 @@
 -- What a phase and its prunes did to cells and desks, told of their journals.
-use Rattle.std.proofs.Common.{◌≡◌, ◌⊎◌, ℕ, zero, suc, ◌+◌, ◌<◌, ◌≤◌, Bool, true, false, cond, List, [], ◌∷◌, ◌++◌, length, map, take, drop, refl, sym, ◌∙◌, ap, subst, inl, inr, arith}
-use Rattle.std.specs.Prelude.{Option, slice_get, ◌==◌, slice_index_or}
-use Rattle.std.specs.declared.option.Option.TheVariants.{None, Some}
-use Rattle.std.specs.List.{Contains, AllZip, All, AllByRecursion}
-use Rattle.std.proofs.lemmas.Bool.Decides.{eqb_tells}
+use Rattle.std.proofs.Common.{◌≡◌, ◌⊎◌, ℕ, ◌<◌, ◌≤◌, Bool, true, false, cond, List, [], ◌∷◌, ◌++◌, length, map, take, drop, refl, sym, ◌∙◌, ap, subst, inl, inr, arith}
+use Rattle.std.specs.Prelude.{◌==◌, nat_lt}
+use Rattle.std.specs.List.{Contains, AllZip, All}
+use Rattle.std.proofs.lemmas.Bool.Decides.{eqb_tells, nat_tests}
 use Rattle.std.proofs.lemmas.List.{take-append-drop}
-use Rattle.std.proofs.lemmas.List.Elements.{Contains-append_cases, All-head, All-tail, All-contains}
+use Rattle.std.proofs.lemmas.List.Elements.{Contains-append_cases, All-cons, All-head, All-tail, All-contains}
 use Rattle.std.proofs.Math.Seq.{drop-append_seam}
 use Rattle.wire_forms.specs.Liars.{has_number}
-use Rattle.protocol.proofs.Lists.{append_nil, Contains-none, Contains-head, Contains-rest, Contains-slice_get}
+use Rattle.protocol.proofs.Lists.{Contains-none, Contains-head, Contains-rest, Contains-cons_cases}
 use Rattle.stamp_order.specs.declared.Stamp.{Stamp}
-use Rattle.event_clock.specs.Passes.{ClockId}
 use Rattle.journals.specs.declared.node.NodeAct.TheVariants.{Pruned}
-use Rattle.journals.specs.declared.node.NodeAct.{NodeAct}
 use Rattle.journals.specs.declared.node.NodeEntry.{NodeEntry}
-use Rattle.journals.specs.declared.node.Nature.{Nature}
 use Rattle.journals.specs.declared.desk.DeskEntry.{DeskEntry}
-use Rattle.journals.specs.declared.whole.Journals.{Journals}
-use Rattle.journals.specs.Acts.{NodeState, can_prune, new_state, after_all}
-use Rattle.journals.specs.Journals.{at_node, at_desk}
+use Rattle.journals.specs.Acts.{can_prune}
 use Rattle.journals.specs.Phases.{Phase}
 use Rattle.quorum_rules.specs.Limits.{Numbers}
-use Rattle.locked_nodes.specs.Cells.{CellView, KeptCell, IsCell, IsPrune, Rises, numbers, state_of, first_state, next_charter}
-use Rattle.client_desks.specs.Desks.{DeskView, KeptDesk, IsDesk, numbers_of}
+use Rattle.locked_nodes.specs.Cells.{CellView, KeptCell, IsPrune, numbers}
+use Rattle.client_desks.specs.Desks.{DeskView, KeptDesk}
 use Rattle.client_desks.specs.Later.{IsLater}
 use Rattle.plan_words.specs.declared.plan.Plan.{Plan}
-use Rattle.plan_followed.specs.Asked.{nature, crash_after}
-use Rattle.plan_followed.specs.Nodes.{Pruning, act_of, node_after}
-use Rattle.plan_phases.specs.Closed.{ComesLater, NodeGoesOn, DeskGoesOn, AreLater, AreBelow, HasPruned, next_begin, AreWorked, HavePruned}
-use Rattle.run_journals.specs.Standing.{HasWorked, HaveSeen, HaveSeenNone, AreKept, HavePhased, HasDonePrunes, ArePlanned, journal_at, journals_of, PhasesWork, JournalsBelow, CellsPrune}
-use Rattle.run_journals.proofs.Cells.{NodeAt, journal_of, node_at, node_rises, desk_rises, rises_from, DeskAt, entries_at, desk_at}
+use Rattle.plan_followed.specs.Asked.{nature}
+use Rattle.plan_followed.specs.Nodes.{act_of, node_after}
+use Rattle.plan_phases.specs.Closed.{NodeGoesOn, DeskGoesOn, next_begin}
+use Rattle.run_journals.specs.Standing.{AreInside, HasWorked, node_journal, PhasesWork, JournalsBelow, CellsPrune}
+use Rattle.locked_nodes.proofs.Joins.{AreUnder}
+use Rattle.run_journals.proofs.Nodes.{GoesOnAs, all_of, journal_cases, journal_has, journal_on}
+use Rattle.run_journals.proofs.Cells.{journal_of, journal_is, past_range, node_rises, desk_rises, rises_from, entries_at, desk_at}
 
 -- ---- one cell
 
@@ -68,22 +64,65 @@ module _ (old new : CellView) (w : HasWorked old new) (k : KeptCell new) where
             )
       ]
 
--- ---- all cells, by their numbers
+-- ---- all nodes, by the entries of their cells
 
-nodes_on : (from : ℕ) (old new : List CellView) → AllZip HasWorked old new → All (λ c. from ≤ c.pass.seen) old → All KeptCell new → (i : ℕ) → NodeGoesOn from (journal_of old i) (journal_of new i)
-nodes_on from [] [] z s k i = record { more = []; grown = append_nil (journal_of [] i); later = λ e there. absurd (Contains-none e there) }
-nodes_on from [] (y ∷ ys) z s k i = absurd z
-nodes_on from (x ∷ xs) [] z s k i = absurd z
-nodes_on from (x ∷ xs) (y ∷ ys) z s k zero = cell_on x y z.0 (All-head KeptCell y ys k) from (All-head (λ c. from ≤ c.pass.seen) x xs s)
-nodes_on from (x ∷ xs) (y ∷ ys) z s k (suc i) = nodes_on from xs ys z.1 (All-tail (λ c. from ≤ c.pass.seen) x xs s) (All-tail KeptCell y ys k) i
+-- cells that worked had no entry from this number on
+goes_on : (from : ℕ) (all old new : List CellView) → ((x : CellView) → Contains old x → Contains all x) → ((x : CellView) → Contains all x → AreUnder from x.journal) → AllZip HasWorked old new → All (λ c. from ≤ c.pass.seen) old → All KeptCell new → AllZip (GoesOnAs from) old new
+goes_on from all [] [] among under z s k = tt
+goes_on from all [] (y ∷ ys) among under z s k = absurd z
+goes_on from all (x ∷ xs) [] among under z s k = absurd z
+goes_on from all (x ∷ xs) (y ∷ ys) among under z s k = (
+  (
+      let on = cell_on x y z.0 (All-head KeptCell y ys k) from (All-head (λ c. from ≤ c.pass.seen) x xs s) in
+      record {
+        number = ap (λ c. c.number) z.0.charter;
+        more = on.more;
+        grown = on.grown;
+        under = under x (among x (Contains-head x xs));
+        later = all_of (λ e. from ≤ e.number) on.more on.later;
+      }
+      ),
+  goes_on from all xs ys (λ c there. among c (Contains-rest c x xs there)) under z.1 (All-tail (λ c. from ≤ c.pass.seen) x xs s) (All-tail KeptCell y ys k),
+)
 
-nodes_calm : (old new : List CellView) → AllZip HasWorked old new → All KeptCell new → (i n block : ℕ) (stamp : Stamp)
-    → Contains (journal_of new i) (record { number = n; act = Pruned block stamp }) → Contains (journal_of old i) (record { number = n; act = Pruned block stamp })
-nodes_calm [] [] z k i n block stamp there = there
-nodes_calm [] (y ∷ ys) z k i n block stamp there = absurd z
-nodes_calm (x ∷ xs) [] z k i n block stamp there = absurd z
-nodes_calm (x ∷ xs) (y ∷ ys) z k zero n block stamp there = cell_calm x y z.0 (All-head KeptCell y ys k) n block stamp there
-nodes_calm (x ∷ xs) (y ∷ ys) z k (suc i) n block stamp there = nodes_calm xs ys z.1 (All-tail KeptCell y ys k) i n block stamp there
+pub worked_inside : (config : Numbers) (old new : List CellView) → AllZip HasWorked old new → AreInside config old → AreInside config new
+worked_inside config [] [] z h = h
+worked_inside config [] (y ∷ ys) z h = absurd z
+worked_inside config (x ∷ xs) [] z h = absurd z
+worked_inside config (x ∷ xs) (y ∷ ys) z h =
+    All-cons (λ c. c.charter.number < config.n) y ys (subst (λ (k : ℕ). k < config.n) (ap (λ c. c.number) (sym z.0.charter)) (All-head (λ c. c.charter.number < config.n) x xs h))
+    (worked_inside config xs ys z.1 (All-tail (λ c. c.charter.number < config.n) x xs h))
+
+-- the cell that a cell was
+was_cell : (old new : List CellView) → AllZip HasWorked old new → All KeptCell new → (y : CellView) → Contains new y → (x : CellView) × Contains old x × HasWorked x y × KeptCell y
+was_cell [] [] z k y there = absurd (Contains-none y there)
+was_cell [] (b ∷ ys) z k y there = absurd z
+was_cell (a ∷ xs) [] z k y there = absurd z
+was_cell (a ∷ xs) (b ∷ ys) z k y there = elim (Contains-cons_cases y b ys there) [
+  | inl is ↦ (a, Contains-head a xs, subst (HasWorked a) (sym is) z.0, subst KeptCell (sym is) (All-head KeptCell b ys k))
+  | inr rest ↦ (let q = was_cell xs ys z.1 (All-tail KeptCell b ys k) y rest in (q.0, Contains-rest q.0 a xs q.1, q.2, q.3))
+]
+
+module _ (config : Numbers) (from : ℕ) (old new : List CellView) (z : AllZip HasWorked old new) (inside : AreInside config old) (k : All KeptCell new) where
+  nodes_on : All (λ c. from ≤ c.pass.seen) old → ((i : ℕ) (e : NodeEntry) → Contains (journal_of config old i) e → e.number < from) → (i : ℕ) → NodeGoesOn from (journal_of config old i) (journal_of config new i)
+  nodes_on s below i =
+      let under : (x : CellView) → Contains old x → AreUnder from x.journal = λ x there. all_of (λ e. e.number < from) x.journal (λ e at.
+      below x.charter.number e (subst (λ (l : List NodeEntry). Contains l e) (sym (journal_is config old inside x.charter.number)) (journal_has old x e there at))) in
+      let on = journal_on i from old new (goes_on from old old new (λ x there. there) under z s k) in
+      record {
+        more = on.more;
+        grown = journal_is config new (worked_inside config old new z inside) i ∙ on.grown ∙ ap (λ (l : List NodeEntry). l ++ on.more) (sym (journal_is config old inside i));
+        later = on.later;
+      }
+
+  nodes_calm : (i n block : ℕ) (stamp : Stamp) → Contains (journal_of config new i) (record { number = n; act = Pruned block stamp }) → Contains (journal_of config old i) (record { number = n; act = Pruned block stamp })
+  nodes_calm i n block stamp there =
+      let e : NodeEntry = record { number = n; act = Pruned block stamp } in
+      let q = journal_cases new i e (subst (λ (l : List NodeEntry). Contains l e) (journal_is config new (worked_inside config old new z inside) i) there) in
+      let w = was_cell old new z k q.cell q.there in
+      let at = journal_has old w.0 e w.1 (cell_calm w.0 q.cell w.2 w.3 n block stamp q.stands) in
+      let is : w.0.charter.number ≡ i = ap (λ c. c.number) (sym w.2.charter) ∙ q.number in
+      subst (λ (l : List NodeEntry). Contains l e) (sym (journal_is config old inside i)) (subst (λ (m : ℕ). Contains (node_journal old m) e) is at)
 
 -- ---- all desks, by their clients
 
@@ -135,20 +174,20 @@ desks_quiet plan phases (x ∷ xs) (y ∷ ys) z q c lies = elim (eqb_tells x.id 
 ]
 
 pub phases_work : PhasesWork
-phases_work plan phases old were new are seen w kept = record {
+phases_work plan phases old were new are low inside seen w kept = record {
   later = record {
     config = refl;
     liars = refl;
-    nodes = nodes_on (next_begin phases) old new w.cells seen.cells kept;
+    nodes = nodes_on plan.config (next_begin phases) old new w.cells inside kept seen.cells low.nodes;
     desks = desks_on (next_begin phases) were are w.desks seen.desks;
   };
   quiet = desks_quiet plan phases were are w.desks w.quiet;
-  calm = nodes_calm old new w.cells kept;
+  calm = nodes_calm plan.config (next_begin phases) old new w.cells inside kept;
 }
 
 -- ---- bounds
 
-cell_below : (cell : CellView) → KeptCell cell → (bound : ℕ) → cell.pass.seen ≤ bound → (e : NodeEntry) → Contains cell.journal e → e.number < bound
+pub cell_below : (cell : CellView) → KeptCell cell → (bound : ℕ) → cell.pass.seen ≤ bound → (e : NodeEntry) → Contains cell.journal e → e.number < bound
 cell_below cell k bound l e there =
     let split : cell.journal ≡ take cell.charter.base cell.journal ++ drop cell.charter.base cell.journal = sym (take-append-drop cell.charter.base cell.journal) in
     elim (Contains-append_cases (take cell.charter.base cell.journal) (drop cell.charter.base cell.journal) e (subst (λ (es : List NodeEntry). Contains es e) split there)) [
@@ -161,16 +200,12 @@ cell_below cell k bound l e there =
     ]
 
 pub journals_below : JournalsBelow
-journals_below plan bound cells desks seen kept = record { nodes = node; desks = desk }
+journals_below plan bound cells desks inside seen kept = record { nodes = node; desks = desk }
   where
-    node : (i : ℕ) (e : NodeEntry) → Contains (journal_of cells i) e → e.number < bound
-    node i e there = elim (node_at cells i).is [
-      | inl q ↦ (
-          let at = Contains-slice_get cells i q.0 q.1 in
-          cell_below q.0 (All-contains KeptCell cells q.0 kept.cells at) bound (All-contains (λ c. c.pass.seen ≤ bound) cells q.0 seen.cells at) e (subst (λ (es : List NodeEntry). Contains es e) q.2 there)
-          )
-      | inr q ↦ absurd (Contains-none e (subst (λ (es : List NodeEntry). Contains es e) q.1 there))
-    ]
+    node : (i : ℕ) (e : NodeEntry) → Contains (journal_of plan.config cells i) e → e.number < bound
+    node i e there =
+        let q = journal_cases cells i e (subst (λ (l : List NodeEntry). Contains l e) (journal_is plan.config cells inside i) there) in
+        cell_below q.cell (All-contains KeptCell cells q.cell kept.cells q.there) bound (All-contains (λ c. c.pass.seen ≤ bound) cells q.cell seen.cells q.there) e q.stands
 
     desk : (c : ℕ) (e : DeskEntry) → Contains (entries_at desks c) e → e.number < bound
     desk c e there = elim (desk_at desks c).is [
@@ -185,51 +220,31 @@ journals_below plan bound cells desks seen kept = record { nodes = node; desks =
 
 -- ---- prunes
 
-abbrev cells_prune_at : (plan : Plan) (p : Phase) (ps : List Pruning) (old new : List CellView) → AllZip (HasDonePrunes plan p.close ps) old new → (i : ℕ) → NodeGoesOn p.close (journal_of old i) (journal_of new i)
-cells_prune_at plan p ps [] [] z i = record { more = []; grown = append_nil (journal_of [] i); later = λ e there. absurd (Contains-none e there) }
-cells_prune_at plan p ps [] (y ∷ ys) z i = absurd z
-cells_prune_at plan p ps (x ∷ xs) [] z i = absurd z
-cells_prune_at plan p ps (x ∷ xs) (y ∷ ys) z zero = record { more = z.0.more; grown = z.0.grown; later = z.0.later }
-cells_prune_at plan p ps (x ∷ xs) (y ∷ ys) z (suc i) = cells_prune_at plan p ps xs ys z.1 i
-
--- whose prunes they are
-prunes_at : (plan : Plan) (p : Phase) (ps : List Pruning) (old new : List CellView) (z : AllZip (HasDonePrunes plan p.close ps) old new) (i : ℕ) (cell : CellView) → slice_get old i ≡ Some cell
-    → map (λ e. e.act) (cells_prune_at plan p ps old new z i).more ≡ cond (can_prune (state_of cell) cell.charter.nature) (map act_of ps) []
-prunes_at plan p ps [] new z i cell at = absurd (Contains-none cell (Contains-slice_get [] i cell at))
-prunes_at plan p ps (x ∷ xs) [] z i cell at = absurd z
-prunes_at plan p ps (x ∷ xs) (y ∷ ys) z zero cell at = (let same : x ≡ cell = cc in subst (λ (c : CellView). map (λ e. e.act) z.0.more ≡ cond (can_prune (state_of c) c.charter.nature) (map act_of ps) []) same z.0.acts)
-prunes_at plan p ps (x ∷ xs) (y ∷ ys) z (suc i) cell at = prunes_at plan p ps xs ys z.1 i cell at
-
--- a cell's node is the plan's
-pub state_is : (plan : Plan) (clock : ClockId) (cells : List CellView) → ArePlanned plan clock cells → (i : ℕ) (cell : CellView) → slice_get cells i ≡ Some cell → state_of cell ≡ node_after plan i cell.journal
-state_is plan clock cells h i cell at =
-    let a = h.cells.each i cell at in
-    let c = h.conduct i cell at in
-    ap (λ (n : Numbers). after_all (new_state n cell.charter.number cell.charter.crash_after) cell.journal) a.cluster
-    ∙ ap (λ (k : ℕ). after_all (new_state plan.config k cell.charter.crash_after) cell.journal) a.number
-    ∙ ap (λ (o : Option ℕ). after_all (new_state plan.config i o) cell.journal) c.1
-
 pub cells_prune : CellsPrune
-cells_prune plan clock p ps old new desks h long z = record {
+cells_prune plan clock p ps old new desks h k did = record {
   config = refl;
   liars = refl;
   desks = λ c. refl;
-  nodes = cells_prune_at plan p ps old new z;
-  acts = acts;
+  nodes = λ i. node i (nat_lt i plan.config.n) refl;
+  acts = λ i l. acts i (nat_lt i plan.config.n) refl l;
 }
   where
-    none_past : (cells : List CellView) (i : ℕ) → i < length cells → ◌≡◌ {A = Option CellView} (slice_get cells i) None → ⊥
-    none_past [] i l e = absurd (omega arith)
-    none_past (c ∷ cells) zero l e = absurd (cc)
-    none_past (c ∷ cells) (suc i) l e = none_past cells i (omega (arith, l)) e
+    was : (i : ℕ) → journal_of plan.config old i ≡ node_journal old i
+    was = journal_is plan.config old h.inside
 
-    acts : (i : ℕ) → i < plan.config.n → map (λ e. e.act) (cells_prune_at plan p ps old new z i).more ≡ cond (can_prune (node_after plan i (journal_of old i)) (nature plan.rules i)) (map act_of ps) []
-    acts i l = elim (node_at old i).is [
-      | inl q ↦ (
-          let s : state_of q.0 ≡ node_after plan i (journal_of old i) = state_is plan clock old h i q.0 q.1 ∙ ap (node_after plan i) (sym q.2) in
-          let n = (h.conduct i q.0 q.1).0 in
-          prunes_at plan p ps old new z i q.0 q.1 ∙ ap (λ (d : NodeState). cond (can_prune d q.0.charter.nature) (map act_of ps) []) s
-          ∙ ap (λ (k : Nature). cond (can_prune (node_after plan i (journal_of old i)) k) (map act_of ps) []) n
-          )
-      | inr q ↦ absurd (none_past old i (let c = h.cells.count in omega (arith, l, c)) q.0)
-    ]
+    is : (i : ℕ) → journal_of plan.config new i ≡ node_journal new i
+    is = journal_is plan.config new k.inside
+
+    within : (i : ℕ) → nat_lt i plan.config.n ≡ true → i < plan.config.n
+    within i e = grind (arith, nat_tests)
+
+    past : (cells : List CellView) (i : ℕ) → nat_lt i plan.config.n ≡ false → journal_of plan.config cells i ≡ []
+    past cells i e = (let l : plan.config.n ≤ i = grind (arith, nat_tests) in past_range (node_journal cells) 0 plan.config.n i l)
+
+    node : (i : ℕ) (b : Bool) → nat_lt i plan.config.n ≡ b → NodeGoesOn p.close (journal_of plan.config old i) (journal_of plan.config new i)
+    node i true e = (let d = did i (within i e) in record { more = d.more; grown = is i ∙ d.grown ∙ ap (λ (l : List NodeEntry). l ++ d.more) (sym (was i)); later = d.later })
+    node i false e = record { more = []; grown = past new i e ∙ ap (λ (l : List NodeEntry). l ++ []) (sym (past old i e)); later = λ x there. absurd (Contains-none x there) }
+
+    acts : (i : ℕ) (b : Bool) (e : nat_lt i plan.config.n ≡ b) → i < plan.config.n → map (λ x. x.act) (node i b e).more ≡ cond (can_prune (node_after plan i (journal_of plan.config old i)) (nature plan.rules i)) (map act_of ps) []
+    acts i true e l = (did i (within i e)).acts ∙ ap (λ (es : List NodeEntry). cond (can_prune (node_after plan i es) (nature plan.rules i)) (map act_of ps) []) (sym (was i))
+    acts i false e l = absurd (let g : plan.config.n ≤ i = grind (arith, nat_tests) in omega (arith, g, l))

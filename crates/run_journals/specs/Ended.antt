@@ -1,5 +1,5 @@
 -- A run that has ended, and its journals.
-use Rattle.std.specs.Prelude.{◌≡◌, ◌⊎◌, ℕ, ◌+◌, List, ◌++◌, length, map, All, slice_get, sum_by, count_by}
+use Rattle.std.specs.Prelude.{◌≡◌, ℕ, List, ◌++◌, length, map, All, count_by}
 use Rattle.std.specs.List.{Contains}
 use Rattle.wire_forms.specs.Liars.{has_number}
 use Rattle.protocol.specs.Report.{Ascend}

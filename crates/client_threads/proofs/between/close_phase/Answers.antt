@@ -5,10 +5,12 @@ use Rattle.plan_prunes.specs.declared.BlockStamp.{BlockStamp}
 use Rattle.plan_prunes.specs.Prunings.{ArePrunings}
 use Rattle.phase_threads.specs.declared.duty.Seat.{Seat}
 use Rattle.client_work.specs.declared.work.Work.{Work}
-use Rattle.client_threads.specs.Pruned.{IsOpenCell}
+use Rattle.plan_words.specs.declared.plan.Plan.{Plan}
+use Rattle.run_journals.specs.Standing.{ArePlanned}
+use Rattle.client_threads.specs.Pruned.{AllPruned}
 use Rattle.client_threads.specs.Reads.{reads_of, early_reads, late_reads}
 use Rattle.client_threads.specs.declared.state.Run.{Run}
-use Rattle.client_threads.proofs.Inside.{counted_met, as_many, inside_met, prunings_met, ready_cells, open_pruned}
+use Rattle.client_threads.proofs.Inside.{counted_met, as_many, inside_met, prunings_met, blocks_met, planned_met, open_pruned}
 use Rattle.client_threads.proofs.Phasing.{HasPruned, is_between}
 use Rattle.client_threads.proofs.between.close_phase.Goals as goal
 
@@ -20,15 +22,23 @@ pub prunings-requires-clause-blocks : goal.prunings-requires-clause-blocks
 prunings-requires-clause-blocks c =
     let given = inside_met c.requires.worked.0 c.args.run c.meet_all.new.run c.requires.worked.1 c.meet_all.ensures.met c.as_slice.result.now c.as_slice-2.result.now c.as_slice.ensures.value c.as_slice-2.ensures.value
     c.in_ok-reads.reads.given.items c.in_ok-reads.reads.early c.in_ok-reads.ensures.given c.in_ok-reads.ensures.early in
-    subst (All (λ (x : BlockStamp). x.block < c.args.blocks)) (sym c.as_slice-3.ensures.value) (subst (λ (n : ℕ). All (λ (x : BlockStamp). x.block < n) c.in_ok-reads.reads.given.items) (sym c.requires.blocks) given)
+    subst (All (λ (x : BlockStamp). x.block < c.blocks-blocks.result)) (sym c.as_slice-3.ensures.value)
+    (subst (λ (n : ℕ). All (λ (x : BlockStamp). x.block < n) c.in_ok-reads.reads.given.items) (ap (λ (p : Plan). p.config.blocks) c.requires.plan ∙ sym c.blocks-blocks.ensures.is) given)
 
-pub prune_all-requires-clause-cells : goal.prune_all-requires-clause-cells
-prune_all-requires-clause-cells c =
+pub prune_all-requires-clause-planned : goal.prune_all-requires-clause-planned
+prune_all-requires-clause-planned c =
     let run = c.meet_all.new.run in
-    let cells = ready_cells c.requires.worked.0 c.args.run run c.requires.worked.1 c.meet_all.ensures.met c.as_slice.result.now c.as_slice-2.result.now c.as_slice.ensures.value c.as_slice-2.ensures.value
+    subst (λ (p : Plan). ArePlanned p run.clock run.cells.items) c.requires.plan (planned_met c.requires.worked.0 c.args.run run c.requires.worked.1 c.meet_all.ensures.met)
+
+pub prune_all-requires-clause-seen : goal.prune_all-requires-clause-seen
+prune_all-requires-clause-seen c = λ k d lt. (c.meet_all.ensures.met.cells_seen k d lt).1
+
+pub prune_all-requires-clause-blocks : goal.prune_all-requires-clause-blocks
+prune_all-requires-clause-blocks c =
+    let blocks = blocks_met c.requires.worked.0 c.args.run c.meet_all.new.run c.requires.worked.1 c.meet_all.ensures.met c.as_slice.result.now c.as_slice-2.result.now c.as_slice.ensures.value c.as_slice-2.ensures.value
     c.as_slice-3.result.now c.in_ok-reads.reads.early (c.as_slice-3.ensures.value ∙ c.in_ok-reads.ensures.given) c.in_ok-reads.ensures.early
-    c.meet_all.ensures.«open» c.in_ok-prunings.prunings.items c.in_ok-prunings.ensures in
-    subst (λ (ps : List BlockStamp). All (IsOpenCell run.clock run.keeper.seen ps) run.cells.items) (sym c.as_slice-4.ensures.value) cells
+    c.in_ok-prunings.prunings.items c.in_ok-prunings.ensures in
+    subst (λ (ps : List BlockStamp). All (λ x. x.block < c.args.plan.now.config.blocks) ps) (sym c.as_slice-4.ensures.value) (subst (λ (p : Plan). All (λ (x : BlockStamp). x.block < p.config.blocks) c.in_ok-prunings.prunings.items) c.requires.plan blocks)
 
 pub count-requires : goal.count-requires
 count-requires c = as_many c.requires.worked.0 c.args.run c.meet_all.new.run c.requires.worked.1 c.meet_all.ensures.met c.as_slice-5.result.now c.as_mut_slice.result.now c.as_slice-5.ensures.value c.as_mut_slice.ensures.value
@@ -56,7 +66,7 @@ returns-clause-closed c none k worked =
       keeper = c.in_ok-cells.ensures.keeper;
       counted = with_items_is run.counted c.count.new.counted size ∙ c.count.ensures ∙ ap (map reads) c.as_slice-5.ensures.value;
       some = c.in_ok-cells.ensures.some;
-      all = c.in_ok-cells.ensures.all none;
+      all = subst (λ (p : Plan). AllPruned p run.keeper.seen ps run.cells.items c.in_ok-cells.cells.items) (sym c.requires.plan ∙ sym met.plan) (c.in_ok-cells.ensures.all none);
       seen = c.in_ok-cells.ensures.seen;
     } in
     let are = prunings_met k c.args.run run worked met c.as_slice.result.now c.as_slice-2.result.now c.as_slice.ensures.value c.as_slice-2.ensures.value

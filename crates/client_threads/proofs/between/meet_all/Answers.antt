@@ -4,14 +4,14 @@ use Rattle.std.specs.Vec.{with_items}
 use Rattle.std.proofs.lemmas.List.{with_items_is}
 use Rattle.locked_nodes.specs.Cells.{CellView}
 use Rattle.client_desks.specs.Desks.{DeskView}
-use Rattle.run_journals.specs.Standing.{AreCells, IsDeskAt}
+use Rattle.run_journals.specs.Standing.{AreCells, AreInside, IsDeskAt}
 use Rattle.phase_threads.specs.declared.duty.Seat.{Seat}
 use Rattle.client_work.specs.declared.work.Work.{Work}
 use Rattle.client_threads.specs.Met.{HasMetCell, HasMetSeat}
 use Rattle.client_threads.specs.Running.{desks_of, plan_of}
 use Rattle.client_threads.proofs.Keepers.{keeper_then, keeper_on}
-use Rattle.client_threads.proofs.Reading.{zip_count}
-use Rattle.client_threads.proofs.Rounds.{seats_tick, cells_met, seats_met, cells_within, desks_within, courier_at}
+use Rattle.client_threads.proofs.Working.{zip_long}
+use Rattle.client_threads.proofs.Rounds.{seats_tick, cells_met, inside_met, seats_met, cells_within, desks_within, courier_at}
 use Rattle.client_threads.proofs.between.meet_all.Goals as goal
 
 pub meet_desks-requires-clause-desks : goal.meet_desks-requires-clause-desks
@@ -27,16 +27,17 @@ returns-clause-open c =
     let seats = c.meet_desks.new.seats in
     let zc = subst (λ (l : List CellView). AllZip HasMetCell l cells) c.as_mut_slice.ensures.value c.meet_cells.ensures.cells in
     let zs = subst (λ (l : List (Seat Work)). AllZip HasMetSeat l seats) c.as_mut_slice-2.ensures.value c.meet_desks.ensures.seats in
-    let lc = zip_count HasMetCell run.cells.items cells zc in
-    let ls = zip_count HasMetSeat run.clients.items seats zs in
-    let bc : (with_items run.cells cells).items ≡ cells = with_items_is run.cells cells (zip_count HasMetCell c.as_mut_slice.result.now cells c.meet_cells.ensures.cells ∙ c.as_mut_slice.ensures.len) in
-    let bs : (with_items run.clients seats).items ≡ seats = with_items_is run.clients seats (zip_count HasMetSeat c.as_mut_slice-2.result.now seats c.meet_desks.ensures.seats ∙ c.as_mut_slice-2.ensures.len) in
+    let lc = zip_long HasMetCell run.cells.items cells zc in
+    let ls = zip_long HasMetSeat run.clients.items seats zs in
+    let bc : (with_items run.cells cells).items ≡ cells = with_items_is run.cells cells (zip_long HasMetCell c.as_mut_slice.result.now cells c.meet_cells.ensures.cells ∙ c.as_mut_slice.ensures.len) in
+    let bs : (with_items run.clients seats).items ≡ seats = with_items_is run.clients seats (zip_long HasMetSeat c.as_mut_slice-2.result.now seats c.meet_desks.ensures.seats ∙ c.as_mut_slice-2.ensures.len) in
     let two = keeper_then run.keeper c.meet_cells.new.keeper c.meet_desks.new.keeper c.meet_cells.ensures.keeper c.meet_desks.ensures.keeper in
     let three = keeper_on run.keeper c.meet_desks.new.keeper run.courier.pass c.meet.new.other two c.meet.ensures.other in
     let mc = ap length bc in
     let ms = ap length bs in
     record {
       cells = subst (AreCells config run.clock) (sym bc) (cells_met config run.clock run.cells.items cells zc c.requires.cells);
+      inside = subst (AreInside config) (sym bc) (inside_met config run.cells.items cells zc c.requires.inside);
       desks = subst (λ (l : List (Seat Work)). All (IsDeskAt config run.clock) (desks_of l)) (sym bs) (seats_met config run.clock run.clients.items seats zs c.requires.desks);
       courier = courier_at config run.clock run.courier c.meet.new.self c.meet_desks.new.keeper c.meet.ensures.desk c.requires.courier;
       keeper = (three.clock ∙ c.requires.keeper.0, three.drawn ∙ c.requires.keeper.1);
@@ -58,8 +59,8 @@ returns-clause-met c =
     let three = keeper_on k2 k2 run.courier.pass k3 (record { clock = refl; number = refl; drawn = refl; seen = omega arith }) c.meet.ensures.other in
     let zc = subst (λ (l : List CellView). AllZip HasMetCell l cells) c.as_mut_slice.ensures.value c.meet_cells.ensures.cells in
     let zs = subst (λ (l : List (Seat Work)). AllZip HasMetSeat l seats) c.as_mut_slice-2.ensures.value c.meet_desks.ensures.seats in
-    let bc : (with_items run.cells cells).items ≡ cells = with_items_is run.cells cells (zip_count HasMetCell c.as_mut_slice.result.now cells c.meet_cells.ensures.cells ∙ c.as_mut_slice.ensures.len) in
-    let bs : (with_items run.clients seats).items ≡ seats = with_items_is run.clients seats (zip_count HasMetSeat c.as_mut_slice-2.result.now seats c.meet_desks.ensures.seats ∙ c.as_mut_slice-2.ensures.len) in
+    let bc : (with_items run.cells cells).items ≡ cells = with_items_is run.cells cells (zip_long HasMetCell c.as_mut_slice.result.now cells c.meet_cells.ensures.cells ∙ c.as_mut_slice.ensures.len) in
+    let bs : (with_items run.clients seats).items ≡ seats = with_items_is run.clients seats (zip_long HasMetSeat c.as_mut_slice-2.result.now seats c.meet_desks.ensures.seats ∙ c.as_mut_slice-2.ensures.len) in
     record {
       plan = refl;
       clock = refl;

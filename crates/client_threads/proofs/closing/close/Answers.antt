@@ -1,10 +1,18 @@
-use Rattle.std.proofs.Common.{◌≡◌, List, All, map, sym, ap, subst, ◌∙◌}
+use Rattle.std.proofs.Common.{◌≡◌, ℕ, ◌<◌, List, All, map, sym, ap, subst, ◌∙◌}
 use Rattle.event_clock.specs.declared.rule.Share.{Share}
 use Rattle.event_clock.specs.Passes.{Holder, share_of}
 use Rattle.event_clock.specs.Views.{IsDrawnOnce}
+use Rattle.locked_nodes.specs.Cells.{CellView}
+use Rattle.plan_words.specs.declared.plan.Plan.{Plan}
+use Rattle.run_journals.specs.Standing.{AreInside}
 use Rattle.client_threads.specs.Running.{desks_of, plan_of}
 use Rattle.client_threads.proofs.Together.{together, all_tick, drawn_once, quiet_drawn, full_share}
 use Rattle.client_threads.proofs.closing.close.Goals as goal
+
+pub finish_cells-requires : goal.finish_cells-requires
+finish_cells-requires c =
+    let cells = c.args.run.cells.items in
+    subst (λ (n : ℕ). All (λ (x : CellView). x.charter.number < n) cells) (sym c.n.ensures.is) (subst (λ (p : Plan). AreInside p.config cells) c.requires.plan c.requires.opened.inside)
 
 pub close-drawn-requires-clause-own : goal.close-drawn-requires-clause-own
 close-drawn-requires-clause-own c =
@@ -13,7 +21,7 @@ close-drawn-requires-clause-own c =
     let all = together run.cells.items desks run.courier.pass c.finish-empty.result.1 run.keeper c.new-passes.result c.finish_cells.new.passes c.finish_desks.new.passes c.push.new.self c.push-2.new.self
     c.new-passes.ensures c.in_ok-nodes.ensures.passes c.in_ok-desks.ensures.passes c.in_ok-push.ensures.ok c.finish-empty.ensures.pass c.in_ok-push-2.ensures.ok in
     subst (All (λ (p : Holder). p.clock ≡ run.clock)) (sym all)
-    (all_tick (plan_of run).config run.clock run.cells.items desks run.courier.pass run.keeper c.requires.cells c.in_ok-nodes.ensures.kept c.requires.desks c.requires.courier.ticks c.requires.keeper.0)
+    (all_tick (plan_of run).config run.clock run.cells.items desks run.courier.pass run.keeper c.requires.opened.cells c.in_ok-nodes.ensures.kept c.requires.opened.desks c.requires.opened.courier.ticks c.requires.opened.keeper.0)
 
 pub returns-clause-drawn : goal.returns-clause-drawn
 returns-clause-drawn c quiet =
@@ -22,7 +30,7 @@ returns-clause-drawn c quiet =
     let all = together run.cells.items desks run.courier.pass c.finish-empty.result.1 run.keeper c.new-passes.result c.finish_cells.new.passes c.finish_desks.new.passes c.push.new.self c.push-2.new.self
     c.new-passes.ensures c.in_ok-nodes.ensures.passes c.in_ok-desks.ensures.passes c.in_ok-push.ensures.ok c.finish-empty.ensures.pass c.in_ok-push-2.ensures.ok in
     let count = c.close-drawn.result.count in
-    drawn_once count run.cells.items desks run.courier.pass run.keeper (quiet_drawn run.courier c.finish-empty.ensures.kept quiet) c.requires.keeper.1
+    drawn_once count run.cells.items desks run.courier.pass run.keeper (quiet_drawn run.courier c.finish-empty.ensures.kept quiet) c.requires.opened.keeper.1
     (subst (λ (l : List Share). IsDrawnOnce count l) (c.close-drawn.ensures.shares ∙ ap (map share_of) all) c.close-drawn.ensures.once)
 
 pub returns-clause-full : goal.returns-clause-full

@@ -5,7 +5,7 @@ use Rattle.plan_tasks.specs.Tasks.{client_of}
 use Rattle.phase_threads.specs.declared.duty.Seat.{Seat}
 use Rattle.client_work.specs.declared.work.Work.{Work}
 use Rattle.client_threads.specs.Opened.{IsUnusedPass}
-use Rattle.client_threads.proofs.Newcomers.{tasks_few, same_long, all_unused, liars_named, stands_first}
+use Rattle.client_threads.proofs.Newcomers.{count_few, tasks_few, same_long, all_unused, liars_named, stands_first}
 use Rattle.client_threads.proofs.opening.open.Goals as goal
 
 pub overflow_cast-clients : goal.overflow_cast-clients
@@ -13,26 +13,32 @@ overflow_cast-clients c =
     let few = tasks_few c.args.plan.now c.requires c.in_ok-tasks.tasks c.in_ok-tasks.ensures.clients in
     omega (arith, few, c.len-clients.ensures)
 
-pub overflow_add-n : goal.overflow_add-n
-overflow_add-n c =
-    let few = tasks_few c.args.plan.now c.requires c.in_ok-tasks.tasks c.in_ok-tasks.ensures.clients in
+pub overflow_add-count_cells : goal.overflow_add-count_cells
+overflow_add-count_cells c =
+    let plan = c.args.plan.now in
+    let few = tasks_few plan c.requires c.in_ok-tasks.tasks c.in_ok-tasks.ensures.clients in
     let most = c.requires.valid.nodes.1 in
-    omega (arith, few, most, c.len-clients.ensures, c.n.ensures.is)
+    let cells = count_few plan plan.config.n in
+    omega (arith, few, most, cells, c.len-clients.ensures, c.count_cells.ensures)
 
-pub overflow_add-n-2 : goal.overflow_add-n-2
-overflow_add-n-2 c =
-    let few = tasks_few c.args.plan.now c.requires c.in_ok-tasks.tasks c.in_ok-tasks.ensures.clients in
+pub overflow_add-count_cells-2 : goal.overflow_add-count_cells-2
+overflow_add-count_cells-2 c =
+    let plan = c.args.plan.now in
+    let few = tasks_few plan c.requires c.in_ok-tasks.tasks c.in_ok-tasks.ensures.clients in
     let most = c.requires.valid.nodes.1 in
-    omega (arith, few, most, c.len-clients.ensures, c.n.ensures.is)
+    let cells = count_few plan plan.config.n in
+    omega (arith, few, most, cells, c.len-clients.ensures, c.count_cells.ensures)
 
 pub start-requires : goal.start-requires
 start-requires c =
-    let few = tasks_few c.args.plan.now c.requires c.in_ok-tasks.tasks c.in_ok-tasks.ensures.clients in
+    let plan = c.args.plan.now in
+    let few = tasks_few plan c.requires c.in_ok-tasks.tasks c.in_ok-tasks.ensures.clients in
     let most = c.requires.valid.nodes.1 in
-    (omega arith, omega (arith, few, most, c.len-clients.ensures, c.n.ensures.is))
+    let cells = count_few plan plan.config.n in
+    (omega arith, omega (arith, few, most, cells, c.len-clients.ensures, c.count_cells.ensures))
 
 pub open_cells-requires-clause-unused : goal.open_cells-requires-clause-unused
-open_cells-requires-clause-unused c = all_unused c.in_ok-clock.clock c.in_ok-clock.passes (c.n.result + c.len-clients.result + 2) c.in_ok-clock.ensures.all c.in_ok-clock.ensures.each
+open_cells-requires-clause-unused c = all_unused c.in_ok-clock.clock c.in_ok-clock.passes (c.count_cells.result + c.len-clients.result + 2) c.in_ok-clock.ensures.all c.in_ok-clock.ensures.each
 
 pub lying-requires : goal.lying-requires
 lying-requires c = record { unused = (All-pop (IsUnusedPass c.in_ok-clock.clock) c.open_seats.new.passes c.pop.new.self (Some c.in-Some.pass) c.in-Some.ensures.items c.in_ok-clients.ensures.unused).1.drawn }
@@ -52,7 +58,7 @@ returns-clause-stands c =
       unused = one.1;
       courier = c.in_ok-courier.ensures;
       keeper = other.1;
-      passes = omega (arith, long, c.in_ok-clock.ensures.clock, c.len-clients.ensures, c.n.ensures.is);
+      passes = omega (arith, long, c.in_ok-clock.ensures.clock, c.len-clients.ensures, c.count_cells.ensures);
       counted = c.in_ok-counted.ensures.items_if_clones_equal (λ y e. e) ∙ ap (λ (k : ℕ). replicate k 0) count;
       named = liars_named c.args.plan.now c.requires;
     })

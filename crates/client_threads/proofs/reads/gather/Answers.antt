@@ -3,21 +3,22 @@ use Rattle.std.proofs.lemmas.Option.{slice_get-get_or}
 use Rattle.client_work.specs.declared.reads.GivenRead.{GivenRead}
 use Rattle.client_threads.specs.Reads.{reads_of, early_reads, late_reads, block_stamp}
 use Rattle.client_threads.proofs.Keepers.{item_at}
-use Rattle.client_threads.proofs.Reading.{early_next, late_next, add_on, enough, zip_count}
+use Rattle.client_threads.proofs.Reading.{early_next, late_next, add_on, enough}
+use Rattle.client_threads.proofs.Working.{zip_long}
 use Rattle.client_threads.proofs.reads.gather.Goals as goal
 
 pub bounds-counted-i : goal.bounds-counted-i
-bounds-counted-i c = let long = zip_count (λ s n. n ≤ length (reads_of s)) c.args.seats.now c.args.counted.now c.requires in omega (arith, long, c.loop-i-test.true)
+bounds-counted-i c = let long = zip_long (λ s n. n ≤ length (reads_of s)) c.args.seats.now c.args.counted.now c.requires in omega (arith, long, c.loop-i-test.true)
 
 pub bounds-counted-i-in-loop-i-2 : goal.bounds-counted-i-in-loop-i-2
-bounds-counted-i-in-loop-i-2 c = let long = zip_count (λ s n. n ≤ length (reads_of s)) c.args.seats.now c.args.counted.now c.requires in omega (arith, long, c.loop-i-2-test.true)
+bounds-counted-i-in-loop-i-2 c = let long = zip_long (λ s n. n ≤ length (reads_of s)) c.args.seats.now c.args.counted.now c.requires in omega (arith, long, c.loop-i-2-test.true)
 
 pub split_at-requires : goal.split_at-requires
 split_at-requires c =
     let i = c.loop-i.i in
     let seats = c.args.seats.now in
     let counted = c.args.counted.now in
-    let long = zip_count (λ s n. n ≤ length (reads_of s)) seats counted c.requires in
+    let long = zip_long (λ s n. n ≤ length (reads_of s)) seats counted c.requires in
     let s = c.index-seats-i.result in
     let n = get_or counted i 0 in
     let is = c.index-seats-i.is in
@@ -30,7 +31,7 @@ split_at-requires-in-loop-i-2 c =
     let i = c.loop-i-2.i in
     let seats = c.args.seats.now in
     let counted = c.args.counted.now in
-    let long = zip_count (λ s n. n ≤ length (reads_of s)) seats counted c.requires in
+    let long = zip_long (λ s n. n ≤ length (reads_of s)) seats counted c.requires in
     let s = c.index-seats-i-in-loop-i-2.result in
     let n = get_or counted i 0 in
     let is = c.index-seats-i-in-loop-i-2.is in
@@ -43,7 +44,7 @@ loop-i-preserved c =
     let i = c.loop-i.i in
     let seats = c.args.seats.now in
     let counted = c.args.counted.now in
-    let long = zip_count (λ s n. n ≤ length (reads_of s)) seats counted c.requires in
+    let long = zip_long (λ s n. n ≤ length (reads_of s)) seats counted c.requires in
     let s = c.index-seats-i.result in
     let n = get_or counted i 0 in
     let is = c.index-seats-i.is in
@@ -59,7 +60,7 @@ loop-i-2-preserved c =
     let i = c.loop-i-2.i in
     let seats = c.args.seats.now in
     let counted = c.args.counted.now in
-    let long = zip_count (λ s n. n ≤ length (reads_of s)) seats counted c.requires in
+    let long = zip_long (λ s n. n ≤ length (reads_of s)) seats counted c.requires in
     let s = c.index-seats-i-in-loop-i-2.result in
     let n = get_or counted i 0 in
     let is = c.index-seats-i-in-loop-i-2.is in

@@ -17,8 +17,8 @@ bring_all-brought-requires-clause-cells g c =
     let run = c.in_ok-run.run' in
     subst (All (λ (x : CellView). x.charter.pass.clock ≡ run.clock)) (sym c.as_mut_slice.ensures.value) (cells_tick (plan_of run).config run.clock run.cells.items c.in_ok-run.ensures.«open».cells)
 
-pub stop-requires-in-Err : goal.stop-requires-in-Err
-stop-requires-in-Err g c =
+pub stop-requires-in-Err-clause-opened : goal.stop-requires-in-Err-clause-opened
+stop-requires-in-Err-clause-opened g c =
     let mid = c.in_ok-run.run' in
     let cells = c.bring_all-brought.new.cells in
     let new : Run = record { plan = mid.plan; clock = mid.clock; cells = with_items mid.cells cells; clients = mid.clients; courier = c.bring_all-brought.new.courier; keeper = mid.keeper; counted = mid.counted } in
@@ -28,7 +28,7 @@ stop-requires-in-Err g c =
     open_mailed mid new mailed c.in_ok-run.ensures.«open»
 
 pub returns-in-Ok-clause-plan : goal.returns-in-Ok-clause-plan
-returns-in-Ok-clause-plan g c = (c.in_ok-run.ensures.done c.in_default.is c.requires.0 c.requires.1.standing).same.plan
+returns-in-Ok-clause-plan g c = (c.in_ok-run.ensures.done c.in_default.is c.requires.between.0 c.requires.between.1.standing).same.plan
 
 pub returns-in-Ok-clause-worked : goal.returns-in-Ok-clause-worked
 returns-in-Ok-clause-worked g c k between =
@@ -38,5 +38,5 @@ returns-in-Ok-clause-worked g c k between =
     let zip = subst (λ (l : List CellView). AllZip Brings l cells) c.as_mut_slice.ensures.value c.bring_all-brought.ensures.cells in
     let is : (with_items mid.cells cells).items ≡ cells = with_items_is mid.cells cells (zip_long Brings c.as_mut_slice.result.now cells c.bring_all-brought.ensures.cells ∙ c.as_mut_slice.ensures.len) in
     let mailed : IsMailed mid new = record { plan = refl; clock = refl; clients = refl; keeper = refl; counted = refl; courier = c.bring_all-brought.ensures.kept; cells = subst (AllZip Brings mid.cells.items) (sym is) zip } in
-    is_worked c.phases_work.ensures.work c.phases_close.ensures.goes_on k c.args.run mid new between (c.in_ok-run.ensures.done c.in_default.is k between.standing) mailed
+    is_worked c.phases_work.ensures.work c.phases_close.ensures.goes_on c.phases_work.ensures.late k c.args.run mid new between (c.in_ok-run.ensures.done c.in_default.is k between.standing) mailed
     (subst (All KeptCell) (sym is) c.bring_all-brought.ensures.known) (subst (All HasNoLateMail) (sym is) c.in-Ok.ensures.none)

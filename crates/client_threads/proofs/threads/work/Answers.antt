@@ -4,6 +4,7 @@ use Rattle.std.proofs.Common.{◌≡◌, ℕ, true, false, ◌<◌, List, length
 use Rattle.std.specs.Prelude.{All, vec_len}
 use Rattle.std.specs.List.{AllZip}
 use Rattle.locked_nodes.specs.Cells.{KeptCell}
+use Rattle.locked_nodes.specs.Slots.{slots_of}
 use Rattle.client_desks.specs.Later.{IsLater}
 use Rattle.run_journals.specs.Standing.{IsDeskAt, PairsStand}
 use Rattle.phase_threads.specs.declared.duty.Seat.{Seat}
@@ -12,7 +13,7 @@ use Rattle.client_work.specs.Work.{Ready, Done}
 use Rattle.client_work.proofs.Sending.{work_send}
 use Rattle.client_threads.specs.Running.{desks_of, plan_of}
 use Rattle.client_threads.specs.declared.state.Run.{Run}
-use Rattle.client_threads.proofs.Threading.{courier_seat, all_ready, desks_with, pairs_with, some_left, open_after, phase_done}
+use Rattle.client_threads.proofs.Threading.{courier_seat, whole_where, all_ready, desks_with, pairs_with, some_left, open_after, phase_done}
 use Rattle.client_threads.proofs.threads.work.Goals as goal
 
 pub run_phase-requires-send-T : goal.run_phase-requires-send-T
@@ -38,7 +39,9 @@ pub run_phase-requires-clause-ready : goal.run_phase-requires-clause-ready
 run_phase-requires-clause-ready g c κs within =
     let run = c.args.run in
     let h = c.requires.1 in
-    subst (All (λ (s : Seat Work). Ready s.duty s.desk)) (sym c.in_ok-push.ensures.items) (all_ready (plan_of run) c.requires.0 c.requires.2 run.clients.items run.courier h.works h.quiet)
+    let slots = slots_of run.cells.items in
+    subst (All (λ (s : Seat Work). Ready s.duty slots s.desk)) (sym c.in_ok-push.ensures.items)
+    (all_ready (plan_of run) c.requires.0 c.requires.2 slots (whole_where (plan_of run) run.clock run.cells.items h.planned) run.clients.items run.courier h.works h.quiet)
 
 pub unreachable-requires : goal.unreachable-requires
 unreachable-requires g c =

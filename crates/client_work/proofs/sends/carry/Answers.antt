@@ -1,15 +1,15 @@
-use Rattle.std.proofs.Common.{rules, ◌∙◌, ap, sym}
+use Rattle.std.proofs.Common.{rules, ◌∙◌, ap}
 use Rattle.client_desks.specs.Desks.{DeskView}
 use Rattle.client_work.proofs.sends.carry.Goals as goal
 
 pub returns-then-is_err-clause-later : goal.returns-then-is_err-clause-later
-returns-then-is_err-clause-later g c = c.desks_go_on.ensures.on c.args.keys.now.desk c.loop-node.keys.desk c.deliver.new.self.desk c.loop-node.invariant.later c.deliver.ensures.later
+returns-then-is_err-clause-later g c = c.desks_go_on.ensures.on c.args.keys.now.desk c.loop-place.keys.desk c.deliver.new.self.desk c.loop-place.invariant.later c.deliver.ensures.later
 
-pub loop-node-preserved : goal.loop-node-preserved
-loop-node-preserved g c = record {
+pub loop-place-preserved : goal.loop-place-preserved
+loop-place-preserved g c = record {
   fit = c.deliver.ensures.fit;
   sound = search rules;
-  later = c.desks_go_on.ensures.on c.args.keys.now.desk c.loop-node.keys.desk c.deliver.new.self.desk c.loop-node.invariant.later c.deliver.ensures.later;
-  same = ap (λ (d : DeskView). d.entries) c.deliver.ensures.kept.same ∙ c.loop-node.invariant.same;
-  ends = c.loop-node.invariant.ends ∙ ap (λ (d : DeskView). d.config.n) (sym c.deliver.ensures.kept.same);
+  later = c.desks_go_on.ensures.on c.args.keys.now.desk c.loop-place.keys.desk c.deliver.new.self.desk c.loop-place.invariant.later c.deliver.ensures.later;
+  same = ap (λ (d : DeskView). d.entries) c.deliver.ensures.kept.same ∙ c.loop-place.invariant.same;
+  ends = c.loop-place.invariant.ends;
 }

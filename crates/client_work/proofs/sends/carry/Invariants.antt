@@ -1,4 +1,4 @@
-use Rattle.std.proofs.Common.{◌≡◌}
+use Rattle.std.proofs.Common.{◌≡◌, length}
 use Rattle.std.specs.declared.option.Option.TheVariants.{None}
 use Rattle.client_desks.specs.Later.{IsLater}
 use Rattle.desk_keys.specs.Keys.{Fit}
@@ -12,11 +12,11 @@ invariant-loop-round g l = record {
   same : l.keys.desk.entries ≡ l.fn.keys.desk.entries;
 }
 
-abbrev pub invariant-loop-node : goal.invariant-loop-node
-invariant-loop-node g l = record {
+abbrev pub invariant-loop-place : goal.invariant-loop-place
+invariant-loop-place g l = record {
   fit : Fit l.keys l.floor;
   sound : l.keys.refused ≡ None;
   later : IsLater l.fn.keys.desk l.keys.desk;
   same : l.keys.desk.entries ≡ l.fn.keys.desk.entries;
-  ends : l.node-end ≡ l.keys.desk.config.n;
+  ends : l.place-end ≡ length l.floor.vaults;
 }

@@ -20,7 +20,7 @@ pub each-requires-clause-can : goal.each-requires-clause-can
 each-requires-clause-can g c κs within =
     let value = c.as_mut_slice.ensures.value in
     let floor = c.args.floor.now in
-    subst (All (λ (p : Post g.row.T.Denot). Fit p.keys floor × (p.keys.refused ≡ None) × g.T.Duty.ready p.duty p.keys.desk)) (sym value) (λ k d lt. (c.requires.fit k d lt, c.requires.sound k d lt, c.requires.ready k d lt))
+    subst (All (λ (p : Post g.row.T.Denot). Fit p.keys floor × (p.keys.refused ≡ None) × g.T.Duty.ready p.duty floor.slots p.keys.desk)) (sym value) (λ k d lt. (c.requires.fit k d lt, c.requires.sound k d lt, c.requires.ready k d lt))
 
 pub returns-clause-fit : goal.returns-clause-fit
 returns-clause-fit g c =

@@ -1,10 +1,13 @@
 -- Lemmas of `Phasing`.
-use Rattle.std.proofs.Common.{◌≡◌, List, length, sym, ap, subst, ◌∙◌, rules}
+use Rattle.std.proofs.Common.{◌≡◌, List, length, All, sym, ap, subst, ◌∙◌, rules}
 use Rattle.receipt_lock.specs.Chits.{Deposit}
 use Rattle.locked_nodes.specs.declared.charter.Item.{Item}
+use Rattle.locked_nodes.specs.declared.slot.Slot.{Slot}
+use Rattle.locked_nodes.specs.Cells.{CellView}
+use Rattle.locked_nodes.specs.Slots.{slots_of}
 use Rattle.desk_keys.specs.Keys.{FloorView}
 use Rattle.phase_threads.specs.Phased.{Beside, IsClosed, new_hand}
-use Rattle.phase_threads.proofs.Phasing.{hands_rest, hands_agree, posts_fit, posts_sound, posts_ready, hands_own, hands_left, chits_all, desks_later, duties_done, cells_worked, pairs_again}
+use Rattle.phase_threads.proofs.Phasing.{floor_with, hands_rest, hands_agree, posts_fit, posts_sound, posts_ready, hands_own, hands_left, chits_all, desks_later, duties_done, cells_worked, pairs_again}
 use Rattle.phase_threads.proofs.phase.run_phase.Goals as goal
 
 pub open_posts-requires-clause-rest : goal.open_posts-requires-clause-rest
@@ -27,7 +30,7 @@ work_all-posts-requires-clause-fit g c κs within =
     let opened = c.in_ok-vaults.ensures.vaults in
     let posts = c.in_ok-posts.posts.items in
     let posted = c.in_ok-posts.ensures (new_hand vaults) c.in_ok-vaults.ensures.hands.1 in
-    posts_fit _ cells vaults seats posts opened posted c.requires.cluster.0 c.args.clock c.new-floor.result c.new-floor.ensures c.requires.cluster.1 c.requires.cluster.2
+    posts_fit _ cells vaults seats posts opened posted c.requires.cluster.0 c.args.clock c.new-floor.result (c.new-floor.ensures ∙ ap (floor_with c.args.clock vaults) (c.in_ok-slots.ensures ∙ ap (λ (l : List CellView). slots_of l) c.as_slice.ensures.value)) c.requires.cluster.1 c.requires.cluster.2
 
 pub work_all-posts-requires-clause-sound : goal.work_all-posts-requires-clause-sound
 work_all-posts-requires-clause-sound g c κs within =
@@ -47,7 +50,8 @@ work_all-posts-requires-clause-ready g c κs within =
     let opened = c.in_ok-vaults.ensures.vaults in
     let posts = c.in_ok-posts.posts.items in
     let posted = c.in_ok-posts.ensures (new_hand vaults) c.in_ok-vaults.ensures.hands.1 in
-    posts_ready _ cells vaults seats posts opened posted g.T.Duty.ready c.requires.ready
+    let slots = ap (λ (f : FloorView). f.slots) c.new-floor.ensures ∙ c.in_ok-slots.ensures ∙ ap (λ (l : List CellView). slots_of l) c.as_slice.ensures.value in
+    posts_ready _ cells vaults seats posts opened posted (λ t d. g.T.Duty.ready t c.new-floor.result.slots d) (subst (λ (l : List Slot). All (λ s. g.T.Duty.ready s.duty l s.desk) seats) (sym slots) c.requires.ready)
 
 pub close_row-requires-clause-own : goal.close_row-requires-clause-own
 close_row-requires-clause-own g c =

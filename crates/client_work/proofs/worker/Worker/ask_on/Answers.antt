@@ -1,11 +1,28 @@
-use Rattle.std.proofs.Common.{rules, ◌≡◌, ◌<◌, ◌∙◌, sym, subst}
+use Rattle.std.proofs.Common.{rules, arith, ◌≡◌, ◌<◌, ◌∙◌, sym, ap, subst}
+use Rattle.quorum_rules.specs.Limits.{Numbers}
 use Rattle.plan_words.specs.declared.plan.Plan.{Plan}
 use Rattle.std.specs.declared.option.Option.TheVariants.{Some}
 use Rattle.client_desks.specs.Later.{IsLater}
 use Rattle.desk_keys.specs.Keys.{KeysView}
 use Rattle.client_work.specs.Work.{given_by, IsWholeIn}
-use Rattle.client_work.proofs.Running.{ok_gives, may_call, asking_on, asked_out, crashed_out, noted_by}
+use Rattle.client_work.proofs.Going.{held_whole}
+use Rattle.client_work.proofs.Asking.{asks_block}
+use Rattle.client_work.proofs.Running.{whole_on, ok_gives, may_call, asking_on, asked_out, crashed_out, noted_by}
 use Rattle.client_work.proofs.worker.Worker.ask_on.Goals as goal
+
+pub call-requires-clause-on : goal.call-requires-clause-on
+call-requires-clause-on g c = asks_block c.loop.keys.desk c.in-Some-next_node.node c.args.block c.loop.invariant.2.on
+
+pub call-requires-clause-whole : goal.call-requires-clause-whole
+call-requires-clause-whole g c =
+    let w = c.loop.self in
+    let w' = c.count_ask-way.new.self in
+    let a = c.loop.invariant.2 in
+    let m = may_call w w' c.loop.keys.desk c.desk.result.now c.in-Some-next_node.node c.count_ask-way.result a.goes a.up c.desk.ensures c.in-Some-next_node.ensures.node c.count_ask-way.ensures.counted c.in-Some-next_node.ensures.next in
+    let n = ap (λ (x : Numbers). x.n) a.goes.its.config in
+    let below = m.below in
+    held_whole w c.loop.keys.desk.entries c.in-Some-next_node.node c.count_ask-way.result w' c.args.floor.now.slots (omega (arith, n, below)) a.goes.counts c.count_ask-way.ensures.counted
+    (whole_on c.args.self.now w c.args.floor.now.slots a.same c.requires.whole)
 
 pub returns-then-eq-clause-asked : goal.returns-then-eq-clause-asked
 returns-then-eq-clause-asked g c ok =

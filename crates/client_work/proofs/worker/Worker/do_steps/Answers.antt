@@ -2,7 +2,7 @@ use Rattle.std.proofs.Common.{rules, ◌≡◌, ◌∙◌, sym, subst, inr}
 use Rattle.std.specs.declared.option.Option.TheVariants.{None}
 use Rattle.client_desks.specs.Desks.{CanStart}
 use Rattle.client_work.specs.Work.{StepsFit}
-use Rattle.client_work.proofs.Running.{same_on}
+use Rattle.client_work.proofs.Running.{same_on, whole_on}
 use Rattle.client_work.proofs.Ending.{amid_off, amid_on, amid_more, fit_more, step_next, step_there}
 use Rattle.client_work.proofs.worker.Worker.do_steps.Goals as goal
 
@@ -18,6 +18,9 @@ do_step-requires-clause-next g c =
 
 pub do_step-requires-clause-fits : goal.do_step-requires-clause-fits
 do_step-requires-clause-fits g c = step_there c.loop-step.self c.loop-step.steps c.in-Some.step c.next.new.self c.in-Some.ensures.steps c.loop-step.invariant.steps
+
+pub do_step-requires-clause-whole : goal.do_step-requires-clause-whole
+do_step-requires-clause-whole g c = whole_on c.args.self.now c.loop-step.self c.args.floor.now.slots c.loop-step.invariant.same c.requires.whole
 
 pub loop-step-preserved : goal.loop-step-preserved
 loop-step-preserved g c =

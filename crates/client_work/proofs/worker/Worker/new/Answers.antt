@@ -1,4 +1,4 @@
-use Rattle.std.proofs.Common.{◌≡◌, ◌∙◌, ap, refl, sym, subst}
+use Rattle.std.proofs.Common.{◌∙◌, ap, refl, sym, subst}
 use Rattle.plan_words.specs.declared.plan.Plan.{Plan}
 use Rattle.plan_tasks.specs.Tasks.{IsClientTask}
 use Rattle.client_work.specs.Work.{phase_in}

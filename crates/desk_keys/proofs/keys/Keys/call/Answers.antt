@@ -1,7 +1,9 @@
 -- Lemmas of `Keying`.
 use Rattle.std.proofs.Common.{◌≡◌, None, sym, ap, subst, ◌∙◌}
 use Rattle.std.specs.Prelude.{slice_set}
-use Rattle.desk_keys.specs.Keys.{KeysView, Fit, AreKeys}
+use Rattle.event_clock.specs.Passes.{ClockId}
+use Rattle.client_desks.specs.Desks.{DeskView}
+use Rattle.desk_keys.specs.Keys.{KeysView, IsHead, AsksOn, Fit, AreKeys}
 use Rattle.desk_keys.proofs.Keying.{own_at, chit_at, fit_turn, keys_called, called_stays}
 use Rattle.desk_keys.proofs.keys.Keys.call.Goals as goal
 
@@ -11,10 +13,26 @@ call_in-answer-requires-clause-own g c =
     let old : KeysView = record { desk = was.desk; chits = was.chits.items; refused = was.refused } in
     let fit : Fit old c.args.floor.now = subst (λ (k : KeysView). Fit k c.args.floor.now) (sym c.self.view_is) c.requires.fit in
     let vaults = c.args.floor.now.vaults in
-    let place = c.from-place.result in
+    let place = c.place-place.result in
     let chit = c.index_mut.result.now in
     let at = chit_at was.chits.items vaults place chit c.vault.result.now fit.own c.vault.ensures c.index_mut.ensures.value in
     own_at was.chits.items vaults place chit c.vault.result.now fit.own at c.vault.ensures
+
+pub call_in-answer-requires-clause-meets : goal.call_in-answer-requires-clause-meets
+call_in-answer-requires-clause-meets g c =
+    let was = c.self.inside in
+    let old : KeysView = record { desk = was.desk; chits = was.chits.items; refused = was.refused } in
+    let fit : Fit old c.args.floor.now = subst (λ (k : KeysView). Fit k c.args.floor.now) (sym c.self.view_is) c.requires.fit in
+    let is = ap (λ (k : KeysView). k.desk) c.self.view_is in
+    let p = c.place-place.ensures in
+    record {
+      slot = p.slot;
+      head = subst (λ (x : ClockId). IsHead was.desk.config x p.slot c.vault.result.now.id.begun) (sym c.clock.ensures) (fit.floor.each c.place-place.result p.slot c.vault.result.now p.there c.vault.ensures);
+      block = c.args.block;
+      is = p.is;
+      on = subst (λ (d : DeskView). AsksOn d c.args.node c.args.block) (sym is) c.requires.on;
+      whole = λ held. c.requires.whole held c.place-place.result p.slot p.there p.is.of;
+    }
 
 pub invariant_of-self : goal.invariant_of-self
 invariant_of-self g c =
@@ -22,7 +40,7 @@ invariant_of-self g c =
     let old : KeysView = record { desk = was.desk; chits = was.chits.items; refused = was.refused } in
     let fit : Fit old c.args.floor.now = subst (λ (k : KeysView). Fit k c.args.floor.now) (sym c.self.view_is) c.requires.fit in
     let vaults = c.args.floor.now.vaults in
-    let place = c.from-place.result in
+    let place = c.place-place.result in
     let chit = c.index_mut.result.now in
     let at = chit_at was.chits.items vaults place chit c.vault.result.now fit.own c.vault.ensures c.index_mut.ensures.value in
     let turn = c.call_in-answer in
@@ -37,7 +55,7 @@ returns-clause-fit g c =
     let old : KeysView = record { desk = was.desk; chits = was.chits.items; refused = was.refused } in
     let fit : Fit old c.args.floor.now = subst (λ (k : KeysView). Fit k c.args.floor.now) (sym c.self.view_is) c.requires.fit in
     let vaults = c.args.floor.now.vaults in
-    let place = c.from-place.result in
+    let place = c.place-place.result in
     let chit = c.index_mut.result.now in
     let at = chit_at was.chits.items vaults place chit c.vault.result.now fit.own c.vault.ensures c.index_mut.ensures.value in
     let turn = c.call_in-answer in

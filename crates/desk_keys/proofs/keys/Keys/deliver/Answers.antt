@@ -1,8 +1,9 @@
 -- Lemmas of `Keying`.
 use Rattle.std.proofs.Common.{◌≡◌, None, sym, ap, subst, ◌∙◌}
 use Rattle.std.specs.Prelude.{slice_set}
-use Rattle.desk_keys.specs.Keys.{KeysView, Fit, AreKeys}
-use Rattle.desk_keys.proofs.Keying.{own_at, chit_at, fit_turn, keys_delivered, kept_stays}
+use Rattle.event_clock.specs.Passes.{ClockId}
+use Rattle.desk_keys.specs.Keys.{KeysView, IsHead, Fit, AreKeys}
+use Rattle.desk_keys.proofs.Keying.{head_at, own_at, chit_at, fit_turn, keys_delivered, kept_stays}
 use Rattle.desk_keys.proofs.keys.Keys.deliver.Goals as goal
 
 pub deliver_in-answer-requires-clause-own : goal.deliver_in-answer-requires-clause-own
@@ -11,10 +12,18 @@ deliver_in-answer-requires-clause-own g c =
     let old : KeysView = record { desk = was.desk; chits = was.chits.items; refused = was.refused } in
     let fit : Fit old c.args.floor.now = subst (λ (k : KeysView). Fit k c.args.floor.now) (sym c.self.view_is) c.requires.fit in
     let vaults = c.args.floor.now.vaults in
-    let place = c.from-place.result in
+    let place = c.args.place in
     let chit = c.index_mut.result.now in
     let at = chit_at was.chits.items vaults place chit c.vault.result.now fit.own c.vault.ensures c.index_mut.ensures.value in
     own_at was.chits.items vaults place chit c.vault.result.now fit.own at c.vault.ensures
+
+pub deliver_in-answer-requires-clause-head : goal.deliver_in-answer-requires-clause-head
+deliver_in-answer-requires-clause-head g c =
+    let was = c.self.inside in
+    let old : KeysView = record { desk = was.desk; chits = was.chits.items; refused = was.refused } in
+    let fit : Fit old c.args.floor.now = subst (λ (k : KeysView). Fit k c.args.floor.now) (sym c.self.view_is) c.requires.fit in
+    let h = head_at was.desk.config c.args.floor.now c.args.place c.vault.result.now fit.floor c.vault.ensures in
+    (h.0, subst (λ (x : ClockId). IsHead was.desk.config x h.0 c.vault.result.now.id.begun) (sym c.clock.ensures) h.1)
 
 pub invariant_of-self : goal.invariant_of-self
 invariant_of-self g c =
@@ -22,7 +31,7 @@ invariant_of-self g c =
     let old : KeysView = record { desk = was.desk; chits = was.chits.items; refused = was.refused } in
     let fit : Fit old c.args.floor.now = subst (λ (k : KeysView). Fit k c.args.floor.now) (sym c.self.view_is) c.requires.fit in
     let vaults = c.args.floor.now.vaults in
-    let place = c.from-place.result in
+    let place = c.args.place in
     let chit = c.index_mut.result.now in
     let at = chit_at was.chits.items vaults place chit c.vault.result.now fit.own c.vault.ensures c.index_mut.ensures.value in
     let turn = c.deliver_in-answer in
@@ -37,7 +46,7 @@ returns-clause-fit g c =
     let old : KeysView = record { desk = was.desk; chits = was.chits.items; refused = was.refused } in
     let fit : Fit old c.args.floor.now = subst (λ (k : KeysView). Fit k c.args.floor.now) (sym c.self.view_is) c.requires.fit in
     let vaults = c.args.floor.now.vaults in
-    let place = c.from-place.result in
+    let place = c.args.place in
     let chit = c.index_mut.result.now in
     let at = chit_at was.chits.items vaults place chit c.vault.result.now fit.own c.vault.ensures c.index_mut.ensures.value in
     let turn = c.deliver_in-answer in

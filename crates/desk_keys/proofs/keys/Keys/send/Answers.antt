@@ -1,7 +1,8 @@
 -- Lemmas of `Keying`.
 use Rattle.std.proofs.Common.{◌≡◌, None, sym, ap, subst, ◌∙◌}
 use Rattle.std.specs.Prelude.{slice_set}
-use Rattle.desk_keys.specs.Keys.{KeysView, Fit, AreKeys}
+use Rattle.event_clock.specs.Passes.{ClockId}
+use Rattle.desk_keys.specs.Keys.{KeysView, IsHead, Fit, AreKeys}
 use Rattle.desk_keys.proofs.Keying.{own_at, chit_at, fit_turn, keys_sent, sent_stays}
 use Rattle.desk_keys.proofs.keys.Keys.send.Goals as goal
 
@@ -11,10 +12,24 @@ send_in-answer-requires-clause-own g c =
     let old : KeysView = record { desk = was.desk; chits = was.chits.items; refused = was.refused } in
     let fit : Fit old c.args.floor.now = subst (λ (k : KeysView). Fit k c.args.floor.now) (sym c.self.view_is) c.requires.fit in
     let vaults = c.args.floor.now.vaults in
-    let place = c.from-place.result in
+    let place = c.place-place.result in
     let chit = c.index_mut.result.now in
     let at = chit_at was.chits.items vaults place chit c.vault.result.now fit.own c.vault.ensures c.index_mut.ensures.value in
     own_at was.chits.items vaults place chit c.vault.result.now fit.own at c.vault.ensures
+
+pub send_in-answer-requires-clause-takes : goal.send_in-answer-requires-clause-takes
+send_in-answer-requires-clause-takes g c =
+    let was = c.self.inside in
+    let old : KeysView = record { desk = was.desk; chits = was.chits.items; refused = was.refused } in
+    let fit : Fit old c.args.floor.now = subst (λ (k : KeysView). Fit k c.args.floor.now) (sym c.self.view_is) c.requires.fit in
+    let p = c.place-place.ensures in
+    record {
+      slot = p.slot;
+      head = subst (λ (x : ClockId). IsHead was.desk.config x p.slot c.vault.result.now.id.begun) (sym c.clock.ensures) (fit.floor.each c.place-place.result p.slot c.vault.result.now p.there c.vault.ensures);
+      block = c.block_of.result;
+      is = p.is;
+      on = c.block_of.ensures;
+    }
 
 pub invariant_of-self : goal.invariant_of-self
 invariant_of-self g c =
@@ -22,7 +37,7 @@ invariant_of-self g c =
     let old : KeysView = record { desk = was.desk; chits = was.chits.items; refused = was.refused } in
     let fit : Fit old c.args.floor.now = subst (λ (k : KeysView). Fit k c.args.floor.now) (sym c.self.view_is) c.requires.fit in
     let vaults = c.args.floor.now.vaults in
-    let place = c.from-place.result in
+    let place = c.place-place.result in
     let chit = c.index_mut.result.now in
     let at = chit_at was.chits.items vaults place chit c.vault.result.now fit.own c.vault.ensures c.index_mut.ensures.value in
     let turn = c.send_in-answer in
@@ -37,7 +52,7 @@ returns-clause-fit g c =
     let old : KeysView = record { desk = was.desk; chits = was.chits.items; refused = was.refused } in
     let fit : Fit old c.args.floor.now = subst (λ (k : KeysView). Fit k c.args.floor.now) (sym c.self.view_is) c.requires.fit in
     let vaults = c.args.floor.now.vaults in
-    let place = c.from-place.result in
+    let place = c.place-place.result in
     let chit = c.index_mut.result.now in
     let at = chit_at was.chits.items vaults place chit c.vault.result.now fit.own c.vault.ensures c.index_mut.ensures.value in
     let turn = c.send_in-answer in

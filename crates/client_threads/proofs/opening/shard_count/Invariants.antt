@@ -1,0 +1,7 @@
+use Rattle.std.proofs.Common.{◌≡◌, drop}
+use Rattle.std.specs.List.{list_any}
+use Rattle.run_journals.specs.Standing.{needs_whole}
+use Rattle.client_threads.proofs.opening.shard_count.Given as goal
+
+abbrev pub invariant-loop-rule : goal.invariant-loop-rule
+invariant-loop-rule l = list_any (needs_whole l.node) (drop l.rule-index l.plan.rules) ≡ list_any (needs_whole l.node) l.plan.rules
