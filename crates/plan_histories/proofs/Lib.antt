@@ -1,6 +1,5 @@
 mod Operations
 mod Completing
-mod Ongoing
 mod Turns
 mod LastWorld
 mod Late

@@ -21,9 +21,7 @@ pub fn complete_histories()
 pub fn steady_records()
     ensures { RecordsAreSteady }
 {
-    protocol::laws::refusals();
-    protocol::laws::runs();
-    protocol::laws::replacements();
+    desk_records::laws::open_records();
     journals::laws::merged_runs();
     plan_followed::laws::followed_plans();
 }

@@ -1,0 +1,5 @@
+mod Ongoing
+mod SameMessages
+mod Counting
+pub mod LastDesks
+mod Owning
