@@ -6,16 +6,16 @@ use Rattle.outside_io.specs.Given.{GaveExactly}
 use Rattle.line_forms.specs.declared.refusal.ScriptFault.{ScriptFault}
 use Rattle.outside_io.specs.declared.reading.TheConstants.{LIMIT}
 use Rattle.history_book.specs.declared.judging.Flaw.{Flaw}
-use Rattle.pasis_shell.specs.Words.{words_of, IsForm, AskForPlan}
+use Rattle.pasis_shell.specs.Words.{words_of, IsForm, AskForPlan, AskForLoad}
 use Rattle.plan_words.specs.declared.plan.Plan.{Plan}
 use Rattle.plan_words.specs.Plans.{Fits}
 use Rattle.plan_text.specs.Plans.{Spells as SpellsPlan}
-use Rattle.pasis_shell.specs.Texts.{Refuses, IsUnbuilt, AnswersFor, IsAccepted, IsRefusedFor, GivesAll}
+use Rattle.pasis_shell.specs.Texts.{Refuses, ReadsInput, AnswersFor, IsAccepted, IsRefusedFor, GivesAll}
 use Rattle.pasis_shell.specs.Calls.{Ends}
-use Rattle.pasis_shell.proofs.Commands.{plans_only, plan_form}
+use Rattle.pasis_shell.proofs.Commands.{plans_only, plan_form, loads_only, load_form}
 use Rattle.pasis_shell.proofs.WellFormed.{plan_is_no_bad_script}
 use Rattle.pasis_shell.specs.declared.status.Status.{Status}
-use Rattle.pasis_shell.specs.declared.status.Status.TheVariants.{Done, Illegal, BadWords, BadScript, ReadFault, WriteFault, NoMemory, TooLong, NotBuilt, ClockFull, BadMagic, CutRequest, TooManyRequests}
+use Rattle.pasis_shell.specs.declared.status.Status.TheVariants.{Done, Illegal, BadWords, BadScript, ReadFault, WriteFault, NoMemory, TooLong, ClockFull, BadMagic, CutRequest, TooManyRequests}
 use Rattle.pasis_shell.specs.declared.words.Command.{Command}
 use Rattle.pasis_shell.specs.declared.words.Command.TheVariants.{Replay, Run, Trace, Check, Sum, Soak}
 use Rattle.pasis_shell.specs.declared.text.Refusal.{Refusal}
@@ -51,9 +51,6 @@ memory_missing Check words before after input refusal w e accepted h = refused_b
 memory_missing Sum words before after input refusal w e accepted h = refused_by Sum words input h.0 refusal w accepted (all_read before after input h.0 e h.1) h.2
 memory_missing (Soak n) words before after input refusal w e accepted h = refused_by (Soak n) words input input refusal w accepted refl h.2
 
-not_built_memory : (line : ℕ) → refusals.NotBuilt line ≡ refusals.NoMemory → ⊥
-not_built_memory line e = cc
-
 fault_memory : (fault : ScriptFault) → refusals.BadScript fault ≡ refusals.NoMemory → ⊥
 fault_memory fault e = cc
 
@@ -72,8 +69,7 @@ module _ (words : List (List ℕ)) (before after taken taken_after : Option (Lis
   complete BadWords h form e small accepted read wrote = absurd (h form)
   complete ReadFault h form e small accepted read wrote = absurd (read refl)
   complete WriteFault h form e small accepted read wrote = absurd (wrote refl)
-  complete TooLong h form e small accepted read wrote = absurd (too_much before after input LIMIT e small h.2)
-  complete (NotBuilt line) h form e small accepted read wrote = absurd (not_built_memory line (memory_missing h.0 words before after input (refusals.NotBuilt line) h.1 e accepted h.2))
+  complete TooLong h form e small accepted read wrote = absurd (too_much before after input LIMIT e small h.2.1)
   complete (BadScript line cause) h form e small accepted read wrote = absurd (fault_memory (record { line = line; cause = cause }) (memory_missing h.0 words before after input (refusals.BadScript (record { line = line; cause = cause })) h.1 e accepted h.2))
   complete (ClockFull drawn) h form e small accepted read wrote = absurd (clock_memory drawn (memory_missing h.0 words before after input (refusals.ClockFull drawn) h.1 e accepted h.2))
   complete (BadMagic at) h form e small accepted read wrote = absurd h
@@ -92,15 +88,12 @@ some_answered status (inr (inr e)) = inr (inr (ap Some e))
 abbrev IsLate : Refusal → Type 0
 IsLate refusals.NoMemory = ⊤
 IsLate (refusals.ClockFull drawn) = ⊤
-IsLate (refusals.NotBuilt line) = ⊥
 IsLate (refusals.BadScript fault) = ⊥
 
 module _ (input : List ℕ) (plan : Plan) (fits : Fits plan) (spelled : SpellsPlan input plan) where
   late : (command : Command) → (command ≡ Run) ⊎ (command ≡ Trace) → (refusal : Refusal) → Refuses command input refusal → IsLate refusal
   late command is refusals.NoMemory h = tt
   late command is (refusals.ClockFull drawn) h = tt
-  late command (inl e) (refusals.NotBuilt line) h = let none : IsUnbuilt Run input × (line ≡ 1) = rw e at h in none.0
-  late command (inr e) (refusals.NotBuilt line) h = let none : IsUnbuilt Trace input × (line ≡ 1) = rw e at h in none.0
   late command (inl e) (refusals.BadScript fault) h = plan_is_no_bad_script input plan fault fits spelled (rw e at h)
   late command (inr e) (refusals.BadScript fault) h = plan_is_no_bad_script input plan fault fits spelled (rw e at h)
 
@@ -133,9 +126,42 @@ module _ (words : List (List ℕ)) (before after taken taken_after : Option (Lis
   plan_runs BadWords h e small read wrote = absurd (h (plan_form words ask))
   plan_runs ReadFault h e small read wrote = absurd (read refl)
   plan_runs WriteFault h e small read wrote = absurd (wrote refl)
-  plan_runs TooLong h e small read wrote = absurd (too_much before after input LIMIT e small h.2)
-  plan_runs (NotBuilt line) h e small read wrote = absurd (late_for input plan fits spelled h.0 (plans_only words h.0 h.1 ask) before after (refusals.NotBuilt line) e h.2)
+  plan_runs TooLong h e small read wrote = absurd (too_much before after input LIMIT e small h.2.1)
   plan_runs (BadScript line cause) h e small read wrote = absurd (late_for input plan fits spelled h.0 (plans_only words h.0 h.1 ask) before after (refusals.BadScript (record { line = line; cause = cause })) e h.2)
   plan_runs (BadMagic at) h e small read wrote = absurd h
   plan_runs (CutRequest at) h e small read wrote = absurd h
   plan_runs TooManyRequests h e small read wrote = absurd h
+
+-- ---- a load
+
+-- no flaw is found of a load, nothing is read, and no script is bad
+module _ (command : Command) (is : (number : ℕ) × (command ≡ Soak number)) where
+  load_flaw : (before after : Option (List ℕ)) (text : List ℕ) (flaw : Flaw) → AnswersFor command before after text (Some flaw) → ⊥
+  load_flaw before after text flaw h =
+      let a : AnswersFor (Soak is.0) before after text (Some flaw) = rw is.1 at h in
+      let none : Some flaw ≡ None = a.2.1 in
+      absurd cc
+
+  load_reads : ReadsInput command → ⊥
+  load_reads h = rw is.1 at h
+
+  load_script : (before after : Option (List ℕ)) (fault : ScriptFault) → IsRefusedFor command before after (refusals.BadScript fault) → ⊥
+  load_script before after fault h =
+      let r : IsRefusedFor (Soak is.0) before after (refusals.BadScript fault) = rw is.1 at h in
+      r.2
+
+module _ (words : List (List ℕ)) (before after taken taken_after : Option (List ℕ)) (flushed flushed_after : ℕ) (ask : AskForLoad words) where
+  pub load_runs : (status : Status) → Ends words status before after taken taken_after flushed flushed_after → (status ≡ WriteFault → ⊥)
+      → (status ≡ Done) ⊎ (status ≡ NoMemory) ⊎ ((drawn : Tally) × (status ≡ ClockFull drawn))
+  load_runs Done h wrote = inl refl
+  load_runs NoMemory h wrote = inr (inl refl)
+  load_runs (ClockFull drawn) h wrote = inr (inr (drawn, refl))
+  load_runs (Illegal flaw) h wrote = absurd (load_flaw h.1.0 (loads_only words h.1.0 h.1.1 ask) before after h.0 flaw h.1.2)
+  load_runs BadWords h wrote = absurd (h (load_form words ask))
+  load_runs ReadFault h wrote = absurd (load_reads h.0 (loads_only words h.0 h.1 ask) h.2.0)
+  load_runs WriteFault h wrote = absurd (wrote refl)
+  load_runs TooLong h wrote = absurd (load_reads h.0 (loads_only words h.0 h.1 ask) h.2.0)
+  load_runs (BadScript line cause) h wrote = absurd (load_script h.0 (loads_only words h.0 h.1 ask) before after (record { line = line; cause = cause }) h.2)
+  load_runs (BadMagic at) h wrote = absurd h
+  load_runs (CutRequest at) h wrote = absurd h
+  load_runs TooManyRequests h wrote = absurd h

@@ -1,9 +1,9 @@
 -- Which command the words are those of.
 use Rattle.std.proofs.Common.{◌≡◌, ℕ, List, sym, inl, inr, ◌⊎◌, ◌∙◌}
-use Rattle.pasis_shell.specs.Words.{words_of, IsForm, RunsThreads, AskForThreads, AskForPlan}
+use Rattle.pasis_shell.specs.Words.{words_of, IsForm, RunsThreads, AskForThreads, AskForPlan, AskForLoad}
 use Rattle.pasis_shell.specs.declared.words.Command.{Command}
 use Rattle.pasis_shell.specs.declared.words.Command.TheVariants.{Replay, Run, Trace, Check, Sum, Soak}
-use Rattle.pasis_shell.proofs.WellFormed.{replay_alone, check_alone, sum_alone, run_alone, trace_alone}
+use Rattle.pasis_shell.proofs.WellFormed.{replay_alone, check_alone, sum_alone, run_alone, trace_alone, soak_alone}
 
 quiet : (mine other : Command) → mine ≡ other → (RunsThreads mine → ⊥) → RunsThreads other → ⊥
 quiet mine other e none runs = none (rw e runs)
@@ -33,3 +33,13 @@ asks_threads words (inr e) = (Trace, tt, tt, e)
 pub plans_only : (words : List (List ℕ)) (command : Command) → words ≡ words_of command → AskForPlan words → (command ≡ Run) ⊎ (command ≡ Trace)
 plans_only words command e (inl run) = inl (sym (run_alone command (sym run ∙ e)))
 plans_only words command e (inr trace) = inr (sym (trace_alone command (sym trace ∙ e)))
+
+-- and so are those of a load
+pub load_form : (words : List (List ℕ)) → AskForLoad words → IsForm words
+load_form words ask = (Soak ask.0, ask.1, ask.2)
+
+pub load_threads : (words : List (List ℕ)) → AskForLoad words → AskForThreads words
+load_threads words ask = (Soak ask.0, ask.1, tt, ask.2)
+
+pub loads_only : (words : List (List ℕ)) (command : Command) → words ≡ words_of command → AskForLoad words → (number : ℕ) × (command ≡ Soak number)
+loads_only words command e ask = soak_alone command ask.0 (sym ask.2 ∙ e)

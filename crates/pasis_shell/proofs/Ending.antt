@@ -10,7 +10,7 @@ use Rattle.pasis_shell.specs.Calls.{StopsFor, Ends}
 use Rattle.pasis_shell.specs.Statuses.{status_of_flaw}
 use Rattle.pasis_shell.specs.declared.words.Command.{Command}
 use Rattle.pasis_shell.specs.declared.status.Status.{Status}
-use Rattle.pasis_shell.specs.declared.status.Status.TheVariants.{Done, Illegal, BadWords, BadScript, ReadFault, WriteFault, NoMemory, TooLong, NotBuilt, ClockFull, BadMagic, CutRequest, TooManyRequests}
+use Rattle.pasis_shell.specs.declared.status.Status.TheVariants.{Done, Illegal, BadWords, BadScript, ReadFault, WriteFault, NoMemory, TooLong, ClockFull, BadMagic, CutRequest, TooManyRequests}
 
 module _ (command : Command) (left left_after taken taken_after : Option (List ℕ)) (flushed flushed_after : ℕ) where
   -- without a text
@@ -18,7 +18,6 @@ module _ (command : Command) (left left_after taken taken_after : Option (List �
   stopped NoMemory h = (command, refl, h)
   stopped ReadFault h = (command, refl, h)
   stopped TooLong h = (command, refl, h)
-  stopped (NotBuilt line) h = (command, refl, h)
   stopped (BadScript line cause) h = (command, refl, h)
   stopped (ClockFull drawn) h = (command, refl, h)
   stopped Done h = absurd h

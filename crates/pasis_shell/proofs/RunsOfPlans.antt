@@ -1,5 +1,7 @@
 -- What the run of a plan shows.
 use Rattle.std.proofs.Common.{◌≡◌, ℕ, List, refl, subst}
+use Rattle.std.specs.Prelude.{Result, Ok, Err, IfErr}
+use Rattle.std.specs.Result.{IsErrAnd}
 use Rattle.line_forms.specs.Texts.{IsFaultless}
 use Rattle.event_clock.specs.Passes.{Tally}
 use Rattle.plan_words.specs.declared.plan.Plan.{Plan}
@@ -8,9 +10,10 @@ use Rattle.plan_text.specs.Plans.{Spells, plan_script}
 use Rattle.client_threads.specs.Ran.{HasFullPass}
 use Rattle.client_threads.specs.declared.run.RunRefusal.{RunRefusal}
 use Rattle.client_threads.specs.declared.run.RunRefusal.TheVariants as runs
-use Rattle.pasis_shell.specs.declared.words.Command.TheVariants.{Run, Trace}
+use Rattle.pasis_shell.specs.declared.words.Command.TheVariants.{Run, Trace, Soak}
 use Rattle.pasis_shell.specs.Statuses.{refusal_of_run}
 use Rattle.pasis_shell.specs.PlanRuns.{IsPlan}
+use Rattle.pasis_shell.specs.declared.text.Refusal.{Refusal}
 use Rattle.pasis_shell.specs.Texts.{Refuses}
 
 -- the plan that was read is the input's
@@ -29,3 +32,12 @@ run_refuses input is (runs.ClockFull drawn) full = (is, full drawn refl)
 pub trace_refuses : (input : List ℕ) → IsPlan input → (r : RunRefusal) → ((drawn : Tally) → r ≡ runs.ClockFull drawn → HasFullPass drawn) → Refuses Trace input (refusal_of_run r)
 trace_refuses input is runs.NoMemory full = tt
 trace_refuses input is (runs.ClockFull drawn) full = (is, full drawn refl)
+
+pub soak_refuses : (number : ℕ) (input : List ℕ) (r : RunRefusal) → ((drawn : Tally) → r ≡ runs.ClockFull drawn → HasFullPass drawn) → Refuses (Soak number) input (refusal_of_run r)
+soak_refuses number input runs.NoMemory full = tt
+soak_refuses number input (runs.ClockFull drawn) full = (tt, full drawn refl)
+
+-- a refusal that `?` gives on
+pub given_on : {X : Type 0} (P : Refusal → Type 0) (result : Result X Refusal) (r : Refusal) → IsErrAnd result (λ e. e ≡ r) → P r → IfErr result P
+given_on P (Ok x) r is h = tt
+given_on P (Err e) r is h = rw is h

@@ -18,6 +18,7 @@ use Rattle.history_book.specs.Tellings.{Tells}
 use Rattle.history_book.specs.Judging.{IsLegal, IsInTime}
 use Rattle.run_reports.specs.Registers.{AreRegisters}
 use Rattle.script_run.specs.Performing.{CommandQueues, LeadsTo, start_queues, after_line}
+use Rattle.journals.specs.declared.whole.Journals.{Journals}
 use Rattle.journals.specs.Journals.{setting_for}
 use Rattle.merge_trace.specs.Traces.{placed}
 use Rattle.plan_words.specs.declared.plan.Plan.{Plan}
@@ -39,23 +40,23 @@ module _ (s : Setting) (c : Numbers) where
 pub trace_replays : OfPlans HasScriptLiars
     → ((text : List ℕ) (c : Numbers) (l : Liars) (es : List ReplayLine) → IsReplay c l es → Spells text c l es → IsFaultless replay_script text)
     → ((c : Numbers) (l : Liars) (es : List ReplayLine) → IsReplay c l es → Spells (replay_text c l es) c l es)
-    → (plan : Plan) (text : List ℕ) → (t : TracesPlan plan text) → length t.run.lines ≤ event_limit plan.config
-    → Replays (replay_text plan.config plan.liars (map Plain t.run.lines)) t.report
-trace_replays declares accepted spelled plan text t few =
-    let run = t.run in
+    → (plan : Plan) (j : Journals) (text : List ℕ) → (t : TracesPlan plan j text) → length t.run.made.lines ≤ event_limit plan.config
+    → Replays (replay_text plan.config plan.liars (map Plain t.run.made.lines)) t.report
+trace_replays declares accepted spelled plan j text t few =
+    let run = t.run.made in
     let of = run.of_plan.1 in
     let script = replay_text plan.config plan.liars (map Plain run.lines) in
     let size : length (map Plain run.lines) ≡ length run.lines = length-map run.lines Plain in
     let replay : IsReplay plan.config plan.liars (map Plain run.lines) =
     record { valid = of.fits.valid; lying = declares plan of.fits; events = t.events; limited = omega (arith, size, few) } in
     let spells = spelled plan.config plan.liars (map Plain run.lines) replay in
-    let same : setting_for run.journals ≡ cluster_of plan.config plan.liars =
-    ap (λ (k : Numbers). setting_of k (has_number run.journals.liars.nodes) (has_number run.journals.liars.clients)) of.follows.are_for.config
+    let same : setting_for j ≡ cluster_of plan.config plan.liars =
+    ap (λ (k : Numbers). setting_of k (has_number j.liars.nodes) (has_number j.liars.clients)) of.follows.are_for.config
     ∙ ap (λ (l : Liars). setting_of plan.config (has_number l.nodes) (has_number l.clients)) of.follows.are_for.liars in
     let s = cluster_of plan.config plan.liars in
     let here : Run s (start_world s) (placed 0 run.lines) run.world = subst (λ (z : Setting). Run z (start_world z) (placed 0 run.lines) run.world) same run.run in
     let done = leads s plan.config run.lines (start_queues s) 0 run.world here in
-    let reports : Reports s run.world t.report = subst (λ (z : Setting). Reports z run.world t.report) same run.reports in
+    let reports : Reports s run.world t.report = subst (λ (z : Setting). Reports z run.world t.report) same t.run.reports in
     record {
       config = plan.config;
       liars = plan.liars;
@@ -63,11 +64,11 @@ trace_replays declares accepted spelled plan text t few =
       script = record { replay = replay; spelled = spells; faultless = accepted script plan.config plan.liars (map Plain run.lines) replay spells };
       queues = done.0;
       run = done.1;
-      history = reports.history;
+      history = reports.of.history;
       book = reports.book;
-      tells = subst (λ (v : World). Tells v.records (first_stamp s) reports.history reports.book) (sym done.2) reports.tells;
+      tells = subst (λ (v : World). Tells v.records (first_stamp s) reports.of.history reports.book) (sym done.2) reports.of.tells;
       shown = reports.shown;
-      registers = subst (λ (v : World). AreRegisters s v reports.history) (sym done.2) reports.registers;
-      told = reports.told;
-      plain = subst (λ (v : World). NoClash s v → IsLegal reports.book.entries × IsInTime reports.book.entries) (sym done.2) reports.plain;
+      registers = subst (λ (v : World). AreRegisters s v reports.of.history) (sym done.2) reports.of.registers;
+      told = reports.of.told;
+      plain = subst (λ (v : World). NoClash s v → IsLegal reports.book.entries × IsInTime reports.book.entries) (sym done.2) reports.of.plain;
     }

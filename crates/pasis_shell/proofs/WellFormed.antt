@@ -24,23 +24,22 @@ use Rattle.plan_text.specs.Plans.{Spells as PlanSpells, plan_script}
 use Rattle.plan_text.proofs.PlanLaws.{plan_accepted}
 use Rattle.pasis_shell.specs.Words.{words_of}
 use Rattle.pasis_shell.specs.Replays.{cluster_of, Stops}
-use Rattle.pasis_shell.specs.Texts.{HasFault, IsAccepted, IsUnbuilt, RunsIt, Refuses}
+use Rattle.pasis_shell.specs.Texts.{HasFault, IsAccepted, RunsIt, Refuses}
 use Rattle.pasis_shell.specs.declared.words.Command.{Command}
 use Rattle.pasis_shell.specs.declared.words.Command.TheVariants.{Replay, Run, Trace, Check, Sum, Soak}
 use Rattle.pasis_shell.specs.declared.text.Refusal.{Refusal}
-use Rattle.pasis_shell.specs.declared.text.Refusal.TheVariants.{NoMemory, NotBuilt, BadScript, ClockFull}
+use Rattle.pasis_shell.specs.declared.text.Refusal.TheVariants.{NoMemory, BadScript, ClockFull}
 
 -- ---- one command
 
-only_memory : (command : Command) (input : List ℕ) → (IsUnbuilt command input → ⊥) → (RunsIt command input → ⊥) → ((fault : ScriptFault) → HasFault command input fault → ⊥) → (refusal : Refusal) → Refuses command input refusal → refusal ≡ NoMemory
-only_memory command input built alone faultless NoMemory h = refl
-only_memory command input built alone faultless (NotBuilt line) h = absurd (built h.0)
-only_memory command input built alone faultless (BadScript fault) h = absurd (faultless fault h)
-only_memory command input built alone faultless (ClockFull drawn) h = absurd (alone h.0)
+only_memory : (command : Command) (input : List ℕ) → (RunsIt command input → ⊥) → ((fault : ScriptFault) → HasFault command input fault → ⊥) → (refusal : Refusal) → Refuses command input refusal → refusal ≡ NoMemory
+only_memory command input alone faultless NoMemory h = refl
+only_memory command input alone faultless (BadScript fault) h = absurd (faultless fault h)
+only_memory command input alone faultless (ClockFull drawn) h = absurd (alone h.0)
 
--- a command that has its words alone, is built, runs no threads, and finds no fault of the input
-accepts : (mine : Command) (input : List ℕ) → ((command : Command) → words_of mine ≡ words_of command → mine ≡ command) → (IsUnbuilt mine input → ⊥) → (RunsIt mine input → ⊥) → ((fault : ScriptFault) → HasFault mine input fault → ⊥) → IsAccepted (words_of mine) input
-accepts mine input alone built quiet faultless = λ command e refusal h. only_memory mine input built quiet faultless refusal (subst (λ (k : Command). Refuses k input refusal) (sym (alone command e)) h)
+-- a command that has its words alone, runs no threads, and finds no fault of the input
+accepts : (mine : Command) (input : List ℕ) → ((command : Command) → words_of mine ≡ words_of command → mine ≡ command) → (RunsIt mine input → ⊥) → ((fault : ScriptFault) → HasFault mine input fault → ⊥) → IsAccepted (words_of mine) input
+accepts mine input alone quiet faultless = λ command e refusal h. only_memory mine input quiet faultless refusal (subst (λ (k : Command). Refuses k input refusal) (sym (alone command e)) h)
 
 -- the first two letters of the first word tell a command
 tells : List (List ℕ) → ℕ
@@ -95,6 +94,16 @@ trace_alone Check e = absurd (apart (ap (λ (ws : List (List ℕ)). tells ws == 
 trace_alone Sum e = absurd (apart (ap (λ (ws : List (List ℕ)). tells ws == 230) e))
 trace_alone (Soak n) e = absurd (apart (ap (λ (ws : List (List ℕ)). tells ws == 230) e))
 
+-- those of `soak` are those of one with some number
+pub soak_alone : (command : Command) (n : ℕ) → words_of (Soak n) ≡ words_of command → (number : ℕ) × (command ≡ Soak number)
+unfolding tells
+soak_alone Replay n e = absurd (apart (ap (λ (ws : List (List ℕ)). tells ws == 226) e))
+soak_alone Run n e = absurd (apart (ap (λ (ws : List (List ℕ)). tells ws == 226) e))
+soak_alone Trace n e = absurd (apart (ap (λ (ws : List (List ℕ)). tells ws == 226) e))
+soak_alone Check n e = absurd (apart (ap (λ (ws : List (List ℕ)). tells ws == 226) e))
+soak_alone Sum n e = absurd (apart (ap (λ (ws : List (List ℕ)). tells ws == 226) e))
+soak_alone (Soak m) n e = (m, refl)
+
 -- ---- no fault
 
 no_fault : (g : Grammar) (text : List ℕ) (line : ℕ) (cause : Cause) → IsFaultless g text → IsFault g text line cause → ⊥
@@ -134,13 +143,13 @@ module _ (input : List ℕ) (c : Numbers) (liars : Liars) (lines : List ReplayLi
       ]
 
   pub replay_is_accepted : IsAccepted (words_of Replay) input
-  replay_is_accepted = accepts Replay input replay_alone (λ no. no) (λ no. no) replay_faultless
+  replay_is_accepted = accepts Replay input replay_alone (λ no. no) replay_faultless
 
 pub sum_is_accepted : (c : Numbers) (v : List ℕ) → IsSum c v → IsAccepted (words_of Sum) (sum_text c v)
-sum_is_accepted c v good = accepts Sum (sum_text c v) sum_alone (λ no. no) (λ no. no) (λ fault h. no_fault sum_script (sum_text c v) fault.line fault.cause (sum_accepted c v good) h)
+sum_is_accepted c v good = accepts Sum (sum_text c v) sum_alone (λ no. no) (λ fault h. no_fault sum_script (sum_text c v) fault.line fault.cause (sum_accepted c v good) h)
 
 pub report_is_accepted : (book : Book) → IsReport book → IsAccepted (words_of Check) (report_text book)
-report_is_accepted book good = accepts Check (report_text book) check_alone (λ no. no) (λ no. no) (λ fault h. no_fault report (report_text book) fault.line fault.cause (report_accepted book good) h)
+report_is_accepted book good = accepts Check (report_text book) check_alone (λ no. no) (λ fault h. no_fault report (report_text book) fault.line fault.cause (report_accepted book good) h)
 
 pub plan_is_no_bad_script : (input : List ℕ) (plan : Plan) (fault : ScriptFault) → Fits plan → PlanSpells input plan → IsFault plan_script input fault.line fault.cause → ⊥
 plan_is_no_bad_script input plan fault fits spelled bad = no_fault plan_script input fault.line fault.cause (plan_accepted input plan fits spelled) bad

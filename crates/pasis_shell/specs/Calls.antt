@@ -6,19 +6,18 @@ use Rattle.outside_io.specs.Given.{GaveAtMost, GaveExactly}
 use Rattle.outside_io.specs.Written.{Adds, AllFlushed, TakesPrefix}
 use Rattle.history_book.specs.declared.judging.Flaw.{Flaw}
 use Rattle.pasis_shell.specs.Words.{IsForm, words_of}
-use Rattle.pasis_shell.specs.Texts.{Answers, IsRefusedFor}
+use Rattle.pasis_shell.specs.Texts.{Answers, IsRefusedFor, ReadsInput}
 use Rattle.pasis_shell.specs.declared.words.Command.{Command}
 use Rattle.pasis_shell.specs.declared.status.Status.{Status}
-use Rattle.pasis_shell.specs.declared.status.Status.TheVariants.{Done, Illegal, BadWords, BadScript, ReadFault, WriteFault, NoMemory, TooLong, NotBuilt, ClockFull, BadMagic, CutRequest, TooManyRequests}
+use Rattle.pasis_shell.specs.declared.status.Status.TheVariants.{Done, Illegal, BadWords, BadScript, ReadFault, WriteFault, NoMemory, TooLong, ClockFull, BadMagic, CutRequest, TooManyRequests}
 use Rattle.pasis_shell.specs.declared.text.Refusal.TheVariants as refusals
 
 -- why a command has no text to write, by what the source gave. A script is refused by its first line that has a cause, and that
 -- line's first cause
 abbrev pub StopsFor : Command → Status → Option (List ℕ) → Option (List ℕ) → Type 0
 StopsFor command NoMemory before after = ⊤
-StopsFor command ReadFault before after = GaveAtMost LIMIT before after
-StopsFor command TooLong before after = GaveExactly (LIMIT + 1) before after
-StopsFor command (NotBuilt line) before after = IsRefusedFor command before after (refusals.NotBuilt line)
+StopsFor command ReadFault before after = ReadsInput command × GaveAtMost LIMIT before after
+StopsFor command TooLong before after = ReadsInput command × GaveExactly (LIMIT + 1) before after
 StopsFor command (BadScript line cause) before after = IsRefusedFor command before after (refusals.BadScript (record { line = line; cause = cause }))
 StopsFor command (ClockFull drawn) before after = IsRefusedFor command before after (refusals.ClockFull drawn)
 StopsFor command Done before after = ⊥
@@ -53,7 +52,6 @@ Ends words ReadFault left left_after taken taken_after flushed flushed_after = H
 Ends words WriteFault left left_after taken taken_after flushed flushed_after = HasBegun words left left_after taken taken_after flushed flushed_after
 Ends words NoMemory left left_after taken taken_after flushed flushed_after = HasStopped words NoMemory left left_after
 Ends words TooLong left left_after taken taken_after flushed flushed_after = HasStopped words TooLong left left_after
-Ends words (NotBuilt line) left left_after taken taken_after flushed flushed_after = HasStopped words (NotBuilt line) left left_after
 Ends words (ClockFull drawn) left left_after taken taken_after flushed flushed_after = HasStopped words (ClockFull drawn) left left_after
 Ends words (BadMagic at) left left_after taken taken_after flushed flushed_after = ⊥
 Ends words (CutRequest at) left left_after taken taken_after flushed flushed_after = ⊥

@@ -1,11 +1,13 @@
--- What `run` and `trace` write.
+-- What `run`, `trace` and `soak` write.
 use Rattle.std.specs.Prelude.{ℕ, List}
 use Rattle.line_forms.specs.Texts.{IsFaultless}
+use Rattle.journals.specs.declared.whole.Journals.{Journals}
 use Rattle.plan_words.specs.declared.plan.Plan.{Plan}
 use Rattle.plan_words.specs.Plans.{Fits}
 use Rattle.plan_text.specs.Plans.{Spells, plan_script}
 use Rattle.plan_reports.specs.Runs.{RunsPlan}
 use Rattle.plan_reports.specs.Traces.{TracesPlan}
+use Rattle.load_reports.specs.Told.{TellsLoad}
 
 -- the input spells a plan that can be run
 pub record IsPlan (input : List ℕ) : Type 0 where
@@ -17,9 +19,15 @@ pub record IsPlan (input : List ℕ) : Type 0 where
 -- the text is the report of a run of the input's plan
 pub record Runs (input text : List ℕ) : Type 0 where
   pub is : IsPlan input
-  pub run : RunsPlan is.plan text
+  pub journals : Journals
+  pub run : RunsPlan is.plan journals text
 
 -- the text is the trace of a run of the input's plan: its lines as a script, and its report
 pub record Traces (input text : List ℕ) : Type 0 where
   pub is : IsPlan input
-  pub trace : TracesPlan is.plan text
+  pub journals : Journals
+  pub trace : TracesPlan is.plan journals text
+
+-- the text is the line of a run of the number's load
+abbrev pub Soaks : ℕ → List ℕ → Type 0
+Soaks number text = (j : Journals) × TellsLoad number j text

@@ -6,7 +6,7 @@ use Rattle.history_book.specs.declared.judging.Flaw.{Flaw}
 use Rattle.outside_io.specs.declared.reading.ReadRefusal.{ReadRefusal}
 use Rattle.outside_io.specs.declared.reading.ReadRefusal.TheVariants as reading
 use Rattle.pasis_shell.specs.declared.status.Status.{Status}
-use Rattle.pasis_shell.specs.declared.status.Status.TheVariants.{Done, Illegal, BadWords, BadScript, ReadFault, WriteFault, NoMemory, TooLong, NotBuilt, ClockFull, BadMagic, CutRequest, TooManyRequests}
+use Rattle.pasis_shell.specs.declared.status.Status.TheVariants.{Done, Illegal, BadWords, BadScript, ReadFault, WriteFault, NoMemory, TooLong, ClockFull, BadMagic, CutRequest, TooManyRequests}
 use Rattle.line_forms.specs.Numbers.{cause_number, carried_number}
 use Rattle.line_forms.specs.declared.cause.Cause.{Cause}
 use Rattle.line_forms.specs.declared.refusal.ScriptRefusal.{ScriptRefusal}
@@ -29,7 +29,6 @@ number_of ReadFault = 4
 number_of WriteFault = 5
 number_of NoMemory = 6
 number_of TooLong = 8
-number_of (NotBuilt line) = 9
 number_of (ClockFull drawn) = 10
 number_of (BadMagic at) = 11
 number_of (CutRequest at) = 12
@@ -54,7 +53,6 @@ status_text ReadFault = codes "pasis: read fault"
 status_text WriteFault = codes "pasis: write fault"
 status_text NoMemory = codes "pasis: no memory"
 status_text TooLong = codes "pasis: input too long"
-status_text (NotBuilt line) = codes "pasis: line " ++ decimal line ++ codes ": not built"
 status_text (ClockFull drawn) = codes "pasis: clock full"
 status_text (BadMagic at) = codes "pasis: bad magic at " ++ decimal at
 status_text (CutRequest at) = codes "pasis: cut request at " ++ decimal at
@@ -67,7 +65,6 @@ status_of_read reading.TooLong = TooLong
 
 abbrev pub status_of_refusal : Refusal → Status
 status_of_refusal refusals.NoMemory = NoMemory
-status_of_refusal (refusals.NotBuilt line) = NotBuilt line
 status_of_refusal (refusals.ClockFull drawn) = ClockFull drawn
 status_of_refusal (refusals.BadScript fault) = BadScript fault.line fault.cause
 
@@ -81,7 +78,6 @@ abbrev pub CanStopBefore : Status → Type 0
 CanStopBefore NoMemory = ⊤
 CanStopBefore ReadFault = ⊤
 CanStopBefore TooLong = ⊤
-CanStopBefore (NotBuilt line) = ⊤
 CanStopBefore (BadScript line cause) = ⊤
 CanStopBefore (ClockFull drawn) = ⊤
 CanStopBefore Done = ⊥

@@ -11,7 +11,7 @@ use Rattle.pasis_shell.specs.Words.{words_of}
 use Rattle.pasis_shell.specs.declared.words.Command.{Command}
 use Rattle.pasis_shell.specs.declared.words.Command.TheVariants.{Replay, Run, Trace, Check, Sum, Soak}
 use Rattle.pasis_shell.specs.declared.text.Refusal.{Refusal}
-use Rattle.pasis_shell.specs.declared.text.Refusal.TheVariants.{NoMemory, NotBuilt, BadScript, ClockFull}
+use Rattle.pasis_shell.specs.declared.text.Refusal.TheVariants.{NoMemory, BadScript, ClockFull}
 use Rattle.quorum_rules.specs.Limits.{Numbers}
 use Rattle.line_forms.specs.declared.refusal.ScriptFault.{ScriptFault}
 use Rattle.line_forms.specs.Texts.{IsFault, IsFaultless}
@@ -20,7 +20,7 @@ use Rattle.script_text.specs.Sum.{IsSum, sum_text, sum_script}
 use Rattle.sum_text.specs.Shown.{shown_text}
 use Rattle.plan_text.specs.Plans.{plan_script}
 use Rattle.client_threads.specs.Ran.{HasFullPass}
-use Rattle.pasis_shell.specs.PlanRuns.{IsPlan, Runs, Traces}
+use Rattle.pasis_shell.specs.PlanRuns.{IsPlan, Runs, Traces, Soaks}
 
 -- the input spells a configuration and a value, and the text shows the value's fragments, their digests and its verifier
 pub record Shows (input text : List ℕ) : Type 0 where
@@ -38,16 +38,7 @@ Writes Run input text flaw = Runs input text × (flaw ≡ None)
 Writes Trace input text flaw = Traces input text × (flaw ≡ None)
 Writes Check input text flaw = Judges input text flaw
 Writes Sum input text flaw = Shows input text × (flaw ≡ None)
-Writes (Soak number) input text flaw = ⊥
-
--- what the command would do with the input isn't built yet
-abbrev pub IsUnbuilt : Command → List ℕ → Type 0
-IsUnbuilt Replay input = ⊥
-IsUnbuilt Run input = ⊥
-IsUnbuilt Trace input = ⊥
-IsUnbuilt Check input = ⊥
-IsUnbuilt Sum input = ⊥
-IsUnbuilt (Soak number) input = ⊤
+Writes (Soak number) input text flaw = Soaks number text × (flaw ≡ None)
 
 -- the fault is the input's: its first line that has a cause, and that line's first cause; or, where no line has one, the first line of a script that can't take place
 abbrev pub HasFault : Command → List ℕ → ScriptFault → Type 0
@@ -58,21 +49,29 @@ HasFault Check input fault = IsFault report input fault.line fault.cause
 HasFault Sum input fault = IsFault sum_script input fault.line fault.cause
 HasFault (Soak number) input fault = ⊥
 
--- the command runs the plan that the input spells
+-- the command runs the plan that the input spells, or the load of its number
 abbrev pub RunsIt : Command → List ℕ → Type 0
 RunsIt Replay input = ⊥
 RunsIt Run input = IsPlan input
 RunsIt Trace input = IsPlan input
 RunsIt Check input = ⊥
 RunsIt Sum input = ⊥
-RunsIt (Soak number) input = ⊥
+RunsIt (Soak number) input = ⊤
 
 -- the command writes nothing for the input, for this reason
 abbrev pub Refuses : Command → List ℕ → Refusal → Type 0
 Refuses command input NoMemory = ⊤
-Refuses command input (NotBuilt line) = IsUnbuilt command input × (line ≡ 1)
 Refuses command input (BadScript fault) = HasFault command input fault
 Refuses command input (ClockFull drawn) = RunsIt command input × HasFullPass drawn
+
+-- the command reads all that the source has: `soak` reads nothing
+abbrev pub ReadsInput : Command → Type 0
+ReadsInput Replay = ⊤
+ReadsInput Run = ⊤
+ReadsInput Trace = ⊤
+ReadsInput Check = ⊤
+ReadsInput Sum = ⊤
+ReadsInput (Soak number) = ⊥
 
 -- the source gave this input, which is within the limit, and has none left
 abbrev pub GivesAll : Option (List ℕ) → Option (List ℕ) → List ℕ → Type 0

@@ -46,6 +46,10 @@ AskForThreads words = (command : Command) × IsCommand command × RunsThreads co
 abbrev pub AskForPlan : List (List ℕ) → Type 0
 AskForPlan words = (words ≡ words_of Run) ⊎ (words ≡ words_of Trace)
 
+-- the words are those of `soak` and a number
+abbrev pub AskForLoad : List (List ℕ) → Type 0
+AskForLoad words = (number : ℕ) × (number < 2 ^ 64) × (words ≡ words_of (Soak number))
+
 -- the words are those of a command
 abbrev pub IsForm : List (List ℕ) → Type 0
 IsForm words = (command : Command) × IsCommand command × (words ≡ words_of command)

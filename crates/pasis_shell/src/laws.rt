@@ -16,6 +16,7 @@ ghost use Rattle.protocol.specs.History.{NoClash};
 ghost use Rattle.pasis_shell.specs.Replays.{cluster_of, Replays};
 ghost use Rattle.pasis_shell.specs.Verdicts.{Judges};
 ghost use Rattle.line_forms.specs.declared.refusal.ScriptFault.{ScriptFault};
+ghost use Rattle.journals.specs.declared.whole.Journals.{Journals};
 ghost use Rattle.plan_words.specs.declared.plan.Plan.{Plan};
 ghost use Rattle.plan_words.specs.Plans.{Fits};
 ghost use Rattle.plan_text.specs.Plans.{Spells as SpellsPlan};
@@ -50,8 +51,9 @@ pub fn replays_are_legal()
 /// The script that a trace shows is one that `replay` takes, and it writes the trace's report, where there are no more lines than a
 /// script may have.
 pub fn traces_replay()
-    ensures { (plan : Plan) (text : List ℕ) → (t : TracesPlan plan text) → length t.run.lines ≤ event_limit plan.config
-        → Replays (replay_text plan.config plan.liars (map Plain t.run.lines)) t.report }
+    ensures { (plan : Plan) (journals : Journals) (text : List ℕ) → (t : TracesPlan plan journals text)
+        → length t.run.made.lines ≤ event_limit plan.config
+        → Replays (replay_text plan.config plan.liars (map Plain t.run.made.lines)) t.report }
 {
     told_scripts::laws::plans_declare();
     script_text::laws::replays_are_spelled();

@@ -1,5 +1,6 @@
 //! What the commands that run threads write.
-ghost use Rattle.std.specs.Prelude.{◌≡◌, ◌<◌, ◌^◌, length, IfOk, IfErr};
+ghost use Rattle.std.specs.Prelude.{◌≡◌, ◌<◌, ◌^◌, ℕ, List, None, length, IfOk, IfErr};
+ghost use Rattle.pasis_shell.specs.PlanRuns.{Soaks};
 ghost use Rattle.pasis_shell.specs.Texts.{Writes, Refuses};
 ghost use Rattle.pasis_shell.specs.Statuses.{refusal_of_run};
 
@@ -7,6 +8,7 @@ use crate::text::{Answer, Refusal, text_of};
 use crate::words::Command;
 use client_threads::{Gate, RunRefusal, run_plan};
 use cross_sum::Bytes;
+use load_reports::{load_of, load_text};
 use plan_reports::{run_text, trace_text};
 use plan_text::read_plan;
 use std::alloc::Global;
@@ -56,6 +58,22 @@ fn trace_of<R: Threads + Wait + Sync, G: Gate + Sync>(
     Ok(Answer::of(text))
 }
 
+// The line of a run of the number's load.
+fn soak_of<R: Threads + Wait + Sync, G: Gate + Sync>(
+    rt: &R,
+    alloc: Global,
+    number: u64,
+    gate: &G,
+) -> Result<Answer, Refusal>
+    ensures text { IfOk result (λ answer. Soaks number answer.text × (answer.flaw ≡ None)) }
+    ensures refused { (input : List ℕ) → IfErr result (λ refusal. Refuses (Command.Soak number) input refusal) }
+{
+    let load = load_of(alloc, number)?;
+    let ran = run_plan(rt, alloc, &load, gate)?;
+    let text = load_text(alloc, number, &load, &ran.journals)?;
+    Ok(Answer::of(text))
+}
+
 /// What a command writes for an input, and the flaw that it finds.
 pub fn text_in_threads<R: Threads + Wait + Sync, G: Gate + Sync>(
     rt: &R,
@@ -71,7 +89,7 @@ pub fn text_in_threads<R: Threads + Wait + Sync, G: Gate + Sync>(
     match command {
         Command::Run => run_of(rt, alloc, input, gate),
         Command::Trace => trace_of(rt, alloc, input, gate),
-        Command::Soak(_) => Err(Refusal::NotBuilt { line: 1 }),
+        Command::Soak(number) => soak_of(rt, alloc, number, gate),
         Command::Replay | Command::Check | Command::Sum => text_of(alloc, command, input),
     }
 }

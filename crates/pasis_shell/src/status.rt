@@ -34,8 +34,6 @@ pub enum Status {
     NoMemory,
     /// The source gave more than 4,194,304 bytes.
     TooLong,
-    /// The command, or what this line asks for, isn't built yet. Lines count from 1.
-    NotBuilt { line: u64 },
     /// A run in threads drew as many numbers as a pass may, 2^40, and would draw another. Nothing was written. The numbers drawn
     /// show it.
     ClockFull(Drawn),
@@ -68,7 +66,6 @@ impl Status {
             Status::WriteFault => 5,
             Status::NoMemory => 6,
             Status::TooLong => 8,
-            Status::NotBuilt { .. } => 9,
             Status::ClockFull(_) => 10,
             Status::BadMagic { .. } => 11,
             Status::CutRequest { .. } => 12,
@@ -91,7 +88,6 @@ impl fmt::Display for Status {
             Status::WriteFault => write!(f, "pasis: write fault"),
             Status::NoMemory => write!(f, "pasis: no memory"),
             Status::TooLong => write!(f, "pasis: input too long"),
-            Status::NotBuilt { line } => write!(f, "pasis: line {line}: not built"),
             Status::ClockFull(_) => write!(f, "pasis: clock full"),
             Status::BadMagic { at } => write!(f, "pasis: bad magic at {at}"),
             Status::CutRequest { at } => write!(f, "pasis: cut request at {at}"),
@@ -167,7 +163,6 @@ impl Status {
     {
         match refusal {
             Refusal::NoMemory => Status::NoMemory,
-            Refusal::NotBuilt { line } => Status::NotBuilt { line },
             Refusal::BadScript(fault) => Status::BadScript {
                 line: fault.line,
                 cause: fault.cause,

@@ -21,8 +21,6 @@ use sum_text::print_sum;
 pub enum Refusal {
     /// No memory was found.
     NoMemory,
-    /// What the command would do with the input isn't built yet.
-    NotBuilt { line: u64 },
     /// The input is refused at the line and for the cause that the fault has.
     BadScript(ScriptFault),
     /// A run in threads drew as many numbers as a pass may.
@@ -86,6 +84,6 @@ pub fn text_of(alloc: Global, command: Command, input: &Bytes) -> Result<Answer,
         Command::Replay => report_of(alloc, input),
         Command::Check => verdict_of(alloc, input),
         Command::Sum => sum_of(alloc, input),
-        Command::Run | Command::Trace | Command::Soak(_) => Err(Refusal::NotBuilt { line: 1 }),
+        Command::Run | Command::Trace | Command::Soak(_) => unreachable!(),
     }
 }

@@ -7,7 +7,7 @@ ghost use Rattle.quorum_rules.specs.Limits.{Numbers};
 ghost use Rattle.plan_words.specs.declared.plan.Plan.{Plan};
 ghost use Rattle.plan_words.specs.Plans.{Fits};
 ghost use Rattle.plan_text.specs.Plans.{Spells as SpellsPlan};
-ghost use Rattle.pasis_shell.specs.Words.{texts, words_of, IsForm, IsNbd, IsNbdForm, RunsThreads, AskForThreads, AskForPlan};
+ghost use Rattle.pasis_shell.specs.Words.{texts, words_of, IsForm, IsNbd, IsNbdForm, RunsThreads, AskForThreads, AskForPlan, AskForLoad};
 ghost use Rattle.pasis_shell.specs.Texts.{AnswersFor, IsAccepted, IsGiven};
 ghost use Rattle.pasis_shell.specs.Calls.{StopsFor, Ends};
 ghost use Rattle.pasis_shell.specs.Sessions.{Serves};
@@ -183,8 +183,8 @@ pub fn alone<S: Source, K: Sink>(
 }
 
 /// Does what the words ask for: reads the source to its end, makes the whole text, and only then writes and flushes it.
-/// `soak` reads nothing. `nbd` writes its greeting, and then reads a request and writes its reply, one after the other. `run` and
-/// `trace` run threads, which wait for each other and for the gate. No contract speaks of what a gate does.
+/// `soak` reads nothing, and runs the load of its number. `nbd` writes its greeting, and then reads a request and writes its reply, one after the other. `run`,
+/// `trace` and `soak` run threads, which wait for each other and for the gate. No contract speaks of what a gate does.
 pub fn pasis<R: Threads + Wait + Sync, S: Source, K: Sink, G: Gate + Sync>(
     rt: &R,
     alloc: Global,
@@ -209,7 +209,7 @@ pub fn pasis<R: Threads + Wait + Sync, S: Source, K: Sink, G: Gate + Sync>(
     ensures write_fault { result ≡ Status.WriteFault → Rose K.last (K.faults sink.old) (K.faults sink.new) }
     ensures calm_source { result ≢ Status.ReadFault → S.faults source.new ≡ S.faults source.old }
     ensures calm_sink { result ≢ Status.WriteFault → K.faults sink.new ≡ K.faults sink.old }
-    // an input that is accepted and meets no fault, and a plan that can be run and meets none
+    // an input that is accepted and meets no fault, a plan that can be run and meets none, and a load
     ensures complete { IsForm (texts words.now) → (input : List ℕ) → S.left source.old ≡ Some input → length input ≤ LIMIT
         → IsAccepted (texts words.now) input
         → (Rose S.last (S.faults source.old) (S.faults source.new) → ⊥)
@@ -219,6 +219,8 @@ pub fn pasis<R: Threads + Wait + Sync, S: Source, K: Sink, G: Gate + Sync>(
         → Fits plan → SpellsPlan input plan
         → (Rose S.last (S.faults source.old) (S.faults source.new) → ⊥)
         → (Rose K.last (K.faults sink.old) (K.faults sink.new) → ⊥)
+        → (result ≡ Status.Done) ⊎ (result ≡ Status.NoMemory) ⊎ ((drawn : Tally) × (result ≡ Status.ClockFull drawn)) }
+    ensures complete_load { AskForLoad (texts words.now) → (Rose K.last (K.faults sink.old) (K.faults sink.new) → ⊥)
         → (result ≡ Status.Done) ⊎ (result ≡ Status.NoMemory) ⊎ ((drawn : Tally) × (result ≡ Status.ClockFull drawn)) }
 {
     if let Some(status) = alone(alloc, words, source, sink) {

@@ -37,18 +37,13 @@ plan_run law plan j of = (conduct_of plan.rules, law plan j of.0 of.1)
 
 -- ---- the run, its report
 
-abbrev pub runs_plan : HistoriesAreComplete → (plan : Plan) (j : Journals) → AreOfPlanRun plan j → (lines : List Line) (v : WorldView) → IsPlanRun plan j lines v → (text : List ℕ) → ReportsWorld v text → RunsPlan plan text
+abbrev pub runs_plan : HistoriesAreComplete → (plan : Plan) (j : Journals) → AreOfPlanRun plan j → (lines : List Line) (v : WorldView) → IsPlanRun plan j lines v → (text : List ℕ) → ReportsWorld v text → RunsPlan plan j text
 runs_plan complete plan j of lines v is text reports =
     let here : Reports (setting_for j) (world_in v) text = subst (λ (s : Setting). Reports s (world_in v) text) is.setting reports in
     record {
-      journals = j;
-      of_plan = of;
-      lines = lines;
-      merged = is.merged;
-      world = world_in v;
-      run = is.run;
+      made = record { of_plan = of; lines = lines; merged = is.merged; world = world_in v; run = is.run };
       reports = here;
-      complete = complete plan j of.0 (placed 0 lines) (world_in v) here.history of.1 is.merged is.run (here.tells.history.sorted, here.tells.history.entries);
+      complete = complete plan j of.0 (placed 0 lines) (world_in v) here.of.history of.1 is.merged is.run (here.of.tells.history.sorted, here.of.tells.history.entries);
     }
 
 -- ---- the trace
@@ -70,18 +65,18 @@ journals_declare law plan j of =
 pub journals_told : (plan : Plan) (j : Journals) → AreOfPlanRun plan j → (lines : List Line) → AllByRecursion (IsTold plan.config) lines → AllByRecursion (IsTold j.config) lines
 journals_told plan j of lines h = subst (λ (c : Numbers). AllByRecursion (IsTold c) lines) (sym of.1.follows.are_for.config) h
 
-pub traces_plan : (plan : Plan) (j : Journals) → AreOfPlanRun plan j → (report text script : List ℕ) → (run : RunsPlan plan report)
-    → script ≡ replay_text j.config j.liars (map Plain run.lines) → AllByRecursion (IsEventLine j.config) (map Plain run.lines)
-    → text ≡ script ++ text_of_lines (codes "report" ∷ []) ++ report → TracesPlan plan text
+pub traces_plan : (plan : Plan) (j : Journals) → AreOfPlanRun plan j → (report text script : List ℕ) → (run : RunsPlan plan j report)
+    → script ≡ replay_text j.config j.liars (map Plain run.made.lines) → AllByRecursion (IsEventLine j.config) (map Plain run.made.lines)
+    → text ≡ script ++ text_of_lines (codes "report" ∷ []) ++ report → TracesPlan plan j text
 traces_plan plan j of report text script run spelled events shown =
     let config = of.1.follows.are_for.config in
     let liars = of.1.follows.are_for.liars in
     record {
       report = report;
       run = run;
-      events = subst (λ (c : Numbers). AllByRecursion (IsEventLine c) (map Plain run.lines)) config events;
+      events = subst (λ (c : Numbers). AllByRecursion (IsEventLine c) (map Plain run.made.lines)) config events;
       shown =
           shown
           ∙ ap (λ (t : List ℕ). t ++ text_of_lines (codes "report" ∷ []) ++ report)
-          (spelled ∙ ap (λ (c : Numbers). replay_text c j.liars (map Plain run.lines)) config ∙ ap (λ (l : Liars). replay_text plan.config l (map Plain run.lines)) liars);
+          (spelled ∙ ap (λ (c : Numbers). replay_text c j.liars (map Plain run.made.lines)) config ∙ ap (λ (l : Liars). replay_text plan.config l (map Plain run.made.lines)) liars);
     }

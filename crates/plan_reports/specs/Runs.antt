@@ -18,16 +18,23 @@ use Rattle.plan_words.specs.declared.plan.Plan.{Plan}
 use Rattle.plan_followed.specs.Followed.{AreOfPlan}
 use Rattle.plan_histories.specs.Shown.{IsComplete}
 
--- the text is the report of the world's history, which is one of plain registers and in time: of all that takes place nothing is
--- known but that it does, and that no two strings that were seen clash
-pub record Reports (s : Setting) (w : World) (text : List ℕ) : Type 0 where
+-- the book tells the world's history, which is one of plain registers and in time: of all that takes place nothing is known but
+-- that it does, and that no two strings that were seen clash
+pub record TellsHistory (s : Setting) (w : World) (book : Book) : Type 0 where
   pub history : List Entry
-  pub book : Book
   pub tells : Tells w.records (first_stamp s) history book
   pub registers : AreRegisters s w history
   pub told : IsReport book
   pub plain : NoClash s w → IsLegal book.entries × IsInTime book.entries
+
+-- the text is the report of the world's history
+pub record Reports (s : Setting) (w : World) (text : List ℕ) : Type 0 where
+  pub book : Book
+  pub of : TellsHistory s w book
   pub shown : text ≡ report_text book
+
+abbrev pub TellsWorld : WorldView → Book → Type 0
+TellsWorld v book = TellsHistory (setting_in v) (world_in v) book
 
 abbrev pub ReportsWorld : WorldView → List ℕ → Type 0
 ReportsWorld v text = Reports (setting_in v) (world_in v) text
@@ -42,14 +49,17 @@ pub record IsPlanRun (plan : Plan) (j : Journals) (lines : List Line) (v : World
   pub setting : setting_in v ≡ setting_for j
   pub run : IsRun (setting_for j) (placed 0 lines) (world_in v)
 
--- the text is the report of a run of the plan: of the run that the journals which its threads left tell, with each operation of
--- each client that neither lies nor crashes
-pub record RunsPlan (plan : Plan) (text : List ℕ) : Type 0 where
-  pub journals : Journals
-  pub of_plan : AreOfPlanRun plan journals
+-- the run of the plan that the journals tell: their lines, and the world that these lead to
+pub record PlanRun (plan : Plan) (j : Journals) : Type 0 where
+  pub of_plan : AreOfPlanRun plan j
   pub lines : List Line
-  pub merged : IsMerge journals (placed 0 lines)
+  pub merged : IsMerge j (placed 0 lines)
   pub world : World
-  pub run : IsRun (setting_for journals) (placed 0 lines) world
-  pub reports : Reports (setting_for journals) world text
-  pub complete : IsComplete plan journals world reports.history
+  pub run : IsRun (setting_for j) (placed 0 lines) world
+
+-- the text is the report of the run of the plan that the journals tell, which has each operation of each client that neither lies
+-- nor crashes
+pub record RunsPlan (plan : Plan) (j : Journals) (text : List ℕ) : Type 0 where
+  pub made : PlanRun plan j
+  pub reports : Reports (setting_for j) made.world text
+  pub complete : IsComplete plan j made.world reports.of.history

@@ -6,5 +6,5 @@
 mod report;
 mod trace;
 
-pub use report::run_text;
+pub use report::{merged, report_of, run_text, told_history};
 pub use trace::trace_text;

@@ -3,10 +3,10 @@
 ghost use Rattle.std.specs.Prelude.{IfOk};
 ghost use Rattle.std.specs.List.{AllByRecursion};
 ghost use Rattle.plan_histories.specs.Told.{IsTold};
-ghost use Rattle.plan_reports.specs.Runs.{AreOfPlanRun, RunsPlan, IsPlanRun, ReportsWorld};
+ghost use Rattle.plan_reports.specs.Runs.{AreOfPlanRun, RunsPlan, IsPlanRun, TellsWorld, ReportsWorld};
 
 use cross_sum::Bytes;
-use history_book::print;
+use history_book::{History, print};
 use journals::Journals;
 use lists::NoMemory;
 use merge_trace::{MergedRun, merge_run};
@@ -18,14 +18,21 @@ use world_steps::World;
 /// The most lines of which a history is told, which is more than memory has room for.
 const MOST_LINES: u64 = (1 << 31) - 2;
 
-/// The report of the history of a world.
-pub fn report_of(alloc: Global, world: &World) -> Result<Bytes, NoMemory>
-    ensures { IfOk result (λ text. ReportsWorld world.now text) }
+/// The history of a world, to which at most 2^31 - 2 lines led. `NoMemory` comes of more, too.
+pub fn told_history(alloc: Global, world: &World) -> Result<History, NoMemory>
+    ensures { IfOk result (λ history. TellsWorld world.now history) }
 {
     if world.place() > MOST_LINES {
         return Err(NoMemory);
     }
-    let history = history_of(alloc, world)?;
+    history_of(alloc, world)
+}
+
+/// The report of the history of a world.
+pub fn report_of(alloc: Global, world: &World) -> Result<Bytes, NoMemory>
+    ensures { IfOk result (λ text. ReportsWorld world.now text) }
+{
+    let history = told_history(alloc, world)?;
     print(alloc, &history)
 }
 
@@ -42,10 +49,10 @@ pub fn merged(alloc: Global, plan: &Plan, journals: &Journals) -> Result<MergedR
     Ok(merged_run)
 }
 
-/// The report of the history of the run that the journals tell. They are those of a run of the plan.
+/// The report of the history of the run that the journals tell, which are those of a run of the plan.
 pub fn run_text(alloc: Global, plan: &Plan, journals: &Journals) -> Result<Bytes, NoMemory>
     requires { AreOfPlanRun plan.now journals.now }
-    ensures { IfOk result (RunsPlan plan.now) }
+    ensures { IfOk result (RunsPlan plan.now journals.now) }
 {
     plan_histories::laws::complete_histories();
     let merged_run = merged(alloc, plan, journals)?;

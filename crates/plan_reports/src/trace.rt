@@ -30,7 +30,7 @@ fn joined(alloc: Global, script: &Bytes, report: &Bytes) -> Result<Bytes, NoMemo
 /// run of the plan.
 pub fn trace_text(alloc: Global, plan: &Plan, journals: Journals) -> Result<Bytes, NoMemory>
     requires { AreOfPlanRun plan.now journals }
-    ensures { IfOk result (TracesPlan plan.now) }
+    ensures { IfOk result (TracesPlan plan.now journals) }
 {
     plan_histories::laws::complete_histories();
     told_scripts::laws::plans_declare();

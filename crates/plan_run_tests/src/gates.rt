@@ -1,7 +1,7 @@
-//! Gates that hold two clients.
+//! Gates that hold clients.
 
 use client_threads::{Edge, Gate};
-use std::sync::atomic::{AtomicBool, Ordering};
+use std::sync::atomic::{AtomicBool, AtomicU32, Ordering};
 
 /// After so many turns a gate gives up.
 const TURNS: u32 = 10_000_000;
@@ -105,6 +105,67 @@ impl Gate for InBetween {
         } else if edge == Edge::Locked(1) {
             self.locked.see();
             self.ended.wait();
+        }
+    }
+}
+
+/// Holds each of four clients at the beginning of its first operation until all four are there, counts the operations that each
+/// ends, and sees which of five nodes were in somebody's hand.
+#[derive(Drop)]
+pub struct AllAtOnce {
+    pub begun: [Mark; 4],
+    pub ended: [AtomicU32; 4],
+    pub locked: [AtomicBool; 5],
+}
+
+impl AllAtOnce {
+    pub fn new() -> AllAtOnce {
+        AllAtOnce {
+            begun: [Mark::new(), Mark::new(), Mark::new(), Mark::new()],
+            ended: [
+                AtomicU32::new(0),
+                AtomicU32::new(0),
+                AtomicU32::new(0),
+                AtomicU32::new(0),
+            ],
+            locked: [
+                AtomicBool::new(false),
+                AtomicBool::new(false),
+                AtomicBool::new(false),
+                AtomicBool::new(false),
+                AtomicBool::new(false),
+            ],
+        }
+    }
+
+    // A client begins its first operation.
+    fn begin(&self, place: usize) {
+        if let Some(own) = self.begun.get(place) {
+            own.see();
+            for mark in self.begun.iter() {
+                mark.wait();
+            }
+        }
+    }
+}
+
+impl Gate for AllAtOnce {
+    fn at(&self, client: u32, op: u64, edge: Edge) {
+        // The clients are numbered from 1, and the courier asks in their names.
+        let place = (client as usize).wrapping_sub(1);
+        match edge {
+            Edge::Begin if op == 1 => self.begin(place),
+            Edge::End => {
+                if let Some(count) = self.ended.get(place) {
+                    count.fetch_add(1, Ordering::SeqCst);
+                }
+            }
+            Edge::Locked(node) => {
+                if let Some(seen) = self.locked.get(usize::from(node)) {
+                    seen.store(true, Ordering::SeqCst);
+                }
+            }
+            _ => {}
         }
     }
 }

@@ -7,4 +7,6 @@ mod commands;
 #[cfg(test)]
 mod gates;
 #[cfg(test)]
+mod loads;
+#[cfg(test)]
 mod tests;

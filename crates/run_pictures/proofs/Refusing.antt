@@ -20,7 +20,6 @@ use Rattle.pasis_shell.specs.declared.words.Command.TheVariants.{Replay}
 pub told : (input : List ℕ) (r : Refusal) (line : ℕ) (cause : Cause) → status_of_refusal r ≡ BadScript line cause
     → Refuses Replay input r → Refuses Replay input (refusals.BadScript (record { line = line; cause = cause }))
 told input refusals.NoMemory line cause e h = absurd cc
-told input (refusals.NotBuilt n) line cause e h = absurd cc
 told input (refusals.ClockFull drawn) line cause e h = absurd cc
 told input (refusals.BadScript fault) line cause e h =
     let same_line : fault.line ≡ line = cc in

@@ -10,4 +10,4 @@ pub returns-clause-text : goal.returns-clause-text
 returns-clause-text g c =
     let p = c.in_ok-plan.ensures in
     let is = is_plan c.args.input.now c.as_slice.result.now c.in_ok-plan.plan c.as_slice.ensures.value p.fits p.spelled p.faultless in
-    (subst (λ (t : List ℕ). Runs c.args.input.now t) (sym c.of.ensures.text) (record { is = is; run = c.in_ok-text.ensures }), c.of.ensures.flaw)
+    (subst (λ (t : List ℕ). Runs c.args.input.now t) (sym c.of.ensures.text) (record { is = is; journals = c.in_ok-ran.ran.journals; run = c.in_ok-text.ensures }), c.of.ensures.flaw)

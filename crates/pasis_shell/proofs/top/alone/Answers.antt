@@ -4,6 +4,7 @@ use Rattle.pasis_shell.specs.Words.{texts, words_of}
 use Rattle.pasis_shell.specs.Texts.{IsAccepted}
 use Rattle.pasis_shell.specs.Sessions.{Serves}
 use Rattle.pasis_shell.proofs.Accepted.{complete, some_answered}
+use Rattle.pasis_shell.proofs.Commands.{runs_none}
 use Rattle.pasis_shell.proofs.NbdForms.{one_nbd}
 use Rattle.pasis_shell.proofs.top.alone.Goals as goal
 
@@ -21,3 +22,14 @@ returns-clause-complete g c form quiet input before small accepted calm_source c
     (complete (words_of command) (g.S.Source.left c.args.source.now) (g.S.Source.left c.without_threads.new.source) (g.K.Sink.taken c.args.sink.now) (g.K.Sink.taken c.without_threads.new.sink)
     (g.K.Sink.flushed c.args.sink.now) (g.K.Sink.flushed c.without_threads.new.sink) input c.without_threads.result done.ends (command, is.0, refl) before small
     (subst (λ (ws : List (List ℕ)). IsAccepted ws input) is.1 accepted) (λ e. calm_source (done.read_fault e)) (λ e. calm_sink (done.write_fault e)))
+
+pub returns-clause-none : goal.returns-clause-none
+returns-clause-none g c =
+    (
+      λ e. absurd cc,
+      λ ask.
+          let runs = runs_none (texts c.args.words.now) c.in-Some-command_of.command c.in-Some-command_of.ensures.some.1 ask in
+          let told = c.runs_threads.ensures.1 runs in
+          let none = c.if-runs_threads.false in
+          absurd cc,
+    )

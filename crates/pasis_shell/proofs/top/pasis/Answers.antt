@@ -1,9 +1,9 @@
 use Rattle.std.proofs.Common.{◌≡◌, List, ℕ, Some, None, ap, refl, subst, ◌∙◌}
 use Rattle.outside_io.specs.Causes.{Rose}
-use Rattle.pasis_shell.specs.Words.{texts, words_of, AskForPlan}
+use Rattle.pasis_shell.specs.Words.{texts, words_of, AskForPlan, AskForLoad}
 use Rattle.pasis_shell.specs.Texts.{IsAccepted}
-use Rattle.pasis_shell.proofs.Accepted.{complete, plan_runs}
-use Rattle.pasis_shell.proofs.Commands.{asks_threads, plan_form}
+use Rattle.pasis_shell.proofs.Accepted.{complete, plan_runs, load_runs}
+use Rattle.pasis_shell.proofs.Commands.{asks_threads, plan_form, load_threads, load_form}
 use Rattle.pasis_shell.proofs.NbdForms.{no_command}
 use Rattle.pasis_shell.proofs.top.pasis.Goals as goal
 
@@ -48,3 +48,21 @@ returns-in-Some-clause-complete_plan g c ask input plan before small fits spelle
 pub returns-in-None-clause-complete_plan : goal.returns-in-None-clause-complete_plan
 returns-in-None-clause-complete_plan g c ask input plan before small fits spelled calm_source calm_sink =
     absurd (c.in-None.ensures.none (plan_form (texts c.args.words.now) ask))
+
+pub returns-in-Some-command_of-clause-complete_load : goal.returns-in-Some-command_of-clause-complete_load
+returns-in-Some-command_of-clause-complete_load g c ask calm_sink =
+    let command = c.in-Some-command_of.command in
+    let is = c.in-Some-command_of.ensures.some in
+    let done = c.in_threads.ensures in
+    let sink = c.in_default.ensures.untouched_sink refl in
+    load_runs (words_of command) (g.S.Source.left c.alone.new.source) (g.S.Source.left c.in_threads.new.source) (g.K.Sink.taken c.alone.new.sink) (g.K.Sink.taken c.in_threads.new.sink)
+    (g.K.Sink.flushed c.alone.new.sink) (g.K.Sink.flushed c.in_threads.new.sink) (subst AskForLoad is.1 ask) c.in_threads.result done.ends
+    (λ e. calm_sink (subst (λ s. Rose g.K.Sink.last (g.K.Sink.faults s) (g.K.Sink.faults c.in_threads.new.sink)) sink (done.write_fault e)))
+
+pub returns-in-Some-clause-complete_load : goal.returns-in-Some-clause-complete_load
+returns-in-Some-clause-complete_load g c ask calm_sink =
+    let none : Some c.in-Some.status ≡ None = c.in-Some.ensures.none.1 (load_threads (texts c.args.words.now) ask) in
+    absurd cc
+
+pub returns-in-None-clause-complete_load : goal.returns-in-None-clause-complete_load
+returns-in-None-clause-complete_load g c ask calm_sink = absurd (c.in-None.ensures.none (load_form (texts c.args.words.now) ask))
