@@ -2,4 +2,4 @@ mod Ongoing
 mod SameMessages
 mod Counting
 pub mod LastDesks
-mod Owning
+pub mod Owning

@@ -29,14 +29,14 @@ use Rattle.desk_records.proofs.LastDesks.{limit, desk, desk_is, desk_agrees, fir
 
 -- ---- the desk of a client
 
-all_above : (m : ℕ) (ds : List DeskJournal) → AllByRecursion (λ k. m < k) (map (λ d. d.client) ds) → (d : DeskJournal) → Contains ds d → m < d.client
+pub all_above : (m : ℕ) (ds : List DeskJournal) → AllByRecursion (λ k. m < k) (map (λ d. d.client) ds) → (d : DeskJournal) → Contains ds d → m < d.client
 all_above m [] h d there = absurd (Contains-none d there)
 all_above m (x ∷ ds) h d there =
     let rest = all_above m ds h.1 d in
     elim (Contains-cons_cases d x ds there) [ inl is ↦ subst (λ (y : DeskJournal). m < y.client) (sym is) h.0 | inr later ↦ rest later ]
 
 -- each desk is the one of its client
-own_entries : (ds : List DeskJournal) → Ascend (map (λ d. d.client) ds) → (d : DeskJournal) → Contains ds d → entries_of ds d.client ≡ d.entries
+pub own_entries : (ds : List DeskJournal) → Ascend (map (λ d. d.client) ds) → (d : DeskJournal) → Contains ds d → entries_of ds d.client ≡ d.entries
 own_entries [] h d there = absurd (Contains-none d there)
 own_entries (x ∷ ds) h d there = elim (Contains-cons_cases d x ds there) [
   | inl is ↦ subst (λ (y : DeskJournal). entries_of (x ∷ ds) y.client ≡ y.entries) (sym is) (ap (λ (b : Bool). cond b x.entries (entries_of ds x.client)) (eqb_same x.client))

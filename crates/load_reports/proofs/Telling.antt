@@ -1,31 +1,28 @@
 -- What is told of a load's run holds of it.
-use Rattle.std.proofs.Common.{◌≡◌, ℕ, List, ◌∙◌, subst, refl, arith}
-use Rattle.protocol.specs.Setting.{Setting}
-use Rattle.world_steps.specs.Worlds.{WorldView, world_in}
+use Rattle.std.proofs.Common.{◌≡◌, ℕ, List, ◌∙◌, subst, arith}
 use Rattle.history_book.specs.Books.{Book}
 use Rattle.soak_text.specs.Soaks.{soak_text}
 use Rattle.journals.specs.declared.whole.Journals.{Journals}
-use Rattle.journals.specs.Journals.{setting_for}
 use Rattle.merge_trace.specs.Traces.{placed}
-use Rattle.run_words.specs.declared.line.Line.{Line}
 use Rattle.plan_words.specs.declared.plan.Plan.{Plan}
-use Rattle.plan_reports.specs.Runs.{AreOfPlanRun, IsPlanRun, TellsHistory, TellsWorld}
+use Rattle.plan_reports.specs.Runs.{TellsPlan}
 use Rattle.soak_runs.specs.Loads.{LoadsAreDone, LoadsArePlain}
 use Rattle.load_reports.specs.Told.{load_of, TellsLoad}
 
-pub tells_load : LoadsAreDone → LoadsArePlain → (number : ℕ) (plan : Plan) (j : Journals) → plan ≡ load_of number → AreOfPlanRun plan j
-    → (lines : List Line) (v : WorldView) → IsPlanRun plan j lines v → (book : Book) → TellsWorld v book → (text : List ℕ) → text ≡ soak_text number book
+pub tells_load : LoadsAreDone → LoadsArePlain → (number : ℕ) (plan : Plan) (j : Journals) → plan ≡ load_of number
+    → (book : Book) → TellsPlan plan j book → (text : List ℕ) → text ≡ soak_text number book
     → TellsLoad number j text
-tells_load done plain number plan j is run lines v made book tells text shown =
-    let run_here = subst (λ (p : Plan). AreOfPlanRun p j) is run in
-    let here : TellsHistory (setting_for j) (world_in v) book = subst (λ (s : Setting). TellsHistory s (world_in v) book) made.setting tells in
-    let counts = done number 4 200 (omega arith) j run_here.0 (placed 0 lines) (world_in v) here.history book run_here.1 made.merged made.run here.tells in
+tells_load done plain number plan j is book told text shown =
+    let here : TellsPlan (load_of number) j book = subst (λ (p : Plan). TellsPlan p j book) is told in
+    let made = here.made in
+    let of = here.of in
+    let counts = done number 4 200 (omega arith) j made.of_plan.0 (placed 0 made.lines) made.world of.history book made.of_plan.1 made.merged made.run of.tells in
     record {
-      made = record { of_plan = run_here; lines = lines; merged = made.merged; world = world_in v; run = made.run };
+      made = made;
       book = book;
-      of = here;
+      of = of;
       shown = shown;
       done = counts.0;
       spent = counts.1;
-      plain = λ apart. shown ∙ plain number 4 200 (omega arith) j run_here.0 (placed 0 lines) (world_in v) here.history book run_here.1 made.merged made.run here.tells apart;
+      plain = λ apart. shown ∙ plain number 4 200 (omega arith) j made.of_plan.0 (placed 0 made.lines) made.world of.history book made.of_plan.1 made.merged made.run of.tells apart;
     }

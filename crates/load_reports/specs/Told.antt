@@ -7,7 +7,8 @@ use Rattle.soak_text.specs.Plain.{plain_text}
 use Rattle.journals.specs.declared.whole.Journals.{Journals}
 use Rattle.journals.specs.Journals.{setting_for}
 use Rattle.plan_words.specs.declared.plan.Plan.{Plan}
-use Rattle.plan_reports.specs.Runs.{PlanRun, TellsHistory}
+use Rattle.run_reports.specs.Histories.{TellsHistory}
+use Rattle.plan_reports.specs.Runs.{PlanRun}
 use Rattle.load_maker.specs.Loads.{plan_of}
 
 -- the load of a number: its plan for 4 clients and 200 operations

@@ -3,14 +3,14 @@
 
 ghost use Rattle.std.specs.Prelude.{◌≡◌, IfOk};
 ghost use Rattle.plan_words.specs.Plans.{Fits};
-ghost use Rattle.plan_reports.specs.Runs.{AreOfPlanRun};
+ghost use Rattle.plan_followed.specs.Followed.{AreOfPlan};
 ghost use Rattle.load_reports.specs.Told.{load_of as load_told, TellsLoad};
 
 use cross_sum::Bytes;
 use journals::Journals;
 use lists::NoMemory;
 use load_maker::plan_of;
-use plan_reports::{merged, told_history};
+use plan_reports::told_history;
 use plan_words::Plan;
 use soak_text::print_soak;
 use std::alloc::Global;
@@ -29,20 +29,20 @@ pub fn load_of(alloc: Global, number: u64) -> Result<Plan, NoMemory>
     plan_of(alloc, number, CLIENTS, OPERATIONS)
 }
 
-/// The line of the run that the journals tell. They are those of a run of the number's load.
+/// The line of the run that the journals tell, for which so many numbers were drawn. They are those of a run of the number's load.
 pub fn load_text(
     alloc: Global,
     number: u64,
     load: &Plan,
     journals: &Journals,
+    drawn: u64,
 ) -> Result<Bytes, NoMemory>
     requires load { load.now ≡ load_told number }
-    requires run { AreOfPlanRun load.now journals.now }
+    requires run { AreOfPlan load.now journals.now drawn }
     ensures { IfOk result (TellsLoad number journals.now) }
 {
     soak_runs::laws::plain_loads();
-    let merged_run = merged(alloc, load, journals)?;
-    let history = told_history(alloc, &merged_run.world)?;
+    let history = told_history(alloc, load, journals, drawn)?;
     let text = print_soak(alloc, number, &history)?;
     Ok(text)
 }

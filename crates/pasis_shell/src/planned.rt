@@ -38,7 +38,7 @@ fn run_of<R: Threads + Wait + Sync, G: Gate + Sync>(
 {
     let plan = read_plan(alloc, input.as_slice())?;
     let ran = run_plan(rt, alloc, &plan, gate)?;
-    let text = run_text(alloc, &plan, &ran.journals)?;
+    let text = run_text(alloc, &plan, &ran.journals, ran.drawn.count())?;
     Ok(Answer::of(text))
 }
 
@@ -70,7 +70,7 @@ fn soak_of<R: Threads + Wait + Sync, G: Gate + Sync>(
 {
     let load = load_of(alloc, number)?;
     let ran = run_plan(rt, alloc, &load, gate)?;
-    let text = load_text(alloc, number, &load, &ran.journals)?;
+    let text = load_text(alloc, number, &load, &ran.journals, ran.drawn.count())?;
     Ok(Answer::of(text))
 }
 

@@ -1,16 +1,12 @@
 -- What is told of the run of a plan.
 use Rattle.std.specs.Prelude.{◌≡◌, ℕ, List}
-use Rattle.protocol.specs.Setting.{Setting, first_stamp}
+use Rattle.protocol.specs.Setting.{Setting}
 use Rattle.protocol.specs.World.{World}
 use Rattle.protocol.specs.Lines.{Line, IsRun}
-use Rattle.protocol.specs.History.{Entry, NoClash}
 use Rattle.world_steps.specs.Worlds.{WorldView, setting_in, world_in}
 use Rattle.history_book.specs.Books.{Book}
-use Rattle.history_book.specs.Tellings.{Tells}
 use Rattle.history_book.specs.Reports.{report_text}
-use Rattle.history_book.specs.ReportTexts.{IsReport}
-use Rattle.history_book.specs.Judging.{IsLegal, IsInTime}
-use Rattle.run_reports.specs.Registers.{AreRegisters}
+use Rattle.run_reports.specs.Histories.{TellsHistory}
 use Rattle.journals.specs.declared.whole.Journals.{Journals}
 use Rattle.journals.specs.Journals.{setting_for, IsMerge}
 use Rattle.merge_trace.specs.Traces.{placed}
@@ -18,23 +14,11 @@ use Rattle.plan_words.specs.declared.plan.Plan.{Plan}
 use Rattle.plan_followed.specs.Followed.{AreOfPlan}
 use Rattle.plan_histories.specs.Shown.{IsComplete}
 
--- the book tells the world's history, which is one of plain registers and in time: of all that takes place nothing is known but
--- that it does, and that no two strings that were seen clash
-pub record TellsHistory (s : Setting) (w : World) (book : Book) : Type 0 where
-  pub history : List Entry
-  pub tells : Tells w.records (first_stamp s) history book
-  pub registers : AreRegisters s w history
-  pub told : IsReport book
-  pub plain : NoClash s w → IsLegal book.entries × IsInTime book.entries
-
 -- the text is the report of the world's history
 pub record Reports (s : Setting) (w : World) (text : List ℕ) : Type 0 where
   pub book : Book
   pub of : TellsHistory s w book
   pub shown : text ≡ report_text book
-
-abbrev pub TellsWorld : WorldView → Book → Type 0
-TellsWorld v book = TellsHistory (setting_in v) (world_in v) book
 
 abbrev pub ReportsWorld : WorldView → List ℕ → Type 0
 ReportsWorld v text = Reports (setting_in v) (world_in v) text
@@ -56,6 +40,11 @@ pub record PlanRun (plan : Plan) (j : Journals) : Type 0 where
   pub merged : IsMerge j (placed 0 lines)
   pub world : World
   pub run : IsRun (setting_for j) (placed 0 lines) world
+
+-- the book tells the history of the run of the plan that the journals tell
+pub record TellsPlan (plan : Plan) (j : Journals) (book : Book) : Type 0 where
+  pub made : PlanRun plan j
+  pub of : TellsHistory (setting_for j) made.world book
 
 -- the text is the report of the run of the plan that the journals tell, which has each operation of each client that neither lies
 -- nor crashes

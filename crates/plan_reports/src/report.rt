@@ -1,61 +1,57 @@
 //! The report of a run of a plan.
 
 ghost use Rattle.std.specs.Prelude.{IfOk};
-ghost use Rattle.std.specs.List.{AllByRecursion};
-ghost use Rattle.plan_histories.specs.Told.{IsTold};
-ghost use Rattle.plan_reports.specs.Runs.{AreOfPlanRun, RunsPlan, IsPlanRun, TellsWorld, ReportsWorld};
+ghost use Rattle.plan_followed.specs.Followed.{AreOfPlan};
+ghost use Rattle.plan_reports.specs.Runs.{RunsPlan, TellsPlan};
 
 use cross_sum::Bytes;
 use history_book::{History, print};
+use journal_records::records_of;
 use journals::Journals;
 use lists::NoMemory;
-use merge_trace::{MergedRun, merge_run};
 use plan_words::Plan;
-use run_reports::history_of;
+use run_reports::history_of_records;
 use std::alloc::Global;
-use world_steps::World;
+use wire_forms::First;
 
-/// The most lines of which a history is told, which is more than memory has room for.
-const MOST_LINES: u64 = (1 << 31) - 2;
+/// The most numbers of which a history is told, which is more than memory has room for.
+pub(crate) const MOST_LINES: u64 = (1 << 31) - 2;
 
-/// The history of a world, to which at most 2^31 - 2 lines led. `NoMemory` comes of more, too.
-pub fn told_history(alloc: Global, world: &World) -> Result<History, NoMemory>
-    ensures { IfOk result (λ history. TellsWorld world.now history) }
+/// The history of the run that the journals tell, for which so many numbers were drawn. They are those of a run of the plan. Its
+/// records are those of the clients' journals, so none of its lines is played.
+pub fn told_history(
+    alloc: Global,
+    plan: &Plan,
+    journals: &Journals,
+    drawn: u64,
+) -> Result<History, NoMemory>
+    requires { AreOfPlan plan.now journals.now drawn }
+    ensures { IfOk result (TellsPlan plan.now journals.now) }
 {
-    if world.place() > MOST_LINES {
+    if drawn > MOST_LINES {
         return Err(NoMemory);
     }
-    history_of(alloc, world)
-}
-
-/// The report of the history of a world.
-pub fn report_of(alloc: Global, world: &World) -> Result<Bytes, NoMemory>
-    ensures { IfOk result (λ text. ReportsWorld world.now text) }
-{
-    let history = told_history(alloc, world)?;
-    print(alloc, &history)
-}
-
-/// The run that journals of a run of the plan tell.
-pub fn merged(alloc: Global, plan: &Plan, journals: &Journals) -> Result<MergedRun, NoMemory>
-    requires { AreOfPlanRun plan.now journals.now }
-    ensures run { IfOk result (λ r. IsPlanRun plan.now journals.now r.lines r.world) }
-    ensures told { IfOk result (λ r. AllByRecursion (IsTold plan.now.config) r.lines) }
-{
-    plan_followed::laws::plans();
     plan_followed::laws::followed_plans();
-    plan_histories::laws::told_lines();
-    let merged_run = merge_run(alloc, journals)?;
-    Ok(merged_run)
+    desk_records::laws::merged_lines();
+    desk_records::laws::all_records();
+    let records = records_of(alloc, journals)?;
+    let first = First::of(alloc, &journals.config)?;
+    let history = history_of_records(alloc, records.as_slice(), &first.stamp)?;
+    Ok(history)
 }
 
-/// The report of the history of the run that the journals tell, which are those of a run of the plan.
-pub fn run_text(alloc: Global, plan: &Plan, journals: &Journals) -> Result<Bytes, NoMemory>
-    requires { AreOfPlanRun plan.now journals.now }
+/// The report of that history, which has each operation of each client that neither lies nor crashes.
+pub fn run_text(
+    alloc: Global,
+    plan: &Plan,
+    journals: &Journals,
+    drawn: u64,
+) -> Result<Bytes, NoMemory>
+    requires { AreOfPlan plan.now journals.now drawn }
     ensures { IfOk result (RunsPlan plan.now journals.now) }
 {
     plan_histories::laws::complete_histories();
-    let merged_run = merged(alloc, plan, journals)?;
-    let text = report_of(alloc, &merged_run.world)?;
+    let history = told_history(alloc, plan, journals, drawn)?;
+    let text = print(alloc, &history)?;
     Ok(text)
 }

@@ -1,19 +1,48 @@
 //! The trace of a run of a plan: its lines as a script, and its report.
 
 ghost use Rattle.std.specs.Prelude.{◌≡◌, ◌++◌, ◌∷◌, [], codes, IfOk};
+ghost use Rattle.std.specs.List.{AllByRecursion};
 ghost use Rattle.text_lines.specs.Lines.{text_of_lines};
-ghost use Rattle.plan_reports.specs.Runs.{AreOfPlanRun};
+ghost use Rattle.plan_histories.specs.Told.{IsTold};
+ghost use Rattle.plan_reports.specs.Runs.{AreOfPlanRun, IsPlanRun, ReportsWorld};
 ghost use Rattle.plan_reports.specs.Traces.{TracesPlan};
 
-use crate::report::{merged, report_of};
+use crate::report::MOST_LINES;
 use cross_sum::Bytes;
+use history_book::print;
 use journals::Journals;
 use lists::NoMemory;
-use merge_trace::MergedRun;
+use merge_trace::{MergedRun, merge_run};
 use plan_words::Plan;
+use run_reports::history_of;
 use std::alloc::Global;
 use text_lines::Text;
 use told_scripts::script_of;
+use world_steps::World;
+
+/// The run that journals of a run of the plan tell.
+fn merged(alloc: Global, plan: &Plan, journals: &Journals) -> Result<MergedRun, NoMemory>
+    requires { AreOfPlanRun plan.now journals.now }
+    ensures run { IfOk result (λ r. IsPlanRun plan.now journals.now r.lines r.world) }
+    ensures told { IfOk result (λ r. AllByRecursion (IsTold plan.now.config) r.lines) }
+{
+    plan_followed::laws::plans();
+    plan_followed::laws::followed_plans();
+    plan_histories::laws::told_lines();
+    let merged_run = merge_run(alloc, journals)?;
+    Ok(merged_run)
+}
+
+/// The report of the history of a world.
+fn report_of(alloc: Global, world: &World) -> Result<Bytes, NoMemory>
+    ensures { IfOk result (λ text. ReportsWorld world.now text) }
+{
+    if world.place() > MOST_LINES {
+        return Err(NoMemory);
+    }
+    let history = history_of(alloc, world)?;
+    print(alloc, &history)
+}
 
 /// A script, the line `report` and a report, as one text.
 fn joined(alloc: Global, script: &Bytes, report: &Bytes) -> Result<Bytes, NoMemory>

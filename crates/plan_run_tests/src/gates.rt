@@ -2,6 +2,7 @@
 
 use client_threads::{Edge, Gate};
 use std::sync::atomic::{AtomicBool, AtomicU32, Ordering};
+use std::thread;
 
 /// After so many turns a gate gives up.
 const TURNS: u32 = 10_000_000;
@@ -25,12 +26,13 @@ impl Mark {
         self.is_seen.store(true, Ordering::SeqCst);
     }
 
-    // Waits for it.
+    // Waits for it. The processor goes to others meanwhile, who may have to come there first.
     fn wait(&self) {
         for _ in 0..TURNS {
             if self.is_seen.load(Ordering::SeqCst) {
                 return;
             }
+            thread::yield_now();
         }
         self.is_given_up.store(true, Ordering::SeqCst);
     }

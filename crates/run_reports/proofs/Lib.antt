@@ -1,3 +1,4 @@
-pub mod Accepting
-pub mod Records
-pub mod Reports
+mod Accepting
+mod Records
+mod Reports
+mod Telling

@@ -24,12 +24,11 @@ returns-clause-complete g c form quiet input before small accepted calm_source c
     (subst (λ (ws : List (List ℕ)). IsAccepted ws input) is.1 accepted) (λ e. calm_source (done.read_fault e)) (λ e. calm_sink (done.write_fault e)))
 
 pub returns-clause-none : goal.returns-clause-none
-returns-clause-none g c =
-    (
-      λ e. absurd cc,
-      λ ask.
-          let runs = runs_none (texts c.args.words.now) c.in-Some-command_of.command c.in-Some-command_of.ensures.some.1 ask in
-          let told = c.runs_threads.ensures.1 runs in
-          let none = c.if-runs_threads.false in
-          absurd cc,
-    )
+returns-clause-none g c = (
+  λ e. absurd cc,
+  λ ask.
+      let runs = runs_none (texts c.args.words.now) c.in-Some-command_of.command c.in-Some-command_of.ensures.some.1 ask in
+      let told = c.runs_threads.ensures.1 runs in
+      let none = c.if-runs_threads.false in
+      absurd cc,
+)

@@ -1,5 +1,5 @@
 use Rattle.plan_reports.proofs.Running.{plan_liars, plan_run, told_lines}
-use Rattle.plan_reports.proofs.report.merged.Goals as goal
+use Rattle.plan_reports.proofs.trace.merged.Goals as goal
 
 pub merge_run-requires-clause-desks : goal.merge_run-requires-clause-desks
 merge_run-requires-clause-desks c = c.requires.1.follows.are_for.ascend

@@ -1,0 +1,4 @@
+pub mod Following
+pub mod Replies
+pub mod Starts
+pub mod Together
