@@ -15,5 +15,5 @@ pub fn merge(alloc: Global, old: &Bytes, at: u32, bytes: &Bytes) -> Result<Bytes
     value.extend_from_slice(&old.as_slice()[..at])?;
     value.extend_from_slice(bytes.as_slice())?;
     value.extend_from_slice(old.tail(at + bytes.len()))?;
-    Ok(Bytes::from_vec(value))
+    Bytes::shared(value)
 }

@@ -83,6 +83,6 @@ impl CodeShape {
             push_string_at::<P, &[u8]>(&mut out, &points, strings.as_slice(), len, k)?;
         }
         out.truncate(size);
-        Ok(Bytes::from_vec(out))
+        Bytes::shared(out)
     }
 }

@@ -172,6 +172,21 @@ fn held_asks_come_again_before_a_prune(rt: HostRuntime) -> Result<(), Fail> {
 }
 
 #[test]
+fn a_held_ask_comes_with_no_caller(rt: HostRuntime) -> Result<(), Fail> {
+    let alloc = rt.alloc();
+    let (clock, pass, mut caller) = clock_of_two(alloc)?;
+    let mut cell = cell_of(alloc, Nature::Honest, None, pass)?;
+    let mut note = clock.note(&mut caller);
+    let held = cell.answer(&clock, &mut note, Way::Hold, &time_ask());
+    assert!(rt; matches!(&held, Ok(Told::Silent { number: 0, .. })));
+    assert_eq!(rt; cell.bring_late(&clock), Ok(Late::Delivered { number: 1 }));
+    assert_eq!(rt; caller.seen(), 0);
+    clock.heed(&mut caller, note);
+    assert_eq!(rt; caller.seen(), 1);
+    Ok(())
+}
+
+#[test]
 fn a_liar_loses_and_prunes_nothing(rt: HostRuntime) -> Result<(), Fail> {
     let alloc = rt.alloc();
     let (clock, pass, mut caller) = clock_of_two(alloc)?;

@@ -2,6 +2,8 @@
 use Rattle.std.specs.Prelude.{◌≡◌, ℕ, ◌<◌, ◌^◌, Option, IsSome, IfSome}
 use Rattle.std.specs.declared.option.Option.TheVariants.{None, Some}
 use Rattle.quorum_rules.specs.Limits.{Numbers}
+use Rattle.stamp_order.specs.declared.Stamp.{Stamp}
+use Rattle.wire_forms.specs.Firsts.{first_of}
 use Rattle.protocol.specs.Instance.{setting}
 use Rattle.protocol.specs.Operations.{mail as mail_of}
 use Rattle.protocol.specs.Operations.Work.{Reads}
@@ -30,8 +32,10 @@ IsWork config id Idle = Unit {0}
 IsWork config id (Writing o) = IsOwn config id o
 IsWork config id (Reading o) = IsOwn config id o × IfSome o.task (λ t. t.work ≡ Reads)
 
--- the lives and operations are numbers of 32 bits, and the operation under way is the client's own
-pub record IsClient (config : Numbers) (id life started : ℕ) (work : Work) : Type 0 where
+-- the stamp is that of the cluster's first version, the lives and operations are numbers of 32 bits, and the operation under way is
+-- the client's own
+pub record IsClient (config : Numbers) (first : Stamp) (id life started : ℕ) (work : Work) : Type 0 where
+  pub first_stamp : first ≡ (first_of config).stamp
   pub lives : life < 2 ^ 32
   pub starts : started < 2 ^ 32
   pub own : IsWork config id work

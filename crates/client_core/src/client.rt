@@ -4,6 +4,7 @@ ghost use Rattle.protocol.specs.Seen.{new_client, ops_of, block_of, work_of, see
 ghost use Rattle.protocol.specs.World.{Fits};
 ghost use Rattle.protocol.specs.Operations.{mail as all_mail};
 ghost use Rattle.protocol.specs.Instance.{setting};
+ghost use Rattle.wire_forms.specs.Firsts.{first_of};
 ghost use Rattle.client_core.specs.Works.{HasBegun, IsTold};
 ghost use Rattle.client_core.specs.Clients.{with_task, with_started, started, mail_of, is_only_counted, goes_to, IsHeard};
 
@@ -15,7 +16,7 @@ use run_words::Outcome;
 use stamp_order::Stamp;
 use std::alloc::Global;
 use std::marker::Model;
-use wire_forms::{Body, Mail, Message, Op, Reply, Tag};
+use wire_forms::{Body, First, Mail, Message, Op, Reply, Tag};
 use write_core::{Writer, Writing};
 
 /// How many numbers the operations of one life have.
@@ -34,6 +35,8 @@ enum Work {
 pub struct Client {
     alloc: Global,
     config: Config,
+    /// The stamp of the first version in the cluster.
+    first: Stamp,
     id: u32,
     /// How often it came back.
     life: u32,
@@ -47,6 +50,7 @@ impl Drop for Client {
         let Client {
             alloc: _alloc,
             config: _config,
+            first: _first,
             id: _id,
             life: _life,
             started: _started,
@@ -63,7 +67,7 @@ impl Model for Client {
 
     ghost view = { λ c. record { config = c.config; id = c.id; seen = record { life = c.life; started = c.started; task = task_of c.work } } };
 
-    ghost invariant = { λ c. IsClient c.config c.id c.life c.started c.work };
+    ghost invariant = { λ c. IsClient c.config c.first c.id c.life c.started c.work };
 }
 
 impl Client {
@@ -81,6 +85,7 @@ impl Client {
         Ok(Client {
             alloc,
             config: *config,
+            first: First::of(alloc, config)?.stamp,
             id,
             life,
             started: 0,
@@ -99,7 +104,7 @@ impl Client {
         ensures err { OnErr result (self.new ≡ self.old) }
     {
         let number = self.ops() + 1;
-        let (work, mail) = begin(self.alloc, &self.config, self.id, number, op)?;
+        let (work, mail) = begin(self.alloc, &self.config, &self.first, self.id, number, op)?;
         self.started += 1;
         self.work = work;
         Ok(mail)
@@ -233,16 +238,18 @@ impl Client {
 fn begin(
     alloc: Global,
     config: &Config,
+    first: &Stamp,
     id: u32,
     number: u64,
     op: &Op,
 ) -> Result<(Work, Mail), NoMemory>
+    requires first { first.now ≡ (first_of config.now).stamp }
     ensures work { IfOk result (λ r. HasBegun config.now id (seen_begun (setting config.now) number (block_of op.now) (work_of op.now)) r.0) }
     ensures mail { IfOk result (λ r. r.1 ≡ all_mail (setting config.now) id (task_at 0 (seen_begun (setting config.now) number (block_of op.now) (work_of op.now)))) }
 {
     match op {
         Op::Read { block } => {
-            let (reader, mail) = Reader::begin(alloc, config, id, number, *block)?;
+            let (reader, mail) = Reader::begin(alloc, config, first, id, number, *block)?;
             Ok((Work::Reading(reader), mail))
         }
         Op::Write { block, value } => {
@@ -302,6 +309,7 @@ impl Copied for Client {
         Ok(Client {
             alloc: self.alloc,
             config: self.config,
+            first: self.first,
             id: self.id,
             life: self.life,
             started: self.started,

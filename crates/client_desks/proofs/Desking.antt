@@ -1,23 +1,24 @@
 -- A desk's journal with one more entry, and the two sides of a step.
-use Rattle.std.proofs.Common.{◌≡◌, ℕ, ◌+◌, ◌≤◌, Bool, true, false, List, [], ◌∷◌, ◌++◌, Option, refl, sym, ap, subst, ◌∙◌, arith, append_assoc, append-nil, inl, inr, Result, Ok, Err}
+use Rattle.std.proofs.Common.{◌≡◌, ℕ, ◌+◌, ◌-◌, ◌^◌, ◌<◌, ◌≤◌, Bool, true, false, List, [], ◌∷◌, ◌++◌, Option, refl, sym, ap, subst, ◌∙◌, arith, append_assoc, append-nil, inl, inr, Result, Ok, Err}
 use Rattle.std.specs.declared.option.Option.TheVariants.{None, Some}
-use Rattle.std.specs.Prelude.{if◌then◌else◌, nat_lt, IsSome, IfOk, OnOk, OnErr}
+use Rattle.std.specs.Prelude.{if◌then◌else◌, nat_lt, IfSome, IsSome, IfOk, OnOk, OnErr}
+use Rattle.lists.specs.declared.memory.NoMemory.{NoMemory}
 use Rattle.protocol.specs.Operations.{Outcome}
 use Rattle.protocol.specs.Setting.{Setting}
 use Rattle.protocol.specs.Instance.{setting}
 use Rattle.protocol.specs.Operations.{outstanding}
-use Rattle.protocol.specs.Seen.{SeenTask, task_at, outstanding_of}
+use Rattle.protocol.specs.Seen.{SeenTask, task_at, outstanding_of, phase_of}
 use Rattle.locked_nodes.specs.declared.answers.CellRefusal.{CellRefusal}
 use Rattle.locked_nodes.specs.declared.answers.Late.{Late}
 use Rattle.locked_nodes.specs.declared.answers.Late.TheVariants.{NoMail, Delivered as CameIn, Lost}
 use Rattle.std.proofs.lemmas.List.{map-append}
 use Rattle.receipt_lock.specs.Turns.{Begins}
-use Rattle.protocol.specs.Messages.{Message}
+use Rattle.protocol.specs.Messages.{Message, IsFormedBody}
 use Rattle.quorum_rules.specs.Limits.{Numbers}
 use Rattle.protocol.specs.Seen.{Hearing}
 use Rattle.protocol.specs.Seen.Hearing.{Ignored, Counted, Begins as BeginsPhase, Ended}
 use Rattle.client_core.specs.Clients.{ClientView, hears}
-use Rattle.event_clock.specs.Passes.{Holder, met}
+use Rattle.event_clock.specs.Passes.{Holder, met, heeded}
 use Rattle.liar_rules.specs.Answers.{answer_to}
 use Rattle.journals.specs.declared.desk.Way.{Way}
 use Rattle.journals.specs.declared.desk.Way.TheVariants.{Call as ByCall, Drop, Hold}
@@ -37,7 +38,7 @@ use Rattle.journals.specs.Desks.{DeskState, new_desk, by_hearing, desk_told, des
 use Rattle.journals.specs.Steps.{side}
 use Rattle.locked_nodes.specs.declared.charter.Item.TheVariants.{Head, Entry}
 use Rattle.locked_nodes.specs.Cells.{CellView, CameLate, state_of, loses, Rises, told_as, with_seen, with_entry, entry, items}
-use Rattle.client_desks.specs.Desks.{DeskView, state_at, reply_by, ending, asks_of, AddPair, Calls, Delivers, own_of, own_numbers, numbers_of, IsDesk, desk_entry, reply_told, heard}
+use Rattle.client_desks.specs.Desks.{DeskView, state_at, reply_by, ending, asks_of, CanCall, AddPair, Calls, Delivers, own_of, own_numbers, numbers_of, IsDesk, desk_entry, reply_told, heard}
 
 -- numbers that rise, with one more
 pub rises_snoc : (low : ℕ) (xs : List ℕ) (high n : ℕ) → Rises low xs high → high ≤ n → Rises low (xs ++ n ∷ []) (n + 1)
@@ -86,7 +87,7 @@ state_keeps d (e ∷ es) =
 pub config_at : (config : Numbers) (id : ℕ) (es : List DeskEntry) → (desk_after_all (new_desk config id) es).client.config ≡ config
 config_at config id es = (state_keeps (new_desk config id) es).0
 
-pub id_at : (config : Numbers) (id : ℕ) (es : List DeskEntry) → (desk_after_all (new_desk config id) es).client.id ≡ id
+id_at : (config : Numbers) (id : ℕ) (es : List DeskEntry) → (desk_after_all (new_desk config id) es).client.id ≡ id
 id_at config id es = (state_keeps (new_desk config id) es).1
 
 -- what a reply does to a client is what it does to the journal's
@@ -114,6 +115,10 @@ desk_grows config id lying client now crashed fell es gs p q n a desk may le see
       drawn = drawn ∙ ap (λ l. l ++ own_of n a) desk.drawn ∙ sym (own_snoc es e);
       rises = subst (λ h. Rises 0 (numbers_of (es ++ e ∷ [])) h) (sym seen) (subst (λ l. Rises 0 l (n + 1)) (sym numbers) (rises_snoc 0 (numbers_of es) p.seen n desk.rises le));
     })
+
+-- a pass that heeds a note of a number not below what it had seen
+pub heeds_call : (p : Holder) (seen n : ℕ) → p.seen ≤ n → seen ≡ n + 1 → heeded p seen ≡ with_seen p (n + 1)
+heeds_call p seen n le is = ap (λ m. with_seen p m) (omega (arith, le, is))
 
 -- a desk that did nothing, but whose pass has seen more
 pub desk_stays : (config : Numbers) (id : ℕ) (lying : Bool) (client now : ClientView) (crashed : Bool) (es gs : List DeskEntry) (p q : Holder)
@@ -224,6 +229,27 @@ pub some_in : {A : Type 0} (o : Option A) → IsSome o → (x : A) × (o ≡ Som
 some_in None is = absurd cc
 some_in (Some x) is = (x, refl)
 
+-- of a desk, where the answer is one
+pub asks_to : (answer : Result (Option Message) NoMemory) (d : DeskView) (node : ℕ) → IfOk answer (λ ask. ask ≡ asks_of d node) → IfOk answer (λ ask. IfSome ask (λ m. (m.node ≡ node) × (m.client ≡ d.id)))
+asks_to (Err e) d node is = tt
+asks_to (Ok None) d node is = tt
+asks_to (Ok (Some m)) d node is =
+    let task = (state_at d).client.seen.task in
+    (asks_node (setting d.config) d.id task node m (sym is), asks_client (setting d.config) d.id task node m (sym is))
+
+pub asks_some : (answer : Result (Option Message) NoMemory) (asked : Option Message) → IfOk answer (λ ask. ask ≡ asked) → IsSome asked → IfOk answer (λ ask. IsSome ask)
+asks_some (Err e) asked is some = tt
+asks_some (Ok ask) asked is some = subst IsSome (sym is) some
+
+-- the call of what is asked of a node is one that the client may make
+pub calls_as : (d : DeskView) (way : Way) (ask : Message) (reply : Option Message) → CanCall d ask.node → asks_of d ask.node ≡ Some ask → ActsAs d.lying (state_at d) (Call way ask reply)
+calls_as d way ask reply can asked =
+    let goes : ActsAs false (state_at d) (Call way ask reply) = (
+      can.up.up,
+      record { outstanding = asks_at d.config d.id d.entries (state_at d).client ask.node refl ∙ asked; unanswered = can.unanswered },
+    ) in
+    subst (λ b. ActsAs b (state_at d) (Call way ask reply)) (sym can.up.correct) goes
+
 -- a pair that was added for what was asked
 pub on_ok_calls : {A : Type 0} (answer : Result A CellRefusal) (old : DeskView) (was : CellView) (way : Way) (ask : Message) (new : DeskView) (now : CellView) → asks_of old was.charter.number ≡ Some ask
     → OnOk answer (AddPair old was way ask new now) → OnOk answer (Calls old was way new now)
@@ -250,9 +276,20 @@ liar_act d n (Start op) calls idle = absurd calls
 liar_act d n Crash calls idle = absurd calls
 liar_act d n (Call way ask reply) calls idle = told_idle d n reply idle
 
-pub liar_idle : (d : DeskState) (es : List DeskEntry) → DeskKept true d es → d.client.seen.task ≡ None → (desk_after_all d es).client.seen.task ≡ None
+liar_idle : (d : DeskState) (es : List DeskEntry) → DeskKept true d es → d.client.seen.task ≡ None → (desk_after_all d es).client.seen.task ≡ None
 liar_idle d [] kept idle = idle
 liar_idle d (e ∷ es) kept idle = liar_idle (desk_after d e.number e.act) es kept.1 (liar_act d e.number e.act kept.0 idle)
+
+pub liar_phase : (d : DeskView) → d.lying ≡ true → DeskKept d.lying (new_desk d.config d.id) d.entries → phase_of (state_at d).client.seen.task < 2 ^ 64 - 1
+liar_phase d lying kept =
+    let idle : (state_at d).client.seen.task ≡ None = liar_idle (new_desk d.config d.id) d.entries (subst (λ b. DeskKept b (new_desk d.config d.id) d.entries) lying kept) refl in
+    subst (λ t. phase_of t < 2 ^ 64 - 1) (sym idle) (omega arith)
+
+-- the call of its ask is one that it may make
+pub liar_calls : (d : DeskView) (ask : Message) (reply : Option Message) → d.lying ≡ true → ask.client ≡ d.id → IsFormedBody ask.body → ActsAs d.lying (state_at d) (Call ByCall ask reply)
+liar_calls d ask reply lying own formed =
+    let calls : LiarCalls (state_at d).client.id (Call ByCall ask reply) = (refl, own ∙ sym (id_at d.config d.id d.entries), formed) in
+    subst (λ b. ActsAs b (state_at d) (Call ByCall ask reply)) (sym lying) calls
 
 -- a desk whose pass meets another one
 pub desk_meets : (config : Numbers) (id : ℕ) (lying : Bool) (client : ClientView) (crashed : Bool) (es : List DeskEntry) (pass other : Holder)

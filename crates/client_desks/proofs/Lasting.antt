@@ -1,9 +1,9 @@
 -- Desks that went on.
-use Rattle.std.proofs.Common.{◌≡◌, ℕ, ◌+◌, ◌≤◌, List, [], ◌∷◌, ◌++◌, refl, sym, ap, subst, ◌∙◌, arith, append_assoc, append-nil}
+use Rattle.std.proofs.Common.{ℕ, ◌+◌, ◌≤◌, List, [], ◌∷◌, ◌++◌, refl, sym, ap, subst, ◌∙◌, arith, append_assoc, append-nil}
 use Rattle.std.proofs.lemmas.List.{map-append}
 use Rattle.journals.specs.declared.desk.DeskEntry.{DeskEntry}
 use Rattle.locked_nodes.specs.Cells.{Rises}
-use Rattle.client_desks.specs.Desks.{DeskView, KeepsDesk, numbers_of, desk_entry}
+use Rattle.client_desks.specs.Desks.{DeskView, numbers_of, desk_entry}
 use Rattle.client_desks.specs.Later.{IsLater, GoesOn, OwnIsLater, CallIsLater, KeptIsLater}
 
 -- numbers that rise from a higher bound rise from a lower one

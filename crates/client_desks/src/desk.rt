@@ -1,15 +1,15 @@
-ghost use Rattle.std.specs.Prelude.{◌≡◌, ◌↔◌, IsTrue, ℕ, ◌<◌, ◌≤◌, ◌+◌, ◌-◌, ◌^◌, [], None, Some, Ok, Err, true, false, IfOk, OnOk, IfErr, OnErr, Option};
+ghost use Rattle.std.specs.Prelude.{◌≡◌, ◌↔◌, IsTrue, ℕ, ◌<◌, ◌≤◌, ◌+◌, ◌-◌, ◌^◌, [], None, Some, Ok, Err, true, false, IfOk, OnOk, IfErr, OnErr, IfSome, IsSome, Option};
 ghost use Rattle.protocol.specs.Messages.{IsFormedBody, Message as AnyMessage};
 ghost use Rattle.protocol.specs.Seen.{ops_of, phase_of};
-ghost use Rattle.event_clock.specs.Passes.{left_of, met};
+ghost use Rattle.event_clock.specs.Passes.{left_of, met, sight_of};
 ghost use Rattle.receipt_lock.specs.Turns.{Begins};
 ghost use Rattle.journals.specs.Desks.{FitsOp, ActsAs};
 ghost use Rattle.journals.specs.Phases.{IsAtRest};
 ghost use Rattle.locked_nodes.specs.Cells.{Serves, HoldsWhole, HasNoLateMail, items, number_of};
-ghost use Rattle.client_desks.specs.Desks.{DeskView, first_desk, met_desk, state_at, task_at, asks_of, IsUp, CanStart, CanCall, with_own, desk_entry, KeptDesk, AddPair, Calls, KeepsDesk, Delivers, reply_told, reply_by, heard, ending};
+ghost use Rattle.client_desks.specs.Desks.{DeskView, first_desk, met_desk, state_at, task_at, asks_of, IsUp, CanStart, CanCall, with_own, desk_entry, KeptDesk, AddPair, Calls, KeepsDesk, Delivers, with_call, reply_told, reply_by, heard, ending};
 
 use client_core::{Client, Heard};
-use event_clock::{Clock, Pass};
+use event_clock::{Clock, Note, Pass};
 use journals::{DeskAct, DeskEntry, DeskJournal, Way};
 use lists::{Copied, ItemList, NoMemory};
 use locked_nodes::{CellRefusal, Late, NodeCell, Told};
@@ -162,6 +162,31 @@ impl Desk {
         clock.meet(&mut self.pass, other);
     }
 
+    /// A note of what the desk's pass has seen, to go along with an ask.
+    pub fn note(&mut self, clock: &Clock) -> Note
+        requires clock { self.old.pass.clock ≡ clock.now }
+        ensures note { result ≡ sight_of self.old.pass }
+        ensures same { self.new ≡ self.old }
+    {
+        clock.note(&mut self.pass)
+    }
+
+    /// What the client's phase asks of a node, if it asks anything.
+    pub fn asks(&self, node: u8) -> Result<Option<Message>, NoMemory>
+        ensures asked { IfOk result (λ ask. ask ≡ asks_of self.now node) }
+        ensures to { IfOk result (λ ask. IfSome ask (λ m. (m.node ≡ node) × (m.client ≡ self.now.id))) }
+        ensures some { CanCall self.now node → IfOk result (λ ask. IsSome ask) }
+    {
+        self.client.outstanding(node)
+    }
+
+    /// Whether an entry of this number can be added: it isn't below any that the desk's pass has seen.
+    pub fn can_hear(&self, number: u64) -> bool
+        ensures { IsTrue result ↔ self.now.pass.seen ≤ number }
+    {
+        self.pass.seen() <= number
+    }
+
     /// The journal, and the pass, which drew the numbers of its starts and crashes.
     pub fn finish(self) -> (DeskJournal, Pass)
         ensures client { result.0.client ≡ self.id }
@@ -253,7 +278,7 @@ impl Desk {
             return Err(CellRefusal::ClockFull);
         }
         let node = cell.number();
-        let asked = self.client.outstanding(node)?;
+        let asked = self.asks(node)?;
         let Some(ask) = asked else { unreachable!() };
         self.ask(clock, cell, way, ask)
     }
@@ -283,6 +308,50 @@ impl Desk {
         let _idle = &self.client;
         let ask = ask.copy()?;
         let _outcome = self.ask(clock, cell, Way::Call, ask)?;
+        Ok(())
+    }
+
+    /// Hears what the thread of a node told of the ask that the client's phase makes of that node: the entry of the call, whose
+    /// number the note has seen. It answers the outcome exactly where the reply ends the operation.
+    pub fn hear(
+        &mut self,
+        clock: &Clock,
+        way: Way,
+        ask: Message,
+        told: Told,
+        note: Note,
+    ) -> Result<Option<Outcome>, NoMemory>
+        requires clock { (self.old.pass.clock ≡ clock.now) × (note.clock ≡ clock.now) }
+        requires can { CanCall self.old ask.node }
+        requires asked { asks_of self.old ask.node ≡ Some ask }
+        requires later { self.old.pass.seen ≤ number_of told }
+        requires seen { note.seen ≡ number_of told + 1 }
+        ensures ok { OnOk result (self.new ≡ with_call self.old (number_of told) (DeskAct.Call way ask (reply_told told))) }
+        ensures ended { IfOk result (λ outcome. outcome ≡ ending (state_at self.old).client (reply_told told)) }
+        ensures err { OnErr result (self.new ≡ self.old) }
+    {
+        self.add(clock, way, ask, told, note)
+    }
+
+    /// Adds the entry of a lying client's ask, which the thread of a node met, and whose number the note has seen.
+    pub fn note_sent(
+        &mut self,
+        clock: &Clock,
+        ask: Message,
+        told: Told,
+        note: Note,
+    ) -> Result<(), NoMemory>
+        requires clock { (self.old.pass.clock ≡ clock.now) × (note.clock ≡ clock.now) }
+        requires lying { self.old.lying ≡ true }
+        requires own { ask.client ≡ self.old.id }
+        requires formed { IsFormedBody ask.body }
+        requires later { self.old.pass.seen ≤ number_of told }
+        requires seen { note.seen ≡ number_of told + 1 }
+        ensures ok { OnOk result (self.new ≡ with_call self.old (number_of told) (DeskAct.Call Way.Call ask (reply_told told))) }
+        ensures err { OnErr result (self.new ≡ self.old) }
+    {
+        let _idle = &self.client;
+        let _outcome = self.add(clock, Way::Call, ask, told, note)?;
         Ok(())
     }
 
@@ -320,9 +389,32 @@ impl Desk {
         ensures kept { OnErr result (KeepsDesk self.old self.new) }
         ensures grew { Begins (items cell.old) (items cell.new) }
     {
+        let mut note = self.note(clock);
+        let told = cell.answer(clock, &mut note, way, &ask)?;
+        Ok(self.add(clock, way, ask, told, note)?)
+    }
+
+    // Adds the entry of a call that the client may make and that was told this, and hears the reply, if there is one.
+    fn add(
+        &mut self,
+        clock: &Clock,
+        way: Way,
+        ask: Message,
+        told: Told,
+        note: Note,
+    ) -> Result<Option<Outcome>, NoMemory>
+        requires clock { (self.old.pass.clock ≡ clock.now) × (note.clock ≡ clock.now) }
+        requires may { ActsAs self.old.lying (state_at self.old) (DeskAct.Call way ask (reply_told told)) }
+        requires phase { phase_of (task_at self.old) < 2 ^ 64 - 1 }
+        requires later { self.old.pass.seen ≤ number_of told }
+        requires seen { note.seen ≡ number_of told + 1 }
+        ensures ok { OnOk result (self.new ≡ with_call self.old (number_of told) (DeskAct.Call way ask (reply_told told))) }
+        ensures ended { IfOk result (λ outcome. outcome ≡ ending (state_at self.old).client (reply_told told)) }
+        ensures err { OnErr result (self.new ≡ self.old) }
+    {
         self.entries.reserve(1)?;
-        let told = cell.step(clock, &mut self.pass, way, &ask)?;
         let outcome = listen(&mut self.client, &told)?;
+        clock.heed(&mut self.pass, note);
         self.entries.push_reserved(entry_of(way, ask, told));
         Ok(outcome)
     }

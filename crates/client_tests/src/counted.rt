@@ -148,7 +148,7 @@ fn asked_end(request: &Request) -> Option<End> {
 fn block_of(alloc: Global, config: &Config, byte: u8) -> Result<Bytes, Fail>
     ensures { IfOk result (λ b. length b ≡ config.now.size) }
 {
-    Ok(Bytes::from_vec(vec![in alloc; byte; config.size() as usize]?))
+    Ok(Bytes::shared(vec![in alloc; byte; config.size() as usize]?)?)
 }
 
 // The version that a node is asked to keep.
@@ -476,7 +476,8 @@ fn rounds(
 
 // A whole read.
 fn read(rt: &impl Abort, alloc: Global, config: &Config, seed: &mut u64) -> Result<(), Fail> {
-    let (mut reader, _asks) = Reader::begin(alloc, config, 1, 1, 0)?;
+    let first = First::of(alloc, config)?;
+    let (mut reader, _asks) = Reader::begin(alloc, config, &first.stamp, 1, 1, 0)?;
     rounds(rt, alloc, config, seed, &mut reader)
 }
 

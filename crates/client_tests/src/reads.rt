@@ -29,7 +29,9 @@ fn found(rt: &impl Abort, version: &Version) -> Reply {
 
 #[test]
 fn too_few_valid_answers_outvote_a_read(rt: HostRuntime) -> Result<(), Fail> {
-    let begun = Reader::begin(rt.alloc(), &cluster(&rt), 1, 1, 0);
+    let config = cluster(&rt);
+    let first = First::of(rt.alloc(), &config).expect(&rt, "memory");
+    let begun = Reader::begin(rt.alloc(), &config, &first.stamp, 1, 1, 0);
     let (mut reader, mail) = begun.expect(&rt, "memory");
     assert_eq!(rt; mail.len(), 5);
     for node in 0..3 {
@@ -67,7 +69,7 @@ fn the_first_version_is_a_block_of_zeros(rt: HostRuntime) -> Result<(), Fail> {
             fragment,
         },
     );
-    let begun = Reader::begin(rt.alloc(), &config, 1, 1, 0);
+    let begun = Reader::begin(rt.alloc(), &config, &stamp, 1, 1, 0);
     let (mut reader, _mail) = begun.expect(&rt, "memory");
     for node in 0..3 {
         assert!(rt; matches!(heard(&rt, &mut reader, node, &first), Reading::More));

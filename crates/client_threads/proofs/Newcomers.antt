@@ -30,25 +30,24 @@ use Rattle.plan_followed.proofs.Plans.{IsNumber, liar_there}
 use Rattle.plan_phases.specs.Closed.{Begins}
 use Rattle.plan_tasks.specs.declared.task.Task.{Task}
 use Rattle.plan_tasks.specs.Tasks.{client_of}
-use Rattle.run_journals.specs.Standing.{IsDeskAt, shards_of}
-use Rattle.run_journals.proofs.Sharded.{one_or_four}
+use Rattle.run_journals.specs.Standing.{IsDeskAt}
 use Rattle.run_journals.specs.Ended.{AreClients}
 use Rattle.phase_threads.specs.declared.duty.Seat.{Seat}
-use Rattle.phase_threads.proofs.Places.{get_front, get_last, get_snoc}
+use Rattle.crews.proofs.Places.{get_front, get_last, get_snoc}
 use Rattle.client_work.specs.declared.work.Work.{Work}
 use Rattle.client_work.specs.declared.work.Work.TheVariants.{Client, Lying}
 use Rattle.client_work.specs.declared.worker.Worker.{Worker}
 use Rattle.client_work.specs.declared.liar.Liar.{Liar}
 use Rattle.client_work.specs.Work.{IsReady, HasMail, phase_at}
-use Rattle.client_threads.specs.Opened.{IsUnusedPass, IsNewCell, AreNewCells, IsBefore, IsNewSeat, cell_count}
+use Rattle.client_threads.specs.Opened.{IsUnusedPass, IsNewCell, AreNewCells, IsBefore, IsNewSeat, cell_count, shards_of}
 use Rattle.client_threads.specs.declared.state.Run.{Run}
 use Rattle.client_threads.specs.Running.{desks_of, plan_of, LiarsNamed, IsBetween}
-use Rattle.client_threads.proofs.Beginning.{cells_planned, is_first}
+use Rattle.client_threads.proofs.Beginning.{shards_cases, cells_planned, is_first}
 
 -- ---- cells
 
-pub none_new : (plan : Plan) (clock : ClockId) (cells : List CellView) → cells ≡ [] → AreNewCells plan clock 0 0 cells
-none_new plan clock cells none = record {
+pub none_new : (plan : Plan) (shards : ℕ) (clock : ClockId) (cells : List CellView) → cells ≡ [] → AreNewCells plan shards clock 0 0 cells
+none_new plan shards clock cells none = record {
   count = ap length none;
   each = λ k cell at. absurd (empty k cell at);
   before = λ k cell at. absurd (empty k cell at);
@@ -60,12 +59,12 @@ none_new plan clock cells none = record {
     empty k cell at = Contains-none cell (Contains-slice_get [] k cell (subst (λ (l : List CellView). slice_get l k ≡ Some cell) none at))
 
 -- one shard more
-pub one_new : (plan : Plan) (clock : ClockId) (n s : ℕ) (cells more : List CellView) (cell : CellView) → AreNewCells plan clock n s cells → more ≡ cells ++ cell ∷ [] → IsNewCell plan clock n s cell → AreNewCells plan clock n (s + 1) more
-one_new plan clock n s cells more cell h is new = subst (AreNewCells plan clock n (s + 1)) (sym is) (record {
+pub one_new : (plan : Plan) (shards : ℕ) (clock : ClockId) (n s : ℕ) (cells more : List CellView) (cell : CellView) → AreNewCells plan shards clock n s cells → more ≡ cells ++ cell ∷ [] → IsNewCell plan shards clock n s cell → AreNewCells plan shards clock n (s + 1) more
+one_new plan shards clock n s cells more cell h is new = subst (AreNewCells plan shards clock n (s + 1)) (sym is) (record {
   count = omega (arith, length-append cells (cell ∷ []), h.count);
   each = λ k x at. elim (get_snoc cells cell k x at) [
     | inl was ↦ h.each k x was
-    | inr q ↦ subst (λ (y : CellView). IsNewCell plan clock y.charter.number y.charter.shard y) (sym q.1) mine
+    | inr q ↦ subst (λ (y : CellView). IsNewCell plan shards clock y.charter.number y.charter.shard y) (sym q.1) mine
   ];
   before = λ k x at. elim (get_snoc cells cell k x at) [
     | inl was ↦ elim (h.before k x was) [ inl less ↦ inl less | inr q ↦ (let l = q.1 in inr (q.0, omega (arith, l))) ]
@@ -93,8 +92,8 @@ one_new plan clock n s cells more cell h is new = subst (AreNewCells plan clock 
     shard : cell.charter.shard ≡ s
     shard = ap (λ (y : CellView). y.charter.shard) new.is
 
-    mine : IsNewCell plan clock cell.charter.number cell.charter.shard cell
-    mine = subst (λ (k : ℕ). IsNewCell plan clock k cell.charter.shard cell) (sym number) (subst (λ (k : ℕ). IsNewCell plan clock n k cell) (sym shard) new)
+    mine : IsNewCell plan shards clock cell.charter.number cell.charter.shard cell
+    mine = subst (λ (k : ℕ). IsNewCell plan shards clock k cell.charter.shard cell) (sym number) (subst (λ (k : ℕ). IsNewCell plan shards clock n k cell) (sym shard) new)
 
     -- its slot had no cell
     apart : (k : ℕ) (x : CellView) → slice_get cells k ≡ Some x → slot_of x.charter ≡ slot_of cell.charter → ⊥
@@ -108,39 +107,39 @@ one_new plan clock n s cells more cell h is new = subst (AreNewCells plan clock 
     cut i t (inr q) = elim (eqb_tells t s) [ inl same ↦ inr (q.0, same.1) | inr other ↦ (let l = q.1 in let ne = other.1 in inl (inr (q.0, omega (arith, l, ne)))) ]
 
 -- how many cells there are with one node more
-pub count_next : (plan : Plan) (n : ℕ) → cell_count plan (n + 1) ≡ cell_count plan n + shards_of plan n
-count_next plan n = let e : n + 1 ≡ suc n = omega arith in ap (cell_count plan) e
+pub count_next : (plan : Plan) (shards n : ℕ) → cell_count plan shards (n + 1) ≡ cell_count plan shards n + shards_of plan shards n
+count_next plan shards n = let e : n + 1 ≡ suc n = omega arith in ap (cell_count plan shards) e
 
 -- the next node
-pub next_new : (plan : Plan) (clock : ClockId) (n s : ℕ) (cells : List CellView) → s ≡ shards_of plan n → AreNewCells plan clock n s cells → AreNewCells plan clock (n + 1) 0 cells
-next_new plan clock n s cells end h = record {
-  count = (let c = h.count in let e = count_next plan n in omega (arith, c, e, end));
+pub next_new : (plan : Plan) (shards : ℕ) (clock : ClockId) (n s : ℕ) (cells : List CellView) → s ≡ shards_of plan shards n → AreNewCells plan shards clock n s cells → AreNewCells plan shards clock (n + 1) 0 cells
+next_new plan shards clock n s cells end h = record {
+  count = (let c = h.count in let e = count_next plan shards n in omega (arith, c, e, end));
   each = h.each;
   before = λ k cell at. elim (h.before k cell at) [ inl less ↦ inl (omega (arith, less)) | inr q ↦ (let e = q.0 in inl (omega (arith, e))) ];
   own = h.own;
   all = λ i t first l. h.all i t (was i t first l) l;
 }
   where
-    was : (i t : ℕ) → IsBefore (n + 1) 0 i t → t < shards_of plan i → IsBefore n s i t
+    was : (i t : ℕ) → IsBefore (n + 1) 0 i t → t < shards_of plan shards i → IsBefore n s i t
     was i t (inr q) l = absurd (let x = q.1 in omega (arith, x))
     was i t (inl less) l = elim (eqb_tells i n) [
-      | inl same ↦ (let e = ap (shards_of plan) same.1 in inr (same.1, omega (arith, l, e, end)))
+      | inl same ↦ (let e = ap (shards_of plan shards) same.1 in inr (same.1, omega (arith, l, e, end)))
       | inr other ↦ (let ne = other.1 in inl (omega (arith, less, ne)))
     ]
 
 -- how many there are so far
-pub count_on : (plan : Plan) (n m : ℕ) → n < m → cell_count plan n + shards_of plan n ≤ cell_count plan m
-count_on plan n zero l = absurd (omega (arith, l))
-count_on plan n (suc m) l = elim (eqb_tells n m) [
-  | inl same ↦ (let e : cell_count plan n + shards_of plan n ≡ cell_count plan m + shards_of plan m = ap (λ (k : ℕ). cell_count plan k + shards_of plan k) same.1 in omega (arith, e))
-  | inr other ↦ (let ne = other.1 in let rest = count_on plan n m (omega (arith, l, ne)) in omega (arith, rest))
+pub count_on : (plan : Plan) (shards n m : ℕ) → n < m → cell_count plan shards n + shards_of plan shards n ≤ cell_count plan shards m
+count_on plan shards n zero l = absurd (omega (arith, l))
+count_on plan shards n (suc m) l = elim (eqb_tells n m) [
+  | inl same ↦ (let e : cell_count plan shards n + shards_of plan shards n ≡ cell_count plan shards m + shards_of plan shards m = ap (λ (k : ℕ). cell_count plan shards k + shards_of plan shards k) same.1 in omega (arith, e))
+  | inr other ↦ (let ne = other.1 in let rest = count_on plan shards n m (omega (arith, l, ne)) in omega (arith, rest))
 ]
 
-pub count_few : (plan : Plan) (n : ℕ) → cell_count plan n ≤ 4 * n
-count_few plan zero = omega arith
-count_few plan (suc n) =
-    let rest = count_few plan n in
-    elim (one_or_four plan n) [ inl one ↦ omega (arith, rest, one) | inr four ↦ (let e = four.0 in omega (arith, rest, e)) ]
+pub count_few : (plan : Plan) (shards n : ℕ) → 1 ≤ shards → shards ≤ 256 → cell_count plan shards n ≤ 256 * n
+count_few plan shards zero some most = omega arith
+count_few plan shards (suc n) some most =
+    let rest = count_few plan shards n some most in
+    elim (shards_cases plan shards n) [ inl one ↦ omega (arith, rest, one) | inr all ↦ omega (arith, rest, all, most) ]
 
 -- ---- passes
 
@@ -360,23 +359,25 @@ liars_named plan h c lies =
 
 -- the parts of a run in which nobody has done anything
 pub record IsNewRun (run : Run) (plan : Plan) : Type 0 where
-  pub cells : AreNewCells plan run.clock plan.config.n 0 run.cells.items
+  pub shards : ℕ
+  pub some : 1 ≤ shards
+  pub cells : AreNewCells plan shards run.clock plan.config.n 0 run.cells.items
   pub seats : All (IsNewSeat plan run.clock) run.clients.items
   pub ids : map (λ s. s.desk.id) run.clients.items ≡ ascending (clients plan.rules plan.work)
   pub pass : Holder
   pub unused : IsUnusedPass run.clock pass
   pub courier : run.courier ≡ first_desk plan.config 0 true pass
   pub keeper : IsUnusedPass run.clock run.keeper
-  pub passes : run.clock.passes ≡ cell_count plan plan.config.n + length run.clients.items + 2
+  pub passes : run.clock.passes ≡ cell_count plan shards plan.config.n + length run.clients.items + 2
   pub counted : run.counted.items ≡ replicate (length run.clients.items) 0
   pub named : LiarsNamed plan
 
 first_of : (begins : Begins) (run : Run) → IsNewRun run (plan_of run) → IsBetween 0 run
 first_of begins run h =
-    is_first begins run
+    is_first begins run h.shards h.some
     (record {
-      cells = (cells_planned (plan_of run) run.clock run.cells.items h.cells).cells;
-      inside = (cells_planned (plan_of run) run.clock run.cells.items h.cells).inside;
+      cells = (cells_planned (plan_of run) h.shards h.some run.clock run.cells.items h.cells).cells;
+      inside = (cells_planned (plan_of run) h.shards h.some run.clock run.cells.items h.cells).inside;
       desks = desks_at (plan_of run) run.clock run.clients.items h.seats;
       courier = record { cluster = ap (λ (d : DeskView). d.config) h.courier; ticks = ap (λ (d : DeskView). d.pass.clock) h.courier ∙ h.unused.ticks };
       keeper = (h.keeper.ticks, h.keeper.drawn);

@@ -21,7 +21,7 @@ use Rattle.plan_words.specs.declared.plan.Plan.{Plan}
 use Rattle.plan_followed.specs.Asked.{nature}
 use Rattle.plan_followed.specs.Nodes.{Pruning, act_of, node_after}
 use Rattle.plan_prunes.specs.declared.BlockStamp.{BlockStamp}
-use Rattle.run_journals.specs.Standing.{ArePlanned, HasDonePrunes, NodesPrune, add_cell, node_journal, prunes_at, shards_of}
+use Rattle.run_journals.specs.Standing.{ArePlanned, HasDonePrunes, NodesPrune, add_cell, node_journal, prunes_at}
 use Rattle.run_journals.proofs.Working.{cell_below}
 use Rattle.client_threads.specs.Met.{IsKeeper}
 use Rattle.client_threads.specs.Pruned.{IsOpenCell, HasMorePrunes, IsServed, ArePlaces, AllPrune, NodePruned, OthersStay, reopened, prunings_of}
@@ -149,8 +149,8 @@ pub served : (plan : Plan) (clock : ClockId) (cells : List CellView) → ArePlan
 served plan clock cells h node l = record {
   some = All-map (λ (s : Slot). 0 < s.shards) (λ (c : CellView). slot_of c.charter) cells (λ k d lt. (h.cells.each k d lt).some);
   there = λ block. h.cells.cover node block l;
-  shards = shards_of plan node;
-  alike = All-map (λ (s : Slot). s.node ≡ node → s.shards ≡ shards_of plan node) (λ (c : CellView). slot_of c.charter) cells (λ k d lt is. (h.each k d lt).shards ∙ ap (shards_of plan) is);
+  shards = h.shards node;
+  alike = All-map (λ (s : Slot). s.node ≡ node → s.shards ≡ h.shards node) (λ (c : CellView). slot_of c.charter) cells (λ k d lt is. (h.each k d lt).shards ∙ ap h.shards is);
 }
 
 -- ---- cells under new charters

@@ -1,5 +1,5 @@
 -- The threads of a phase: what they may begin with, and what they leave.
-use Rattle.std.proofs.Common.{◌≡◌, ◌⊎◌, ℕ, zero, suc, ◌+◌, ◌<◌, ◌≤◌, true, List, [], ◌∷◌, ◌++◌, length, map, refl, sym, ◌∙◌, ap, subst, inl, inr, arith}
+use Rattle.std.proofs.Common.{◌≡◌, ◌⊎◌, ℕ, zero, suc, ◌+◌, ◌<◌, ◌≤◌, true, List, [], ◌∷◌, ◌++◌, length, length-append, map, refl, sym, ◌∙◌, ap, subst, inl, inr, arith}
 use Rattle.std.specs.List.{Contains, AllZip, All}
 use Rattle.std.proofs.lemmas.List.Elements.{Contains-append_cases, Contains-append_left, All-nil, All-cons, All-head, All-tail, All-contains}
 use Rattle.protocol.specs.Report.{Ascend}
@@ -18,11 +18,12 @@ use Rattle.client_desks.specs.Desks.{DeskView, desk_entry}
 use Rattle.client_desks.specs.Later.{IsLater}
 use Rattle.plan_words.specs.declared.plan.Plan.{Plan}
 use Rattle.plan_followed.specs.Asked.{holds}
-use Rattle.run_journals.specs.Standing.{IsDeskAt, AreCells, AreInside, IsPlanned, shards_of, HasSideOn, PairsStand, HasWorked, ArePlanned}
+use Rattle.run_journals.specs.Standing.{IsDeskAt, AreCells, AreInside, IsPlanned, HasSideOn, PairsStand, HasWorked, ArePlanned}
 use Rattle.run_journals.specs.Ended.{AreClients}
-use Rattle.run_journals.proofs.Sharded.{holds_one}
+use Rattle.run_journals.proofs.Sharded.{holds_whole}
 use Rattle.phase_threads.specs.declared.duty.Seat.{Seat}
-use Rattle.phase_threads.proofs.Places.{map_get}
+use Rattle.phase_threads.specs.Phases.{MayPhase}
+use Rattle.crews.proofs.Places.{map_get}
 use Rattle.client_work.specs.declared.work.Work.{Work}
 use Rattle.client_work.specs.declared.work.Work.TheVariants.{Client, Lying, Courier}
 use Rattle.client_work.specs.Work.{Ready, Done}
@@ -36,9 +37,9 @@ use Rattle.client_threads.proofs.Working.{IsFixedAs, zip_all, zip_long, cells_fi
 pub whole_where : (plan : Plan) (clock : ClockId) (cells : List CellView) → ArePlanned plan clock cells → (c node : ℕ) → 0 < holds plan.rules c node → IsWholeAt (slots_of cells) node
 whole_where plan clock cells h c node some place s there of =
     let q = map_get (λ (x : CellView). slot_of x.charter) cells place s there in
-    let p = All-contains (IsPlanned plan) cells q.0 h.each (Contains-slice_get cells place q.0 q.1) in
+    let p = All-contains (IsPlanned plan h.shards) cells q.0 h.each (Contains-slice_get cells place q.0 q.1) in
     let number : q.0.charter.number ≡ node = ap (λ (x : Slot). x.node) q.2 ∙ of in
-    ap (λ (x : Slot). x.shards) (sym q.2) ∙ p.shards ∙ ap (shards_of plan) number ∙ holds_one plan c node some
+    ap (λ (x : Slot). x.shards) (sym q.2) ∙ p.shards ∙ ap h.shards number ∙ h.whole node (holds_whole plan c node some)
 
 -- the slots of cells in which such nodes are whole
 abbrev pub AreWhole : Plan → List Slot → Type 0
@@ -200,6 +201,26 @@ desks_with P seats courier a p = all_pushed (λ s. P s.desk) seats (courier_seat
 
 pub pairs_with : (cells : List CellView) (seats : List (Seat Work)) (courier : DeskView) → courier.entries ≡ [] → PairsStand cells (desks_of seats) → PairsStand cells (desks_of (seats ++ courier_seat courier ∷ []))
 pairs_with cells seats courier quiet h = subst (PairsStand cells) (sym (desks_pushed seats (courier_seat courier))) (pairs_more cells (desks_of seats) courier quiet h)
+
+-- so a run that stands may do its next phase
+pub may_phase : (run : Run) (k : ℕ) (seats : List (Seat Work)) → seats ≡ run.clients.items ++ courier_seat run.courier ∷ [] → length seats ≤ 65536 → IsStanding k run → k ≤ cuts (plan_of run) → MayPhase Ready run.clock run.cells.items seats
+may_phase run k seats is most h few =
+    let config = (plan_of run).config in
+    let slots = slots_of run.cells.items in
+    record {
+      cluster = (
+        config,
+        h.opened.cells,
+        subst (All (λ (s : Seat Work). IsDeskAt config run.clock s.desk)) (sym is) (desks_with (IsDeskAt config run.clock) run.clients.items run.courier h.opened.desks h.opened.courier),
+      );
+      pairs = subst (λ (l : List (Seat Work)). PairsStand run.cells.items (desks_of l)) (sym is) (pairs_with run.cells.items run.clients.items run.courier h.quiet h.pairs);
+      ready = subst (All (λ (s : Seat Work). Ready s.duty slots s.desk)) (sym is)
+          (all_ready (plan_of run) k few slots (whole_where (plan_of run) run.clock run.cells.items h.planned) run.clients.items run.courier h.works h.quiet);
+      count = (
+        (let long = ap (λ (l : List (Seat Work)). length l) is in let one = length-append run.clients.items (courier_seat run.courier ∷ []) in omega (arith, long, one)),
+        most,
+      );
+    }
 
 none_long : {X Y : Type 0} (R : X → Y → Type 0) (xs : List X) (x : X) (ys : List Y) → AllZip R (xs ++ x ∷ []) ys → 0 < length ys
 none_long R [] x [] z = absurd z

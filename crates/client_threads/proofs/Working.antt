@@ -26,7 +26,7 @@ use Rattle.plan_followed.specs.Clients.{InEach, GoesByPlan, IsDone, all_asked}
 use Rattle.plan_followed.specs.Nodes.{node_after}
 use Rattle.plan_phases.specs.Closed.{next_begin, HaveClosed, AreWorked, FinishedAs, IsWorkedOff, GoesOn}
 use Rattle.locked_nodes.specs.Slots.{slot_of, slots_of, Cover}
-use Rattle.run_journals.specs.Standing.{IsCellOf, IsDeskAt, AreCells, AreInside, IsPlanned, shards_of, HaveOwnSlots, HasWorked, ArePlanned, HaveSeen, PairsStand, PhasesWork, NothingLate, journals_of}
+use Rattle.run_journals.specs.Standing.{IsCellOf, IsDeskAt, AreCells, AreInside, IsPlanned, HaveOwnSlots, HasWorked, ArePlanned, HaveSeen, PairsStand, PhasesWork, NothingLate, journals_of}
 use Rattle.run_journals.specs.Ended.{AreClients}
 use Rattle.run_journals.proofs.Cells.{journal_of, journal_is, entries_at, desk_at, rises_from}
 use Rattle.phase_threads.specs.declared.duty.Seat.{Seat}
@@ -228,10 +228,10 @@ own_fixed xs ys z h k m a b at there same =
     let q = beside_at IsFixedAs xs ys z m b there in
     h k m p.0 q.0 p.1 q.1 (sym (slot_fixed p.0 a p.2) ∙ same ∙ slot_fixed q.0 b q.2)
 
-cell_fixed : (plan : Plan) (a b : CellView) → IsFixedAs a b → IsPlanned plan a → IsPlanned plan b
-cell_fixed plan a b f h = record {
+cell_fixed : (plan : Plan) (shards : ℕ → ℕ) (a b : CellView) → IsFixedAs a b → IsPlanned plan shards a → IsPlanned plan shards b
+cell_fixed plan shards a b f h = record {
   shard = (let s = f.whole.0 in let t = f.whole.1 in let l = h.shard in omega (arith, s, t, l));
-  shards = f.whole.1 ∙ h.shards ∙ ap (shards_of plan) (sym f.number);
+  shards = f.whole.1 ∙ h.shards ∙ ap shards (sym f.number);
   nature = f.nature ∙ h.nature ∙ ap (nature plan.rules) (sym f.number);
   crash = f.crash ∙ h.crash ∙ ap (crash_after plan.rules) (sym f.number);
 }
@@ -241,7 +241,10 @@ planned_fixed plan clock xs ys z h = record {
   cells = cells_fixed plan.config clock xs ys z h.cells;
   inside = inside_fixed plan.config xs ys z h.inside;
   own = own_fixed xs ys z h.own;
-  each = zip_all IsFixedAs (IsPlanned plan) (IsPlanned plan) xs ys (cell_fixed plan) z h.each;
+  shards = h.shards;
+  some = h.some;
+  whole = h.whole;
+  each = zip_all IsFixedAs (IsPlanned plan h.shards) (IsPlanned plan h.shards) xs ys (cell_fixed plan h.shards) z h.each;
 }
 
 -- ---- clients

@@ -6,3 +6,4 @@ pub mod Reads
 pub mod Running
 pub mod Opened
 pub mod Meeting
+pub mod Phases

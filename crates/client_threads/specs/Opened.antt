@@ -1,5 +1,5 @@
 -- What a run begins with.
-use Rattle.std.specs.Prelude.{◌≡◌, ◌⊎◌, ℕ, zero, suc, ◌+◌, ◌<◌, List, [], length, slice_get}
+use Rattle.std.specs.Prelude.{◌≡◌, ◌⊎◌, ℕ, zero, suc, ◌+◌, ◌<◌, if◌then◌else◌, List, [], length, slice_get}
 use Rattle.std.specs.declared.option.Option.TheVariants.{Some}
 use Rattle.event_clock.specs.Passes.{ClockId, Holder}
 use Rattle.locked_nodes.specs.Cells.{CellView, new_cell}
@@ -7,7 +7,7 @@ use Rattle.client_desks.specs.Desks.{first_desk}
 use Rattle.plan_words.specs.declared.plan.Plan.{Plan}
 use Rattle.wire_forms.specs.Liars.{has_number}
 use Rattle.plan_followed.specs.Asked.{nature, crash_after}
-use Rattle.run_journals.specs.Standing.{shards_of, HaveOwnSlots}
+use Rattle.run_journals.specs.Standing.{is_whole, HaveOwnSlots}
 use Rattle.phase_threads.specs.declared.duty.Seat.{Seat}
 use Rattle.client_work.specs.declared.work.Work.{Work}
 use Rattle.client_threads.specs.Running.{StandsAt}
@@ -17,29 +17,33 @@ pub record IsUnusedPass (clock : ClockId) (pass : Holder) : Type 0 where
   pub ticks : pass.clock ≡ clock
   pub drawn : pass.drawn ≡ []
 
--- how many cells the first nodes have, so many
-abbrev pub cell_count : Plan → ℕ → ℕ
-cell_count plan zero = 0
-cell_count plan (suc n) = cell_count plan n + shards_of plan n
+-- how many cells node i has, where one that needn't be whole has so many
+abbrev pub shards_of : Plan → ℕ → ℕ → ℕ
+shards_of plan shards i = if is_whole plan i then 1 else shards
+
+-- how many the first nodes have, so many
+abbrev pub cell_count : Plan → ℕ → ℕ → ℕ
+cell_count plan shards zero = 0
+cell_count plan shards (suc n) = cell_count plan shards n + shards_of plan shards n
 
 -- the cell of a shard of node i, which has done nothing
-pub record IsNewCell (plan : Plan) (clock : ClockId) (i shard : ℕ) (cell : CellView) : Type 0 where
+pub record IsNewCell (plan : Plan) (shards : ℕ) (clock : ClockId) (i shard : ℕ) (cell : CellView) : Type 0 where
   pub pass : Holder
   pub unused : IsUnusedPass clock pass
-  pub below : shard < shards_of plan i
-  pub is : cell ≡ new_cell plan.config i shard (shards_of plan i) (nature plan.rules i) (crash_after plan.rules i) pass
+  pub below : shard < shards_of plan shards i
+  pub is : cell ≡ new_cell plan.config i shard (shards_of plan shards i) (nature plan.rules i) (crash_after plan.rules i) pass
 
 -- the shard comes before this one of this node
 abbrev pub IsBefore : ℕ → ℕ → ℕ → ℕ → Type 0
 IsBefore node shard i s = (i < node) ⊎ ((i ≡ node) × (s < shard))
 
 -- there is a cell for each shard before this one of this node
-pub record AreNewCells (plan : Plan) (clock : ClockId) (node shard : ℕ) (cells : List CellView) : Type 0 where
-  pub count : length cells ≡ cell_count plan node + shard
-  pub each : (k : ℕ) (cell : CellView) → slice_get cells k ≡ Some cell → IsNewCell plan clock cell.charter.number cell.charter.shard cell
+pub record AreNewCells (plan : Plan) (shards : ℕ) (clock : ClockId) (node shard : ℕ) (cells : List CellView) : Type 0 where
+  pub count : length cells ≡ cell_count plan shards node + shard
+  pub each : (k : ℕ) (cell : CellView) → slice_get cells k ≡ Some cell → IsNewCell plan shards clock cell.charter.number cell.charter.shard cell
   pub before : (k : ℕ) (cell : CellView) → slice_get cells k ≡ Some cell → IsBefore node shard cell.charter.number cell.charter.shard
   pub own : HaveOwnSlots cells
-  pub all : (i s : ℕ) → IsBefore node shard i s → s < shards_of plan i → (k : ℕ) × (cell : CellView) × (slice_get cells k ≡ Some cell) × (cell.charter.number ≡ i) × (cell.charter.shard ≡ s)
+  pub all : (i s : ℕ) → IsBefore node shard i s → s < shards_of plan shards i → (k : ℕ) × (cell : CellView) × (slice_get cells k ≡ Some cell) × (cell.charter.number ≡ i) × (cell.charter.shard ≡ s)
 
 -- the desk of a client that has done nothing, with its thread's part
 pub record IsNewSeat (plan : Plan) (clock : ClockId) (s : Seat Work) : Type 0 where

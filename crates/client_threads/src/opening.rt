@@ -3,8 +3,8 @@ ghost use Rattle.std.specs.Prelude.{◌≡◌, ◌≤◌, ◌<◌, ◌+◌, [], 
 ghost use Rattle.plan_words.specs.Plans.{Fits};
 ghost use Rattle.plan_tasks.specs.Tasks.{IsTaskOf, client_of};
 ghost use Rattle.client_threads.specs.Running.{IsBetween, IsOpen, StandsAt, desks_of, plan_of};
-ghost use Rattle.run_journals.specs.Standing.{needs_whole, shards_of};
-ghost use Rattle.client_threads.specs.Opened.{IsUnusedPass, AreNewCells, IsNewSeat, cell_count};
+ghost use Rattle.run_journals.specs.Standing.{needs_whole};
+ghost use Rattle.client_threads.specs.Opened.{IsUnusedPass, AreNewCells, IsNewSeat, cell_count, shards_of};
 
 use crate::state::Run;
 use client_desks::Desk;
@@ -22,17 +22,18 @@ use std::snapshot::Snapshot;
 // The number of the courier's desk, which is no client's.
 const COURIER: u32 = 0;
 
-/// A run of a plan that fits, in which nobody has done anything.
-pub(crate) fn open(alloc: Global, plan: &Plan) -> Result<Run, NoMemory>
-    requires { Fits plan.now }
+/// A run of a plan that fits, on so many cells of each node that needn't be whole, in which nobody has done anything.
+pub(crate) fn open(alloc: Global, plan: &Plan, shards: u32) -> Result<Run, NoMemory>
+    requires fits { Fits plan.now }
+    requires shards { (1 ≤ shards) × (shards ≤ 256) }
     ensures plan { IfOk result (λ run. plan_of run ≡ plan.now) }
     ensures stands { IfOk result (λ run. IsBetween 0 run) }
 {
     phases_close();
     let tasks = tasks_of(alloc, plan)?;
     let clients = tasks.len() as u32;
-    let (clock, mut passes) = Clock::start(alloc, count_cells(plan) + clients + 2)?;
-    let cells = open_cells(alloc, plan, &clock, &mut passes)?;
+    let (clock, mut passes) = Clock::start(alloc, count_cells(plan, shards) + clients + 2)?;
+    let cells = open_cells(alloc, plan, shards, &clock, &mut passes)?;
     let clients = open_seats(alloc, plan, &clock, tasks, &mut passes)?;
     let Some(pass) = passes.pop() else {
         unreachable!()
@@ -57,19 +58,20 @@ pub(crate) fn open(alloc: Global, plan: &Plan) -> Result<Run, NoMemory>
 fn open_cells(
     alloc: Global,
     plan: &Plan,
+    shards: u32,
     clock: &Clock,
     passes: &mut Passes,
 ) -> Result<Vec<NodeCell>, NoMemory>
     requires fits { Fits plan.now }
     requires unused { All (IsUnusedPass clock.now) passes.old }
-    requires enough { cell_count plan.now plan.now.config.n ≤ length passes.old }
-    ensures cells { IfOk result (λ cells. AreNewCells plan.now clock.now plan.now.config.n 0 cells.items) }
+    requires enough { cell_count plan.now shards plan.now.config.n ≤ length passes.old }
+    ensures cells { IfOk result (λ cells. AreNewCells plan.now shards clock.now plan.now.config.n 0 cells.items) }
     ensures unused { OnOk result (All (IsUnusedPass clock.now) passes.new) }
-    ensures left { OnOk result (length passes.new + cell_count plan.now plan.now.config.n ≡ length passes.old) }
+    ensures left { OnOk result (length passes.new + cell_count plan.now shards plan.now.config.n ≡ length passes.old) }
 {
     let mut cells = Vec::new(alloc);
     for number in 0..plan.config.n() as u8 {
-        open_node(alloc, plan, number, clock, passes, &mut cells)?;
+        open_node(alloc, plan, number, shards, clock, passes, &mut cells)?;
     }
     Ok(cells)
 }
@@ -79,22 +81,23 @@ fn open_node(
     alloc: Global,
     plan: &Plan,
     number: u8,
+    shards: u32,
     clock: &Clock,
     passes: &mut Passes,
     cells: &mut Vec<NodeCell>,
 ) -> Result<(), NoMemory>
     requires number { number < plan.now.config.n }
-    requires cells { AreNewCells plan.now clock.now number 0 cells.old.items }
+    requires cells { AreNewCells plan.now shards clock.now number 0 cells.old.items }
     requires unused { All (IsUnusedPass clock.now) passes.old }
-    requires enough { shards_of plan.now number ≤ length passes.old }
-    ensures cells { OnOk result (AreNewCells plan.now clock.now (number + 1) 0 cells.new.items) }
+    requires enough { shards_of plan.now shards number ≤ length passes.old }
+    ensures cells { OnOk result (AreNewCells plan.now shards clock.now (number + 1) 0 cells.new.items) }
     ensures unused { OnOk result (All (IsUnusedPass clock.now) passes.new) }
-    ensures left { OnOk result (length passes.new + shards_of plan.now number ≡ length passes.old) }
+    ensures left { OnOk result (length passes.new + shards_of plan.now shards number ≡ length passes.old) }
 {
     let nature = nature_of(plan, number);
     let crash_after = crash_after(plan, number);
-    let shards = shard_count(plan, number);
-    for shard in 0..shards {
+    let count = shard_count(plan, number, shards);
+    for shard in 0..count {
         let Some(pass) = passes.pop() else {
             unreachable!()
         };
@@ -104,7 +107,7 @@ fn open_node(
             config,
             number,
             shard,
-            shards,
+            count,
             nature,
             crash_after,
             pass,
@@ -115,27 +118,28 @@ fn open_node(
 }
 
 // How many cells all nodes have.
-fn count_cells(plan: &Plan) -> u32
-    requires { Fits plan.now }
-    ensures { result ≡ cell_count plan.now plan.now.config.n }
+fn count_cells(plan: &Plan, shards: u32) -> u32
+    requires fits { Fits plan.now }
+    requires shards { (1 ≤ shards) × (shards ≤ 256) }
+    ensures { result ≡ cell_count plan.now shards plan.now.config.n }
 {
     let mut count = 0;
     for node in 0..plan.config.n() as u8 {
-        count += shard_count(plan, node);
+        count += shard_count(plan, node, shards);
     }
     count
 }
 
-// How many cells a node has: one where it is to crash or to hold asks back, and else four.
-fn shard_count(plan: &Plan, node: u8) -> u32
-    ensures { result ≡ shards_of plan.now node }
+// How many cells a node has: one where it is to crash or to hold asks back, and else so many.
+fn shard_count(plan: &Plan, node: u8, shards: u32) -> u32
+    ensures { result ≡ shards_of plan.now shards node }
 {
     for rule in plan.rules.as_slice() {
         if is_whole_by(rule, node) {
             return 1;
         }
     }
-    4
+    shards
 }
 
 // Whether the rule has the node crash, or hold asks back.

@@ -1,9 +1,13 @@
 //! A plan, run in threads.
 ghost use Rattle.std.specs.Prelude.{◌≡◌, ◌+◌, ◌≤◌, ℕ, IfOk, IfErr, Err};
+ghost use Rattle.std.specs.Thread.{IsSync};
 ghost use Rattle.event_clock.specs.Passes.{Tally};
 ghost use Rattle.plan_words.specs.Plans.{Fits};
 ghost use Rattle.plan_followed.specs.Followed.{AreOfPlan};
 ghost use Rattle.client_threads.specs.declared.run.RunRefusal.TheVariants as refusals;
+ghost use Rattle.phase_threads.specs.Phases.{MayPhase, HasPhased};
+ghost use Rattle.client_work.specs.Work.{Ready, Done};
+ghost use Rattle.client_threads.specs.Phases.{DoesPhases};
 ghost use Rattle.client_threads.specs.Ran.{HasFullPass};
 ghost use Rattle.client_threads.specs.Running.{IsBetween, IsWorked, plan_of, cuts};
 
@@ -12,11 +16,14 @@ use crate::closing::{close, stop};
 use crate::mail::bring_all;
 use crate::opening::open;
 use crate::state::Run;
-use crate::threads::work;
-use desk_keys::Gate;
-use event_clock::Drawn;
+use crate::threads::{Phased, work};
+use client_work::Work;
+use crews::Gate;
+use event_clock::{Clock, Drawn};
 use journals::Journals;
 use lists::NoMemory;
+use locked_nodes::NodeCell;
+use phase_threads::{Seat, run_phase};
 use plan_phases::laws::phases_close;
 use plan_words::{Job, Plan};
 use run_journals::laws::{phases_work, runs_end};
@@ -48,6 +55,9 @@ impl From<NoMemory> for RunRefusal {
     }
 }
 
+// How many cells a node has, so that clients of several blocks are served side by side.
+const SHARDS: u32 = 4;
+
 /// Runs a plan that fits: a thread for each client and one for a courier, phase by phase, on the cells of all nodes.
 ///
 /// Its journals are those of a run of the plan: each is kept, they agree in pairs, their numbers are those below the count of what was
@@ -62,26 +72,51 @@ pub fn run_plan<R: Threads + Wait + Sync, G: Gate + Sync>(
     ensures followed { IfOk result (λ r. AreOfPlan plan.now r.journals r.drawn.count) }
     ensures full { (drawn : Tally) → result ≡ Err (RunRefusal.ClockFull drawn) → HasFullPass drawn }
 {
+    let phase = |clock: Clock, cells: Vec<NodeCell>, seats: Vec<Seat<Work>>| -> Phased
+        requires runtime { IsSync R.row }
+        requires gate { IsSync G.row }
+        requires may { MayPhase Ready clock cells.items seats.items }
+        ensures { IfOk result (λ r. HasPhased Done clock cells.items seats.items r.0 r.1) }
+    { run_phase(rt, alloc, gate, clock, cells, seats) };
+    run_by(rt, alloc, plan, &phase, SHARDS)
+}
+
+/// Runs a plan that fits as `run_plan` does, with phases of any kind: `phase` is called once for each. A node has so many cells, from 1
+/// to 256, but one alone where it is to crash or to hold asks back.
+pub fn run_by<R: Wait, F: Fn(Clock, Vec<NodeCell>, Vec<Seat<Work>>) -> Phased>(
+    rt: &R,
+    alloc: Global,
+    plan: &Plan,
+    phase: &F,
+    shards: u32,
+) -> Result<Ran, RunRefusal>
+    requires fits { Fits plan.now }
+    requires phase { DoesPhases (F.pre phase.now) (F.post phase.now) }
+    requires shards { (1 ≤ shards) × (shards ≤ 256) }
+    ensures followed { IfOk result (λ r. AreOfPlan plan.now r.journals r.drawn.count) }
+    ensures full { (drawn : Tally) → result ≡ Err (RunRefusal.ClockFull drawn) → HasFullPass drawn }
+{
     let liars = liars_of(alloc, plan)?;
-    let mut run = open(alloc, plan)?;
+    let mut run = open(alloc, plan, shards)?;
     for job in plan.work.as_slice() {
         if let Job::Phase = job {
-            run = work_off(rt, alloc, gate, plan, run)?;
+            run = work_off(rt, alloc, plan, phase, run)?;
             run = cut(alloc, plan, run)?;
         }
     }
-    let run = work_off(rt, alloc, gate, plan, run)?;
+    let run = work_off(rt, alloc, plan, phase, run)?;
     finish(alloc, plan, liars, run)
 }
 
 // Lets threads do the next phase, and then what nodes still hold back come late.
-fn work_off<R: Threads + Wait + Sync, G: Gate + Sync>(
+fn work_off<R: Wait, F: Fn(Clock, Vec<NodeCell>, Vec<Seat<Work>>) -> Phased>(
     rt: &R,
     alloc: Global,
-    gate: &G,
     plan: &Plan,
+    phase: &F,
     run: Run,
 ) -> Result<Run, RunRefusal>
+    requires phase { DoesPhases (F.pre phase.now) (F.post phase.now) }
     requires between { (k : ℕ) × IsBetween k run × (k ≤ cuts (plan_of run)) }
     requires plan { plan_of run ≡ plan.now }
     ensures plan { IfOk result (λ r. plan_of r ≡ plan_of run) }
@@ -90,7 +125,7 @@ fn work_off<R: Threads + Wait + Sync, G: Gate + Sync>(
 {
     phases_work();
     phases_close();
-    let (mut run, refused) = work(rt, alloc, gate, run)?;
+    let (mut run, refused) = work(phase, run)?;
     if let Some(refusal) = refused {
         return Err(stop(alloc, plan, run, refusal));
     }

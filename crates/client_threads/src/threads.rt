@@ -1,26 +1,25 @@
 //! The threads of a phase.
 ghost use Rattle.std.specs.Prelude.{◌≡◌, ◌≤◌, ℕ, None, IfOk};
+ghost use Rattle.client_threads.specs.Phases.{DoesPhases};
 ghost use Rattle.client_threads.specs.Running.{IsOpen, IsStanding, HasDonePhase, cuts, plan_of};
 
 use crate::state::{Run, know_cells};
 use client_work::Work;
-use desk_keys::Gate;
+use event_clock::Clock;
 use lists::NoMemory;
-use locked_nodes::CellRefusal;
-use phase_threads::{Left, Seat, run_phase};
-use std::alloc::Global;
-use std::sync::Wait;
-use std::thread::Threads;
+use locked_nodes::{CellRefusal, NodeCell};
+use phase_threads::{Left, Seat};
 
-/// Lets each client and the courier do their parts of the next phase, each in a thread of its own. It hands the run back with the
-/// refusal that came, if one did.
-pub(crate) fn work<R: Threads + Wait + Sync, G: Gate + Sync>(
-    rt: &R,
-    alloc: Global,
-    gate: &G,
+/// What a phase leaves: the clock, and the cells and seats with the refusal that came, if one did.
+pub type Phased = Result<(Clock, Left<Work>), NoMemory>;
+
+/// Lets each client and the courier do their parts of the next phase. It hands the run back with the refusal that came, if one did.
+pub(crate) fn work<F: Fn(Clock, Vec<NodeCell>, Vec<Seat<Work>>) -> Phased>(
+    phase: &F,
     run: Run,
 ) -> Result<(Run, Option<CellRefusal>), NoMemory>
-    requires { (k : ℕ) × IsStanding k run × (k ≤ cuts (plan_of run)) }
+    requires phase { DoesPhases (F.pre phase.now) (F.post phase.now) }
+    requires standing { (k : ℕ) × IsStanding k run × (k ≤ cuts (plan_of run)) }
     ensures open { IfOk result (λ r. IsOpen r.0) }
     ensures plan { IfOk result (λ r. plan_of r.0 ≡ plan_of run) }
     ensures done { IfOk result (λ r. r.1 ≡ None → (k : ℕ) → IsStanding k run → HasDonePhase k run r.0) }
@@ -39,7 +38,7 @@ pub(crate) fn work<R: Threads + Wait + Sync, G: Gate + Sync>(
         desk: courier,
         duty: Work::Courier,
     })?;
-    let (clock, left) = run_phase(rt, alloc, gate, clock, cells, clients)?;
+    let (clock, left) = phase(clock, cells, clients)?;
     let Left {
         cells,
         seats: mut clients,

@@ -2,6 +2,8 @@
 use denote.Param.Send.{IsSend, IsSync, sendable}
 use denote.RattleType.{RattleType}
 use denote.Param.Send.{Frees, part_keyless}
+use denote.Param.Send.{recorded_send, enum_send}
+use denote.Enum.Declared.{shape as variants_of}
 use Rattle.std.proofs.Crossing as std
 use Rattle.std.proofs.MapsCrossing as maps
 use Rattle.std.proofs.MapsCrossingOver as over
@@ -10,7 +12,6 @@ use Rattle.atomic_table.specs.contracts.send_lease.SendLease as lease
 use Rattle.atomic_table.proofs.Rights.{right_send}
 use Rattle.cross_sum.specs.contracts.bytes.Bytes as bytes
 use Rattle.cross_sum.specs.contracts.sum.CrossSum as sum
-use Rattle.wire_forms.specs.contracts.message.Version as version
 use Rattle.wire_forms.specs.contracts.message.Message as message
 use Rattle.client_work.specs.contracts.reads.GivenRead as given
 use Rattle.client_work.specs.contracts.worker.Worker as worker
@@ -28,23 +29,18 @@ ruleset all = (lease_send, lease_sync, sendable, std.crosses, maps.crosses, over
 bytes_send : IsSend bytes.the_row
 bytes_send = search all depth 60 fits 50000
 
-sum_send : IsSend sum.the_row
-sum_send = search all depth 60 fits 50000
-
-version_send : IsSend version.the_row
-version_send = search (all, bytes_send, sum_send) depth 40
-
 message_send : IsSend message.the_row
-message_send = search (all, version_send) depth 60 fits 50000
+message_send = search all depth 60 fits 50000
 
 given_send : IsSend given.the_row
 given_send = search (all, bytes_send) depth 40
 
-worker_send : IsSend worker.the_row
-worker_send = search (all, given_send, bytes_send) depth 60 fits 50000
+worker_field : IsSend worker.the_field.row
+worker_field = search (all, given_send, bytes_send) depth 60 fits 50000
 
-liar_send : IsSend liar.the_row
-liar_send = search (all, message_send) depth 60 fits 50000
+liar_field : IsSend liar.the_field.row
+liar_field = search (all, message_send) depth 60 fits 50000
 
+-- variant by variant: the whole is too large for one search
 pub work_send : IsSend work.the_row
-work_send = search (all, worker_send, liar_send) depth 60 fits 50000
+work_send = recorded_send _ _ _ (work.the_type.to_one) (enum_send (variants_of work.the_type) ((worker_field, tt), ((liar_field, tt), (tt, tt))))

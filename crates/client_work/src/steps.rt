@@ -11,7 +11,8 @@ use crate::turns::next_node;
 use crate::worker::Worker;
 use block_device::{BlockStep, Command};
 use client_desks::laws::desks_go_on;
-use desk_keys::{Edge, Floor, Gate, Keys};
+use crews::{Edge, Gate};
+use desk_keys::{Floor, Keys};
 use locked_nodes::CellRefusal;
 use std::sync::Wait;
 

@@ -4,7 +4,8 @@ ghost use Rattle.client_work.specs.Work.{Ready, Done};
 use crate::liar::Liar;
 use crate::sends::carry;
 use crate::worker::Worker;
-use desk_keys::{Floor, Gate, Keys};
+use crews::Gate;
+use desk_keys::{Floor, Keys};
 use phase_threads::Duty;
 use std::sync::Wait;
 

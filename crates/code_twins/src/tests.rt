@@ -66,7 +66,7 @@ fn block_of(alloc: Global, size: usize) -> Result<Bytes, NoMemory>
         bytes.push(byte)?;
         byte = byte.wrapping_add(7);
     }
-    Ok(Bytes::from_vec(bytes))
+    Bytes::shared(bytes)
 }
 
 /// How many choices of `m` shares give back the block, by both codes, and how many there are.

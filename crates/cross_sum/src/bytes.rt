@@ -8,7 +8,7 @@ use std::sync::Arc;
 
 /// A string of bytes. Contracts see the list of them.
 ///
-/// A string of at most 23 bytes takes no memory beside itself. The copies of a longer one share its bytes.
+/// A string of at most 14 bytes takes no memory beside itself. The copies of a longer one share its bytes.
 pub struct Bytes {
     held: Held,
 }
@@ -17,15 +17,13 @@ pub struct Bytes {
 #[derive(Drop)]
 enum Held {
     /// The first `len` of these.
-    Few { len: u8, bytes: [u8; 23] },
-    /// In a vector that nobody shares.
-    Own(Vec<u8>),
+    Few { len: u8, bytes: [u8; 14] },
     /// In a vector that copies share.
     Shared(Arc<Vec<u8>, Global>),
 }
 
-/// The longest string that is held without memory of its own.
-const FEW: usize = 23;
+/// The longest string that is held without memory of its own. With it a string is as large as two words.
+const FEW: usize = 14;
 
 impl Model for Bytes {
     ghost use Rattle.std.specs.Prelude.{List, ℕ};
@@ -57,23 +55,18 @@ impl Bytes {
         Bytes::shared(Vec::from_slice(alloc, bytes)?)
     }
 
+    /// The string of no bytes.
+    pub fn empty() -> Bytes
+        ensures { result ≡ [] }
+    {
+        few(&[])
+    }
+
     /// A string of `len` bytes that are 0.
     pub fn zeros(alloc: Global, len: usize) -> Result<Bytes, NoMemory>
         ensures { IfOk result (λ b. b ≡ replicate len 0) }
     {
         Bytes::shared(vec![in alloc; 0; len]?)
-    }
-
-    /// The string of a vector's bytes. Its copies share bytes of their own.
-    pub fn from_vec(bytes: Vec<u8>) -> Bytes
-        ensures { result ≡ bytes.items }
-    {
-        if bytes.len() <= FEW {
-            return few(bytes.as_slice());
-        }
-        Bytes {
-            held: Held::Own(bytes),
-        }
     }
 
     /// The string of a vector's bytes, which copies share.
@@ -97,7 +90,6 @@ impl Bytes {
     {
         match &self.held {
             Held::Few { len, bytes } => in_range(&bytes[..*len as usize]),
-            Held::Own(bytes) => in_range(bytes.as_slice()),
             Held::Shared(bytes) => in_range(bytes.as_slice()),
         }
     }
@@ -133,12 +125,12 @@ impl Bytes {
     }
 }
 
-/// A string of at most 23 bytes.
+/// A string of at most 14 bytes.
 fn few(bytes: &[u8]) -> Bytes
-    requires { length bytes.now ≤ 23 }
+    requires { length bytes.now ≤ 14 }
     ensures { result ≡ bytes.now }
 {
-    let mut held = [0; 23];
+    let mut held = [0; 14];
     held[..bytes.len()].copy_from_slice(bytes);
     Bytes {
         held: Held::Few {
@@ -166,7 +158,6 @@ impl Copied for Bytes {
                     bytes: *bytes,
                 },
             }),
-            Held::Own(bytes) => Bytes::of(*bytes.allocator(), bytes.as_slice()),
             Held::Shared(bytes) => Ok(Bytes {
                 held: Held::Shared(Arc::try_clone(bytes)?),
             }),

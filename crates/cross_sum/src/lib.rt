@@ -70,6 +70,12 @@ mod tests {
         assert!(rt; copy.same(&sum));
         let again = CrossSum::of_hashes(rt.alloc(), sum.hashes())?;
         assert!(rt; again.same(&sum));
+        assert!(rt; again.matches(2, &[3]));
+        assert!(rt; !again.matches(2, &[2]));
+        let three = CrossSum::of_equal(rt.alloc(), &Bytes::of(rt.alloc(), &[7])?, 3)?;
+        assert_eq!(rt; three.len(), 3);
+        assert_eq!(rt; three.entry(2), sha(&[7]));
+        assert!(rt; three.matches(1, &[7]));
         Ok(())
     }
 

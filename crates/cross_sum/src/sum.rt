@@ -1,8 +1,10 @@
-ghost use Rattle.std.specs.Prelude.{◌≡◌, ◌<◌, ◌↔◌, [], length, map, slice_get, IfOk, IsTrue, Some, All};
+ghost use Rattle.std.specs.Prelude.{◌≡◌, ◌<◌, ◌↔◌, [], length, map, replicate, slice_get, IfOk, IsTrue, Some, All};
 ghost use Rattle.std.specs.List.{AllByRecursion};
 ghost use Rattle.cross_sum.specs.Digest.{digest, flat, verifier};
+ghost use Rattle.cross_sum.specs.HowKept.{HaveDigests};
 
 use crate::bytes::Bytes;
+use crate::part::Shares;
 use lists::{Copied, NoMemory};
 use sha2::{Digest, Sha256};
 use std::alloc::Global;
@@ -21,7 +23,8 @@ pub fn sha(bytes: &[u8]) -> Hash
 
 /// A cross checksum: the digests of fragments, one each. Contracts see the list of them.
 ///
-/// It keeps its verifier, the SHA-256 of all digests in one string, so that it's computed once. Copies share all of it.
+/// It keeps its verifier, the SHA-256 of all digests in one string, so that it's computed once, and the fragments that it was made
+/// of, so that no fragment that is one of them is digested again. Copies share all of it.
 pub struct CrossSum {
     shared: Arc<Digests, Global>,
 }
@@ -31,18 +34,20 @@ pub struct CrossSum {
 struct Digests {
     digests: Vec<Hash>,
     verifier: Hash,
+    /// The strings that have these digests, or none where only the digests are known.
+    strings: Shares,
 }
 
 impl Model for CrossSum {
     ghost use Rattle.std.specs.Prelude.{◌≡◌, List, ℕ};
     ghost use Rattle.std.specs.Arc.{arc_value};
-    ghost use Rattle.cross_sum.specs.Digest.{verifier as verifier_word};
+    ghost use Rattle.cross_sum.specs.HowKept.{IsKept};
 
     ghost Value = { List (List ℕ) };
 
     ghost view = { λ s. (arc_value s.shared).digests.items };
 
-    ghost invariant = { λ s. (arc_value s.shared).verifier ≡ verifier_word (arc_value s.shared).digests.items };
+    ghost invariant = { λ s. IsKept (arc_value s.shared) };
 }
 
 // By hand, since a derived drop is proved anew wherever a cross checksum is let go.
@@ -57,28 +62,45 @@ impl CrossSum {
     pub fn of_fragments(alloc: Global, parts: &[Bytes]) -> Result<CrossSum, NoMemory>
         ensures { IfOk result (λ s. s ≡ map digest parts.now) }
     {
-        let mut digests = Vec::with_capacity(alloc, parts.len())?;
-        for part in parts {
-            digests.push(sha(part.as_slice()))?;
+        let digests = digests_of(alloc, parts)?;
+        CrossSum::of_vec(digests, copies_of(alloc, parts)?)
+    }
+
+    /// The digests of so many strings that are all this one. It is digested once.
+    pub fn of_equal(alloc: Global, part: &Bytes, count: u32) -> Result<CrossSum, NoMemory>
+        ensures { IfOk result (λ s. s ≡ map digest (replicate count part.now)) }
+    {
+        let digest = sha(part.as_slice());
+        let mut digests = Vec::with_capacity(alloc, count as usize)?;
+        let mut strings = Vec::with_capacity(alloc, count as usize)?;
+        for _ in 0..count {
+            digests.push(digest)?;
+            strings.push(part.copy()?)?;
         }
-        CrossSum::of_vec(digests)
+        CrossSum::of_vec(digests, Shares::from_vec(strings))
     }
 
     /// The cross checksum that has these digests.
     pub fn of_hashes(alloc: Global, list: &[Hash]) -> Result<CrossSum, NoMemory>
         ensures { IfOk result (λ s. s ≡ list.now) }
     {
-        CrossSum::of_vec(Vec::from_slice(alloc, list)?)
+        CrossSum::of_vec(Vec::from_slice(alloc, list)?, Shares::new(alloc))
     }
 
-    /// The cross checksum of a vector's digests.
-    fn of_vec(digests: Vec<Hash>) -> Result<CrossSum, NoMemory>
+    /// The cross checksum of a vector's digests, which are those of the strings.
+    fn of_vec(digests: Vec<Hash>, strings: Shares) -> Result<CrossSum, NoMemory>
+        requires { HaveDigests strings digests.items }
         ensures { IfOk result (λ s. s ≡ digests.items) }
     {
         let alloc = *digests.allocator();
         let verifier = verifier_of(digests.as_slice());
+        let held = Digests {
+            digests,
+            verifier,
+            strings,
+        };
         Ok(CrossSum {
-            shared: Arc::new(alloc, Digests { digests, verifier })?,
+            shared: Arc::new(alloc, held)?,
         })
     }
 
@@ -120,12 +142,22 @@ impl CrossSum {
         self.shared.verifier
     }
 
-    /// Whether digest `i` is the fragment's.
+    /// Whether digest `i` is the fragment's. Where the fragment is the one that it was computed of, no digest is computed.
     pub fn matches(&self, i: usize, fragment: &[u8]) -> bool
         requires { i < length self.now }
         ensures { IsTrue result ↔ (slice_get self.now i ≡ Some (digest fragment.now)) }
     {
-        self.entry(i) == sha(fragment)
+        self.is_known(i, fragment) || self.entry(i) == sha(fragment)
+    }
+
+    /// Whether the fragment is the string that digest `i` was computed of.
+    fn is_known(&self, i: usize, fragment: &[u8]) -> bool
+        ensures { IsTrue result → slice_get self.now i ≡ Some (digest fragment.now) }
+    {
+        match self.shared.strings.get(i) {
+            Some(string) => string.as_slice() == fragment,
+            None => false,
+        }
     }
 
     /// Whether the digests of both are the same.
@@ -134,6 +166,28 @@ impl CrossSum {
     {
         self.hashes() == other.hashes()
     }
+}
+
+/// The digests of the strings, in order.
+fn digests_of(alloc: Global, strings: &[Bytes]) -> Result<Vec<Hash>, NoMemory>
+    ensures { IfOk result (λ v. v.items ≡ map digest strings.now) }
+{
+    let mut digests = Vec::with_capacity(alloc, strings.len())?;
+    for string in strings {
+        digests.push(sha(string.as_slice()))?;
+    }
+    Ok(digests)
+}
+
+/// Copies of the strings, in order.
+fn copies_of(alloc: Global, strings: &[Bytes]) -> Result<Shares, NoMemory>
+    ensures { IfOk result (λ copies. copies ≡ strings.now) }
+{
+    let mut copies = Vec::with_capacity(alloc, strings.len())?;
+    for string in strings {
+        copies.push(string.copy()?)?;
+    }
+    Ok(Shares::from_vec(copies))
 }
 
 fn verifier_of(digests: &[Hash]) -> Hash

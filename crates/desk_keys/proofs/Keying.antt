@@ -1,4 +1,4 @@
--- A desk and its chits after a turn.
+-- A desk and its way to the nodes after a turn.
 use Rattle.std.proofs.Common.{◌≡◌, ◌≢◌, ℕ, zero, suc, ◌<◌, ◌≤◌, List, [], ◌∷◌, ◌++◌, length, map, get_or, Option, Result, Ok, Err, refl, sym, ap, subst, ◌∙◌, arith, inl, inr, append-nil}
 use Rattle.std.specs.declared.option.Option.TheVariants.{None, Some}
 use Rattle.std.specs.Prelude.{◌⊎◌, All, IfOk, OnOk, OnErr, slice_get, slice_set}
@@ -21,20 +21,21 @@ use Rattle.journals.specs.Steps.{side, IsOwn}
 use Rattle.locked_nodes.specs.declared.answers.CellRefusal.{CellRefusal}
 use Rattle.locked_nodes.specs.declared.charter.Item.{Item}
 use Rattle.locked_nodes.specs.declared.charter.Item.TheVariants.{Entry}
-use Rattle.locked_nodes.specs.Cells.{entry}
-use Rattle.client_desks.specs.Desks.{DeskView, desk_entry, with_own, KeepsDesk}
+use Rattle.locked_nodes.specs.declared.answers.Told.{Told}
+use Rattle.locked_nodes.specs.Cells.{entry, number_of}
+use Rattle.client_desks.specs.Desks.{DeskView, desk_entry, with_own, reply_told, KeepsDesk}
 use Rattle.quorum_rules.specs.Limits.{Numbers}
 use Rattle.locked_nodes.specs.declared.slot.Slot.{Slot}
 use Rattle.locked_nodes.specs.Slots.{IsPlace}
-use Rattle.desk_keys.specs.Keys.{FloorView, IsHead, IsFloor, KeysView, Knows, IsSide, Agree, AreKeys, Fit, refusal_in, AddSides, AddCall, AddSent, LeavesNoSide}
-use Rattle.desk_keys.proofs.Lists.{get_set, set_at, still_there}
-
-contains_one : {X : Type 0} (x y : X) (k : ℕ) → k < 1 → get_or (y ∷ []) k x ≡ x → x ≡ y
-contains_one x y zero lt is = sym is
-contains_one x y (suc k) lt is = absurd (omega arith)
-
-pub only_one : {X : Type 0} (x y : X) → Contains (y ∷ []) x → x ≡ y
-only_one x y (k, lt, is) = contains_one x y k lt is
+use Rattle.inboxes.specs.Sides.{Putting, InboxId, took}
+use Rattle.node_mail.specs.declared.asked.Asked.{Asked}
+use Rattle.node_mail.specs.declared.asked.NodePlace.{NodePlace}
+use Rattle.node_mail.specs.declared.answered.Answered.{Answered}
+use Rattle.node_mail.specs.declared.answered.ClientPlace.{ClientPlace}
+use Rattle.desk_keys.specs.declared.mail.ByMail.{ByMail}
+use Rattle.desk_keys.specs.Keys.{FloorView, IsHead, IsFloor, KeysView, Knows, IsSide, Agree, Agrees, AreKeys, IsByChits, IsByMail, IsAskPlace, Reaches, Fit, refusal_in, HasAsked, HasCalled, HasSent, AddSides, AddCall, AddSent, AddAnswer, AddHeard, AddTold, IsSameMail, HasEnded, LeavesNoSide}
+use Rattle.desk_keys.proofs.Mailing.{agree_answer, agree_own_mail, agree_ended}
+use Rattle.desk_keys.proofs.Lists.{only_one, get_set, set_at, still_there}
 
 -- the chit knows what it knew
 pub knows_more : (was now : Chit Item) (more : List (ℕ × Item)) (n : NodeEntry) → now.vault ≡ was.vault → now.mine ≡ was.mine ++ more → Knows was n → Knows now n
@@ -179,93 +180,203 @@ agree_own old new chits n a agree own is =
 rest_turn : (chits : List (Chit Item)) (k : ℕ) (now : Chit Item) → All (λ (c : Chit Item). c.holds ≡ None) chits → now.holds ≡ None → All (λ (c : Chit Item). c.holds ≡ None) (slice_set chits k now)
 rest_turn chits k now rest holds = All-set (λ (c : Chit Item). c.holds ≡ None) chits k now holds rest
 
-pub keys_called : (answer : Result (Option Outcome) CellRefusal) (node k : ℕ) (way : Way) (old new : DeskView) (chits : List (Chit Item)) (was now : Chit Item) → AreKeys old chits None → slice_get chits k ≡ Some was → now.vault ≡ was.vault → now.holds ≡ None
-    → IfOk answer (λ o. AddCall old was node way o new now) → AreKeys new (slice_set chits k now) (refusal_in answer)
+pub keys_called : (answer : Result (Option Outcome) CellRefusal) (node k : ℕ) (way : Way) (old new : DeskView) (chits : List (Chit Item)) (was now : Chit Item) → AreKeys old chits None None → slice_get chits k ≡ Some was → now.vault ≡ was.vault → now.holds ≡ None
+    → IfOk answer (λ o. AddCall old was node way o new now) → AreKeys new (slice_set chits k now) None (refusal_in answer)
 keys_called (Ok o) node k way old new chits was now keys at own holds add = record {
   rest = rest_turn chits k now keys.rest holds;
   agree = λ sound. agree_sides old new chits k was now way add.ask add.reply (keys.agree refl) at own add.sides;
 }
 keys_called (Err e) node k way old new chits was now keys at own holds add = record { rest = rest_turn chits k now keys.rest holds; agree = λ sound. absurd cc }
 
-pub keys_sent : {A : Type 0} (answer : Result A CellRefusal) (k : ℕ) (ask : Message) (old new : DeskView) (chits : List (Chit Item)) (was now : Chit Item) → AreKeys old chits None → slice_get chits k ≡ Some was → now.vault ≡ was.vault → now.holds ≡ None
-    → OnOk answer (AddSent old was ask new now) → AreKeys new (slice_set chits k now) (refusal_in answer)
+pub keys_sent : {A : Type 0} (answer : Result A CellRefusal) (k : ℕ) (ask : Message) (old new : DeskView) (chits : List (Chit Item)) (was now : Chit Item) → AreKeys old chits None None → slice_get chits k ≡ Some was → now.vault ≡ was.vault → now.holds ≡ None
+    → OnOk answer (AddSent old was ask new now) → AreKeys new (slice_set chits k now) None (refusal_in answer)
 keys_sent (Ok x) k ask old new chits was now keys at own holds add = record {
   rest = rest_turn chits k now keys.rest holds;
   agree = λ sound. agree_sides old new chits k was now ByCall ask add.0 (keys.agree refl) at own add.1;
 }
 keys_sent (Err e) k ask old new chits was now keys at own holds add = record { rest = rest_turn chits k now keys.rest holds; agree = λ sound. absurd cc }
 
-pub keys_delivered : {A : Type 0} (answer : Result A CellRefusal) (k : ℕ) (old new : DeskView) (chits : List (Chit Item)) (was now : Chit Item) → AreKeys old chits None → slice_get chits k ≡ Some was → now.vault ≡ was.vault → now.holds ≡ None
-    → KeepsDesk old new → LeavesNoSide was now → AreKeys new (slice_set chits k now) (refusal_in answer)
+pub keys_delivered : {A : Type 0} (answer : Result A CellRefusal) (k : ℕ) (old new : DeskView) (chits : List (Chit Item)) (was now : Chit Item) → AreKeys old chits None None → slice_get chits k ≡ Some was → now.vault ≡ was.vault → now.holds ≡ None
+    → KeepsDesk old new → LeavesNoSide was now → AreKeys new (slice_set chits k now) None (refusal_in answer)
 keys_delivered answer k old new chits was now keys at own holds kept none = record {
   rest = rest_turn chits k now keys.rest holds;
   agree = λ sound. agree_kept old new chits k was now (keys.agree refl) at own kept none;
 }
 
-pub keys_own : {A : Type 0} (answer : Result A CellRefusal) (a : DeskAct) (old new : DeskView) (chits : List (Chit Item)) → AreKeys old chits None → IsOwn a → OnOk answer ((n : ℕ) × (old.pass.seen ≤ n) × (new ≡ with_own old n a))
-    → AreKeys new chits (refusal_in answer)
-keys_own (Ok x) a old new chits keys own add = record { rest = keys.rest; agree = λ sound. agree_own old new chits add.0 a (keys.agree refl) own add.2 }
-keys_own (Err e) a old new chits keys own add = record { rest = keys.rest; agree = λ sound. absurd cc }
+own_agrees : (old new : DeskView) (chits : List (Chit Item)) (mail : Option ByMail) (n : ℕ) (a : DeskAct) → Agrees old chits mail → IsOwn a → new ≡ with_own old n a → Agrees new chits mail
+own_agrees old new chits None n a agree own is = agree_own old new chits n a agree own is
+own_agrees old new chits (Some m) n a agree own is = agree_own_mail old new m n a agree own is
 
--- the keys fit the same floor
-pub fit_turn : (keys : KeysView) (floor : FloorView) (k : ℕ) (new : DeskView) (was now : Chit Item) (refused : Option CellRefusal) → Fit keys floor → slice_get keys.chits k ≡ Some was → now.vault ≡ was.vault → new.config ≡ keys.desk.config → new.pass.clock ≡ keys.desk.pass.clock
-    → Fit (record { desk = new; chits = slice_set keys.chits k now; refused = refused }) floor
-fit_turn keys floor k new was now refused fit at own config ticks = record {
-  floor = subst (λ c. IsFloor c floor) (sym config) fit.floor;
-  ticks = ticks ∙ fit.ticks;
-  own = map-set_same (λ (c : Chit Item). c.vault) keys.chits k now was (own ∙ ap (λ (c : Chit Item). c.vault) (sym (get_or_from_slice_get keys.chits k was was at))) ∙ fit.own;
-}
+pub keys_own : {A : Type 0} (answer : Result A CellRefusal) (a : DeskAct) (old new : DeskView) (chits : List (Chit Item)) (mail : Option ByMail) → AreKeys old chits mail None → IsOwn a → OnOk answer ((n : ℕ) × (old.pass.seen ≤ n) × (new ≡ with_own old n a))
+    → AreKeys new chits mail (refusal_in answer)
+keys_own (Ok x) a old new chits mail keys own add = record { rest = keys.rest; agree = λ sound. own_agrees old new chits mail add.0 a (keys.agree refl) own add.2 }
+keys_own (Err e) a old new chits mail keys own add = record { rest = keys.rest; agree = λ sound. absurd cc }
+
+-- and by mail
+pub keys_heard : (answer : Result (Option Outcome) CellRefusal) (node : ℕ) (way : Way) (old new : DeskView) (chits : List (Chit Item)) (was now : ByMail) → AreKeys old chits (Some was) None → IsSameMail was now
+    → IfOk answer (λ o. AddHeard old was node way o new now) → AreKeys new chits (Some now) (refusal_in answer)
+keys_heard (Ok o) node way old new chits was now keys same add = record { rest = keys.rest; agree = λ sound. agree_answer old new was now way add.ask add.told (keys.agree refl) same add.answer }
+keys_heard (Err e) node way old new chits was now keys same add = record { rest = keys.rest; agree = λ sound. absurd cc }
+
+pub keys_told : {A : Type 0} (answer : Result A CellRefusal) (ask : Message) (old new : DeskView) (chits : List (Chit Item)) (was now : ByMail) → AreKeys old chits (Some was) None → IsSameMail was now
+    → OnOk answer (AddTold old was ask new now) → AreKeys new chits (Some now) (refusal_in answer)
+keys_told (Ok x) ask old new chits was now keys same add = record { rest = keys.rest; agree = λ sound. agree_answer old new was now ByCall ask add.0 (keys.agree refl) same add.1 }
+keys_told (Err e) ask old new chits was now keys same add = record { rest = keys.rest; agree = λ sound. absurd cc }
+
+pub keys_ended : (desk : DeskView) (chits : List (Chit Item)) (mail : Option ByMail) (was now : ByMail) (refused : Option CellRefusal) → AreKeys desk chits mail refused → mail ≡ Some was → HasEnded was now → took now.answers ≡ took was.answers
+    → AreKeys desk chits (Some now) refused
+keys_ended desk chits mail was now refused keys some ended same = record { rest = keys.rest; agree = λ sound. agree_ended desk was now (subst (λ (m : Option ByMail). Agrees desk chits m) some (keys.agree sound)) ended.inbox same }
 
 -- whose desk it is stays
 abbrev pub Stays : DeskView → DeskView → Type 0
-Stays old new = (new.config ≡ old.config) × (new.pass.clock ≡ old.pass.clock)
+Stays old new = (new.config ≡ old.config) × (new.pass.clock ≡ old.pass.clock) × (new.id ≡ old.id)
 
 pub kept_stays : (old new : DeskView) → KeepsDesk old new → Stays old new
-kept_stays old new kept = (ap (λ (d : DeskView). d.config) kept.same, ap (λ p. p.clock) kept.pass)
+kept_stays old new kept = (ap (λ (d : DeskView). d.config) kept.same, ap (λ p. p.clock) kept.pass, ap (λ (d : DeskView). d.id) kept.same)
 
-pub called_stays : (answer : Result (Option Outcome) CellRefusal) (node : ℕ) (way : Way) (old new : DeskView) (was now : Chit Item) → IfOk answer (λ o. AddCall old was node way o new now) → OnErr answer (KeepsDesk old new) → Stays old new
-called_stays (Ok o) node way old new was now add kept = (ap (λ (d : DeskView). d.config) add.sides.call.desk, ap (λ (d : DeskView). d.pass.clock) add.sides.call.desk)
-called_stays (Err e) node way old new was now add kept = kept_stays old new kept
+pub asked_stays : (old new : DeskView) (way : Way) (ask : Message) (reply : Option Message) → HasAsked old way ask reply new → Stays old new
+asked_stays old new way ask reply h = (ap (λ (d : DeskView). d.config) h.desk, ap (λ (d : DeskView). d.pass.clock) h.desk, ap (λ (d : DeskView). d.id) h.desk)
 
-pub sent_stays : {A : Type 0} (answer : Result A CellRefusal) (ask : Message) (old new : DeskView) (was now : Chit Item) → OnOk answer (AddSent old was ask new now) → OnErr answer (KeepsDesk old new) → Stays old new
-sent_stays (Ok x) ask old new was now add kept = (ap (λ (d : DeskView). d.config) add.1.call.desk, ap (λ (d : DeskView). d.pass.clock) add.1.call.desk)
-sent_stays (Err e) ask old new was now add kept = kept_stays old new kept
+pub called_stays : (answer : Result (Option Outcome) CellRefusal) (node : ℕ) (way : Way) (old new : DeskView) → IfOk answer (λ o. HasCalled old node way o new) → OnErr answer (KeepsDesk old new) → Stays old new
+called_stays (Ok o) node way old new add kept = asked_stays old new way add.ask add.reply add.call
+called_stays (Err e) node way old new add kept = kept_stays old new kept
+
+pub sent_stays : {A : Type 0} (answer : Result A CellRefusal) (ask : Message) (old new : DeskView) → OnOk answer (HasSent old ask new) → OnErr answer (KeepsDesk old new) → Stays old new
+sent_stays (Ok x) ask old new add kept = asked_stays old new ByCall ask add.0 add.1
+sent_stays (Err e) ask old new add kept = kept_stays old new kept
+
+pub is_none : {A : Type 0} (o : Option A) → ((x : A) → o ≡ Some x → ⊥) → o ≡ None
+is_none None never = refl
+is_none (Some x) never = absurd (never x refl)
+
+-- which way the keys reach cells
+pub by_chits : (keys : KeysView) (floor : FloorView) → keys.mail ≡ None → Fit keys floor → IsByChits keys.chits floor
+by_chits keys floor none fit = at keys.mail none fit.own
+  where
+    at : (mail : Option ByMail) → mail ≡ None → Reaches keys.desk.id keys.chits mail floor → IsByChits keys.chits floor
+    at None e own = own
+    at (Some m) e own = absurd cc
+
+pub by_mail : (keys : KeysView) (floor : FloorView) (mail : ByMail) → keys.mail ≡ Some mail → Fit keys floor → IsByMail keys.desk.id mail floor
+by_mail keys floor mail some fit = subst (λ (m : Option ByMail). Reaches keys.desk.id keys.chits m floor) some fit.own
+
+-- a floor with a vault is one for chits
+pub no_mail : (keys : KeysView) (floor : FloorView) (place : ℕ) → Fit keys floor → place < length floor.vaults → keys.mail ≡ None
+no_mail keys floor place fit within = at keys.mail fit.own
+  where
+    at : (mail : Option ByMail) → Reaches keys.desk.id keys.chits mail floor → mail ≡ None
+    at None own = refl
+    at (Some m) own = let none = ap length own.vaults in absurd (omega (arith, within, none))
+
+-- what a turn or an answer added to the desk
+pub add_called : (answer : Result (Option Outcome) CellRefusal) (node : ℕ) (way : Way) (old new : DeskView) (was now : Chit Item) → IfOk answer (λ o. AddCall old was node way o new now) → IfOk answer (λ o. HasCalled old node way o new)
+add_called (Ok o) node way old new was now add = record { ask = add.ask; asked = add.asked; reply = add.reply; call = add.sides.call; ended = add.ended }
+add_called (Err e) node way old new was now add = tt
+
+pub add_sent : {A : Type 0} (answer : Result A CellRefusal) (ask : Message) (old new : DeskView) (was now : Chit Item) → OnOk answer (AddSent old was ask new now) → OnOk answer (HasSent old ask new)
+add_sent (Ok x) ask old new was now add = (add.0, add.1.call)
+add_sent (Err e) ask old new was now add = tt
+
+answer_asked : (old new : DeskView) (was now : ByMail) (way : Way) (ask : Message) (told : Told) → AddAnswer old was way ask told new now → HasAsked old way ask (reply_told told) new
+answer_asked old new was now way ask told add = record { number = number_of told; later = add.later; desk = add.desk }
+
+pub heard_called : (answer : Result (Option Outcome) CellRefusal) (node : ℕ) (way : Way) (old new : DeskView) (was now : ByMail) → IfOk answer (λ o. AddHeard old was node way o new now) → IfOk answer (λ o. HasCalled old node way o new)
+heard_called (Ok o) node way old new was now add = record { ask = add.ask; asked = add.asked; reply = reply_told add.told; call = answer_asked old new was now way add.ask add.told add.answer; ended = add.ended }
+heard_called (Err e) node way old new was now add = tt
+
+pub told_sent : {A : Type 0} (answer : Result A CellRefusal) (ask : Message) (old new : DeskView) (was now : ByMail) → OnOk answer (AddTold old was ask new now) → OnOk answer (HasSent old ask new)
+told_sent (Ok x) ask old new was now add = (reply_told add.0, answer_asked old new was now ByCall ask add.0 add.1)
+told_sent (Err e) ask old new was now add = tt
 
 -- the chit of a node is one for its vault
-same_length : (chits : List (Chit Item)) (vaults : List (Deposit Item)) → map (λ (c : Chit Item). c.vault) chits ≡ map (λ (v : Deposit Item). v.id) vaults → length chits ≡ length vaults
-same_length chits vaults own = sym (length-map chits (λ (c : Chit Item). c.vault)) ∙ ap length own ∙ length-map vaults (λ (v : Deposit Item). v.id)
+same_length : {A B C : Type 0} (f : A → C) (g : B → C) (xs : List A) (ys : List B) → map f xs ≡ map g ys → length xs ≡ length ys
+same_length f g xs ys same = sym (length-map xs f) ∙ ap length same ∙ length-map ys g
 
-pub place_in : (config : Numbers) (floor : FloorView) (place node block : ℕ) → IsFloor config floor → IsPlace floor.slots place node block → place < length floor.vaults
-place_in config floor place node block h p =
+-- what stands at one place in two lists is alike in what is alike in the lists
+same_at : {A B C : Type 0} (f : A → C) (g : B → C) (xs : List A) (ys : List B) (i : ℕ) (x : A) (y : B) → map f xs ≡ map g ys → slice_get xs i ≡ Some x → slice_get ys i ≡ Some y → f x ≡ g y
+same_at f g [] ys i x y same at there = absurd cc
+same_at f g (a ∷ xs) [] i x y same at there = absurd cc
+same_at f g (a ∷ xs) (b ∷ ys) zero x y same at there =
+    let l : x ≡ a = cc in
+    let r : y ≡ b = cc in
+    let e : f a ≡ g b = cc in
+    ap f l ∙ e ∙ ap g (sym r)
+same_at f g (a ∷ xs) (b ∷ ys) (suc i) x y same at there = same_at f g xs ys i x y (let e : map f xs ≡ map g ys = cc in e) at there
+
+something_at : {A : Type 0} (xs : List A) (k : ℕ) → k < length xs → (x : A) × (slice_get xs k ≡ Some x)
+something_at [] k lt = absurd (omega arith)
+something_at (x ∷ xs) zero lt = (x, refl)
+something_at (x ∷ xs) (suc k) lt = something_at xs k (omega arith)
+
+pub place_in : (chits : List (Chit Item)) (floor : FloorView) (place node block : ℕ) → IsByChits chits floor → IsPlace floor.slots place node block → place < length floor.vaults
+place_in chits floor place node block h p =
     let within = slice_get_within floor.slots place p.slot p.there in
     let count = h.count in
     omega (arith, within, count)
 
-pub chit_in : (chits : List (Chit Item)) (vaults : List (Deposit Item)) (place : ℕ) → map (λ (c : Chit Item). c.vault) chits ≡ map (λ (v : Deposit Item). v.id) vaults → place < length vaults → place < length chits
-chit_in chits vaults place own within = let same = same_length chits vaults own in omega (arith, within, same)
+pub chit_in : (chits : List (Chit Item)) (floor : FloorView) (place : ℕ) → IsByChits chits floor → place < length floor.vaults → place < length chits
+chit_in chits floor place h within =
+    let same = same_length (λ (c : Chit Item). c.vault) (λ (v : Deposit Item). v.id) chits floor.vaults h.own in omega (arith, within, same)
 
 -- the cell at a place is in a slot
-pub head_at : (config : Numbers) (floor : FloorView) (place : ℕ) (v : Deposit Item) → IsFloor config floor → slice_get floor.vaults place ≡ Some v → (s : Slot) × IsHead config floor.clock s v.id.begun
-head_at config floor place v h there =
-    let s = slot_there floor.slots place (let within = slice_get_within floor.vaults place v there in let count = h.count in omega (arith, within, count)) in
+pub head_at : (config : Numbers) (chits : List (Chit Item)) (floor : FloorView) (place : ℕ) (v : Deposit Item) → IsFloor config floor → IsByChits chits floor → slice_get floor.vaults place ≡ Some v → (s : Slot) × IsHead config floor.clock s v.id.begun
+head_at config chits floor place v h by there =
+    let s = something_at floor.slots place (let within = slice_get_within floor.vaults place v there in let count = by.count in omega (arith, within, count)) in
     (s.0, h.each place s.0 v s.1 there)
-  where
-    slot_there : (slots : List Slot) (k : ℕ) → k < length slots → (s : Slot) × (slice_get slots k ≡ Some s)
-    slot_there [] k lt = absurd (omega arith)
-    slot_there (s ∷ slots) zero lt = (s, refl)
-    slot_there (s ∷ slots) (suc k) lt = slot_there slots k (omega arith)
 
-pub chit_at : (chits : List (Chit Item)) (vaults : List (Deposit Item)) (i : ℕ) (c : Chit Item) (v : Deposit Item) → map (λ (x : Chit Item). x.vault) chits ≡ map (λ (x : Deposit Item). x.id) vaults → slice_get vaults i ≡ Some v → c ≡ get_or chits i c → slice_get chits i ≡ Some c
-chit_at chits vaults i c v own there at =
-    let within = slice_get_within vaults i v there in
-    slice_get_read chits (length chits) i c refl (omega (arith, within, same_length chits vaults own)) at
+pub chit_at : (chits : List (Chit Item)) (floor : FloorView) (i : ℕ) (c : Chit Item) (v : Deposit Item) → IsByChits chits floor → slice_get floor.vaults i ≡ Some v → c ≡ get_or chits i c → slice_get chits i ≡ Some c
+chit_at chits floor i c v h there at = slice_get_read chits (length chits) i c refl (chit_in chits floor i h (slice_get_within floor.vaults i v there)) at
 
-pub own_at : (chits : List (Chit Item)) (vaults : List (Deposit Item)) (i : ℕ) (c : Chit Item) (v : Deposit Item) → map (λ (x : Chit Item). x.vault) chits ≡ map (λ (x : Deposit Item). x.id) vaults → slice_get chits i ≡ Some c → slice_get vaults i ≡ Some v → c.vault ≡ v.id
-own_at [] vaults i c v own at there = absurd cc
-own_at (x ∷ chits) [] i c v own at there = absurd cc
-own_at (x ∷ chits) (y ∷ vaults) zero c v own at there =
-    let a : c ≡ x = cc in
-    let b : v ≡ y = cc in
-    let e : x.vault ≡ y.id = cc in
-    ap (λ (z : Chit Item). z.vault) a ∙ e ∙ ap (λ (z : Deposit Item). z.id) (sym b)
-own_at (x ∷ chits) (y ∷ vaults) (suc i) c v own at there = own_at chits vaults i c v (let e : map (λ (z : Chit Item). z.vault) chits ≡ map (λ (z : Deposit Item). z.id) vaults = cc in e) at there
+pub own_at : (chits : List (Chit Item)) (floor : FloorView) (i : ℕ) (c : Chit Item) (v : Deposit Item) → IsByChits chits floor → slice_get chits i ≡ Some c → slice_get floor.vaults i ≡ Some v → c.vault ≡ v.id
+own_at chits floor i c v h at there = same_at (λ (x : Chit Item). x.vault) (λ (x : Deposit Item). x.id) chits floor.vaults i c v h.own at there
+
+abbrev AskPutter : Type 0
+AskPutter = Putting Asked NodePlace
+
+-- the way by mail is for the same floor
+module _ (id new : ℕ) (was now : ByMail) (floor : FloorView) (is : new ≡ id) (same : IsSameMail was now) (by : IsByMail id was floor) where
+  asks_length : length now.asks.items ≡ length was.asks.items
+  asks_length = same_length (λ (p : AskPutter). p.inbox) (λ (p : AskPutter). p.inbox) now.asks.items was.asks.items same.asks
+
+  ask_place : (k : ℕ) (p : AskPutter) (s : Slot) → slice_get now.asks.items k ≡ Some p → slice_get floor.slots k ≡ Some s → IsAskPlace floor.clock s now.seat new p.inbox.place
+  ask_place k p s at there =
+      let before = something_at was.asks.items k (let within = slice_get_within now.asks.items k p at in omega (arith, within, asks_length)) in
+      let inbox : p.inbox ≡ before.0.inbox = same_at (λ (x : AskPutter). x.inbox) (λ (x : AskPutter). x.inbox) now.asks.items was.asks.items k p before.0 same.asks at before.1 in
+      subst (λ n. IsAskPlace floor.clock s now.seat n p.inbox.place) (sym is)
+      (subst (λ seat. IsAskPlace floor.clock s seat id p.inbox.place) (sym same.seat) (subst (λ (i : InboxId Asked NodePlace). IsAskPlace floor.clock s was.seat id i.place) (sym inbox) (by.each k before.0 s before.1 there)))
+
+  pub same_mail : IsByMail new now floor
+  same_mail = record {
+    vaults = by.vaults;
+    first = by.first;
+    there = ap (λ seat. slice_get floor.answers seat) same.seat ∙ by.there;
+    inbox = same.inbox ∙ by.inbox;
+    senders = same.senders ∙ by.senders;
+    client = ap (λ (i : InboxId Answered ClientPlace). i.place.client) same.inbox ∙ by.client ∙ sym is;
+    ticks = ap (λ (i : InboxId Answered ClientPlace). i.place.clock.value) same.inbox ∙ by.ticks;
+    count = asks_length ∙ by.count;
+    each = ask_place;
+  }
+
+-- the keys fit the same floor
+pub fit_turn : (keys : KeysView) (floor : FloorView) (k : ℕ) (new : DeskView) (was now : Chit Item) (refused : Option CellRefusal) → Fit keys floor → keys.mail ≡ None → slice_get keys.chits k ≡ Some was → now.vault ≡ was.vault → Stays keys.desk new
+    → Fit (record { desk = new; chits = slice_set keys.chits k now; mail = None; refused = refused }) floor
+fit_turn keys floor k new was now refused fit none at own stays =
+    let is = by_chits keys floor none fit in
+    record {
+      floor = subst (λ c. IsFloor c floor) (sym stays.0) fit.floor;
+      ticks = stays.1 ∙ fit.ticks;
+      own = record {
+        count = is.count;
+        own = map-set_same (λ (c : Chit Item). c.vault) keys.chits k now was (own ∙ ap (λ (c : Chit Item). c.vault) (sym (get_or_from_slice_get keys.chits k was was at))) ∙ is.own;
+        none = is.none;
+      };
+    }
+
+pub fit_mail : (keys : KeysView) (floor : FloorView) (new : DeskView) (chits : List (Chit Item)) (was now : ByMail) (refused : Option CellRefusal) → Fit keys floor → keys.mail ≡ Some was → IsSameMail was now → Stays keys.desk new
+    → Fit (record { desk = new; chits = chits; mail = Some now; refused = refused }) floor
+fit_mail keys floor new chits was now refused fit some same stays = record {
+  floor = subst (λ c. IsFloor c floor) (sym stays.0) fit.floor;
+  ticks = stays.1 ∙ fit.ticks;
+  own = same_mail keys.desk.id new.id was now floor stays.2 same (by_mail keys floor was some fit);
+}

@@ -1,3 +1,4 @@
 mod Lists
 mod Turns
+mod Mailing
 mod Keying

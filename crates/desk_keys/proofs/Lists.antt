@@ -1,7 +1,15 @@
--- What stands in a list of which one item was replaced.
-use Rattle.std.proofs.Common.{◌≡◌, ◌≢◌, ℕ, zero, suc, List, [], ◌∷◌, refl, ap, arith, inl, inr}
+-- What stands in a list with one item, or in one of which an item was replaced.
+use Rattle.std.proofs.Common.{◌≡◌, ◌≢◌, ℕ, zero, suc, List, [], ◌∷◌, get_or, ◌<◌, refl, sym, ap, arith, inl, inr}
 use Rattle.std.specs.declared.option.Option.TheVariants.{Some}
 use Rattle.std.specs.Prelude.{◌⊎◌, slice_get, slice_set}
+use Rattle.std.specs.List.{Contains}
+
+contains_one : {X : Type 0} (x y : X) (k : ℕ) → k < 1 → get_or (y ∷ []) k x ≡ x → x ≡ y
+contains_one x y zero lt is = sym is
+contains_one x y (suc k) lt is = absurd (omega arith)
+
+pub only_one : {X : Type 0} (x y : X) → Contains (y ∷ []) x → x ≡ y
+only_one x y (k, lt, is) = contains_one x y k lt is
 
 moved_up : {A : Type 0} (xs : List A) (k i : ℕ) (x y : A) → ((i ≡ k) × (x ≡ y)) ⊎ ((i ≢ k) × (slice_get xs i ≡ Some x)) → ((suc i ≡ suc k) × (x ≡ y)) ⊎ ((suc i ≢ suc k) × (slice_get xs i ≡ Some x))
 moved_up xs k i x y (inl h) = inl (ap suc h.0, h.1)

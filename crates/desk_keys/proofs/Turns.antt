@@ -19,12 +19,22 @@ use Rattle.locked_nodes.specs.declared.answers.CellRefusal.{CellRefusal}
 use Rattle.locked_nodes.specs.declared.charter.Charter.{Charter}
 use Rattle.locked_nodes.specs.declared.charter.Item.{Item}
 use Rattle.locked_nodes.specs.declared.charter.Item.TheVariants.{Head, Entry}
-use Rattle.locked_nodes.specs.Cells.{CellView, IsShare, Serves, HoldsWhole, entry, items, with_entry}
+use Rattle.locked_nodes.specs.Cells.{CellView, IsShare, IsWhole, Serves, HoldsWhole, entry, items, with_entry}
 use Rattle.locked_nodes.specs.declared.slot.Slot.{Slot}
 use Rattle.locked_nodes.specs.Slots.{slot_of, IsFor}
 use Rattle.client_desks.proofs.Desking.{asks_node}
 use Rattle.client_desks.specs.Desks.{DeskView, CanCall, state_at, task_at, asks_of, done_by, reply_by, ending, AddPair, Calls, Delivers}
 use Rattle.desk_keys.specs.Keys.{IsHead, IsAskOn, AsksOn, HasLeft, AddSides, AddCall, AddSent, LeavesNoSide}
+
+-- an ask on the block is of the shard of the slot for it
+pub on_shard : (slot : Slot) (node block : ℕ) → IsFor slot node block → (body : Body) → IsAskOn block body → IsShare slot.shard slot.shards body
+on_shard slot node block is (Asks ask) on = ap (λ (b : ℕ). b % slot.shards) on ∙ is.share
+on_shard slot node block is (Answers reply) on = absurd on
+
+pub is_whole : (slot : Slot) (way : Way) → (way ≡ Hold → slot.shards ≡ 1) → IsWhole slot.shards way
+is_whole slot ByCall may = tt
+is_whole slot Drop may = tt
+is_whole slot Hold may = may refl
 
 -- whoever takes a cell knows its charter
 module _ (config : Numbers) (clock : ClockId) (slot : Slot) (begun : List Item) (cell : CellView) (head : IsHead config clock slot begun) (begins : Begins begun (items cell)) where
@@ -43,14 +53,9 @@ module _ (config : Numbers) (clock : ClockId) (slot : Slot) (begun : List Item) 
     pub number_is : cell.charter.number ≡ node
     number_is = ap (λ (s : Slot). s.node) slot_is ∙ is.of
 
-    on_shard : (body : Body) → IsAskOn block body → IsShare cell.charter.shard cell.charter.shards body
-    on_shard (Asks ask) on =
-        ap (λ (b : ℕ). b % cell.charter.shards) on ∙ ap (λ (s : Slot). block % s.shards) slot_is ∙ is.share ∙ ap (λ (s : Slot). s.shard) (sym slot_is)
-    on_shard (Answers reply) on = absurd on
-
     -- so the cell serves an ask to the node, on the block
     pub serves : (m : Message) → m.node ≡ node → IsAskOn block m.body → Serves cell.charter m
-    serves m to on = (to ∙ sym number_is, on_shard m.body on)
+    serves m to on = (to ∙ sym number_is, subst (λ (s : Slot). IsShare s.shard s.shards m.body) (sym slot_is) (on_shard slot node block is m.body on))
 
     pub can_call : (d : DeskView) → CanCall d node → CanCall d cell.charter.number
     can_call d can = subst (CanCall d) (sym number_is) can
@@ -61,9 +66,7 @@ module _ (config : Numbers) (clock : ClockId) (slot : Slot) (begun : List Item) 
         serves ask (asks_node (setting d.config) d.id (task_at d) node ask at) (on ask at)
 
   pub whole_way : (way : Way) → (way ≡ Hold → slot.shards ≡ 1) → HoldsWhole cell.charter way
-  whole_way ByCall may = tt
-  whole_way Drop may = tt
-  whole_way Hold may = ap (λ (s : Slot). s.shards) slot_is ∙ may refl
+  whole_way way may = subst (λ (s : Slot). IsWhole s.shards way) (sym slot_is) (is_whole slot way may)
 
 -- the chit gets the entry that the cell got
 items_snoc : (cell : CellView) (n : ℕ) (a : NodeAct) → items (with_entry cell n a) ≡ items cell ++ Entry (entry n a) ∷ []

@@ -1,38 +1,63 @@
 //! What the threads of a run share.
-ghost use Rattle.std.specs.Prelude.{◌≡◌, ◌<◌, ℕ, length, Some, All, slice_get};
+ghost use Rattle.std.specs.Prelude.{◌≡◌, ◌<◌, ℕ, [], length, Some, All, slice_get};
 ghost use Rattle.locked_nodes.specs.Slots.{IsPlace};
 ghost use Rattle.desk_keys.specs.Keys.{FloorView};
 
 use event_clock::Clock;
+use inboxes::Taker;
+use lists::ItemList;
 use locked_nodes::{NodeCell, Slot, place_of};
+use node_mail::Answered;
 use receipt_lock::Vault;
+use std::alloc::Global;
 use std::marker::Model;
+use std::snapshot::Snapshot;
 
-/// The vaults of all cells, with their slots, place by place, and the clock. Threads share it by reference. Contracts see which
-/// clock, slots and vaults these are.
+/// The slots of all cells, place by place, and the clock; and the cells' vaults, by the same places, or, where nodes run in threads
+/// of their own, the takers of the clients' answers as they were at first, by seat. Threads share it by reference. Contracts see
+/// which clock, slots, vaults and takers these are; the takers are kept in proofs alone.
 #[derive(Drop)]
 pub struct Floor {
     slots: Vec<Slot>,
     vaults: Vec<Vault<NodeCell>>,
+    answers: Option<Snapshot<ItemList<Taker<Answered>>>>,
     clock: Clock,
 }
 
 impl Model for Floor {
-    ghost use Rattle.desk_keys.specs.Keys.{FloorView};
+    ghost use Rattle.desk_keys.specs.Keys.{FloorView, takers_in};
 
     ghost Value = { FloorView };
 
-    ghost view = { λ f. record { clock = f.clock; slots = f.slots.items; vaults = f.vaults.items } };
+    ghost view = { λ f. record { clock = f.clock; slots = f.slots.items; vaults = f.vaults.items; answers = takers_in f.answers } };
 }
 
 impl Floor {
     /// The floor with this clock and these vaults, of cells in these slots.
     pub fn new(clock: Clock, slots: Vec<Slot>, vaults: Vec<Vault<NodeCell>>) -> Floor
-        ensures { result ≡ record { clock = clock; slots = slots.items; vaults = vaults.items } }
+        ensures { result ≡ record { clock = clock; slots = slots.items; vaults = vaults.items; answers = [] } }
     {
         Floor {
             slots,
             vaults,
+            answers: None,
+            clock,
+        }
+    }
+
+    /// The floor with this clock, of cells in these slots, which threads own, and clients who take answers so.
+    pub fn by_mail(
+        alloc: Global,
+        clock: Clock,
+        slots: Vec<Slot>,
+        answers: &ItemList<Taker<Answered>>,
+    ) -> Floor
+        ensures { result ≡ record { clock = clock; slots = slots.items; vaults = []; answers = answers.now } }
+    {
+        Floor {
+            slots,
+            vaults: Vec::new(alloc),
+            answers: Some(Snapshot::of(answers)),
             clock,
         }
     }
@@ -76,6 +101,7 @@ impl Floor {
         let Floor {
             slots: _slots,
             vaults,
+            answers: _,
             clock,
         } = self;
         (clock, vaults)

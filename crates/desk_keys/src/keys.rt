@@ -1,5 +1,5 @@
-//! A client's desk, with a chit for each cell.
-ghost use Rattle.std.specs.Prelude.{◌≡◌, ◌↔◌, ℕ, ◌<◌, ◌≤◌, All, None, Some, Ok, Err, true, IfOk, OnOk, OnErr, length};
+//! A client's desk, with its way to the nodes.
+ghost use Rattle.std.specs.Prelude.{◌≡◌, ◌↔◌, ℕ, ◌<◌, ◌≤◌, All, [], None, Some, Ok, Err, true, IfOk, OnOk, OnErr, IsSome, length};
 ghost use Rattle.protocol.specs.Messages.{IsFormedBody};
 ghost use Rattle.liar_rules.specs.Answers.{IsAsk};
 ghost use Rattle.event_clock.specs.Passes.{left_of};
@@ -8,28 +8,36 @@ ghost use Rattle.client_desks.specs.Desks.{IsUp, CanStart, CanCall, with_own, Ke
 ghost use Rattle.client_desks.specs.Later.{IsLater};
 ghost use Rattle.locked_nodes.specs.declared.slot.Slot.{Slot};
 ghost use Rattle.locked_nodes.specs.Slots.{IsWholeAt};
-ghost use Rattle.desk_keys.specs.Keys.{KeysView, IsHead, Agree, Fit, refusal_in, IsAskOn, AsksOn, CanMeet, CanTake, HasCalled, HasSent, AddCall, AddSent, LeavesNoSide};
+ghost use Rattle.inboxes.specs.Sides.{took};
+ghost use Rattle.desk_keys.specs.declared.mail.ByMail.{ByMail as MailView};
+ghost use Rattle.desk_keys.specs.Keys.{KeysView, IsHead, Agree, AgreeByMail, Fit, refusal_in, IsAskOn, AsksOn, CanMeet, CanTake, HasCalled, HasSent, HaveEnded, AddCall, AddSent, LeavesNoSide};
 
 use crate::floor::Floor;
-use crate::gate::{Edge, Gate};
+use crate::mail::{ByMail, call_by, send_by};
 use client_desks::Desk;
 use client_desks::laws::desks_go_on;
+use crews::{Edge, Gate};
 use event_clock::Clock;
 use journals::{DeskAct, Way};
 use locked_nodes::{CellRefusal, Late, NodeCell};
 use receipt_lock::{Chit, Vault};
 use run_words::Outcome;
+use std::alloc::Global;
 use std::marker::Model;
 use std::sync::Wait;
 use wire_forms::{Body, Message, Op};
 
-/// A client's desk, with a chit for each cell. Until a refusal comes, each entry that a chit left and of which a client has a
-/// side stands on the desk, and each entry of the desk is its own or the side of one that a cell has. Contracts see the desk, the
-/// chits, and the first refusal, after which the keys do nothing more.
+/// A client's desk, with its way to the nodes: a chit for each cell, or inboxes, where nodes run in threads of their own. Contracts
+/// see the desk, the chits or the inboxes, and the first refusal, after which the keys do nothing more.
+///
+/// Until a refusal comes, each entry that a chit left and of which a client has a side stands on the desk, and each entry of the
+/// desk is its own or the side of one that a cell has. By mail, the call that each answer told stands on the desk, and each entry
+/// of the desk is its own, or of before the first ask, or such a call.
 #[derive(Drop)]
 pub struct Keys {
     desk: Desk,
     chits: Vec<Chit<NodeCell>>,
+    mail: Option<ByMail>,
     refused: Option<CellRefusal>,
 }
 
@@ -38,9 +46,9 @@ impl Model for Keys {
 
     ghost Value = { KeysView };
 
-    ghost view = { λ k. record { desk = k.desk; chits = k.chits.items; refused = k.refused } };
+    ghost view = { λ k. record { desk = k.desk; chits = k.chits.items; mail = k.mail; refused = k.refused } };
 
-    ghost invariant = { λ k. AreKeys k.desk k.chits.items k.refused };
+    ghost invariant = { λ k. AreKeys k.desk k.chits.items k.mail k.refused };
 }
 
 impl Keys {
@@ -48,11 +56,26 @@ impl Keys {
     pub fn new(desk: Desk, chits: Vec<Chit<NodeCell>>) -> Keys
         requires rest { All (λ c. c.holds ≡ None) chits.items }
         requires agree { Agree desk chits.items }
-        ensures { result ≡ record { desk = desk; chits = chits.items; refused = None } }
+        ensures { result ≡ record { desk = desk; chits = chits.items; mail = None; refused = None } }
     {
         Keys {
             desk,
             chits,
+            mail: None,
+            refused: None,
+        }
+    }
+
+    /// The keys of a desk and the inboxes by which it reaches nodes, before it took an answer.
+    pub fn by_mail(alloc: Global, desk: Desk, mail: ByMail) -> Keys
+        requires new { took mail.answers ≡ [] }
+        requires began { desk.entries ≡ mail.answers.inbox.place.began.value.entries }
+        ensures { result ≡ record { desk = desk; chits = []; mail = Some mail; refused = None } }
+    {
+        Keys {
+            desk,
+            chits: Vec::new(alloc),
+            mail: Some(mail),
             refused: None,
         }
     }
@@ -74,7 +97,7 @@ impl Keys {
     /// Notes that the client's thread gives up, for want of memory of its own or for another cause. The desk stays.
     pub fn refuse(&mut self, refusal: CellRefusal)
         requires sound { self.old.refused ≡ None }
-        ensures { self.new ≡ record { desk = self.old.desk; chits = self.old.chits; refused = Some refusal } }
+        ensures { self.new ≡ record self.old { refused = Some refusal } }
     {
         self.refused = Some(refusal);
     }
@@ -119,8 +142,9 @@ impl Keys {
     }
 
     /// Waits for the node's cell for the block of the operation under way, asks the node what the client's phase asks of it, hears the
-    /// reply, if there is one, and gives the cell back. An ask is held back only by a node with one cell. It answers the outcome exactly where the reply ends the operation. `ClockFull` comes where the cell's pass or the
-    /// chit is used up, each after more than 10^12 calls.
+    /// reply, if there is one, and gives the cell back; by mail, it puts the ask into the cell's inbox, and waits for the answer. An
+    /// ask is held back only by a node with one cell. It answers the outcome exactly where the reply ends the operation. `ClockFull`
+    /// comes where the cell's pass or the chit is used up, each after more than 10^12 calls.
     pub fn call<R: Wait, G: Gate>(
         &mut self,
         rt: &R,
@@ -144,6 +168,11 @@ impl Keys {
     {
         let place = floor.place(node, block);
         desks_go_on();
+        if let Some(mail) = &mut self.mail {
+            let answer = call_by(rt, floor.clock(), mail, place, &mut self.desk, node, way);
+            self.refused = refusal_of(&answer);
+            return answer;
+        }
         let answer = call_in(
             rt,
             gate,
@@ -158,8 +187,9 @@ impl Keys {
         answer
     }
 
-    /// Waits for the cell that serves a lying client's ask, sends the ask, and gives the cell back. `ClockFull` comes
-    /// where the cell's pass or the chit is used up, each after more than 10^12 calls.
+    /// Waits for the cell that serves a lying client's ask, sends the ask, and gives the cell back; by mail, it puts the ask into the
+    /// cell's inbox, and waits for the answer. `ClockFull` comes where the cell's pass or the chit is used up, each after more than
+    /// 10^12 calls.
     pub fn send<R: Wait>(&mut self, rt: &R, floor: &Floor, ask: &Message) -> Result<(), CellRefusal>
         requires fit { Fit self.old floor.now }
         requires sound { self.old.refused ≡ None }
@@ -176,6 +206,11 @@ impl Keys {
     {
         let place = floor.place(ask.node, block_of(ask));
         desks_go_on();
+        if let Some(mail) = &mut self.mail {
+            let answer = send_by(rt, floor.clock(), mail, place, &mut self.desk, ask);
+            self.refused = refusal_of(&answer);
+            return answer;
+        }
         let answer = send_in(
             rt,
             floor.vault(place),
@@ -188,8 +223,8 @@ impl Keys {
         answer
     }
 
-    /// Waits for the cell at a place, lets the oldest ask that it holds back come late, and gives the cell back. The desk gets no entry.
-    /// `ClockFull` comes where the cell's pass or the chit is used up, each after more than 10^12 calls.
+    /// Waits for the cell at a place, lets the oldest ask that it holds back come late, and gives the cell back. The desk gets no
+    /// entry. By mail there is no such place. `ClockFull` comes where the cell's pass or the chit is used up, each after more than 10^12 calls.
     pub fn deliver<R: Wait>(
         &mut self,
         rt: &R,
@@ -216,8 +251,24 @@ impl Keys {
         answer
     }
 
+    /// By mail, puts the client's last word into each inbox, and takes its own up to the last word of each node; an answer that is
+    /// still there, which no node puts unasked, is a refusal. With chits it does nothing.
+    pub fn end<R: Wait>(&mut self, rt: &R)
+        ensures desk { self.new.desk ≡ self.old.desk }
+        ensures chits { self.new.chits ≡ self.old.chits }
+        ensures ended { HaveEnded self.old.mail self.new.mail }
+        ensures refused { self.new.refused ≡ None → self.old.refused ≡ None }
+    {
+        if let Some(mail) = &mut self.mail {
+            if !mail.end(rt) {
+                self.refused = Some(CellRefusal::NoMemory);
+            }
+        }
+    }
+
     /// The desk and the chits, which agree if no refusal came.
     pub fn into_parts(self) -> (Desk, Vec<Chit<NodeCell>>)
+        requires chits { self.mail ≡ None }
         ensures desk { result.0 ≡ self.desk }
         ensures chits { result.1.items ≡ self.chits }
         ensures rest { All (λ c. c.holds ≡ None) self.chits }
@@ -226,9 +277,29 @@ impl Keys {
         let Keys {
             desk,
             chits,
+            mail: _,
             refused: _,
         } = self;
         (desk, chits)
+    }
+
+    /// The desk and the inboxes, which agree if no refusal came.
+    pub fn into_mail(self) -> (Desk, ByMail)
+        requires mail { IsSome self.mail }
+        ensures desk { result.0 ≡ self.desk }
+        ensures mail { self.mail ≡ Some result.1 }
+        ensures agree { self.refused ≡ None → AgreeByMail self.desk result.1 }
+    {
+        let Keys {
+            desk,
+            chits: _,
+            mail,
+            refused: _,
+        } = self;
+        match mail {
+            Some(mail) => (desk, mail),
+            None => unreachable!(),
+        }
     }
 }
 

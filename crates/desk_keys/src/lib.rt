@@ -1,11 +1,12 @@
-//! The keys of a client in a run in threads: its desk, with the right to take each node's cell out of its vault. What the client
-//! is told and what the cells have of it are kept as receipts, which agree until a refusal comes.
+//! The keys of a client in a run in threads: its desk, with the right to take each node's cell out of its vault, or to ask each
+//! node by mail. What the client is told agrees with what the cells have of it, which are kept as receipts, or with the answers
+//! that it took, until a refusal comes.
 #![tactic(auto)]
 
 pub mod floor;
-pub mod gate;
 pub mod keys;
+pub mod mail;
 
 pub use floor::Floor;
-pub use gate::{Edge, Gate, OpenGate};
 pub use keys::Keys;
+pub use mail::ByMail;

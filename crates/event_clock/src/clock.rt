@@ -1,11 +1,12 @@
 ghost use Rattle.std.specs.Prelude.{◌≡◌, ℕ, ◌+◌, ◌^◌, ◌<◌, ◌≤◌, [], ◌∷◌, length, map, All, Some, slice_get, IfOk};
 ghost use Rattle.event_clock.specs.Views.{IsDrawnOnce, IsEachPass, drawn_count, first_view, only, other_shares, with_shares};
-ghost use Rattle.event_clock.specs.Passes.{clock_id, unused, IsUnused, left_of, drew, met, share_of, holder};
+ghost use Rattle.event_clock.specs.Passes.{clock_id, unused, IsUnused, left_of, drew, met, heeded, sight_of, share_of, holder};
 
-use crate::rule::{Draw, FirstPass, Look, Note, Numbering, TakeIn, View};
+use crate::rule::{CutNote, Draw, FirstPass, Look, Numbering, TakeIn, View};
 use atomic_table::{Seat, Table};
 use lists::{ItemList, NoMemory};
 use std::alloc::Global;
+use std::cmp::max;
 use std::marker::Model;
 
 /// How many numbers one pass may draw.
@@ -33,12 +34,13 @@ impl Model for Clock {
 }
 
 /// The right to draw numbers from one clock. Contracts see its clock, its pass number, the least number that it may draw
-/// next (`seen`), and the list of the numbers that it drew. None of these but how many it may still draw is kept at run
+/// next (`seen`), and the list of the numbers that it drew. Of these `seen` and how many it may still draw are kept at run
 /// time.
 #[derive(Drop)]
 pub struct Pass {
     seat: Seat<(), View>,
     left: u64,
+    seen: u64,
 }
 
 impl Model for Pass {
@@ -48,7 +50,25 @@ impl Model for Pass {
 
     ghost view = { λ p. holder p.seat.table_id p.seat.me.0 };
 
-    ghost invariant = { λ p. IsPass p.seat.me p.left };
+    ghost invariant = { λ p. IsPass p.seat.me p.left p.seen };
+}
+
+/// What a pass has seen, to be taken to another thread: the pass that heeds it there draws above that. Contracts see its
+/// clock, and the least number that such a pass may draw next (`seen`). It may be let go.
+#[derive(Drop)]
+pub struct Note {
+    seat: Seat<(), View>,
+    seen: u64,
+}
+
+impl Model for Note {
+    ghost use Rattle.event_clock.specs.Passes.{Sight, sight_at, IsNote};
+
+    ghost Value = { Sight };
+
+    ghost view = { λ n. sight_at n.seat.table_id n.seat.me.0 };
+
+    ghost invariant = { λ n. IsNote n.seat.me n.seen };
 }
 
 /// The passes of a clock. A pass's number is its place in the list that `Clock::start` gives, counted from 0.
@@ -82,9 +102,14 @@ impl Pass {
     {
         self.left
     }
-}
 
-impl Pass {
+    /// The least number that it may draw next.
+    pub fn seen(&self) -> u64
+        ensures { result ≡ self.now.seen }
+    {
+        self.seen
+    }
+
     // Its seat, with what it knows.
     fn into_seat(self) -> Seat<(), View>
         ensures table { result.table_id ≡ self.clock.table }
@@ -93,7 +118,11 @@ impl Pass {
         ensures shares { result.me.0.shares ≡ share_of self ∷ [] }
         ensures seen { result.me.0.seen ≡ self.seen }
     {
-        let Pass { seat, left: _ } = self;
+        let Pass {
+            seat,
+            left: _,
+            seen: _,
+        } = self;
         seat
     }
 }
@@ -121,6 +150,7 @@ impl Clock {
     {
         let number = self.table.shared.fetch_add::<Draw>(&mut pass.seat, 0, 1);
         pass.left -= 1;
+        pass.seen = number + 1;
         number
     }
 
@@ -132,19 +162,34 @@ impl Clock {
         ensures one { one.new ≡ met one.old other.old }
         ensures other { other.new ≡ met other.old one.old }
     {
-        self.tell(one, other);
-        self.tell(other, one);
+        let brought = self.note(other);
+        self.heed(one, brought);
+        let told = self.note(one);
+        self.heed(other, told);
     }
 
-    // Lets a pass see what another one has seen.
-    fn tell(&self, from: &mut Pass, to: &mut Pass)
-        requires from { from.old.clock ≡ self.now }
-        requires to { to.old.clock ≡ self.now }
-        ensures from { from.new ≡ from.old }
-        ensures to { to.new ≡ met to.old from.old }
+    /// A note of what a pass has seen. It takes no memory and waits for nobody.
+    pub fn note(&self, pass: &mut Pass) -> Note
+        requires own { pass.old.clock ≡ self.now }
+        ensures pass { pass.new ≡ pass.old }
+        ensures note { result ≡ sight_of pass.old }
     {
-        let note = self.table.shared.split_seat::<Note>(&mut from.seat);
-        self.table.shared.join_seat::<TakeIn>(&mut to.seat, note);
+        Note {
+            seat: self.table.shared.split_seat::<CutNote>(&mut pass.seat),
+            seen: pass.seen,
+        }
+    }
+
+    /// Lets a pass see what a note has seen: whatever it draws from now on is above that. It takes no memory and waits for
+    /// nobody.
+    pub fn heed(&self, pass: &mut Pass, note: Note)
+        requires own { pass.old.clock ≡ self.now }
+        requires note { note.clock ≡ self.now }
+        ensures { pass.new ≡ heeded pass.old note.seen }
+    {
+        let Note { seat, seen } = note;
+        self.table.shared.join_seat::<TakeIn>(&mut pass.seat, seat);
+        pass.seen = max(pass.seen, seen);
     }
 
     /// Ends the clock, given all its passes. The numbers drawn are those below the count, each once over all passes.
@@ -201,6 +246,7 @@ fn cut_first(table: &Ticker, seat: &mut Seat<(), View>) -> Pass
     requires own { seat.old.table_id ≡ table.now.shared.table_id }
     requires some { 0 < length seat.old.me.0.shares }
     requires unused { (only seat.old.me.0.shares).drawn ≡ [] }
+    requires unseen { seat.old.me.0.seen ≡ 0 }
     ensures own { seat.new.table_id ≡ seat.old.table_id }
     ensures others { seat.new.me.0 ≡ with_shares seat.old.me.0 (other_shares seat.old.me.0.shares) }
     ensures first { result ≡ holder seat.old.table_id seat.old.me.0 }
@@ -208,6 +254,7 @@ fn cut_first(table: &Ticker, seat: &mut Seat<(), View>) -> Pass
     Pass {
         seat: table.shared.split_seat::<FirstPass>(seat),
         left: DRAWS,
+        seen: 0,
     }
 }
 

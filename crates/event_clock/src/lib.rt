@@ -4,7 +4,7 @@
 pub mod clock;
 mod rule;
 
-pub use clock::{Clock, Drawn, Pass, Passes};
+pub use clock::{Clock, Drawn, Note, Pass, Passes};
 
 #[cfg(test)]
 mod tests;

@@ -10,6 +10,7 @@ use outside_io::{Calls, MemorySink, MemorySource};
 use pasis_shell::{OpenGate, Status, alone, pasis};
 use run_pictures::draw;
 use std::alloc::Global;
+use std::io::ErrorKind;
 use std::rt::Files;
 use std::sync::Wait;
 use std::thread::Threads;
@@ -41,11 +42,15 @@ impl fmt::Display for Outcome {
     }
 }
 
+fn shared(text: Vec<u8>) -> io::Result<Bytes> {
+    Bytes::shared(text).map_err(|_| io::Error::from(ErrorKind::OutOfMemory))
+}
+
 // How a command ends that is given a text, and the sink that it writes to.
 fn answered(alloc: Global, word: &str, text: Vec<u8>) -> io::Result<(Status, MemorySink)> {
     let mut words = Vec::new(alloc);
     words.push(String::from_str(alloc, word)?)?;
-    let mut source = MemorySource::new(Bytes::from_vec(text), 4096, Calls::new(alloc));
+    let mut source = MemorySource::new(shared(text)?, 4096, Calls::new(alloc));
     let mut sink = MemorySink::new(alloc, 4096, Calls::new(alloc));
     let status = alone(alloc, words.as_slice(), &mut source, &mut sink);
     Ok((status.unwrap_or(Status::BadWords), sink))
@@ -74,7 +79,7 @@ fn replayed(rt: &HostRuntime, name: &str) -> io::Result<Outcome> {
 
 // Whether the picture beside a script is the one that is drawn.
 fn is_pictured(rt: &HostRuntime, name: &str) -> io::Result<bool> {
-    let script = Bytes::from_vec(file_of(rt, name, "txt")?);
+    let script = shared(file_of(rt, name, "txt")?)?;
     let mut source = MemorySource::new(script, 4096, Calls::new(rt.alloc()));
     let mut sink = MemorySink::new(rt.alloc(), 4096, Calls::new(rt.alloc()));
     let status = draw(rt.alloc(), &mut source, &mut sink);
@@ -106,7 +111,7 @@ fn trace_of<R: Threads + Wait + Sync>(
 ) -> io::Result<Option<String>> {
     let mut words = Vec::new(alloc);
     words.push(String::from_str(alloc, "trace")?)?;
-    let mut source = MemorySource::new(Bytes::from_vec(plan), 4096, Calls::new(alloc));
+    let mut source = MemorySource::new(shared(plan)?, 4096, Calls::new(alloc));
     let mut sink = MemorySink::new(alloc, 4096, Calls::new(alloc));
     let status = pasis(
         rt,

@@ -147,7 +147,7 @@ impl Strings {
                 bytes.push(*byte)?;
             }
         }
-        self.add(&Bytes::from_vec(bytes))
+        self.add(&Bytes::shared(bytes)?)
     }
 
     fn add_version(&mut self, version: &Version) -> Result<(), Unmade> {

@@ -1,7 +1,7 @@
-//! Plans that are run in threads: made-up ones with all kinds of lines, and one in which two clients work on one block, many
-//! times. The script of each trace must replay to its report, and `check` must find that report legal; each operation that a plan
-//! asks for has ended, unless its client may crash. Writes how many plans there were, and a line for each run in which something
-//! comes out otherwise, which is the same whatever the threads do.
+//! Plans that are run in threads, with nodes under locks and by workers: made-up ones with all kinds of lines, and one in which two
+//! clients work on one block, many times. The script of each trace must replay to its report, and `check` must find that report legal;
+//! each operation that a plan asks for has ended, unless its client may crash. Writes how many plans there were, and a line for each
+//! plan or run in which something comes out otherwise, which is the same whatever the threads do.
 #![tactic(auto)]
 
 mod draws;
@@ -17,6 +17,9 @@ use std::sync::Wait;
 use std::thread::Threads;
 use tally::Kinds;
 use traced::{Outcome, traced};
+
+// How a plan is traced.
+const COMMANDS: [&str; 2] = ["trace", "trace workers"];
 
 // So many plans are made up.
 const PLANS: u64 = 80;
@@ -43,11 +46,12 @@ const STEPS: u64 = 8;
 fn is_well<R: Threads + Wait + Sync>(
     rt: &R,
     alloc: Global,
+    command: &str,
     plan: &str,
     steps: u64,
     crashes: u64,
 ) -> Result<bool, NoMemory> {
-    Ok(match traced(rt, alloc, plan)? {
+    Ok(match traced(rt, alloc, command, plan)? {
         Outcome::Legal(counts) => {
             let ended = counts.done.wrapping_add(counts.spent);
             if crashes == 0 {
@@ -60,7 +64,7 @@ fn is_well<R: Threads + Wait + Sync>(
     })
 }
 
-// Whether the run of the plan of a seed comes out well, whose lines are added to the kinds that there were.
+// Whether both runs of the plan of a seed come out well, whose lines are added to the kinds that there were.
 fn is_plan_well<R: Threads + Wait + Sync>(
     rt: &R,
     alloc: Global,
@@ -69,13 +73,23 @@ fn is_plan_well<R: Threads + Wait + Sync>(
 ) -> Result<bool, NoMemory> {
     let made = plan_of(alloc, seed)?;
     kinds.add(made.text.as_str());
-    is_well(
-        rt,
-        alloc,
-        made.text.as_str(),
-        made.steps,
-        made.client_crashes,
-    )
+    for command in COMMANDS {
+        let plan = made.text.as_str();
+        if !is_well(rt, alloc, command, plan, made.steps, made.client_crashes)? {
+            return Ok(false);
+        }
+    }
+    Ok(true)
+}
+
+// Whether the plan of two clients comes out well, either way.
+fn are_two_well<R: Threads + Wait + Sync>(rt: &R, alloc: Global) -> Result<bool, NoMemory> {
+    for command in COMMANDS {
+        if !is_well(rt, alloc, command, TWO_CLIENTS, STEPS, 0)? {
+            return Ok(false);
+        }
+    }
+    Ok(true)
 }
 
 fn run<R: Print + AllocGlobal + Threads + Wait + Sync>(rt: &R) -> io::Result<()> {
@@ -88,7 +102,7 @@ fn run<R: Print + AllocGlobal + Threads + Wait + Sync>(rt: &R) -> io::Result<()>
     println!(rt; "plans: {PLANS}")?;
     println!(rt; "kinds of lines: {}", kinds.count())?;
     for number in 0..RUNS {
-        if is_well(rt, rt.alloc(), TWO_CLIENTS, STEPS, 0) != Ok(true) {
+        if are_two_well(rt, rt.alloc()) != Ok(true) {
             println!(rt; "run {number}: otherwise")?;
         }
     }

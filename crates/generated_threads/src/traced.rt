@@ -29,9 +29,11 @@ pub struct Counts {
     pub pending: u64,
 }
 
-fn words_of(alloc: Global, word: &str) -> Result<Vec<String>, NoMemory> {
+fn words_of(alloc: Global, command: &str) -> Result<Vec<String>, NoMemory> {
     let mut words = Vec::new(alloc);
-    words.push(String::from_str(alloc, word)?)?;
+    for word in command.split(' ') {
+        words.push(String::from_str(alloc, word)?)?;
+    }
     Ok(words)
 }
 
@@ -41,8 +43,8 @@ fn source_of(alloc: Global, text: &str) -> Result<MemorySource, NoMemory> {
 }
 
 // Whether a command that runs no threads ends well on a text, and writes just this.
-fn writes(alloc: Global, word: &str, text: &str, output: &str) -> Result<bool, NoMemory> {
-    let words = words_of(alloc, word)?;
+fn writes(alloc: Global, command: &str, text: &str, output: &str) -> Result<bool, NoMemory> {
+    let words = words_of(alloc, command)?;
     let mut source = source_of(alloc, text)?;
     let mut sink = MemorySink::new(alloc, 4096, Calls::new(alloc));
     let Some(status) = alone(alloc, words.as_slice(), &mut source, &mut sink) else {
@@ -87,13 +89,14 @@ fn outcome_of(alloc: Global, trace: &str) -> Result<Outcome, NoMemory> {
     })
 }
 
-/// What the trace of a plan shows.
+/// What a command shows that traces a plan.
 pub fn traced<R: Threads + Wait + Sync>(
     rt: &R,
     alloc: Global,
+    command: &str,
     plan: &str,
 ) -> Result<Outcome, NoMemory> {
-    let words = words_of(alloc, "trace")?;
+    let words = words_of(alloc, command)?;
     let mut source = source_of(alloc, plan)?;
     let mut sink = MemorySink::new(alloc, 4096, Calls::new(alloc));
     let status = pasis(

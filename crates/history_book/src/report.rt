@@ -18,7 +18,7 @@ pub fn print(alloc: Global, history: &History) -> Result<Bytes, NoMemory>
     add_entries(&mut text, history.entries())?;
     add_spent_writes(&mut text, history.spent())?;
     add_counts(&mut text, history.counts())?;
-    Ok(text.into_bytes())
+    text.into_bytes()
 }
 
 fn add_entries(text: &mut Text, entries: &[Entry]) -> Result<(), NoMemory>

@@ -97,7 +97,7 @@ fn top_in(alloc: Global, config: &Config, node: u8, bound: &Bound) -> Result<Rep
     requires { node < config.now.n }
     ensures { IfOk result (λ reply. Some reply ≡ false_reply (setting config.now) Rule.Top node (Request.Read bound.now)) }
 {
-    let block = Bytes::from_vec(vec![in alloc; 0xff; config.size() as usize]?);
+    let block = Bytes::shared(vec![in alloc; 0xff; config.size() as usize]?)?;
     let version = version(alloc, config, u64::MAX, u32::from(node), node, &block)?;
     if bound.has(&version.stamp) {
         Ok(Reply::Found(version))

@@ -69,5 +69,5 @@ pub fn damaged(alloc: Global, fragment: &Bytes) -> Result<Bytes, NoMemory>
         let first = bytes[0];
         bytes[0] = if first % 2 == 0 { first + 1 } else { first - 1 };
     }
-    Ok(Bytes::from_vec(bytes))
+    Bytes::shared(bytes)
 }

@@ -125,5 +125,5 @@ fn value_from(alloc: Global, first: u32) -> Result<Bytes, NoMemory>
     for i in 0..SIZE {
         bytes.push(((first + i) % 256) as u8)?;
     }
-    Ok(Bytes::from_vec(bytes))
+    Bytes::shared(bytes)
 }

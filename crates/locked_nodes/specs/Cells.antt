@@ -3,7 +3,7 @@ use Rattle.std.specs.Prelude.{◌≡◌, ℕ, ◌+◌, ◌<◌, ◌≤◌, ◌%�
 use Rattle.quorum_rules.specs.Limits.{Numbers}
 use Rattle.protocol.specs.Messages.{Message, Body}
 use Rattle.wire_forms.specs.declared.message.Body.TheVariants.{Ask as Asks, Answer as Answers}
-use Rattle.event_clock.specs.Passes.{Holder, drew, met}
+use Rattle.event_clock.specs.Passes.{Holder, Sight, drew, met, with_sight}
 use Rattle.journals.specs.declared.desk.Way.{Way}
 use Rattle.journals.specs.declared.desk.Way.TheVariants.{Call, Drop, Hold}
 use Rattle.journals.specs.declared.node.Nature.{Nature}
@@ -128,6 +128,17 @@ with_entry cell n act = record { charter = cell.charter; journal = cell.journal 
 -- the pass after it saw all numbers below this one
 abbrev pub with_seen : Holder → ℕ → Holder
 with_seen pass seen = record { clock = pass.clock; number = pass.number; seen = seen; drawn = pass.drawn }
+
+-- the oldest ask that was held back came again: the cell has one entry more, of what the node does with it
+pub record BroughtLate (old : CellView) (n : ℕ) (new : CellView) : Type 0 where
+  pub ask : Message
+  pub oldest : IsOldest (state_of old).late ask
+  pub cell : new ≡ with_entry old n (late_act (state_of old) old.charter.nature ask)
+
+-- the note saw a number that it hadn't seen
+pub record SawLate (before : Sight) (n : ℕ) (after : Sight) : Type 0 where
+  pub later : before.seen ≤ n
+  pub note : after ≡ with_sight before (n + 1)
 
 -- the oldest ask that was held back came again: the cell has one entry more, of what the node does with it, with a number that the caller hadn't seen
 pub record CameLate (old : CellView) (before : Holder) (n : ℕ) (new : CellView) (after : Holder) : Type 0 where

@@ -1,15 +1,15 @@
 //! A node in a cell.
 ghost use Rattle.std.specs.Prelude.{◌≡◌, ◌↔◌, ◌+◌, ◌<◌, ◌≤◌, ◌%◌, [], ◌∷◌, ◌++◌, length, ℕ, Ok, Err, true, false, if◌then◌else◌, IfOk, OnErr, vec_len, vec_capacity};
-ghost use Rattle.event_clock.specs.Passes.{left_of, drew, met};
+ghost use Rattle.event_clock.specs.Passes.{left_of, drew, met, with_sight};
 ghost use Rattle.journals.specs.Acts.{act, answer_of, can_prune};
 ghost use Rattle.locked_nodes.specs.Slots.{slot_of, slots_of};
-ghost use Rattle.locked_nodes.specs.Cells.{Serves, HoldsWhole, KeptCell, HasNoLateMail, CameLate, state_of, loses, told_as, number_of, entry, with_entry, with_seen, rechartered, new_cell, met_cell, items};
+ghost use Rattle.locked_nodes.specs.Cells.{Serves, HoldsWhole, KeptCell, HasNoLateMail, BroughtLate, SawLate, CameLate, state_of, loses, told_as, number_of, entry, with_entry, with_seen, rechartered, new_cell, met_cell, items};
 
 use crate::answers::{CellRefusal, Late, Pruning, Told};
 use crate::charter::{Item, Terms};
 use crate::slot::Slot;
 use crate::state::State;
-use event_clock::{Clock, Pass};
+use event_clock::{Clock, Note, Pass};
 use journals::laws::acts;
 use journals::{Answer, Nature, NodeAct, NodeEntry, NodeJournal, Way};
 use lists::{ItemList, NoMemory};
@@ -18,6 +18,7 @@ use receipt_lock::Kept;
 use stamp_order::Stamp;
 use std::alloc::Global;
 use std::marker::Model;
+use std::mem::replace;
 use std::snapshot::Snapshot;
 use wire_forms::Message;
 
@@ -161,13 +162,39 @@ impl NodeCell {
         ensures full { (result ≡ Err CellRefusal.ClockFull) ↔ (left_of self.old.pass ≡ 0) }
         ensures err { OnErr result ((self.new ≡ self.old) × (caller.new ≡ caller.old)) }
     {
+        let mut note = clock.note(caller);
+        let told = self.answer(clock, &mut note, way, ask);
+        clock.heed(caller, note);
+        told
+    }
+
+    /// Lets the node meet an ask, as `step` does, of a caller in another thread, whose note came with the ask: the entry's number
+    /// is not below any that the note has seen, and the note then has seen it.
+    pub fn answer(
+        &mut self,
+        clock: &Clock,
+        caller: &mut Note,
+        way: Way,
+        ask: &Message,
+    ) -> Result<Told, CellRefusal>
+        requires ask { Serves self.old.charter ask.now }
+        requires whole { HoldsWhole self.old.charter way }
+        requires clock { self.old.charter.pass.clock ≡ clock.now }
+        requires caller { caller.old.clock ≡ clock.now }
+        ensures cell { IfOk result (λ told. self.new ≡ with_entry self.old (number_of told) (act (state_of self.old) self.old.charter.nature way ask.now)) }
+        ensures told { IfOk result (λ told. told ≡ told_as (number_of told) (answer_of (act (state_of self.old) self.old.charter.nature way ask.now))) }
+        ensures later { IfOk result (λ told. caller.old.seen ≤ number_of told) }
+        ensures caller { IfOk result (λ told. caller.new ≡ with_sight caller.old (number_of told + 1)) }
+        ensures full { (result ≡ Err CellRefusal.ClockFull) ↔ (left_of self.old.pass ≡ 0) }
+        ensures err { OnErr result ((self.new ≡ self.old) × (caller.new ≡ caller.old)) }
+    {
         if self.pass.left() == 0 {
             return Err(CellRefusal::ClockFull);
         }
         self.journal.reserve(1)?;
         let (act, answer) = self.state.act(self.terms.nature(), way, ask)?;
         acts();
-        let number = note(&mut self.journal, &mut self.pass, clock, caller, act);
+        let number = enter(&mut self.journal, &mut self.pass, clock, caller, act);
         Ok(told(number, answer))
     }
 
@@ -186,6 +213,38 @@ impl NodeCell {
         ensures same { result ≡ Ok Late.NoMail → (self.new ≡ self.old) × (caller.new ≡ caller.old) }
         ensures err { OnErr result ((self.new ≡ self.old) × (caller.new ≡ caller.old)) }
     {
+        let mut note = clock.note(caller);
+        let late = self.meet_late(clock, &mut note);
+        clock.heed(caller, note);
+        late
+    }
+
+    /// Lets the node meet the oldest ask that is held back, as `late` does, with no caller.
+    pub fn bring_late(&mut self, clock: &Clock) -> Result<Late, CellRefusal>
+        requires clock { self.old.charter.pass.clock ≡ clock.now }
+        ensures delivered { (n : ℕ) → result ≡ Ok (Late.Delivered n) → BroughtLate self.old n self.new × (loses (state_of self.old) self.old.charter.nature ≡ false) }
+        ensures lost { (n : ℕ) → result ≡ Ok (Late.Lost n) → BroughtLate self.old n self.new × (loses (state_of self.old) self.old.charter.nature ≡ true) }
+        ensures none { (result ≡ Ok Late.NoMail) ↔ HasNoLateMail self.old }
+        ensures full { (result ≡ Err CellRefusal.ClockFull) ↔ ((HasNoLateMail self.old → ⊥) × (left_of self.old.pass ≡ 0)) }
+        ensures same { result ≡ Ok Late.NoMail → self.new ≡ self.old }
+        ensures err { OnErr result (self.new ≡ self.old) }
+    {
+        let mut note = clock.note(&mut self.pass);
+        self.meet_late(clock, &mut note)
+    }
+
+    // Lets the node meet the oldest ask that is held back, under a number that is not below any that the note has seen.
+    fn meet_late(&mut self, clock: &Clock, caller: &mut Note) -> Result<Late, CellRefusal>
+        requires clock { self.old.charter.pass.clock ≡ clock.now }
+        requires caller { caller.old.clock ≡ clock.now }
+        ensures delivered { (n : ℕ) → result ≡ Ok (Late.Delivered n) → BroughtLate self.old n self.new × SawLate caller.old n caller.new × (loses (state_of self.old) self.old.charter.nature ≡ false) }
+        ensures lost { (n : ℕ) → result ≡ Ok (Late.Lost n) → BroughtLate self.old n self.new × SawLate caller.old n caller.new × (loses (state_of self.old) self.old.charter.nature ≡ true) }
+        ensures none { (result ≡ Ok Late.NoMail) ↔ HasNoLateMail self.old }
+        ensures full { (result ≡ Err CellRefusal.ClockFull) ↔ ((HasNoLateMail self.old → ⊥) × (left_of self.old.pass ≡ 0)) }
+        ensures clock { caller.new.clock ≡ caller.old.clock }
+        ensures same { result ≡ Ok Late.NoMail → (self.new ≡ self.old) × (caller.new ≡ caller.old) }
+        ensures err { OnErr result ((self.new ≡ self.old) × (caller.new ≡ caller.old)) }
+    {
         if self.state.has_no_mail() {
             return Ok(Late::NoMail);
         }
@@ -197,7 +256,7 @@ impl NodeCell {
         let lost = self.state.loses(nature);
         let act = self.state.act_late(nature)?;
         acts();
-        let number = note(&mut self.journal, &mut self.pass, clock, caller, act);
+        let number = enter(&mut self.journal, &mut self.pass, clock, caller, act);
         Ok(late_told(lost, number))
     }
 
@@ -236,7 +295,9 @@ impl NodeCell {
             block,
             stamp: *stamp,
         };
-        let number = note(&mut self.journal, &mut self.pass, clock, caller, act);
+        let mut note = clock.note(caller);
+        let number = enter(&mut self.journal, &mut self.pass, clock, &mut note, act);
+        clock.heed(caller, note);
         Ok(Pruning::Pruned { number })
     }
 
@@ -295,11 +356,11 @@ impl NodeCell {
 }
 
 // Draws a number that neither the pass nor the caller has seen, and writes down what was done then.
-fn note(
+fn enter(
     journal: &mut Vec<NodeEntry>,
     pass: &mut Pass,
     clock: &Clock,
-    caller: &mut Pass,
+    caller: &mut Note,
     act: NodeAct,
 ) -> u64
     requires room { vec_len journal.old < vec_capacity journal.old }
@@ -308,12 +369,13 @@ fn note(
     requires left { 0 < left_of pass.old }
     ensures journal { journal.new.items ≡ journal.old.items ++ entry result act ∷ [] }
     ensures pass { pass.new ≡ drew pass.old result }
-    ensures caller { caller.new ≡ with_seen caller.old (result + 1) }
+    ensures caller { caller.new ≡ with_sight caller.old (result + 1) }
     ensures later { (pass.old.seen ≤ result) × (caller.old.seen ≤ result) }
 {
-    clock.meet(pass, caller);
+    let before = clock.note(pass);
+    clock.heed(pass, replace(caller, before));
     let number = clock.draw(pass);
-    clock.meet(pass, caller);
+    *caller = clock.note(pass);
     journal.push_reserved(NodeEntry { number, act });
     number
 }

@@ -111,7 +111,7 @@ fn merged_block(
     value.extend_from_slice(&old.as_slice()[..at])?;
     value.extend_from_slice(piece)?;
     value.extend_from_slice(old.tail(at + piece.len()))?;
-    Ok(known(Bytes::from_vec(value)))
+    Ok(known(Bytes::shared(value)?))
 }
 
 /// A string of these bytes, each of which is one.

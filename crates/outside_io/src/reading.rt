@@ -5,6 +5,7 @@ ghost use Rattle.outside_io.specs.Given.{GaveAtMost, GaveExactly};
 
 use crate::source::Source;
 use cross_sum::Bytes;
+use lists::NoMemory;
 use std::alloc::{AllocError, Global};
 
 /// How many bytes an input has at most.
@@ -30,6 +31,16 @@ impl From<AllocError> for ReadRefusal {
     ghost from_gives = { λ _ e. e ≡ NoMemory };
 
     fn from(_: AllocError) -> ReadRefusal {
+        ReadRefusal::NoMemory
+    }
+}
+
+impl From<NoMemory> for ReadRefusal {
+    ghost use Rattle.outside_io.specs.declared.reading.ReadRefusal.TheVariants.{NoMemory};
+
+    ghost from_gives = { λ _ e. e ≡ NoMemory };
+
+    fn from(_: NoMemory) -> ReadRefusal {
         ReadRefusal::NoMemory
     }
 }
@@ -63,7 +74,7 @@ pub fn read_all<S: Source>(alloc: Global, source: &mut S) -> Result<Bytes, ReadR
         let wanted = wanted_at(input.len());
         match source.read(&mut room[..wanted]) {
             Err(_) => return Err(ReadRefusal::ReadFault),
-            Ok(0) => return Ok(Bytes::from_vec(input)),
+            Ok(0) => return Ok(Bytes::shared(input)?),
             Ok(count) => {
                 input.extend_from_slice(&room[..count])?;
                 if input.len() > LIMIT {

@@ -13,7 +13,7 @@ use Rattle.plan_text.specs.Plans.{Spells as SpellsPlan}
 use Rattle.pasis_shell.specs.Texts.{Refuses, ReadsInput, AnswersFor, IsAccepted, IsRefusedFor, GivesAll}
 use Rattle.pasis_shell.specs.Calls.{Ends}
 use Rattle.pasis_shell.proofs.Commands.{plans_only, plan_form, loads_only, load_form}
-use Rattle.pasis_shell.proofs.WellFormed.{plan_is_no_bad_script}
+use Rattle.pasis_shell.proofs.WellFormed.{RunsPlan, plan_is_no_bad_script}
 use Rattle.pasis_shell.specs.declared.status.Status.{Status}
 use Rattle.pasis_shell.specs.declared.status.Status.TheVariants.{Done, Illegal, BadWords, BadScript, ReadFault, WriteFault, NoMemory, TooLong, ClockFull, BadMagic, CutRequest, TooManyRequests}
 use Rattle.pasis_shell.specs.declared.words.Command.{Command}
@@ -45,8 +45,8 @@ refused_by command words input given refusal w accepted e h =
 
 memory_missing : (command : Command) (words : List (List ℕ)) (before after : Option (List ℕ)) (input : List ℕ) (refusal : Refusal) → words ≡ words_of command → before ≡ Some input → IsAccepted words input → IsRefusedFor command before after refusal → refusal ≡ refusals.NoMemory
 memory_missing Replay words before after input refusal w e accepted h = refused_by Replay words input h.0 refusal w accepted (all_read before after input h.0 e h.1) h.2
-memory_missing Run words before after input refusal w e accepted h = refused_by Run words input h.0 refusal w accepted (all_read before after input h.0 e h.1) h.2
-memory_missing Trace words before after input refusal w e accepted h = refused_by Trace words input h.0 refusal w accepted (all_read before after input h.0 e h.1) h.2
+memory_missing (Run s) words before after input refusal w e accepted h = refused_by (Run s) words input h.0 refusal w accepted (all_read before after input h.0 e h.1) h.2
+memory_missing (Trace s) words before after input refusal w e accepted h = refused_by (Trace s) words input h.0 refusal w accepted (all_read before after input h.0 e h.1) h.2
 memory_missing Check words before after input refusal w e accepted h = refused_by Check words input h.0 refusal w accepted (all_read before after input h.0 e h.1) h.2
 memory_missing Sum words before after input refusal w e accepted h = refused_by Sum words input h.0 refusal w accepted (all_read before after input h.0 e h.1) h.2
 memory_missing (Soak n) words before after input refusal w e accepted h = refused_by (Soak n) words input input refusal w accepted refl h.2
@@ -91,30 +91,37 @@ IsLate (refusals.ClockFull drawn) = ⊤
 IsLate (refusals.BadScript fault) = ⊥
 
 module _ (input : List ℕ) (plan : Plan) (fits : Fits plan) (spelled : SpellsPlan input plan) where
-  late : (command : Command) → (command ≡ Run) ⊎ (command ≡ Trace) → (refusal : Refusal) → Refuses command input refusal → IsLate refusal
-  late command is refusals.NoMemory h = tt
-  late command is (refusals.ClockFull drawn) h = tt
-  late command (inl e) (refusals.BadScript fault) h = plan_is_no_bad_script input plan fault fits spelled (rw e at h)
-  late command (inr e) (refusals.BadScript fault) h = plan_is_no_bad_script input plan fault fits spelled (rw e at h)
+  late : (command : Command) → RunsPlan command → (refusal : Refusal) → Refuses command input refusal → IsLate refusal
+  late command runs refusals.NoMemory h = tt
+  late command runs (refusals.ClockFull drawn) h = tt
+  late (Run s) runs (refusals.BadScript fault) h = plan_is_no_bad_script input plan fault fits spelled h
+  late (Trace s) runs (refusals.BadScript fault) h = plan_is_no_bad_script input plan fault fits spelled h
+  late Replay runs (refusals.BadScript fault) h = absurd runs
+  late Check runs (refusals.BadScript fault) h = absurd runs
+  late Sum runs (refusals.BadScript fault) h = absurd runs
+  late (Soak n) runs (refusals.BadScript fault) h = absurd runs
 
-  late_for : (command : Command) → (command ≡ Run) ⊎ (command ≡ Trace) → (before after : Option (List ℕ)) (refusal : Refusal) → before ≡ Some input → IsRefusedFor command before after refusal → IsLate refusal
-  late_for command (inl e) before after refusal there h =
-      let r : IsRefusedFor Run before after refusal = rw e at h in
-      late Run (inl refl) refusal (subst (λ (i : List ℕ). Refuses Run i refusal) (all_read before after input r.0 there r.1) r.2)
-  late_for command (inr e) before after refusal there h =
-      let r : IsRefusedFor Trace before after refusal = rw e at h in
-      late Trace (inr refl) refusal (subst (λ (i : List ℕ). Refuses Trace i refusal) (all_read before after input r.0 there r.1) r.2)
+  late_for : (command : Command) → RunsPlan command → (before after : Option (List ℕ)) (refusal : Refusal) → before ≡ Some input → IsRefusedFor command before after refusal → IsLate refusal
+  late_for (Run s) runs before after refusal there h =
+      late (Run s) tt refusal (subst (λ (i : List ℕ). Refuses (Run s) i refusal) (all_read before after input h.0 there h.1) h.2)
+  late_for (Trace s) runs before after refusal there h =
+      late (Trace s) tt refusal (subst (λ (i : List ℕ). Refuses (Trace s) i refusal) (all_read before after input h.0 there h.1) h.2)
+  late_for Replay runs before after refusal there h = absurd runs
+  late_for Check runs before after refusal there h = absurd runs
+  late_for Sum runs before after refusal there h = absurd runs
+  late_for (Soak n) runs before after refusal there h = absurd runs
+
+some_none : (flaw : Flaw) → Some flaw ≡ None → ⊥
+some_none flaw e = cc
 
 -- no flaw is found of a run
-no_flaw : (command : Command) → (command ≡ Run) ⊎ (command ≡ Trace) → (before after : Option (List ℕ)) (text : List ℕ) (flaw : Flaw) → AnswersFor command before after text (Some flaw) → ⊥
-no_flaw command (inl e) before after text flaw h =
-    let a : AnswersFor Run before after text (Some flaw) = rw e at h in
-    let none : Some flaw ≡ None = a.2.1 in
-    absurd cc
-no_flaw command (inr e) before after text flaw h =
-    let a : AnswersFor Trace before after text (Some flaw) = rw e at h in
-    let none : Some flaw ≡ None = a.2.1 in
-    absurd cc
+no_flaw : (command : Command) → RunsPlan command → (before after : Option (List ℕ)) (text : List ℕ) (flaw : Flaw) → AnswersFor command before after text (Some flaw) → ⊥
+no_flaw (Run s) runs before after text flaw h = some_none flaw h.2.1
+no_flaw (Trace s) runs before after text flaw h = some_none flaw h.2.1
+no_flaw Replay runs before after text flaw h = absurd runs
+no_flaw Check runs before after text flaw h = absurd runs
+no_flaw Sum runs before after text flaw h = absurd runs
+no_flaw (Soak n) runs before after text flaw h = absurd runs
 
 module _ (words : List (List ℕ)) (before after taken taken_after : Option (List ℕ)) (flushed flushed_after : ℕ) (input : List ℕ) (plan : Plan) (fits : Fits plan) (spelled : SpellsPlan input plan) (ask : AskForPlan words) where
   pub plan_runs : (status : Status) → Ends words status before after taken taken_after flushed flushed_after → before ≡ Some input → length input ≤ LIMIT → (status ≡ ReadFault → ⊥) → (status ≡ WriteFault → ⊥)

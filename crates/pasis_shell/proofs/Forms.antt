@@ -1,24 +1,59 @@
--- The words of `soak`.
-use Rattle.std.proofs.Common.{◌≡◌, ℕ, ◌<◌, ◌^◌, Bool, true, false, List, [], ◌∷◌, ap, sym, ◌∙◌, refl, lit≤}
+-- The words of a command that has two.
+use Rattle.std.proofs.Common.{◌≡◌, ℕ, ◌<◌, ◌^◌, Bool, true, false, List, [], ◌∷◌, ap, sym, ◌∙◌, refl, lit≤, subst, arith}
 use Rattle.std.specs.Prelude.{codes, decimal, not, Some, None}
 use Rattle.std.specs.Str.{bytes_eq}
+use Rattle.std.specs.Str.Parse.{AllDigits}
+use Rattle.std.proofs.lemmas.Fmt.{decimal_is_IsNumeral}
 use Rattle.std.proofs.lemmas.Slice.Eq.{bytes_eq-Decides}
+use Rattle.std.proofs.lemmas.Str.Parse.{digit_from_value}
 use Rattle.text_lines.specs.Fields.{number_of}
 use Rattle.text_lines.proofs.Numbers.{number_of-some, number_of-text}
 use Rattle.pasis_shell.specs.Words.{words_of, IsForm, IsCommand}
+use Rattle.pasis_shell.specs.declared.words.Serving.TheVariants.{ByLocks, ByWorkers}
 use Rattle.pasis_shell.specs.declared.words.Command.{Command}
 use Rattle.pasis_shell.specs.declared.words.Command.TheVariants.{Replay, Run, Trace, Check, Sum, Soak}
 
+-- no command but one of a run by workers, and none but `soak` with a number, has two words
 no_command : (command : Command) (digits : List ℕ) → number_of (2 ^ 64) digits ≡ None → IsCommand command → codes "soak" ∷ digits ∷ [] ≡ words_of command → ⊥
 no_command Replay digits none ok e = absurd cc
-no_command Run digits none ok e = absurd cc
-no_command Trace digits none ok e = absurd cc
+no_command (Run ByLocks) digits none ok e = absurd cc
+no_command (Run ByWorkers) digits none ok e = absurd cc
+no_command (Trace ByLocks) digits none ok e = absurd cc
+no_command (Trace ByWorkers) digits none ok e = absurd cc
 no_command Check digits none ok e = absurd cc
 no_command Sum digits none ok e = absurd cc
 no_command (Soak n) digits none ok e =
     let same : digits ≡ decimal n = cc in
     let found : None ≡ Some n = sym none ∙ number_of-text (2 ^ 64) digits n same (lit≤ tt) ok in
     absurd cc
+
+-- what is neither `soak` nor ends in `workers` is no command's
+no_pair : (command : Command) (word second : List ℕ) → (word ≡ codes "soak" → ⊥) → (second ≡ codes "workers" → ⊥) → word ∷ second ∷ [] ≡ words_of command → ⊥
+no_pair Replay word second soak workers e = absurd cc
+no_pair (Run ByLocks) word second soak workers e = absurd cc
+no_pair (Run ByWorkers) word second soak workers e = workers cc
+no_pair (Trace ByLocks) word second soak workers e = absurd cc
+no_pair (Trace ByWorkers) word second soak workers e = workers cc
+no_pair Check word second soak workers e = absurd cc
+no_pair Sum word second soak workers e = absurd cc
+no_pair (Soak n) word second soak workers e = soak cc
+
+-- no number begins with a `w`
+no_digit : (rest : List ℕ) → AllDigits 10 (119 ∷ rest) → ⊥
+no_digit rest all = let d = digit_from_value 119 all.0 in omega (arith, d)
+
+-- `workers` spells no number, so it follows `run` and `trace` alone
+pub no_workers : (command : Command) (word : List ℕ) → (word ≡ codes "run" → ⊥) → (word ≡ codes "trace" → ⊥) → IsCommand command → word ∷ codes "workers" ∷ [] ≡ words_of command → ⊥
+no_workers Replay word run trace ok e = absurd cc
+no_workers (Run ByLocks) word run trace ok e = absurd cc
+no_workers (Run ByWorkers) word run trace ok e = run cc
+no_workers (Trace ByLocks) word run trace ok e = absurd cc
+no_workers (Trace ByWorkers) word run trace ok e = trace cc
+no_workers Check word run trace ok e = absurd cc
+no_workers Sum word run trace ok e = absurd cc
+no_workers (Soak n) word run trace ok e =
+    let same : codes "workers" ≡ decimal n = cc in
+    no_digit (codes "orkers") (subst (AllDigits 10) (sym same) (decimal_is_IsNumeral n ok).0.1)
 
 not_other : (b : Bool) → false ≡ not b → b ≡ true
 not_other true e = refl

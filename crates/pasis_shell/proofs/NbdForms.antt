@@ -13,14 +13,17 @@ use Rattle.quorum_rules.proofs.FaultLaws.{size_at_most}
 use Rattle.text_lines.specs.Fields.{number_of}
 use Rattle.text_lines.proofs.Numbers.{number_of-some, number_of-text}
 use Rattle.pasis_shell.specs.Words.{texts, words_of, nbd_words, IsForm, IsNbd, IsNbdForm, AskForThreads}
+use Rattle.pasis_shell.specs.declared.words.Serving.TheVariants.{ByLocks, ByWorkers}
 use Rattle.pasis_shell.specs.declared.words.Command.{Command}
 use Rattle.pasis_shell.specs.declared.words.Command.TheVariants.{Replay, Run, Trace, Check, Sum, Soak}
 
 -- no command has so many words
 more_words : (command : Command) (c : Numbers) → words_of command ≡ nbd_words c → ⊥
 more_words Replay c e = absurd cc
-more_words Run c e = absurd cc
-more_words Trace c e = absurd cc
+more_words (Run ByLocks) c e = absurd cc
+more_words (Run ByWorkers) c e = absurd cc
+more_words (Trace ByLocks) c e = absurd cc
+more_words (Trace ByWorkers) c e = absurd cc
 more_words Check c e = absurd cc
 more_words Sum c e = absurd cc
 more_words (Soak n) c e = absurd cc

@@ -10,6 +10,7 @@ use Rattle.plan_text.specs.Plans.{Spells, plan_script}
 use Rattle.client_threads.specs.Ran.{HasFullPass}
 use Rattle.client_threads.specs.declared.run.RunRefusal.{RunRefusal}
 use Rattle.client_threads.specs.declared.run.RunRefusal.TheVariants as runs
+use Rattle.pasis_shell.specs.declared.words.Serving.{Serving}
 use Rattle.pasis_shell.specs.declared.words.Command.TheVariants.{Run, Trace, Soak}
 use Rattle.pasis_shell.specs.Statuses.{refusal_of_run}
 use Rattle.pasis_shell.specs.PlanRuns.{IsPlan}
@@ -25,13 +26,13 @@ is_plan input text plan e fits spelled faultless = record {
   faultless = subst (λ (t : List ℕ). IsFaultless plan_script t) e faultless;
 }
 
-pub run_refuses : (input : List ℕ) → IsPlan input → (r : RunRefusal) → ((drawn : Tally) → r ≡ runs.ClockFull drawn → HasFullPass drawn) → Refuses Run input (refusal_of_run r)
-run_refuses input is runs.NoMemory full = tt
-run_refuses input is (runs.ClockFull drawn) full = (is, full drawn refl)
+pub run_refuses : (serving : Serving) (input : List ℕ) → IsPlan input → (r : RunRefusal) → ((drawn : Tally) → r ≡ runs.ClockFull drawn → HasFullPass drawn) → Refuses (Run serving) input (refusal_of_run r)
+run_refuses serving input is runs.NoMemory full = tt
+run_refuses serving input is (runs.ClockFull drawn) full = (is, full drawn refl)
 
-pub trace_refuses : (input : List ℕ) → IsPlan input → (r : RunRefusal) → ((drawn : Tally) → r ≡ runs.ClockFull drawn → HasFullPass drawn) → Refuses Trace input (refusal_of_run r)
-trace_refuses input is runs.NoMemory full = tt
-trace_refuses input is (runs.ClockFull drawn) full = (is, full drawn refl)
+pub trace_refuses : (serving : Serving) (input : List ℕ) → IsPlan input → (r : RunRefusal) → ((drawn : Tally) → r ≡ runs.ClockFull drawn → HasFullPass drawn) → Refuses (Trace serving) input (refusal_of_run r)
+trace_refuses serving input is runs.NoMemory full = tt
+trace_refuses serving input is (runs.ClockFull drawn) full = (is, full drawn refl)
 
 pub soak_refuses : (number : ℕ) (input : List ℕ) (r : RunRefusal) → ((drawn : Tally) → r ≡ runs.ClockFull drawn → HasFullPass drawn) → Refuses (Soak number) input (refusal_of_run r)
 soak_refuses number input runs.NoMemory full = tt

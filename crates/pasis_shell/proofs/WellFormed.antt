@@ -1,6 +1,6 @@
 -- Which inputs are refused for want of memory alone.
 use Rattle.std.proofs.Common.{◌≡◌, ℕ, ◌+◌, ◌-◌, List, [], ◌∷◌, ◌++◌, true, false, refl, sym, ap, subst, inl, inr}
-use Rattle.std.specs.Prelude.{◌==◌}
+use Rattle.std.specs.Prelude.{◌==◌, ⊤}
 use Rattle.std.specs.declared.option.Option.TheVariants.{None, Some}
 use Rattle.quorum_rules.specs.Limits.{Numbers}
 use Rattle.wire_forms.specs.Liars.{Liars}
@@ -26,6 +26,7 @@ use Rattle.pasis_shell.specs.Words.{words_of}
 use Rattle.pasis_shell.specs.Replays.{cluster_of, Stops}
 use Rattle.pasis_shell.specs.Texts.{HasFault, IsAccepted, RunsIt, Refuses}
 use Rattle.pasis_shell.specs.declared.words.Command.{Command}
+use Rattle.pasis_shell.specs.declared.words.Serving.{Serving}
 use Rattle.pasis_shell.specs.declared.words.Command.TheVariants.{Replay, Run, Trace, Check, Sum, Soak}
 use Rattle.pasis_shell.specs.declared.text.Refusal.{Refusal}
 use Rattle.pasis_shell.specs.declared.text.Refusal.TheVariants.{NoMemory, BadScript, ClockFull}
@@ -52,8 +53,8 @@ apart e = cc
 pub replay_alone : (command : Command) → words_of Replay ≡ words_of command → Replay ≡ command
 unfolding tells
 replay_alone Replay e = refl
-replay_alone Run e = absurd (apart (ap (λ (ws : List (List ℕ)). tells ws == 215) e))
-replay_alone Trace e = absurd (apart (ap (λ (ws : List (List ℕ)). tells ws == 215) e))
+replay_alone (Run s) e = absurd (apart (ap (λ (ws : List (List ℕ)). tells ws == 215) e))
+replay_alone (Trace s) e = absurd (apart (ap (λ (ws : List (List ℕ)). tells ws == 215) e))
 replay_alone Check e = absurd (apart (ap (λ (ws : List (List ℕ)). tells ws == 215) e))
 replay_alone Sum e = absurd (apart (ap (λ (ws : List (List ℕ)). tells ws == 215) e))
 replay_alone (Soak n) e = absurd (apart (ap (λ (ws : List (List ℕ)). tells ws == 215) e))
@@ -61,8 +62,8 @@ replay_alone (Soak n) e = absurd (apart (ap (λ (ws : List (List ℕ)). tells ws
 pub check_alone : (command : Command) → words_of Check ≡ words_of command → Check ≡ command
 unfolding tells
 check_alone Replay e = absurd (apart (ap (λ (ws : List (List ℕ)). tells ws == 203) e))
-check_alone Run e = absurd (apart (ap (λ (ws : List (List ℕ)). tells ws == 203) e))
-check_alone Trace e = absurd (apart (ap (λ (ws : List (List ℕ)). tells ws == 203) e))
+check_alone (Run s) e = absurd (apart (ap (λ (ws : List (List ℕ)). tells ws == 203) e))
+check_alone (Trace s) e = absurd (apart (ap (λ (ws : List (List ℕ)). tells ws == 203) e))
 check_alone Check e = refl
 check_alone Sum e = absurd (apart (ap (λ (ws : List (List ℕ)). tells ws == 203) e))
 check_alone (Soak n) e = absurd (apart (ap (λ (ws : List (List ℕ)). tells ws == 203) e))
@@ -70,36 +71,45 @@ check_alone (Soak n) e = absurd (apart (ap (λ (ws : List (List ℕ)). tells ws 
 pub sum_alone : (command : Command) → words_of Sum ≡ words_of command → Sum ≡ command
 unfolding tells
 sum_alone Replay e = absurd (apart (ap (λ (ws : List (List ℕ)). tells ws == 232) e))
-sum_alone Run e = absurd (apart (ap (λ (ws : List (List ℕ)). tells ws == 232) e))
-sum_alone Trace e = absurd (apart (ap (λ (ws : List (List ℕ)). tells ws == 232) e))
+sum_alone (Run s) e = absurd (apart (ap (λ (ws : List (List ℕ)). tells ws == 232) e))
+sum_alone (Trace s) e = absurd (apart (ap (λ (ws : List (List ℕ)). tells ws == 232) e))
 sum_alone Check e = absurd (apart (ap (λ (ws : List (List ℕ)). tells ws == 232) e))
 sum_alone Sum e = refl
 sum_alone (Soak n) e = absurd (apart (ap (λ (ws : List (List ℕ)). tells ws == 232) e))
 
-pub run_alone : (command : Command) → words_of Run ≡ words_of command → Run ≡ command
-unfolding tells
-run_alone Replay e = absurd (apart (ap (λ (ws : List (List ℕ)). tells ws == 231) e))
-run_alone Run e = refl
-run_alone Trace e = absurd (apart (ap (λ (ws : List (List ℕ)). tells ws == 231) e))
-run_alone Check e = absurd (apart (ap (λ (ws : List (List ℕ)). tells ws == 231) e))
-run_alone Sum e = absurd (apart (ap (λ (ws : List (List ℕ)). tells ws == 231) e))
-run_alone (Soak n) e = absurd (apart (ap (λ (ws : List (List ℕ)). tells ws == 231) e))
+-- a command that runs a plan
+abbrev pub RunsPlan : Command → Type 0
+RunsPlan Replay = ⊥
+RunsPlan (Run s) = ⊤
+RunsPlan (Trace s) = ⊤
+RunsPlan Check = ⊥
+RunsPlan Sum = ⊥
+RunsPlan (Soak n) = ⊥
 
-pub trace_alone : (command : Command) → words_of Trace ≡ words_of command → Trace ≡ command
+pub run_alone : (command : Command) (s : Serving) → words_of (Run s) ≡ words_of command → RunsPlan command
 unfolding tells
-trace_alone Replay e = absurd (apart (ap (λ (ws : List (List ℕ)). tells ws == 230) e))
-trace_alone Run e = absurd (apart (ap (λ (ws : List (List ℕ)). tells ws == 230) e))
-trace_alone Trace e = refl
-trace_alone Check e = absurd (apart (ap (λ (ws : List (List ℕ)). tells ws == 230) e))
-trace_alone Sum e = absurd (apart (ap (λ (ws : List (List ℕ)). tells ws == 230) e))
-trace_alone (Soak n) e = absurd (apart (ap (λ (ws : List (List ℕ)). tells ws == 230) e))
+run_alone Replay s e = absurd (apart (ap (λ (ws : List (List ℕ)). tells ws == 231) e))
+run_alone (Run r) s e = tt
+run_alone (Trace r) s e = tt
+run_alone Check s e = absurd (apart (ap (λ (ws : List (List ℕ)). tells ws == 231) e))
+run_alone Sum s e = absurd (apart (ap (λ (ws : List (List ℕ)). tells ws == 231) e))
+run_alone (Soak n) s e = absurd (apart (ap (λ (ws : List (List ℕ)). tells ws == 231) e))
+
+pub trace_alone : (command : Command) (s : Serving) → words_of (Trace s) ≡ words_of command → RunsPlan command
+unfolding tells
+trace_alone Replay s e = absurd (apart (ap (λ (ws : List (List ℕ)). tells ws == 230) e))
+trace_alone (Run r) s e = tt
+trace_alone (Trace r) s e = tt
+trace_alone Check s e = absurd (apart (ap (λ (ws : List (List ℕ)). tells ws == 230) e))
+trace_alone Sum s e = absurd (apart (ap (λ (ws : List (List ℕ)). tells ws == 230) e))
+trace_alone (Soak n) s e = absurd (apart (ap (λ (ws : List (List ℕ)). tells ws == 230) e))
 
 -- those of `soak` are those of one with some number
 pub soak_alone : (command : Command) (n : ℕ) → words_of (Soak n) ≡ words_of command → (number : ℕ) × (command ≡ Soak number)
 unfolding tells
 soak_alone Replay n e = absurd (apart (ap (λ (ws : List (List ℕ)). tells ws == 226) e))
-soak_alone Run n e = absurd (apart (ap (λ (ws : List (List ℕ)). tells ws == 226) e))
-soak_alone Trace n e = absurd (apart (ap (λ (ws : List (List ℕ)). tells ws == 226) e))
+soak_alone (Run s) n e = absurd (apart (ap (λ (ws : List (List ℕ)). tells ws == 226) e))
+soak_alone (Trace s) n e = absurd (apart (ap (λ (ws : List (List ℕ)). tells ws == 226) e))
 soak_alone Check n e = absurd (apart (ap (λ (ws : List (List ℕ)). tells ws == 226) e))
 soak_alone Sum n e = absurd (apart (ap (λ (ws : List (List ℕ)). tells ws == 226) e))
 soak_alone (Soak m) n e = (m, refl)

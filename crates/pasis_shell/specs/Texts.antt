@@ -34,8 +34,8 @@ pub record Shows (input text : List ℕ) : Type 0 where
 -- the command writes this text for the input; the flaw is what `check` finds, and no other command has one
 abbrev pub Writes : Command → List ℕ → List ℕ → Option Flaw → Type 0
 Writes Replay input text flaw = Replays input text × (flaw ≡ None)
-Writes Run input text flaw = Runs input text × (flaw ≡ None)
-Writes Trace input text flaw = Traces input text × (flaw ≡ None)
+Writes (Run serving) input text flaw = Runs input text × (flaw ≡ None)
+Writes (Trace serving) input text flaw = Traces input text × (flaw ≡ None)
 Writes Check input text flaw = Judges input text flaw
 Writes Sum input text flaw = Shows input text × (flaw ≡ None)
 Writes (Soak number) input text flaw = Soaks number text × (flaw ≡ None)
@@ -43,8 +43,8 @@ Writes (Soak number) input text flaw = Soaks number text × (flaw ≡ None)
 -- the fault is the input's: its first line that has a cause, and that line's first cause; or, where no line has one, the first line of a script that can't take place
 abbrev pub HasFault : Command → List ℕ → ScriptFault → Type 0
 HasFault Replay input fault = IsFault replay_script input fault.line fault.cause ⊎ Stops input fault
-HasFault Run input fault = IsFault plan_script input fault.line fault.cause
-HasFault Trace input fault = IsFault plan_script input fault.line fault.cause
+HasFault (Run serving) input fault = IsFault plan_script input fault.line fault.cause
+HasFault (Trace serving) input fault = IsFault plan_script input fault.line fault.cause
 HasFault Check input fault = IsFault report input fault.line fault.cause
 HasFault Sum input fault = IsFault sum_script input fault.line fault.cause
 HasFault (Soak number) input fault = ⊥
@@ -52,8 +52,8 @@ HasFault (Soak number) input fault = ⊥
 -- the command runs the plan that the input spells, or the load of its number
 abbrev pub RunsIt : Command → List ℕ → Type 0
 RunsIt Replay input = ⊥
-RunsIt Run input = IsPlan input
-RunsIt Trace input = IsPlan input
+RunsIt (Run serving) input = IsPlan input
+RunsIt (Trace serving) input = IsPlan input
 RunsIt Check input = ⊥
 RunsIt Sum input = ⊥
 RunsIt (Soak number) input = ⊤
@@ -67,8 +67,8 @@ Refuses command input (ClockFull drawn) = RunsIt command input × HasFullPass dr
 -- the command reads all that the source has: `soak` reads nothing
 abbrev pub ReadsInput : Command → Type 0
 ReadsInput Replay = ⊤
-ReadsInput Run = ⊤
-ReadsInput Trace = ⊤
+ReadsInput (Run serving) = ⊤
+ReadsInput (Trace serving) = ⊤
 ReadsInput Check = ⊤
 ReadsInput Sum = ⊤
 ReadsInput (Soak number) = ⊥
@@ -81,8 +81,8 @@ GivesAll before after input = Consumes before after input × IsAtEnd after × (l
 abbrev pub IsGiven : Command → Option (List ℕ) → Option (List ℕ) → List ℕ → Type 0
 IsGiven (Soak number) before after input = (after ≡ before) × (input ≡ [])
 IsGiven Replay before after input = GivesAll before after input
-IsGiven Run before after input = GivesAll before after input
-IsGiven Trace before after input = GivesAll before after input
+IsGiven (Run serving) before after input = GivesAll before after input
+IsGiven (Trace serving) before after input = GivesAll before after input
 IsGiven Check before after input = GivesAll before after input
 IsGiven Sum before after input = GivesAll before after input
 

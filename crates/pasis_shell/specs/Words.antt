@@ -4,6 +4,8 @@ use Rattle.std.specs.declared.string.String.{String}
 use Rattle.std.specs.declared.alloc.Global.{Global}
 use Rattle.quorum_rules.specs.declared.Edition.TheVariants.{One}
 use Rattle.quorum_rules.specs.Limits.{Numbers, IsValid}
+use Rattle.pasis_shell.specs.declared.words.Serving.{Serving}
+use Rattle.pasis_shell.specs.declared.words.Serving.TheVariants.{ByLocks, ByWorkers}
 use Rattle.pasis_shell.specs.declared.words.Command.{Command}
 use Rattle.pasis_shell.specs.declared.words.Command.TheVariants.{Replay, Run, Trace, Check, Sum, Soak}
 
@@ -11,11 +13,16 @@ use Rattle.pasis_shell.specs.declared.words.Command.TheVariants.{Replay, Run, Tr
 abbrev pub texts : List (String Global) → List (List ℕ)
 texts words = map string_bytes words
 
+-- the words that say how nodes serve clients
+abbrev pub serving_words : Serving → List (List ℕ)
+serving_words ByLocks = []
+serving_words ByWorkers = codes "workers" ∷ []
+
 -- the words of a command
 abbrev pub words_of : Command → List (List ℕ)
 words_of Replay = codes "replay" ∷ []
-words_of Run = codes "run" ∷ []
-words_of Trace = codes "trace" ∷ []
+words_of (Run serving) = codes "run" ∷ serving_words serving
+words_of (Trace serving) = codes "trace" ∷ serving_words serving
 words_of Check = codes "check" ∷ []
 words_of Sum = codes "sum" ∷ []
 words_of (Soak number) = codes "soak" ∷ decimal number ∷ []
@@ -23,8 +30,8 @@ words_of (Soak number) = codes "soak" ∷ decimal number ∷ []
 -- the number of `soak` is a u64
 abbrev pub IsCommand : Command → Type 0
 IsCommand Replay = ⊤
-IsCommand Run = ⊤
-IsCommand Trace = ⊤
+IsCommand (Run serving) = ⊤
+IsCommand (Trace serving) = ⊤
 IsCommand Check = ⊤
 IsCommand Sum = ⊤
 IsCommand (Soak number) = number < 2 ^ 64
@@ -32,8 +39,8 @@ IsCommand (Soak number) = number < 2 ^ 64
 -- the command runs threads
 abbrev pub RunsThreads : Command → Type 0
 RunsThreads Replay = ⊥
-RunsThreads Run = ⊤
-RunsThreads Trace = ⊤
+RunsThreads (Run serving) = ⊤
+RunsThreads (Trace serving) = ⊤
 RunsThreads Check = ⊥
 RunsThreads Sum = ⊥
 RunsThreads (Soak number) = ⊤
@@ -44,7 +51,7 @@ AskForThreads words = (command : Command) × IsCommand command × RunsThreads co
 
 -- the words are those of a command that runs a plan
 abbrev pub AskForPlan : List (List ℕ) → Type 0
-AskForPlan words = (words ≡ words_of Run) ⊎ (words ≡ words_of Trace)
+AskForPlan words = (serving : Serving) × ((words ≡ words_of (Run serving)) ⊎ (words ≡ words_of (Trace serving)))
 
 -- the words are those of `soak` and a number
 abbrev pub AskForLoad : List (List ℕ) → Type 0

@@ -41,7 +41,7 @@ fn line_of(alloc: Global, flaw: Option<Flaw>) -> Result<Bytes, NoMemory>
         None => text.add(b"legal")?,
     }
     text.add_newline()?;
-    Ok(text.into_bytes())
+    text.into_bytes()
 }
 
 /// What is judged of the history that a report tells.

@@ -22,6 +22,7 @@ ghost use Rattle.plan_words.specs.Plans.{Fits};
 ghost use Rattle.plan_text.specs.Plans.{Spells as SpellsPlan};
 ghost use Rattle.pasis_shell.specs.Texts.{HasFault, IsAccepted};
 ghost use Rattle.pasis_shell.specs.Words.{words_of};
+ghost use Rattle.pasis_shell.specs.declared.words.Serving.{Serving as Servings};
 
 use crate::words::Command;
 
@@ -38,8 +39,10 @@ pub fn well_formed_inputs_are_accepted()
 
 /// A text that spells a plan that can be run is no bad script for `run` and `trace`.
 pub fn plans_are_no_bad_scripts()
-    ensures run { (input : List ℕ) (plan : Plan) (fault : ScriptFault) → Fits plan → SpellsPlan input plan → HasFault Command.Run input fault → ⊥ }
-    ensures trace { (input : List ℕ) (plan : Plan) (fault : ScriptFault) → Fits plan → SpellsPlan input plan → HasFault Command.Trace input fault → ⊥ }
+    ensures run { (serving : Servings) (input : List ℕ) (plan : Plan) (fault : ScriptFault)
+        → Fits plan → SpellsPlan input plan → HasFault (Command.Run serving) input fault → ⊥ }
+    ensures trace { (serving : Servings) (input : List ℕ) (plan : Plan) (fault : ScriptFault)
+        → Fits plan → SpellsPlan input plan → HasFault (Command.Trace serving) input fault → ⊥ }
 {}
 
 /// What `replay` writes is a report that `check` finds legal, where no two different strings that were seen share a digest.

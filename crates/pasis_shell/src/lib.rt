@@ -16,4 +16,4 @@ pub use client_threads::{Edge, Gate, OpenGate};
 pub use status::Status;
 pub use text::{Answer, Refusal};
 pub use top::{alone, pasis};
-pub use words::Command;
+pub use words::{Command, Serving};

@@ -1,16 +1,22 @@
 //! What the commands that run threads write.
-ghost use Rattle.std.specs.Prelude.{◌≡◌, ◌<◌, ◌^◌, ℕ, List, None, length, IfOk, IfErr};
+ghost use Rattle.std.specs.Prelude.{◌≡◌, ◌<◌, ◌^◌, ℕ, List, None, Err, length, IfOk, IfErr};
+ghost use Rattle.event_clock.specs.Passes.{Tally};
+ghost use Rattle.plan_words.specs.Plans.{Fits};
+ghost use Rattle.plan_followed.specs.Followed.{AreOfPlan};
+ghost use Rattle.client_threads.specs.Ran.{HasFullPass};
 ghost use Rattle.pasis_shell.specs.PlanRuns.{Soaks};
 ghost use Rattle.pasis_shell.specs.Texts.{Writes, Refuses};
 ghost use Rattle.pasis_shell.specs.Statuses.{refusal_of_run};
 
 use crate::text::{Answer, Refusal, text_of};
-use crate::words::Command;
-use client_threads::{Gate, RunRefusal, run_plan};
+use crate::words::{Command, Serving};
+use client_threads::{Gate, Ran, RunRefusal, run_plan};
 use cross_sum::Bytes;
 use load_reports::{load_of, load_text};
+use node_workers::run_workers;
 use plan_reports::{run_text, trace_text};
 use plan_text::read_plan;
+use plan_words::Plan;
 use std::alloc::Global;
 use std::sync::Wait;
 use std::thread::Threads;
@@ -26,18 +32,37 @@ impl From<RunRefusal> for Refusal {
     }
 }
 
+// Runs the plan, whose nodes serve so.
+fn run_served<R: Threads + Wait + Sync, G: Gate + Sync>(
+    rt: &R,
+    alloc: Global,
+    serving: Serving,
+    plan: &Plan,
+    gate: &G,
+) -> Result<Ran, RunRefusal>
+    requires { Fits plan.now }
+    ensures followed { IfOk result (λ r. AreOfPlan plan.now r.journals r.drawn.count) }
+    ensures full { (drawn : Tally) → result ≡ Err (RunRefusal.ClockFull drawn) → HasFullPass drawn }
+{
+    match serving {
+        Serving::ByLocks => run_plan(rt, alloc, plan, gate),
+        Serving::ByWorkers => run_workers(rt, alloc, plan, gate),
+    }
+}
+
 // The report of the history of a run of the plan.
 fn run_of<R: Threads + Wait + Sync, G: Gate + Sync>(
     rt: &R,
     alloc: Global,
+    serving: Serving,
     input: &Bytes,
     gate: &G,
 ) -> Result<Answer, Refusal>
-    ensures text { IfOk result (λ answer. Writes Command.Run input.now answer.text answer.flaw) }
-    ensures refused { IfErr result (λ refusal. Refuses Command.Run input.now refusal) }
+    ensures text { IfOk result (λ answer. Writes (Command.Run serving) input.now answer.text answer.flaw) }
+    ensures refused { IfErr result (λ refusal. Refuses (Command.Run serving) input.now refusal) }
 {
     let plan = read_plan(alloc, input.as_slice())?;
-    let ran = run_plan(rt, alloc, &plan, gate)?;
+    let ran = run_served(rt, alloc, serving, &plan, gate)?;
     let text = run_text(alloc, &plan, &ran.journals, ran.drawn.count())?;
     Ok(Answer::of(text))
 }
@@ -46,14 +71,15 @@ fn run_of<R: Threads + Wait + Sync, G: Gate + Sync>(
 fn trace_of<R: Threads + Wait + Sync, G: Gate + Sync>(
     rt: &R,
     alloc: Global,
+    serving: Serving,
     input: &Bytes,
     gate: &G,
 ) -> Result<Answer, Refusal>
-    ensures text { IfOk result (λ answer. Writes Command.Trace input.now answer.text answer.flaw) }
-    ensures refused { IfErr result (λ refusal. Refuses Command.Trace input.now refusal) }
+    ensures text { IfOk result (λ answer. Writes (Command.Trace serving) input.now answer.text answer.flaw) }
+    ensures refused { IfErr result (λ refusal. Refuses (Command.Trace serving) input.now refusal) }
 {
     let plan = read_plan(alloc, input.as_slice())?;
-    let ran = run_plan(rt, alloc, &plan, gate)?;
+    let ran = run_served(rt, alloc, serving, &plan, gate)?;
     let text = trace_text(alloc, &plan, ran.journals)?;
     Ok(Answer::of(text))
 }
@@ -87,8 +113,8 @@ pub fn text_in_threads<R: Threads + Wait + Sync, G: Gate + Sync>(
     ensures refused { IfErr result (λ refusal. Refuses command input.now refusal) }
 {
     match command {
-        Command::Run => run_of(rt, alloc, input, gate),
-        Command::Trace => trace_of(rt, alloc, input, gate),
+        Command::Run(serving) => run_of(rt, alloc, serving, input, gate),
+        Command::Trace(serving) => trace_of(rt, alloc, serving, input, gate),
         Command::Soak(number) => soak_of(rt, alloc, number, gate),
         Command::Replay | Command::Check | Command::Sum => text_of(alloc, command, input),
     }

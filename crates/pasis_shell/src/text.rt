@@ -84,6 +84,6 @@ pub fn text_of(alloc: Global, command: Command, input: &Bytes) -> Result<Answer,
         Command::Replay => report_of(alloc, input),
         Command::Check => verdict_of(alloc, input),
         Command::Sum => sum_of(alloc, input),
-        Command::Run | Command::Trace | Command::Soak(_) => unreachable!(),
+        Command::Run(_) | Command::Trace(_) | Command::Soak(_) => unreachable!(),
     }
 }

@@ -35,7 +35,7 @@ fn input_of<S: Source>(alloc: Global, command: Command, source: &mut S) -> Resul
     ensures calm { result ≢ Err Status.ReadFault → S.faults source.new ≡ S.faults source.old }
 {
     if let Command::Soak(_) = command {
-        return Ok(Bytes::from_vec(Vec::new(alloc)));
+        return Ok(Bytes::empty());
     }
     match read_all(alloc, source) {
         Ok(input) => Ok(input),

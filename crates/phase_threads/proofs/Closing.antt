@@ -5,8 +5,9 @@ use Rattle.std.specs.Prelude.{◌⊎◌, All, slice_get, slice_set, reverse}
 use Rattle.std.proofs.lemmas.List.{reverse-append, reverse-reverse}
 use Rattle.receipt_lock.specs.Chits.{Holder as Chit, Deposit}
 use Rattle.locked_nodes.specs.declared.charter.Item.{Item}
-use Rattle.phase_threads.specs.Phased.{Beside, AreTaken, AreChitsOf}
-use Rattle.phase_threads.proofs.Places.{at_place, same_at, all_at, all_from, get_last, get_snoc, get_set, get_map, map_get, within, right_of, left_of}
+use Rattle.crews.specs.Crews.{Beside}
+use Rattle.phase_threads.specs.Phased.{AreTaken, AreChitsOf}
+use Rattle.crews.proofs.Places.{at_place, same_at, all_at, all_from, get_last, get_snoc, get_set, get_map, map_get, within, right_of, left_of}
 
 -- lists that end alike
 tail_same : {A : Type 0} (a b x y : A) (xs ys : List A) → a ∷ (xs ++ x ∷ []) ≡ b ∷ (ys ++ y ∷ []) → xs ++ x ∷ [] ≡ ys ++ y ∷ []

@@ -1,6 +1,5 @@
-pub mod Places
 mod Opening
 mod Closing
 mod Pairing
 mod Phasing
-mod Sending
+pub mod Sending

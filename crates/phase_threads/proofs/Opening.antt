@@ -1,11 +1,15 @@
 -- Vaults, hands and posts before the threads start.
-use Rattle.std.proofs.Common.{◌≡◌, ℕ, suc, ◌<◌, List, [], ◌∷◌, ◌++◌, length, map, Result, Ok, Err, refl, sym, ap, subst, ◌∙◌, arith, inl, inr}
+use Rattle.std.proofs.Common.{◌≡◌, ℕ, suc, ◌<◌, List, [], ◌∷◌, ◌++◌, length, map, Option, Result, Ok, Err, refl, sym, ap, subst, ◌∙◌, arith, inl, inr}
 use Rattle.std.specs.declared.option.Option.TheVariants.{None, Some}
 use Rattle.std.specs.Prelude.{All, IfOk, false, slice_get}
 use Rattle.std.specs.List.{Contains}
 use Rattle.std.proofs.lemmas.List.{map-append, length-map}
 use Rattle.std.proofs.lemmas.Option.{get_or_from_slice_get}
 use Rattle.quorum_rules.specs.Limits.{Numbers}
+use Rattle.inboxes.specs.Sides.{Taking}
+use Rattle.node_mail.specs.declared.answered.Answered.{Answered}
+use Rattle.node_mail.specs.declared.answered.ClientPlace.{ClientPlace}
+use Rattle.desk_keys.specs.declared.mail.ByMail.{ByMail}
 use Rattle.event_clock.specs.Passes.{ClockId}
 use Rattle.receipt_lock.specs.Chits.{Holder as Chit, Deposit, new_chit, AreNew}
 use Rattle.journals.specs.declared.node.NodeEntry.{NodeEntry}
@@ -17,10 +21,11 @@ use Rattle.locked_nodes.specs.Cells.{CellView, next_charter}
 use Rattle.client_desks.specs.Desks.{DeskView}
 use Rattle.locked_nodes.specs.declared.slot.Slot.{Slot}
 use Rattle.locked_nodes.specs.Slots.{slot_of, slots_of}
-use Rattle.desk_keys.specs.Keys.{KeysView, FloorView, IsHead, IsFloor, IsSide, Agree, Fit}
+use Rattle.desk_keys.specs.Keys.{KeysView, FloorView, IsHead, IsFloor, IsByChits, Reaches, IsSide, Agree, Fit}
 use Rattle.run_journals.specs.Standing.{AreCells, IsCellOf, IsDeskAt, HasSideIn, PairsStand}
-use Rattle.phase_threads.specs.Phased.{Beside, IsVaultOf, new_hand}
-use Rattle.phase_threads.proofs.Places.{place_of, contains_at, all_at, all_from, get_map, map_get, right_of}
+use Rattle.crews.specs.Crews.{Beside}
+use Rattle.phase_threads.specs.Phased.{IsVaultOf, new_hand}
+use Rattle.crews.proofs.Places.{place_of, contains_at, all_at, all_from, get_map, map_get, right_of}
 
 -- the chits of a new vault are all alike
 pub all_new : {E : Type 0} {X : Type 0} (result : Result (Deposit X × List (Chit X)) E) (clients : ℕ) → IfOk result (λ r. length r.1 ≡ clients) → IfOk result (λ r. AreNew r.0.id r.1 clients) → IfOk result (λ r. All (λ c. c ≡ new_chit r.0.id) r.1)
@@ -44,6 +49,9 @@ hand_rests vaults = all_from (λ (c : Chit Item). c.holds ≡ None) (new_hand va
 pub hand_vaults : (vaults : List (Deposit Item)) → map (λ (c : Chit Item). c.vault) (new_hand vaults) ≡ map (λ (v : Deposit Item). v.id) vaults
 hand_vaults [] = refl
 hand_vaults (v ∷ vaults) = ap (λ l. v.id ∷ l) (hand_vaults vaults)
+
+none_there : {X : Type 0} (i : ℕ) (x : X) → slice_get [] i ≡ Some x → ⊥
+none_there i x at = absurd cc
 
 contains_none : {X : Type 0} (x : X) → Contains [] x → ⊥
 contains_none x has = let lt = has.1 in omega arith
@@ -89,11 +97,10 @@ module _ (count : ℕ) (cells : List CellView) (vaults : List (Deposit Item)) (o
   }
 
   abbrev pub floor_at : ClockId → FloorView
-  floor_at clock = record { clock = clock; slots = slots_of cells; vaults = vaults }
+  floor_at clock = record { clock = clock; slots = slots_of cells; vaults = vaults; answers = [] }
 
   pub floor_of : (config : Numbers) (clock : ClockId) → AreCells config clock cells → IsFloor config (floor_at clock)
   floor_of config clock are = record {
-    count = length-map cells (λ (c : CellView). slot_of c.charter) ∙ opened.count;
     some = all_from (λ (s : Slot). 0 < s.shards) (slots_of cells) (λ k s at.
         let cell = map_get (λ (c : CellView). slot_of c.charter) cells k s at in
         subst (λ (x : Slot). 0 < x.shards) cell.2 (all_at (IsCellOf config clock) cells k cell.0 are.each cell.1).some);
@@ -105,9 +112,21 @@ module _ (count : ℕ) (cells : List CellView) (vaults : List (Deposit Item)) (o
   }
 
   -- new keys fit
-  pub new_fit : (config : Numbers) (clock : ClockId) (keys : KeysView) → AreCells config clock cells → IsDeskAt config clock keys.desk → keys.chits ≡ new_hand vaults → Fit keys (floor_at clock)
-  new_fit config clock keys are desk hand = record {
+  pub new_fit : (config : Numbers) (clock : ClockId) (keys : KeysView) → AreCells config clock cells → IsDeskAt config clock keys.desk → keys.chits ≡ new_hand vaults → keys.mail ≡ None → Fit keys (floor_at clock)
+  new_fit config clock keys are desk hand none = record {
     floor = subst (λ c. IsFloor c (floor_at clock)) (sym desk.cluster) (floor_of config clock are);
     ticks = desk.ticks;
-    own = ap (map (λ (c : Chit Item). c.vault)) hand ∙ hand_vaults vaults;
+    own = subst (λ (m : Option ByMail). Reaches keys.desk.id keys.chits m (floor_at clock)) (sym none) (record {
+      count = length-map cells (λ (c : CellView). slot_of c.charter) ∙ opened.count;
+      own = ap (map (λ (c : Chit Item). c.vault)) hand ∙ hand_vaults vaults;
+      none = refl;
+    });
   }
+
+-- keys that fit a floor with no takers have chits
+pub chits_fit : (keys : KeysView) (floor : FloorView) → floor.answers ≡ [] → Fit keys floor → (keys.mail ≡ None) × IsByChits keys.chits floor
+chits_fit keys floor none fit = at keys.mail fit.own
+  where
+    at : (mail : Option ByMail) → Reaches keys.desk.id keys.chits mail floor → (mail ≡ None) × IsByChits keys.chits floor
+    at None own = (refl, own)
+    at (Some m) own = absurd (none_there m.seat own.first (ap (λ (l : List (Taking Answered ClientPlace)). slice_get l m.seat) (sym none) ∙ own.there))

@@ -18,8 +18,9 @@ use Rattle.client_desks.specs.Desks.{DeskView, desk_entry}
 use Rattle.client_desks.specs.Later.{IsLater}
 use Rattle.desk_keys.specs.Keys.{Agree, IsSide, Knows}
 use Rattle.run_journals.specs.Standing.{HasSideIn, HasSideOn, PairsStand, HasWorked}
-use Rattle.phase_threads.specs.Phased.{Beside, IsVaultOf, IsClosed}
-use Rattle.phase_threads.proofs.Places.{same_at, place_of, contains_at, get_map, map_get, within, right_of, left_of}
+use Rattle.crews.specs.Crews.{Beside}
+use Rattle.phase_threads.specs.Phased.{IsVaultOf, IsClosed}
+use Rattle.crews.proofs.Places.{same_at, place_of, contains_at, get_map, map_get, within, right_of, left_of}
 
 -- a cell's entries are those of its list, but for the head
 in_items : (cell : CellView) (p : ℕ) (n : NodeEntry) → slice_get (items cell) p ≡ Some (Entry n) → Contains cell.journal n

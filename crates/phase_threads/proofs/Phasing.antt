@@ -1,5 +1,5 @@
 -- A phase from its opening to its closing.
-use Rattle.std.proofs.Common.{◌≡◌, ℕ, List, length, map, sym, ap, subst, ◌∙◌}
+use Rattle.std.proofs.Common.{◌≡◌, ℕ, List, [], length, map, sym, ap, subst, ◌∙◌}
 use Rattle.std.specs.declared.option.Option.TheVariants.{None, Some}
 use Rattle.std.specs.Prelude.{All, slice_get, reverse}
 use Rattle.std.specs.List.{AllZip}
@@ -17,9 +17,10 @@ use Rattle.desk_keys.specs.Keys.{KeysView, FloorView, Agree, Fit}
 use Rattle.phase_threads.specs.declared.duty.Seat.{Seat}
 use Rattle.phase_threads.specs.declared.crew.Post.{Post}
 use Rattle.run_journals.specs.Standing.{AreCells, IsDeskAt, PairsStand, HasWorked}
-use Rattle.phase_threads.specs.Phased.{Beside, IsVaultOf, IsPostOf, IsSeatOf, IsHandOf, IsClosed, new_hand}
-use Rattle.phase_threads.proofs.Places.{all_at, all_from, all_zip, contains_at, get_map, map_get, right_of, left_of}
-use Rattle.phase_threads.proofs.Opening.{hand_rests, agree_new, new_fit}
+use Rattle.crews.specs.Crews.{Beside}
+use Rattle.phase_threads.specs.Phased.{IsVaultOf, IsPostOf, IsSeatOf, IsHandOf, IsClosed, new_hand}
+use Rattle.crews.proofs.Places.{all_at, all_from, all_zip, contains_at, get_map, map_get, right_of, left_of}
+use Rattle.phase_threads.proofs.Opening.{hand_rests, agree_new, new_fit, chits_fit}
 use Rattle.phase_threads.proofs.Pairing.{pairs_stand, has_worked}
 
 abbrev pub desks_of : {T : Type 0} → List (Seat T) → List DeskView
@@ -37,15 +38,18 @@ hands_agree {T = T} count cells vaults seats hands opened pairs same = all_from 
     all_from (λ (h : List (Chit Item)). Agree s.desk h) hands (λ k h at. subst (Agree s.desk) (sym (all_at (λ (g : List (Chit Item)). g ≡ new_hand vaults) hands k h same at)) agree))
 
 abbrev pub floor_with : ClockId → List (Deposit Item) → List Slot → FloorView
-floor_with clock vaults slots = record { clock = clock; slots = slots; vaults = vaults }
+floor_with clock vaults slots = record { clock = clock; slots = slots; vaults = vaults; answers = [] }
+
+pub posts_chits : {T : Type 0} (floor : FloorView) (posts : List (Post T)) → floor.answers ≡ [] → All (λ (p : Post T). Fit p.keys floor) posts → All (λ (p : Post T). p.keys.mail ≡ None) posts
+posts_chits {T = T} floor posts none fit = all_from (λ (p : Post T). p.keys.mail ≡ None) posts (λ i p at. (chits_fit p.keys floor none (all_at (λ (q : Post T). Fit q.keys floor) posts i p fit at)).0)
 
 -- new posts are ready
 module _ {T : Type 0} (count : ℕ) (cells : List CellView) (vaults : List (Deposit Item)) (seats : List (Seat T)) (posts : List (Post T)) (opened : Beside (IsVaultOf count) cells vaults) (posted : Beside (IsPostOf (new_hand vaults)) seats posts) where
-  pub posts_fit : (config : Numbers) (clock : ClockId) (floor : FloorView) → floor ≡ record { clock = clock; slots = slots_of cells; vaults = vaults } → AreCells config clock cells → All (λ (s : Seat T). IsDeskAt config clock s.desk) seats → All (λ (p : Post T). Fit p.keys floor) posts
+  pub posts_fit : (config : Numbers) (clock : ClockId) (floor : FloorView) → floor ≡ record { clock = clock; slots = slots_of cells; vaults = vaults; answers = [] } → AreCells config clock cells → All (λ (s : Seat T). IsDeskAt config clock s.desk) seats → All (λ (p : Post T). Fit p.keys floor) posts
   posts_fit config clock floor is are desks = all_from (λ (p : Post T). Fit p.keys floor) posts (λ i p at.
       let s = left_of (IsPostOf (new_hand vaults)) seats posts i p posted at in
       let desk : IsDeskAt config clock p.keys.desk = subst (IsDeskAt config clock) (sym (ap (λ (k : KeysView). k.desk) s.2.keys)) (all_at (λ (x : Seat T). IsDeskAt config clock x.desk) seats i s.0 desks s.1) in
-      subst (Fit p.keys) (sym is) (new_fit count cells vaults opened config clock p.keys are desk (ap (λ (k : KeysView). k.chits) s.2.keys)))
+      subst (Fit p.keys) (sym is) (new_fit count cells vaults opened config clock p.keys are desk (ap (λ (k : KeysView). k.chits) s.2.keys) (ap (λ (k : KeysView). k.mail) s.2.keys)))
 
   pub posts_sound : All (λ (p : Post T). p.keys.refused ≡ None) posts
   posts_sound = all_from (λ (p : Post T). p.keys.refused ≡ None) posts (λ i p at. let s = left_of (IsPostOf (new_hand vaults)) seats posts i p posted at in ap (λ (k : KeysView). k.refused) s.2.keys)
@@ -96,14 +100,14 @@ module _ {T : Type 0} (count : ℕ) (cells : List CellView) (vaults : List (Depo
     hand_is : (i : ℕ) (h : List (Chit Item)) → slice_get hands i ≡ Some h → (q : Post T) × (slice_get ends i ≡ Some q) × (reverse h ≡ q.keys.chits)
     hand_is i h at = let q = left_of IsHandOf ends hands i h given at in (q.0, q.1, ap reverse q.2 ∙ reverse-reverse q.0.keys.chits)
 
-    own_at : (floor : FloorView) → floor.vaults ≡ vaults → All (λ (q : Post T). Fit q.keys floor) ends → (i : ℕ) (h : List (Chit Item)) → slice_get hands i ≡ Some h → map (λ (c : Chit Item). c.vault) (reverse h) ≡ map (λ (v : Deposit Item). v.id) vaults
-    own_at floor is fit i h at =
+    own_at : (floor : FloorView) → floor.answers ≡ [] → floor.vaults ≡ vaults → All (λ (q : Post T). Fit q.keys floor) ends → (i : ℕ) (h : List (Chit Item)) → slice_get hands i ≡ Some h → map (λ (c : Chit Item). c.vault) (reverse h) ≡ map (λ (v : Deposit Item). v.id) vaults
+    own_at floor none is fit i h at =
         let q = hand_is i h at in
-        ap (map (λ (c : Chit Item). c.vault)) q.2 ∙ (all_at (λ (q : Post T). Fit q.keys floor) ends i q.0 fit q.1).own ∙ ap (map (λ (v : Deposit Item). v.id)) is
+        ap (map (λ (c : Chit Item). c.vault)) q.2 ∙ (chits_fit q.0.keys floor none (all_at (λ (q : Post T). Fit q.keys floor) ends i q.0 fit q.1)).1.own ∙ ap (map (λ (v : Deposit Item). v.id)) is
 
-    pub hands_own : (floor : FloorView) (rows : List (Deposit Item)) → floor.vaults ≡ vaults → rows ≡ vaults → All (λ (q : Post T). Fit q.keys floor) ends → All (λ (h : List (Chit Item)). map (λ (c : Chit Item). c.vault) (reverse h) ≡ map (λ (v : Deposit Item). v.id) rows) hands
-    hands_own floor rows is row fit = all_from (λ (h : List (Chit Item)). map (λ (c : Chit Item). c.vault) (reverse h) ≡ map (λ (v : Deposit Item). v.id) rows) hands
-        (λ i h at. own_at floor is fit i h at ∙ ap (map (λ (v : Deposit Item). v.id)) (sym row))
+    pub hands_own : (floor : FloorView) (rows : List (Deposit Item)) → floor.answers ≡ [] → floor.vaults ≡ vaults → rows ≡ vaults → All (λ (q : Post T). Fit q.keys floor) ends → All (λ (h : List (Chit Item)). map (λ (c : Chit Item). c.vault) (reverse h) ≡ map (λ (v : Deposit Item). v.id) rows) hands
+    hands_own floor rows none is row fit = all_from (λ (h : List (Chit Item)). map (λ (c : Chit Item). c.vault) (reverse h) ≡ map (λ (v : Deposit Item). v.id) rows) hands
+        (λ i h at. own_at floor none is fit i h at ∙ ap (map (λ (v : Deposit Item). v.id)) (sym row))
 
     pub hands_left : All (λ (q : Post T). All (λ (c : Chit Item). c.holds ≡ None) q.keys.chits) ends → All (λ (h : List (Chit Item)). All (λ (c : Chit Item). c.holds ≡ None) (reverse h)) hands
     hands_left rests = all_from (λ (h : List (Chit Item)). All (λ (c : Chit Item). c.holds ≡ None) (reverse h)) hands (λ i h at.
@@ -141,7 +145,7 @@ module _ {T : Type 0} (count : ℕ) (cells : List CellView) (vaults : List (Depo
             subst (λ x. Agree x (reverse h)) (sym seat.desk ∙ t.2) (subst (Agree q.0.keys.desk) (sym q.2) is);
       }
 
-      pub pairs_again : (floor : FloorView) → floor.vaults ≡ vaults → All (λ (q : Post T). Fit q.keys floor) ends → All (λ (q : Post T). q.keys.refused ≡ None) ends → All (λ (q : Post T). q.keys.refused ≡ None → Agree q.keys.desk q.keys.chits) ends
+      pub pairs_again : (floor : FloorView) → floor.answers ≡ [] → floor.vaults ≡ vaults → All (λ (q : Post T). Fit q.keys floor) ends → All (λ (q : Post T). q.keys.refused ≡ None) ends → All (λ (q : Post T). q.keys.refused ≡ None → Agree q.keys.desk q.keys.chits) ends
           → PairsStand cells (desks_of seats) → PairsStand now (desks_of lasts)
-      pairs_again floor is fit sound agree pairs =
-          pairs_stand count cells now vaults (desks_of seats) (desks_of lasts) hands (record { opened = opened; closed = closed; own = own_at floor is fit; later = later_desks; agree = agree_desks sound agree }) pairs
+      pairs_again floor none is fit sound agree pairs =
+          pairs_stand count cells now vaults (desks_of seats) (desks_of lasts) hands (record { opened = opened; closed = closed; own = own_at floor none is fit; later = later_desks; agree = agree_desks sound agree }) pairs

@@ -1,17 +1,13 @@
 -- How cells and desks stand side by side with what a phase makes of them.
 use Rattle.std.specs.Prelude.{◌≡◌, ℕ, false, List, [], ◌∷◌, ◌++◌, length, map, reverse, slice_get}
 use Rattle.std.specs.declared.option.Option.TheVariants.{None, Some}
+use Rattle.crews.specs.Crews.{Beside}
 use Rattle.receipt_lock.specs.Chits.{Holder as Chit, Deposit, new_chit}
 use Rattle.receipt_lock.specs.Receipts.{IsSettled, EachHasOneReceipt, EachReceiptStands}
 use Rattle.locked_nodes.specs.declared.charter.Item.{Item}
 use Rattle.phase_threads.specs.declared.duty.Seat.{Seat}
 use Rattle.phase_threads.specs.declared.crew.Post.{Post}
 use Rattle.locked_nodes.specs.Cells.{CellView, items, rechartered}
-
--- two lists of one length, and each item is so to the other one at its place
-pub record Beside {X Y : Type 0} (R : ℕ → X → Y → Type 0) (xs : List X) (ys : List Y) : Type 0 where
-  pub count : length xs ≡ length ys
-  pub each : (i : ℕ) (x : X) (y : Y) → slice_get xs i ≡ Some x → slice_get ys i ≡ Some y → R i x y
 
 -- the vault of so many chits into which the cell came
 pub record IsVaultOf (count i : ℕ) (cell : CellView) (v : Deposit Item) : Type 0 where
@@ -25,7 +21,7 @@ new_hand vaults = map (λ v. new_chit v.id) vaults
 
 -- the post of a seat, with this hand
 pub record IsPostOf {T : Type 0} (hand : List (Chit Item)) (i : ℕ) (seat : Seat T) (post : Post T) : Type 0 where
-  pub keys : post.keys ≡ record { desk = seat.desk; chits = hand; refused = None }
+  pub keys : post.keys ≡ record { desk = seat.desk; chits = hand; mail = None; refused = None }
   pub duty : post.duty ≡ seat.duty
 
 -- what a post leaves: the desk with its duty, and the chits, the last one first

@@ -1,7 +1,8 @@
 //! Desks without their chits, and cells out of their vaults, when the threads have ended.
 ghost use Rattle.std.specs.Prelude.{◌≡◌, ◌<◌, List, length, map, reverse, All, None, IfOk};
 ghost use Rattle.desk_keys.specs.Keys.{Agree};
-ghost use Rattle.phase_threads.specs.Phased.{Beside, IsSeatOf, IsHandOf, AreTaken, IsClosed};
+ghost use Rattle.crews.specs.Crews.{Beside};
+ghost use Rattle.phase_threads.specs.Phased.{IsSeatOf, IsHandOf, AreTaken, IsClosed};
 
 use crate::crew::Post;
 use crate::duty::{Duty, Seat};
@@ -21,6 +22,7 @@ pub struct Parted<T> {
 
 /// Takes posts apart, in their order.
 pub fn part<T: Duty>(alloc: Global, posts: Vec<Post<T>>) -> Result<Parted<T>, NoMemory>
+    requires chits { All (λ p. p.keys.mail ≡ None) posts.items }
     ensures seats { IfOk result (λ r. Beside IsSeatOf posts.items r.seats.items) }
     ensures hands { IfOk result (λ r. Beside IsHandOf posts.items r.hands.items) }
     ensures refused { IfOk result (λ r. r.refused ≡ None → All (λ p. p.keys.refused ≡ None) posts.items) }

@@ -1,30 +1,20 @@
 //! A thread for each desk.
-ghost use Rattle.std.specs.Prelude.{◌≡◌, ◌<◌, ℕ, All, length, slice_index_or, None};
+ghost use Rattle.std.specs.Prelude.{◌≡◌, All, None};
 ghost use Rattle.desk_keys.specs.Keys.{Fit};
 ghost use Rattle.client_desks.specs.Later.{IsLater};
-ghost use Rattle.phase_threads.specs.Phased.{Beside};
+ghost use Rattle.crews.specs.Crews.{Beside};
 
 use crate::duty::Duty;
-use desk_keys::{Floor, Gate, Keys};
+use crews::{Crew, Gate, each};
+use desk_keys::{Floor, Keys};
 use std::sync::Wait;
-use std::thread::{Threads, for_each_mut};
+use std::thread::Threads;
 
 /// What one thread has in hand.
 #[derive(Drop)]
 pub struct Post<T> {
     pub keys: Keys,
     pub duty: T,
-}
-
-/// Work that threads do at posts of their own, beside what they share.
-pub trait Crew<P> {
-    ghost can_work: { Self → P → Type 0 };
-
-    ghost works: { Self → P → P → Type 0 };
-
-    fn work<R: Wait, G: Gate>(&self, rt: &R, gate: &G, post: &mut P)
-        requires { can_work self.now post.old }
-        ensures { works self.now post.old post.new };
 }
 
 impl<T: Duty> Crew<Post<T>> for Floor {
@@ -39,24 +29,6 @@ impl<T: Duty> Crew<Post<T>> for Floor {
     fn work<R: Wait, G: Gate>(&self, rt: &R, gate: &G, post: &mut Post<T>) {
         post.duty.work(rt, gate, self, &mut post.keys);
     }
-}
-
-/// Each post has a thread of its own. Where a thread can't be made, another one does its work.
-pub fn each<R: Threads + Wait + Sync, G: Gate + Sync, P: Send, C: Crew<P> + Sync>(
-    rt: &R,
-    gate: &G,
-    crew: &C,
-    posts: &mut [P],
-)
-    requires can { All (C.can_work crew.now) posts.old }
-    ensures count { length posts.new ≡ length posts.old }
-    ensures done { (i : ℕ) (d : P) → i < length posts.old → C.works crew.now (slice_index_or posts.old i d) (slice_index_or posts.new i d) }
-{
-    let threads = posts.len();
-    if threads == 0 {
-        return;
-    }
-    for_each_mut(rt, posts, threads, &|_, post| crew.work(rt, gate, post));
 }
 
 /// Each desk has a thread of its own.

@@ -6,7 +6,8 @@ ghost use Rattle.client_desks.specs.Desks.{DeskView};
 ghost use Rattle.client_desks.specs.Later.{IsLater};
 
 use client_desks::Desk;
-use desk_keys::{Floor, Gate, Keys};
+use crews::Gate;
+use desk_keys::{Floor, Keys};
 use std::sync::Wait;
 
 /// What a desk's thread does in a phase, with the keys of its desk. It may change itself.

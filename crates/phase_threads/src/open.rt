@@ -3,7 +3,8 @@ ghost use Rattle.std.specs.Prelude.{◌≡◌, ◌≤◌, ◌++◌, ◌∷◌, [
 ghost use Rattle.receipt_lock.specs.Chits.{Holder as ChitOf, new_chit};
 ghost use Rattle.locked_nodes.specs.declared.charter.Item.{Item};
 ghost use Rattle.desk_keys.specs.Keys.{Agree};
-ghost use Rattle.phase_threads.specs.Phased.{Beside, IsVaultOf, IsPostOf, new_hand};
+ghost use Rattle.crews.specs.Crews.{Beside};
+ghost use Rattle.phase_threads.specs.Phased.{IsVaultOf, IsPostOf, new_hand};
 
 use crate::crew::Post;
 use crate::duty::{Duty, Seat};

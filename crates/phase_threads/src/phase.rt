@@ -1,16 +1,13 @@
 //! One phase of a run in threads.
-ghost use Rattle.std.specs.Prelude.{◌≡◌, ◌≤◌, length, map, All, None, IfOk};
-ghost use Rattle.std.specs.List.{AllZip};
-ghost use Rattle.quorum_rules.specs.Limits.{Numbers};
-ghost use Rattle.locked_nodes.specs.Slots.{slots_of};
-ghost use Rattle.client_desks.specs.Later.{IsLater};
-ghost use Rattle.run_journals.specs.Standing.{AreCells, IsDeskAt, PairsStand, HasWorked};
+ghost use Rattle.std.specs.Prelude.{IfOk};
+ghost use Rattle.phase_threads.specs.Phases.{MayPhase, HasPhased};
 
 use crate::close::{Parted, close_row, part};
 use crate::crew::work_all;
 use crate::duty::{Duty, Seat};
 use crate::open::{open_posts, open_row};
-use desk_keys::{Floor, Gate};
+use crews::Gate;
+use desk_keys::Floor;
 use event_clock::Clock;
 use lists::NoMemory;
 use locked_nodes::{CellRefusal, NodeCell, slots_in};
@@ -40,15 +37,8 @@ pub fn run_phase<R: Threads + Wait + Sync, G: Gate + Sync, T: Duty + Send>(
     cells: Vec<NodeCell>,
     seats: Vec<Seat<T>>,
 ) -> Result<(Clock, Left<T>), NoMemory>
-    requires cluster { (config : Numbers) × AreCells config clock cells.items × All (λ s. IsDeskAt config clock s.desk) seats.items }
-    requires pairs { PairsStand cells.items (map (λ s. s.desk) seats.items) }
-    requires ready { All (λ s. T.ready s.duty (slots_of cells.items) s.desk) seats.items }
-    requires count { (1 ≤ length seats.items) × (length seats.items ≤ 65536) }
-    ensures clock { IfOk result (λ r. r.0 ≡ clock) }
-    ensures cells { IfOk result (λ r. AllZip HasWorked cells.items r.1.cells.items) }
-    ensures desks { IfOk result (λ r. AllZip (λ s t. IsLater s.desk t.desk) seats.items r.1.seats.items) }
-    ensures duties { IfOk result (λ r. r.1.refused ≡ None → AllZip (λ s t. T.done s.duty s.desk t.duty t.desk) seats.items r.1.seats.items) }
-    ensures pairs { IfOk result (λ r. r.1.refused ≡ None → PairsStand r.1.cells.items (map (λ s. s.desk) r.1.seats.items)) }
+    requires { MayPhase T.ready clock cells.items seats.items }
+    ensures { IfOk result (λ r. HasPhased T.done clock cells.items seats.items r.0 r.1) }
 {
     let count = seats.len() as u32;
     let slots = slots_in(alloc, cells.as_slice())?;

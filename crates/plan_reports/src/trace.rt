@@ -52,7 +52,7 @@ fn joined(alloc: Global, script: &Bytes, report: &Bytes) -> Result<Bytes, NoMemo
     text.add(script.as_slice())?;
     text.add(b"report\n")?;
     text.add(report.as_slice())?;
-    Ok(text.into_bytes())
+    text.into_bytes()
 }
 
 /// The lines of the run that the journals tell as a script, the line `report`, and the run's report. The journals are those of a

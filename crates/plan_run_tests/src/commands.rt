@@ -1,4 +1,4 @@
-//! The command `run` on plans of two clients that write to two blocks, under gates that hold them.
+//! The commands `run` and `run workers` on plans of two clients that write to two blocks, under gates that hold them.
 
 use crate::gates::{InBetween, SideBySide};
 use crate::tests::{TWO_SHARDS, TWO_WRITES};
@@ -7,20 +7,24 @@ use cross_sum::Bytes;
 use outside_io::{Calls, MemorySink, MemorySource};
 use pasis_shell::{Status, pasis};
 use std::alloc::Global;
+use std::process::Abort;
 use std::sync::Wait;
 use std::test::Fail;
 use std::thread::Threads;
 
-// How `run` of a plan ends under a gate, and where it wrote.
+// How a command ends on a plan under a gate, and where it wrote.
 fn ran<R: Threads + Wait + Sync, G: Gate + Sync>(
     rt: &R,
     alloc: Global,
+    command: &str,
     plan: &[u8],
     gate: &G,
 ) -> Result<(Status, MemorySink), Fail> {
     let mut words = Vec::new(alloc);
-    words.push(String::from_str(alloc, "run")?)?;
-    let input = Bytes::from_vec(Vec::from_slice(alloc, plan)?);
+    for word in command.split(' ') {
+        words.push(String::from_str(alloc, word)?)?;
+    }
+    let input = Bytes::of(alloc, plan)?;
     let mut source = MemorySource::new(input, 4096, Calls::new(alloc));
     let mut sink = MemorySink::new(alloc, 4096, Calls::new(alloc));
     let status = pasis(rt, alloc, words.as_slice(), &mut source, &mut sink, gate);
@@ -34,10 +38,13 @@ const BEGINNINGS: [&str; 3] = [
     "end done=2 spent=0 pending=0 repaired=0 rounds=0",
 ];
 
-#[test]
-fn a_run_has_both_clients_at_work(rt: HostRuntime) -> Result<(), Fail> {
+// Each client waits at the beginning of its operation for the other one.
+fn has_both_at_work<R: Abort + AllocGlobal + Threads + Wait + Sync>(
+    rt: &R,
+    command: &str,
+) -> Result<(), Fail> {
     let gate = SideBySide::new();
-    let (status, sink) = ran(&rt, rt.alloc(), TWO_WRITES, &gate)?;
+    let (status, sink) = ran(rt, rt.alloc(), command, TWO_WRITES, &gate)?;
     assert!(rt; status.is_done());
     assert!(rt; gate.first.is_met());
     assert!(rt; gate.second.is_met());
@@ -49,13 +56,25 @@ fn a_run_has_both_clients_at_work(rt: HostRuntime) -> Result<(), Fail> {
     Ok(())
 }
 
-// The gate fixes the order of all steps: all of client 2's stand between the first and the second of client 1.
 #[test]
-fn a_run_reports_the_order_of_its_steps(rt: HostRuntime) -> Result<(), Fail> {
+fn a_run_has_both_clients_at_work(rt: HostRuntime) -> Result<(), Fail> {
+    has_both_at_work(&rt, "run")
+}
+
+#[test]
+fn a_run_by_workers_has_both_clients_at_work(rt: HostRuntime) -> Result<(), Fail> {
+    has_both_at_work(&rt, "run workers")
+}
+
+// The gate fixes the order of all steps: all of client 2's stand between the first and the second of client 1.
+fn reports_the_order_of_its_steps<R: Abort + AllocGlobal + Threads + Wait + Sync>(
+    rt: &R,
+    command: &str,
+) -> Result<(), Fail> {
     let gate = InBetween::new(2);
-    let (status, sink) = ran(&rt, rt.alloc(), TWO_WRITES, &gate)?;
+    let (status, sink) = ran(rt, rt.alloc(), command, TWO_WRITES, &gate)?;
     assert!(rt; status.is_done());
-    assert!(rt; gate.locked.is_met());
+    assert!(rt; gate.in_hand.is_met());
     assert!(rt; gate.ended.is_met());
     let report = b"0 1.1.1 write 1 1 18 x0100
 1 1.2.1 write 2 2 10 x0200
@@ -65,13 +84,23 @@ end done=2 spent=0 pending=0 repaired=0 rounds=0
     Ok(())
 }
 
+#[test]
+fn a_run_reports_the_order_of_its_steps(rt: HostRuntime) -> Result<(), Fail> {
+    reports_the_order_of_its_steps(&rt, "run")
+}
+
+#[test]
+fn a_run_by_workers_reports_the_order_of_its_steps(rt: HostRuntime) -> Result<(), Fail> {
+    reports_the_order_of_its_steps(&rt, "run workers")
+}
+
 // The gate fixes the order here too: all steps of client 6, at node 1 too, stand between the first and the second of client 1.
 #[test]
 fn a_run_reports_two_clients_at_one_node(rt: HostRuntime) -> Result<(), Fail> {
     let gate = InBetween::new(6);
-    let (status, sink) = ran(&rt, rt.alloc(), TWO_SHARDS, &gate)?;
+    let (status, sink) = ran(&rt, rt.alloc(), "run", TWO_SHARDS, &gate)?;
     assert!(rt; status.is_done());
-    assert!(rt; gate.locked.is_met());
+    assert!(rt; gate.in_hand.is_met());
     assert!(rt; gate.beside.is_met());
     assert!(rt; gate.ended.is_met());
     let report = b"0 1.1.1 write 1 1 18 x0100

@@ -74,12 +74,13 @@ impl Gate for SideBySide {
     }
 }
 
-/// Holds another client at the beginning of its operation until client 1 has node 1 in hand for the first time, and client 1 there
-/// until the other has ended its operation. It sees whether the other had node 1 in hand too.
+/// Holds another client at the beginning of its operation until client 1 has node 1 in hand for the first time, or node 1 has an ask
+/// of client 1 in hand, and whoever has it there until the other has ended its operation. It sees whether the other had node 1 in
+/// hand too.
 #[derive(Drop)]
 pub struct InBetween {
     other: u32,
-    pub locked: Mark,
+    pub in_hand: Mark,
     pub beside: Mark,
     pub ended: Mark,
 }
@@ -88,7 +89,7 @@ impl InBetween {
     pub fn new(other: u32) -> InBetween {
         InBetween {
             other,
-            locked: Mark::new(),
+            in_hand: Mark::new(),
             beside: Mark::new(),
             ended: Mark::new(),
         }
@@ -99,13 +100,13 @@ impl Gate for InBetween {
     fn at(&self, client: u32, _op: u64, edge: Edge) {
         if client == self.other {
             match edge {
-                Edge::Begin => self.locked.wait(),
+                Edge::Begin => self.in_hand.wait(),
                 Edge::Locked(1) => self.beside.see(),
                 Edge::End => self.ended.see(),
-                Edge::Locked(_) => {}
+                Edge::Locked(_) | Edge::Taken(_) => {}
             }
-        } else if edge == Edge::Locked(1) {
-            self.locked.see();
+        } else if matches!(edge, Edge::Locked(1) | Edge::Taken(1)) {
+            self.in_hand.see();
             self.ended.wait();
         }
     }

@@ -25,7 +25,7 @@ fn soaked<R: Threads + Wait + Sync, G: Gate + Sync>(
     let mut words = Vec::new(alloc);
     words.push(String::from_str(alloc, "soak")?)?;
     words.push(String::from_str(alloc, "7")?)?;
-    let input = Bytes::from_vec(Vec::new(alloc));
+    let input = Bytes::empty();
     let mut source = MemorySource::new(input, 4096, Calls::new(alloc));
     let mut sink = MemorySink::new(alloc, 4096, Calls::new(alloc));
     let status = pasis(rt, alloc, words.as_slice(), &mut source, &mut sink, gate);

@@ -73,7 +73,7 @@ fn clients_run_side_by_side(rt: HostRuntime) -> Result<(), Fail> {
 fn a_client_holds_one_node(rt: HostRuntime) -> Result<(), Fail> {
     let gate = InBetween::new(2);
     let _ran = ran(&rt, rt.alloc(), TWO_WRITES, &gate)?;
-    assert!(rt; gate.locked.is_met());
+    assert!(rt; gate.in_hand.is_met());
     assert!(rt; gate.ended.is_met());
     Ok(())
 }
@@ -83,7 +83,7 @@ fn a_client_holds_one_node(rt: HostRuntime) -> Result<(), Fail> {
 fn clients_of_two_blocks_hold_one_node(rt: HostRuntime) -> Result<(), Fail> {
     let gate = InBetween::new(6);
     let _ran = ran(&rt, rt.alloc(), TWO_SHARDS, &gate)?;
-    assert!(rt; gate.locked.is_met());
+    assert!(rt; gate.in_hand.is_met());
     assert!(rt; gate.beside.is_met());
     assert!(rt; gate.ended.is_met());
     Ok(())

@@ -138,7 +138,7 @@ fn replays(alloc: Global, trace: &str) -> io::Result<bool> {
     };
     let mut script = Vec::from_slice(alloc, front.as_bytes())?;
     script.push(b'\n')?;
-    let input = Bytes::from_vec(script);
+    let input = Bytes::shared(script).map_err(error_of)?;
     let mut words = Vec::new(alloc);
     words.push(String::from_str(alloc, "replay")?)?;
     let mut source = MemorySource::new(input, 4096, Calls::new(alloc));

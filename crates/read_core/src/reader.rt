@@ -7,6 +7,7 @@ ghost use Rattle.protocol.specs.Instance.{setting};
 ghost use Rattle.read_core.specs.Stages.{stage_of, IsNew};
 ghost use Rattle.read_core.specs.Readers.{begun, next_task, counts_in_task, IsCounted, task_after, rounds_of, IsReading, EndsOutvoted};
 ghost use Rattle.read_core.specs.declared.reading.Reading.TheVariants.{Outvoted};
+ghost use Rattle.wire_forms.specs.Firsts.{first_of};
 
 use crate::mailing::{mail, message};
 use crate::phase_end::PhaseEnd;
@@ -15,10 +16,10 @@ use crate::round::Round;
 use crate::stage::Stage;
 use lists::{Copied, NoMemory};
 use quorum_rules::Config;
-use stamp_order::Bound;
+use stamp_order::{Bound, Stamp};
 use std::alloc::Global;
 use std::marker::Model;
-use wire_forms::{First, Mail, Message, Reply, Tag};
+use wire_forms::{Mail, Message, Reply, Tag};
 
 /// A read of a block by a correct client. It asks all nodes for versions, round by round with ever lower bounds, until
 /// enough nodes tell of one that is sound. If that one is stored at too few nodes, it stores it again before it gives it.
@@ -47,19 +48,21 @@ impl Model for Reader {
 }
 
 impl Reader {
-    /// Begins a read of a block, the client's operation of number `op`. The messages are those of its first phase.
+    /// Begins a read of a block, the client's operation of number `op`. The messages are those of its first phase. `first` is the
+    /// first stamp of the configuration.
     pub fn begin(
         alloc: Global,
         config: &Config,
+        first: &Stamp,
         client: u32,
         op: u64,
         block: u32,
     ) -> Result<(Reader, Mail), NoMemory>
+        requires first { first.now ≡ (first_of config.now).stamp }
         ensures reader { IfOk result (λ r. r.0 ≡ record { config = config.now; client = client; task = Some (begun config.now op block) }) }
         ensures mail { IfOk result (λ r. r.1 ≡ mail_of (setting config.now) client (task_at 0 (begun config.now op block))) }
     {
-        let first = First::of(alloc, config)?;
-        let stage = Stage::Asking(Round::new(alloc, config, &first.stamp, Bound::All)?);
+        let stage = Stage::Asking(Round::new(alloc, config, first, Bound::All)?);
         let mail = mail(alloc, config, client, Tag { op, phase: 1 }, block, &stage)?;
         let reader = Reader {
             alloc,

@@ -1,12 +1,13 @@
 -- The nodes of a plan's cells: one that stands in one cell is as that cell, and one that stands in several is calm.
-use Rattle.std.proofs.Common.{◌≡◌, ◌⊎◌, ℕ, zero, suc, ◌<◌, ◌%◌, ◌&&◌, Bool, true, false, cond, List, [], ◌∷◌, refl, sym, ◌∙◌, ap, subst, inl, inr, arith}
+use Rattle.std.proofs.Common.{◌≡◌, ◌⊎◌, ℕ, zero, suc, ◌+◌, ◌<◌, ◌%◌, ◌&&◌, Bool, true, false, cond, List, [], ◌∷◌, length, map, refl, sym, ◌∙◌, ap, subst, inl, inr, arith}
 use Rattle.std.specs.Prelude.{Option, slice_get, filter, ◌||◌, ◌==◌}
 use Rattle.std.specs.declared.option.Option.TheVariants.{None, Some}
-use Rattle.std.specs.List.{Contains, All, list_any, filter_map}
+use Rattle.std.specs.List.{Contains, All, list_any, filter_map, range_with_len}
 use Rattle.std.proofs.Math.Nat.{mod-eq_of_lt}
 use Rattle.std.proofs.lemmas.Bool.Decides.{eqb_tells}
 use Rattle.std.proofs.lemmas.List.Sums.{sum_by-cons}
 use Rattle.std.proofs.lemmas.List.Elements.{All-contains}
+use Rattle.std.proofs.lemmas.List.FromFn.{length-map-range_with_len}
 use Rattle.protocol.proofs.Lists.{Contains-none, Contains-head, Contains-rest, Contains-slice_get}
 use Rattle.journals.proofs.Lists.{number_of}
 use Rattle.quorum_rules.specs.Limits.{Numbers}
@@ -29,7 +30,7 @@ use Rattle.plan_words.specs.declared.fault.Fault.TheVariants.{LiarNode, LiarSoun
 use Rattle.plan_words.specs.declared.plan.Plan.{Plan}
 use Rattle.plan_followed.specs.Asked.{nature, crash_after, crash_after_by, holds, holds_by}
 use Rattle.plan_followed.specs.Nodes.{node_after}
-use Rattle.run_journals.specs.Standing.{IsCellOf, IsPlanned, ArePlanned, needs_whole, shards_of, NodesPrune, NothingLate}
+use Rattle.run_journals.specs.Standing.{IsCellOf, IsPlanned, ArePlanned, needs_whole, is_whole, NodesPrune, NothingLate}
 use Rattle.run_journals.proofs.Nodes.{IsIn, IsAlone, journal_cases, journal_alone, fold_filter}
 
 -- ---- which nodes have one cell
@@ -89,16 +90,20 @@ some_holds c i (x ∷ rules) l = at (needs_whole i x) refl (some_holds c i rules
         let none : (0 < holds_by c i x) → ⊥ = λ k. (let t = some_hold c i x k in cc (t, e)) in
         or_right (needs_whole i x) (list_any (needs_whole i) rules) (next (omega (arith, s, none, l)))
 
--- a node that is to hold back asks has one cell
-pub holds_one : (plan : Plan) (c i : ℕ) → 0 < holds plan.rules c i → shards_of plan i ≡ 1
-holds_one plan c i l = ap (λ (b : Bool). cond b 1 4) (some_holds c i plan.rules l)
+-- a node that is to hold back asks needs to be whole
+pub holds_whole : (plan : Plan) (c i : ℕ) → 0 < holds plan.rules c i → is_whole plan i ≡ true
+holds_whole plan c i l = some_holds c i plan.rules l
 
-pub one_or_four : (plan : Plan) (i : ℕ) → (shards_of plan i ≡ 1) ⊎ ((shards_of plan i ≡ 4) × (crash_after plan.rules i ≡ None))
-one_or_four plan i = at (list_any (needs_whole i) plan.rules) refl
+-- a node has one cell, or several and isn't to crash
+one_or_several : (plan : Plan) (clock : ClockId) (row : List CellView) (h : ArePlanned plan clock row) (i : ℕ) → (h.shards i ≡ 1) ⊎ ((1 < h.shards i) × (crash_after plan.rules i ≡ None))
+one_or_several plan clock row h i = at (is_whole plan i) refl
   where
-    at : (b : Bool) → list_any (needs_whole i) plan.rules ≡ b → (shards_of plan i ≡ 1) ⊎ ((shards_of plan i ≡ 4) × (crash_after plan.rules i ≡ None))
-    at true e = inl (ap (λ (b : Bool). cond b 1 4) e)
-    at false e = inr (ap (λ (b : Bool). cond b 1 4) e, rw (no_crashes i plan.rules e) refl)
+    at : (b : Bool) → is_whole plan i ≡ b → (h.shards i ≡ 1) ⊎ ((1 < h.shards i) × (crash_after plan.rules i ≡ None))
+    at true e = inl (h.whole i e)
+    at false e = elim (eqb_tells (h.shards i) 1) [
+      | inl same ↦ inl same.1
+      | inr other ↦ (let some = h.some i in let ne = other.1 in inr (omega (arith, some, ne), rw (no_crashes i plan.rules e) refl))
+    ]
 
 -- ---- the cells of a node
 
@@ -106,8 +111,8 @@ slot_with : (s t : Slot) → s.node ≡ t.node → s.shard ≡ t.shard → s.sha
 slot_with s t a b c = λ i. record { node = a i; shard = b i; shards = c i }
 
 module _ (plan : Plan) (clock : ClockId) (row : List CellView) (h : ArePlanned plan clock row) (kept : All KeptCell row) where
-  planned : (cell : CellView) → Contains row cell → IsPlanned plan cell
-  planned cell there = All-contains (IsPlanned plan) row cell h.each there
+  planned : (cell : CellView) → Contains row cell → IsPlanned plan h.shards cell
+  planned cell there = All-contains (IsPlanned plan h.shards) row cell h.each there
 
   cluster : (cell : CellView) → Contains row cell → cell.charter.config ≡ plan.config
   cluster cell there = (All-contains (IsCellOf plan.config clock) row cell h.cells.each there).cluster
@@ -139,11 +144,11 @@ module _ (plan : Plan) (clock : ClockId) (row : List CellView) (h : ArePlanned p
 
   -- ---- a node with one cell
 
-  module _ (i : ℕ) (one : shards_of plan i ≡ 1) where
+  module _ (i : ℕ) (one : h.shards i ≡ 1) where
     first : (cell : CellView) → Contains row cell → cell.charter.number ≡ i → (cell.charter.shard ≡ 0) × (cell.charter.shards ≡ 1)
     first cell there is =
         let p = planned cell there in
-        let shards : cell.charter.shards ≡ 1 = p.shards ∙ ap (shards_of plan) is ∙ one in
+        let shards : cell.charter.shards ≡ 1 = p.shards ∙ ap h.shards is ∙ one in
         let l = p.shard in
         (omega (arith, l, shards), shards)
 
@@ -163,10 +168,10 @@ module _ (plan : Plan) (clock : ClockId) (row : List CellView) (h : ArePlanned p
       ∙ ap (λ (k : ℕ). after_all (new_state plan.config k cell.charter.crash_after) cell.journal) is
       ∙ ap (λ (o : Option ℕ). after_all (new_state plan.config i o) cell.journal) ((planned cell there).crash ∙ ap (crash_after plan.rules) is)
 
-  -- ---- a node with four
+  -- ---- a node with several
 
-  module _ (i : ℕ) (four : shards_of plan i ≡ 4) (lasts : crash_after plan.rules i ≡ None) where
-    pub serves : (cell : CellView) → Contains row cell → cell.charter.number ≡ i → IsShardOf plan.config i (nature plan.rules i) 4 cell.charter.shard cell
+  module _ (i : ℕ) (more : 1 < h.shards i) (lasts : crash_after plan.rules i ≡ None) where
+    pub serves : (cell : CellView) → Contains row cell → cell.charter.number ≡ i → IsShardOf plan.config i (nature plan.rules i) (h.shards i) cell.charter.shard cell
     serves cell there is =
         let p = planned cell there in
         record {
@@ -174,13 +179,13 @@ module _ (plan : Plan) (clock : ClockId) (row : List CellView) (h : ArePlanned p
           cluster = cluster cell there;
           node = is;
           conduct = (p.nature ∙ ap (nature plan.rules) is, p.crash ∙ ap (crash_after plan.rules) is ∙ lasts);
-          share = (p.shards ∙ ap (shards_of plan) is ∙ four, refl);
+          share = (p.shards ∙ ap h.shards is, refl);
         }
 
     -- entries of its cells leave the node calm
     pub stays_calm : SeveralCalm → (es : List NodeEntry) → ((e : NodeEntry) → Contains es e → IsIn row i e) → ((node_after plan i es).crashed ≡ false) × ((node_after plan i es).late ≡ [])
     stays_calm calm es in_cells =
-        let c = calm plan.config i (nature plan.rules i) 4 es (omega arith) (λ e there. (let q = in_cells e there in record { cell = q.cell; serves = serves q.cell q.there q.number; stands = q.stands })) in
+        let c = calm plan.config i (nature plan.rules i) (h.shards i) es more (λ e there. (let q = in_cells e there in record { cell = q.cell; serves = serves q.cell q.there q.number; stands = q.stands })) in
         let s : new_state plan.config i None ≡ new_state plan.config i (crash_after plan.rules i) = ap (new_state plan.config i) (sym lasts) in
         (subst (λ (x : NodeState). (after_all x es).crashed ≡ false) s c.0, subst (λ (x : NodeState). (after_all x es).late ≡ []) s c.1)
 
@@ -191,27 +196,27 @@ prunes_by s t (Lies rule) e = refl
 pub nodes_prune : SeveralCalm → NodesPrune
 nodes_prune calm plan clock row cell h kept there =
     let i = cell.charter.number in
-    let p = All-contains (IsPlanned plan) row cell h.each there in
+    let p = planned plan clock row h kept cell there in
     let s = state_is plan clock row h kept cell there i refl in
     let own : can_prune (state_of cell) cell.charter.nature ≡ can_prune (node_after plan i cell.journal) (nature plan.rules i) = ap (λ (x : NodeState). can_prune x cell.charter.nature) s ∙ ap (can_prune (node_after plan i cell.journal)) p.nature in
-    own ∙ elim (one_or_four plan i) [
+    own ∙ elim (one_or_several plan clock row h i) [
       | inl one ↦ ap (λ (es : List NodeEntry). can_prune (node_after plan i es) (nature plan.rules i)) (sym (journal_one plan clock row h kept i one cell there refl))
-      | inr four ↦ (
-          let mine = stays_calm plan clock row h kept i four.0 four.1 calm cell.journal (λ e at. record { cell = cell; there = there; number = refl; stands = at }) in
-          let all = stays_calm plan clock row h kept i four.0 four.1 calm (node_journal row i) (journal_cases row i) in
+      | inr more ↦ (
+          let mine = stays_calm plan clock row h kept i more.0 more.1 calm cell.journal (λ e at. record { cell = cell; there = there; number = refl; stands = at }) in
+          let all = stays_calm plan clock row h kept i more.0 more.1 calm (node_journal row i) (journal_cases row i) in
           prunes_by (node_after plan i cell.journal) (node_after plan i (node_journal row i)) (nature plan.rules i) (mine.0 ∙ sym all.0)
           )
     ]
 
 pub nothing_late : SeveralCalm → NothingLate
-nothing_late calm plan clock row h kept none i l = elim (one_or_four plan i) [
+nothing_late calm plan clock row h kept none i l = elim (one_or_several plan clock row h i) [
   | inl one ↦ (
       let c = cell_for plan clock row h kept i 0 l in
       let there = Contains-slice_get row c.place c.cell c.there in
       ap (λ (es : List NodeEntry). (node_after plan i es).late) (journal_one plan clock row h kept i one c.cell there c.number)
       ∙ ap (λ (s : NodeState). s.late) (sym (state_is plan clock row h kept c.cell there i c.number)) ∙ All-contains HasNoLateMail row c.cell none there
       )
-  | inr four ↦ (stays_calm plan clock row h kept i four.0 four.1 calm (node_journal row i) (journal_cases row i)).1
+  | inr more ↦ (stays_calm plan clock row h kept i more.0 more.1 calm (node_journal row i) (journal_cases row i)).1
 ]
 
 -- ---- the journals are kept
@@ -240,11 +245,20 @@ filter_none p (e ∷ es) f =
     let cut : filter p (e ∷ es) ≡ filter p es = rw no refl in
     cut ∙ filter_none p es (λ x there. f x (Contains-rest x e es there))
 
+-- what stands at a place of a range
+in_range : (f : ℕ → CellView) (from n k : ℕ) (cell : CellView) → slice_get (map f (range_with_len from n)) k ≡ Some cell → (k < n) × (f (from + k) ≡ cell)
+in_range f from zero k cell is = absurd (Contains-none cell (Contains-slice_get [] k cell is))
+in_range f from (suc n) zero cell is = (let e : f from ≡ cell = cc in let z : from + 0 ≡ from = omega arith in (omega arith, ap f z ∙ e))
+in_range f from (suc n) (suc k) cell is =
+    let q = in_range f (from + 1) n k cell is in
+    let z : from + suc k ≡ from + 1 + k = omega arith in
+    (let l = q.0 in omega (arith, l), ap f z ∙ q.1)
+
 module _ (plan : Plan) (clock : ClockId) (row : List CellView) (h : ArePlanned plan clock row) (kept : All KeptCell row) (i : ℕ) (l : i < plan.config.n) (up : Ascend (numbers (node_journal row i))) where
   abbrev IsKept : List NodeEntry → Type 0
   IsKept es = IsJournal plan.config i (nature plan.rules i) (crash_after plan.rules i) es
 
-  kept_one : OneCell → shards_of plan i ≡ 1 → IsKept (node_journal row i)
+  kept_one : OneCell → h.shards i ≡ 1 → IsKept (node_journal row i)
   kept_one one is =
       let c = cell_for plan clock row h kept i 0 l in
       let there = Contains-slice_get row c.place c.cell c.there in
@@ -256,61 +270,69 @@ module _ (plan : Plan) (clock : ClockId) (row : List CellView) (h : ArePlanned p
       let goes4 = subst (λ (m : Nature). NodeKept m (new_state plan.config i (crash_after plan.rules i)) c.cell.journal) (p.nature ∙ ap (nature plan.rules) c.number) goes3 in
       record { ascends = up; goes = subst (NodeKept (nature plan.rules i) (new_state plan.config i (crash_after plan.rules i))) (sym (journal_one plan clock row h kept i is c.cell there c.number)) goes4 }
 
-  module _ (four : shards_of plan i ≡ 4) (lasts : crash_after plan.rules i ≡ None) where
+  module _ (more : 1 < h.shards i) (lasts : crash_after plan.rules i ≡ None) where
+    abbrev n : ℕ
+    n = h.shards i
+
     at : (s : ℕ) → IsCellFor plan clock row h kept i s
     at s = cell_for plan clock row h kept i s l
 
-    shards_are : (d : CellView) → Contains row d → d.charter.number ≡ i → d.charter.shards ≡ 4
-    shards_are d there is = (planned plan clock row h kept d there).shards ∙ ap (shards_of plan) is ∙ four
+    shards_are : (d : CellView) → Contains row d → d.charter.number ≡ i → d.charter.shards ≡ n
+    shards_are d there is = (planned plan clock row h kept d there).shards ∙ ap h.shards is
 
     there_at : (s : ℕ) → Contains row (at s).cell
     there_at s = Contains-slice_get row (at s).place (at s).cell (at s).there
 
-    shard_at : (s : ℕ) → s < 4 → (at s).cell.charter.shard ≡ s
-    shard_at s below = sym (at s).share ∙ ap (λ (n : ℕ). s % n) (shards_are (at s).cell (there_at s) (at s).number) ∙ mod-eq_of_lt below
+    shard_at : (s : ℕ) → s < n → (at s).cell.charter.shard ≡ s
+    shard_at s below = sym (at s).share ∙ ap (λ (m : ℕ). s % m) (shards_are (at s).cell (there_at s) (at s).number) ∙ mod-eq_of_lt below
 
-    of_shard : (d : CellView) → Contains row d → d.charter.number ≡ i → (e : NodeEntry) → Contains d.journal e → block_for (cause_of e.act) % 4 ≡ d.charter.shard
+    of_shard : (d : CellView) → Contains row d → d.charter.number ≡ i → (e : NodeEntry) → Contains d.journal e → block_for (cause_of e.act) % n ≡ d.charter.shard
     of_shard d there is e stands =
         let own = All-contains (λ e. IsOfShard d.charter.shard d.charter.shards e.act) d.journal e (All-contains KeptCell row d kept there).share stands in
-        share_is d.charter.shard 4 (cause_of e.act) (subst (λ (n : ℕ). ComesTo d.charter.shard n (cause_of e.act)) (shards_are d there is) own)
+        share_is d.charter.shard n (cause_of e.act) (subst (λ (m : ℕ). ComesTo d.charter.shard m (cause_of e.act)) (shards_are d there is) own)
 
-    part_is : (s : ℕ) → s < 4 → filter (is_of_shard s 4) (node_journal row i) ≡ (at s).cell.journal
+    part_is : (s : ℕ) → s < n → filter (is_of_shard s n) (node_journal row i) ≡ (at s).cell.journal
     part_is s below =
-        fold_filter (is_of_shard s 4) i row [] (at s).place (at s).cell (at s).there (at s).number refl (λ m d there own apart.
+        fold_filter (is_of_shard s n) i row [] (at s).place (at s).cell (at s).there (at s).number refl (λ m d there own apart.
         let in_row = Contains-slice_get row m d there in
-        filter_none (is_of_shard s 4) d.journal (λ e stands. elim (eqb_tells (block_for (cause_of e.act) % 4) s) [
+        filter_none (is_of_shard s n) d.journal (λ e stands. elim (eqb_tells (block_for (cause_of e.act) % n) s) [
           | inr other ↦ other.0
           | inl same ↦ absurd (apart (h.own (at s).place m (at s).cell d (at s).there there (slot_with (slot_of (at s).cell.charter) (slot_of d.charter) ((at s).number ∙ sym own)
               (shard_at s below ∙ sym same.1 ∙ of_shard d in_row own e stands) (shards_are (at s).cell (there_at s) (at s).number ∙ sym (shards_are d in_row own)))))
         ]))
-        ∙ filter_all (is_of_shard s 4) (at s).cell.journal (λ e stands. elim (eqb_tells (block_for (cause_of e.act) % 4) s) [
+        ∙ filter_all (is_of_shard s n) (at s).cell.journal (λ e stands. elim (eqb_tells (block_for (cause_of e.act) % n) s) [
           | inl same ↦ same.0
           | inr other ↦ absurd (other.1 (of_shard (at s).cell (there_at s) (at s).number e stands ∙ shard_at s below))
         ])
 
+    abbrev cell_at : ℕ → CellView
+    cell_at s = (at s).cell
+
     abbrev cells : List CellView
-    cells = (at 0).cell ∷ (at 1).cell ∷ (at 2).cell ∷ (at 3).cell ∷ []
+    cells = map cell_at (range_with_len 0 n)
 
-    by_shard : (P : ℕ → CellView → Type 0) → ((s : ℕ) → s < 4 → P s (at s).cell) → (s : ℕ) (cell : CellView) → slice_get cells s ≡ Some cell → P s cell
-    by_shard P f zero cell is = (let e : (at 0).cell ≡ cell = cc in subst (P 0) e (f 0 (omega arith)))
-    by_shard P f (suc zero) cell is = (let e : (at 1).cell ≡ cell = cc in subst (P 1) e (f 1 (omega arith)))
-    by_shard P f (suc (suc zero)) cell is = (let e : (at 2).cell ≡ cell = cc in subst (P 2) e (f 2 (omega arith)))
-    by_shard P f (suc (suc (suc zero))) cell is = (let e : (at 3).cell ≡ cell = cc in subst (P 3) e (f 3 (omega arith)))
-    by_shard P f (suc (suc (suc (suc k)))) cell is = absurd (Contains-none cell (Contains-slice_get [] k cell is))
+    long : length cells ≡ n
+    long = length-map-range_with_len cell_at 0 n
 
-    are_shards : AreShards plan.config i (nature plan.rules i) 4 cells
+    by_shard : (P : ℕ → CellView → Type 0) → ((s : ℕ) → s < n → P s (cell_at s)) → (s : ℕ) (cell : CellView) → slice_get cells s ≡ Some cell → P s cell
+    by_shard P f s cell is = (let q = in_range cell_at 0 n s cell is in let z : s ≡ 0 + s = omega arith in subst (P s) (ap cell_at z ∙ q.1) (f s q.0))
+
+    are_shards : AreShards plan.config i (nature plan.rules i) n cells
     are_shards = record {
-      count = refl;
-      each = by_shard (λ s cell. IsShardOf plan.config i (nature plan.rules i) 4 s cell)
-          (λ s below. subst (λ (k : ℕ). IsShardOf plan.config i (nature plan.rules i) 4 k (at s).cell) (shard_at s below) (serves plan clock row h kept i four lasts (at s).cell (there_at s) (at s).number));
+      count = long;
+      each = by_shard (λ s cell. IsShardOf plan.config i (nature plan.rules i) n s cell)
+          (λ s below. subst (λ (k : ℕ). IsShardOf plan.config i (nature plan.rules i) n k (at s).cell) (shard_at s below) (serves plan clock row h kept i more lasts (at s).cell (there_at s) (at s).number));
     }
 
     are_joined : AreJoined cells (node_journal row i)
-    are_joined = record { ascends = up; each = by_shard (λ s cell. filter (is_of_shard s 4) (node_journal row i) ≡ cell.journal) part_is }
+    are_joined = record {
+      ascends = up;
+      each = λ s cell is. subst (λ (m : ℕ). filter (is_of_shard s m) (node_journal row i) ≡ cell.journal) (sym long) (by_shard (λ s cell. filter (is_of_shard s n) (node_journal row i) ≡ cell.journal) part_is s cell is);
+    }
 
-    kept_four : SeveralCells → IsKept (node_journal row i)
-    kept_four several =
-        subst (λ (o : Option ℕ). IsJournal plan.config i (nature plan.rules i) o (node_journal row i)) (sym lasts) (several plan.config i (nature plan.rules i) 4 cells (node_journal row i) (omega arith) are_shards are_joined)
+    kept_several : SeveralCells → IsKept (node_journal row i)
+    kept_several several =
+        subst (λ (o : Option ℕ). IsJournal plan.config i (nature plan.rules i) o (node_journal row i)) (sym lasts) (several plan.config i (nature plan.rules i) n cells (node_journal row i) more are_shards are_joined)
 
   pub node_is_kept : OneCell → SeveralCells → IsKept (node_journal row i)
-  node_is_kept one several = elim (one_or_four plan i) [ inl is ↦ kept_one one is | inr four ↦ kept_four four.0 four.1 several ]
+  node_is_kept one several = elim (one_or_several plan clock row h i) [ inl is ↦ kept_one one is | inr more ↦ kept_several more.0 more.1 several ]

@@ -146,14 +146,14 @@ needs_whole i (CrashNode node count) = i == node
 needs_whole i (Hold client node count) = i == node
 needs_whole i _ = false
 
--- how many cells node i has
-abbrev pub shards_of : Plan → ℕ → ℕ
-shards_of plan i = if list_any (needs_whole i) plan.rules then 1 else 4
+-- some rule does
+abbrev pub is_whole : Plan → ℕ → Bool
+is_whole plan i = list_any (needs_whole i) plan.rules
 
--- one of the cells of a plan's node
-pub record IsPlanned (plan : Plan) (cell : CellView) : Type 0 where
+-- one of the cells of a plan's node, of which each has so many
+pub record IsPlanned (plan : Plan) (count : ℕ → ℕ) (cell : CellView) : Type 0 where
   pub shard : cell.charter.shard < cell.charter.shards
-  pub shards : cell.charter.shards ≡ shards_of plan cell.charter.number
+  pub shards : cell.charter.shards ≡ count cell.charter.number
   pub nature : cell.charter.nature ≡ nature plan.rules cell.charter.number
   pub crash : cell.charter.crash_after ≡ crash_after plan.rules cell.charter.number
 
@@ -161,12 +161,15 @@ pub record IsPlanned (plan : Plan) (cell : CellView) : Type 0 where
 abbrev pub HaveOwnSlots : List CellView → Type 0
 HaveOwnSlots row = (k m : ℕ) (a b : CellView) → slice_get row k ≡ Some a → slice_get row m ≡ Some b → slot_of a.charter ≡ slot_of b.charter → m ≡ k
 
--- the cells are those of the plan's nodes
+-- the cells are those of the plan's nodes, each of which has some, and one alone where it needs to be whole
 pub record ArePlanned (plan : Plan) (clock : ClockId) (row : List CellView) : Type 0 where
   pub cells : AreCells plan.config clock row
   pub inside : AreInside plan.config row
   pub own : HaveOwnSlots row
-  pub each : All (IsPlanned plan) row
+  pub shards : ℕ → ℕ
+  pub some : (i : ℕ) → 0 < shards i
+  pub whole : (i : ℕ) → is_whole plan i ≡ true → shards i ≡ 1
+  pub each : All (IsPlanned plan shards) row
 
 -- and prunes after it are those of the phase
 abbrev pub CellsPrune : Type 0

@@ -71,7 +71,7 @@ pub fn starting_text(alloc: Global, record: &Record) -> Result<Bytes, NoMemory> 
             text.add_value(value.as_slice())?;
         }
     }
-    Ok(text.into_bytes())
+    text.into_bytes()
 }
 
 fn add_start(text: &mut Text, word: &[u8], client: u64, block: u32) -> Result<(), NoMemory> {

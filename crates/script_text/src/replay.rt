@@ -130,5 +130,5 @@ pub fn print_replay(alloc: Global, replay: &Replay) -> Result<Bytes, NoMemory>
         add_event(alloc, &mut text, line)?;
         text.add_newline()?;
     }
-    Ok(text.into_bytes())
+    text.into_bytes()
 }

@@ -17,7 +17,7 @@ pub fn print_soak(alloc: Global, number: u64, history: &History) -> Result<Bytes
     let mut text = Text::new(alloc);
     add_line(&mut text, number, history.counts(), &sum)?;
     text.add_newline()?;
-    Ok(text.into_bytes())
+    text.into_bytes()
 }
 
 fn add_line(text: &mut Text, number: u64, counts: &Counts, sum: &Hash) -> Result<(), NoMemory>

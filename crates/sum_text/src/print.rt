@@ -22,7 +22,7 @@ pub fn print_sum(alloc: Global, config: &Config, value: &Bytes) -> Result<Bytes,
     let mut text = Text::new(alloc);
     add_fragments(&mut text, fragments.as_slice(), sum.hashes())?;
     add_verifier(&mut text, &sum.verifier())?;
-    Ok(text.into_bytes())
+    text.into_bytes()
 }
 
 /// Adds a line for each fragment, with its digest.

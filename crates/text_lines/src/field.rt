@@ -59,7 +59,7 @@ pub fn value(alloc: Global, field: &[u8]) -> Result<Option<Bytes>, NoMemory>
         return Ok(None);
     }
     match hex::decode(alloc, digits) {
-        Ok(bytes) => Ok(Some(Bytes::from_vec(bytes))),
+        Ok(bytes) => Ok(Some(Bytes::shared(bytes)?)),
         Err(fault) => spells_none(&fault),
     }
 }

@@ -67,6 +67,6 @@ fn a_text_is_what_was_added(rt: HostRuntime) -> Result<(), Fail> {
         text.as_slice(),
         b"give 18446744073709551615.0 x00fe\n10".as_slice()
     );
-    assert_eq!(rt; text.into_bytes().len(), 36);
+    assert_eq!(rt; text.into_bytes()?.len(), 36);
     Ok(())
 }

@@ -1,4 +1,4 @@
-ghost use Rattle.std.specs.Prelude.{◌≡◌, ◌↔◌, IsTrue, [], ◌∷◌, ◌++◌, length, decimal, OnOk, OnErr};
+ghost use Rattle.std.specs.Prelude.{◌≡◌, ◌↔◌, IsTrue, [], ◌∷◌, ◌++◌, length, decimal, IfOk, OnOk, OnErr};
 ghost use Rattle.hex.specs.Hex.{encode_lower};
 ghost use Rattle.text_lines.specs.Fields.{value_text};
 
@@ -126,9 +126,9 @@ impl Text {
     }
 
     /// The text, given away.
-    pub fn into_bytes(self) -> Bytes
-        ensures { result ≡ self }
+    pub fn into_bytes(self) -> Result<Bytes, NoMemory>
+        ensures { IfOk result (λ bytes. bytes ≡ self) }
     {
-        Bytes::from_vec(self.bytes)
+        Bytes::shared(self.bytes)
     }
 }

@@ -1,6 +1,6 @@
-ghost use Rattle.std.specs.Prelude.{◌≡◌, IfOk, replicate};
+ghost use Rattle.std.specs.Prelude.{◌≡◌, IfOk};
 
-use cross_sum::{Bytes, CrossSum, Hash, sha};
+use cross_sum::{Bytes, CrossSum};
 use lists::NoMemory;
 use quorum_rules::Config;
 use stamp_order::Stamp;
@@ -22,7 +22,7 @@ impl First {
         ensures { IfOk result (λ first. first ≡ first_of config.now) }
     {
         let fragment = Bytes::zeros(alloc, config.share() as usize)?;
-        let sum = sum_of_equal(alloc, sha(fragment.as_slice()), config.n())?;
+        let sum = CrossSum::of_equal(alloc, &fragment, config.n())?;
         let stamp = Stamp {
             time: 0,
             client: 0,
@@ -34,15 +34,4 @@ impl First {
             fragment,
         })
     }
-}
-
-/// The cross checksum of so many fragments that all have one digest.
-fn sum_of_equal(alloc: Global, digest: Hash, count: u32) -> Result<CrossSum, NoMemory>
-    ensures { IfOk result (λ sum. sum ≡ replicate count digest) }
-{
-    let mut digests = Vec::new(alloc);
-    for _ in 0..count {
-        digests.push(digest)?;
-    }
-    CrossSum::of_hashes(alloc, digests.as_slice())
 }

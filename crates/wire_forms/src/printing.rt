@@ -23,7 +23,7 @@ pub fn print(alloc: Global, message: &Message) -> Result<Bytes, NoMemory>
     add_number(&mut text, message.tag.op)?;
     add_number(&mut text, message.tag.phase)?;
     add_body(&mut text, &message.body)?;
-    Ok(text.into_bytes())
+    text.into_bytes()
 }
 
 fn word(body: &Body) -> &'static [u8]

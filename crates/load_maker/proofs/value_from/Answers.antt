@@ -1,6 +1,7 @@
 use Rattle.std.proofs.Common.{◌≡◌, ℕ, ◌+◌, ◌%◌, List, [], ◌∷◌, ◌++◌, map, sym, ap, ◌∙◌, arith}
 use Rattle.std.specs.List.{range_with_len}
 use Rattle.std.proofs.lemmas.List.FromFn.{map-range_with_len_more}
+use Rattle.std.proofs.lemmas.Result.{IfOk-weaker}
 use Rattle.load_maker.proofs.value_from.Goals as goal
 
 pub loop-i-preserved : goal.loop-i-preserved
@@ -11,4 +12,4 @@ loop-i-preserved c =
 pub returns : goal.returns
 returns c =
     let end : c.loop-i.i ≡ 512 = omega (arith, c.loop-i-test.false, c.loop-i.auto.i-end) in
-    c.from_vec.ensures ∙ c.loop-i.invariant ∙ ap (λ (n : ℕ). map (λ i. (c.args.first + i) % 256) (range_with_len 0 n)) end
+    IfOk-weaker c.shared.result _ _ (λ value h. h ∙ c.loop-i.invariant ∙ ap (λ (n : ℕ). map (λ i. (c.args.first + i) % 256) (range_with_len 0 n)) end) c.shared.ensures

@@ -6,7 +6,8 @@ pub overflow_add-count : goal.overflow_add-count
 overflow_add-count c =
     let plan = c.args.plan.now in
     let n = c.loop-node.node in
-    let few = count_few plan (n + 1) in
-    let next = count_next plan n in
-    let most = c.requires.valid.nodes.1 in
+    let shards = c.args.shards in
+    let few = count_few plan shards (n + 1) c.requires.shards.0 c.requires.shards.1 in
+    let next = count_next plan shards n in
+    let most = c.requires.fits.valid.nodes.1 in
     omega (arith, few, next, most, c.loop-node.invariant, c.shard_count-count.ensures, c.loop-node-test.true, c.n-node-end.ensures.is)

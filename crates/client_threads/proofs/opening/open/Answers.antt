@@ -10,31 +10,31 @@ use Rattle.client_threads.proofs.opening.open.Goals as goal
 
 pub overflow_cast-clients : goal.overflow_cast-clients
 overflow_cast-clients c =
-    let few = tasks_few c.args.plan.now c.requires c.in_ok-tasks.tasks c.in_ok-tasks.ensures.clients in
+    let few = tasks_few c.args.plan.now c.requires.fits c.in_ok-tasks.tasks c.in_ok-tasks.ensures.clients in
     omega (arith, few, c.len-clients.ensures)
 
 pub overflow_add-count_cells : goal.overflow_add-count_cells
 overflow_add-count_cells c =
     let plan = c.args.plan.now in
-    let few = tasks_few plan c.requires c.in_ok-tasks.tasks c.in_ok-tasks.ensures.clients in
-    let most = c.requires.valid.nodes.1 in
-    let cells = count_few plan plan.config.n in
+    let few = tasks_few plan c.requires.fits c.in_ok-tasks.tasks c.in_ok-tasks.ensures.clients in
+    let most = c.requires.fits.valid.nodes.1 in
+    let cells = count_few plan c.args.shards plan.config.n c.requires.shards.0 c.requires.shards.1 in
     omega (arith, few, most, cells, c.len-clients.ensures, c.count_cells.ensures)
 
 pub overflow_add-count_cells-2 : goal.overflow_add-count_cells-2
 overflow_add-count_cells-2 c =
     let plan = c.args.plan.now in
-    let few = tasks_few plan c.requires c.in_ok-tasks.tasks c.in_ok-tasks.ensures.clients in
-    let most = c.requires.valid.nodes.1 in
-    let cells = count_few plan plan.config.n in
+    let few = tasks_few plan c.requires.fits c.in_ok-tasks.tasks c.in_ok-tasks.ensures.clients in
+    let most = c.requires.fits.valid.nodes.1 in
+    let cells = count_few plan c.args.shards plan.config.n c.requires.shards.0 c.requires.shards.1 in
     omega (arith, few, most, cells, c.len-clients.ensures, c.count_cells.ensures)
 
 pub start-requires : goal.start-requires
 start-requires c =
     let plan = c.args.plan.now in
-    let few = tasks_few plan c.requires c.in_ok-tasks.tasks c.in_ok-tasks.ensures.clients in
-    let most = c.requires.valid.nodes.1 in
-    let cells = count_few plan plan.config.n in
+    let few = tasks_few plan c.requires.fits c.in_ok-tasks.tasks c.in_ok-tasks.ensures.clients in
+    let most = c.requires.fits.valid.nodes.1 in
+    let cells = count_few plan c.args.shards plan.config.n c.requires.shards.0 c.requires.shards.1 in
     (omega arith, omega (arith, few, most, cells, c.len-clients.ensures, c.count_cells.ensures))
 
 pub open_cells-requires-clause-unused : goal.open_cells-requires-clause-unused
@@ -51,6 +51,8 @@ returns-clause-stands c =
     let long = same_long (λ (s : Seat Work). s.desk.id) client_of c.in_ok-clients.clients.items c.in_ok-tasks.tasks c.in_ok-clients.ensures.ids in
     let count : c.len.result ≡ length c.in_ok-clients.clients.items = search rules in
     stands_first c.phases_close.ensures.begins _ c.args.plan.now c.of.ensures (record {
+      shards = c.args.shards;
+      some = c.requires.shards.0;
       cells = c.in_ok-cells.ensures.cells;
       seats = c.in_ok-clients.ensures.seats;
       ids = c.in_ok-clients.ensures.ids ∙ c.in_ok-tasks.ensures.clients;
@@ -60,5 +62,5 @@ returns-clause-stands c =
       keeper = other.1;
       passes = omega (arith, long, c.in_ok-clock.ensures.clock, c.len-clients.ensures, c.count_cells.ensures);
       counted = c.in_ok-counted.ensures.items_if_clones_equal (λ y e. e) ∙ ap (λ (k : ℕ). replicate k 0) count;
-      named = liars_named c.args.plan.now c.requires;
+      named = liars_named c.args.plan.now c.requires.fits;
     })

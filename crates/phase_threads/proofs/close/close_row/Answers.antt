@@ -3,8 +3,9 @@ use Rattle.std.specs.Vec.Iter.{into_iter_items, into_iter_len}
 use Rattle.receipt_lock.specs.Chits.{Holder as Chit, Deposit}
 use Rattle.locked_nodes.specs.declared.charter.Item.{Item}
 use Rattle.locked_nodes.specs.Cells.{items}
-use Rattle.phase_threads.specs.Phased.{Beside, IsClosed}
-use Rattle.phase_threads.proofs.Places.{none_beside, push_beside, walk_on, walk_end, all_at, get_last}
+use Rattle.crews.specs.Crews.{Beside}
+use Rattle.phase_threads.specs.Phased.{IsClosed}
+use Rattle.crews.proofs.Places.{none_beside, push_beside, walk_on, walk_end, all_at, get_last}
 use Rattle.phase_threads.proofs.Closing.{AreWithout, all_hands, none_empty, without_more, chits_are, chits_own, chits_rest}
 use Rattle.phase_threads.proofs.close.close_row.Goals as goal
 

@@ -2,8 +2,9 @@ use Rattle.std.proofs.Common.{List, length}
 use Rattle.std.specs.Vec.Iter.{into_iter_items, into_iter_len}
 use Rattle.receipt_lock.specs.Chits.{Deposit}
 use Rattle.locked_nodes.specs.declared.charter.Item.{Item}
-use Rattle.phase_threads.specs.Phased.{Beside, IsClosed}
-use Rattle.phase_threads.proofs.Places.{Walked}
+use Rattle.crews.specs.Crews.{Beside}
+use Rattle.phase_threads.specs.Phased.{IsClosed}
+use Rattle.crews.proofs.Places.{Walked}
 use Rattle.phase_threads.proofs.Closing.{AreWithout}
 use Rattle.phase_threads.proofs.close.close_row.Given as goal
 

@@ -6,8 +6,9 @@ use Rattle.std.proofs.lemmas.List.Elements.{All-nil, All-push}
 use Rattle.desk_keys.specs.Keys.{Agree}
 use Rattle.phase_threads.specs.declared.duty.Seat.{Seat}
 use Rattle.phase_threads.specs.declared.crew.Post.{Post}
-use Rattle.phase_threads.specs.Phased.{Beside, IsSeatOf, IsHandOf}
-use Rattle.phase_threads.proofs.Places.{none_beside, push_beside, walk_on, walk_end}
+use Rattle.crews.specs.Crews.{Beside}
+use Rattle.phase_threads.specs.Phased.{IsSeatOf, IsHandOf}
+use Rattle.crews.proofs.Places.{none_beside, push_beside, walk_on, walk_end, all_at, get_last}
 use Rattle.phase_threads.proofs.close.part.Goals as goal
 
 pub loop-post-init : goal.loop-post-init
@@ -21,6 +22,15 @@ loop-post-init g c =
       All-nil (λ (p : Post g.row.T.Denot). All (λ x. x.holds ≡ None) p.keys.chits),
       All-nil (λ (p : Post g.row.T.Denot). p.keys.refused ≡ None → Agree p.keys.desk p.keys.chits),
     )
+
+pub into_parts-desk-requires : goal.into_parts-desk-requires
+into_parts-desk-requires g c =
+    let inv = c.loop-post.invariant in
+    let steps = c.in-Some.ensures.steps in
+    let post = c.in-Some.post in
+    let rest = into_iter_items c.next.new.self in
+    let list : c.args.posts.items ≡ inv.0 ++ post ∷ rest = inv.1.0 ∙ ap (λ l. inv.0 ++ l) steps.0 in
+    record { chits = all_at (λ (p : Post g.row.T.Denot). p.keys.mail ≡ None) (inv.0 ++ post ∷ rest) (length inv.0) post (subst (All (λ (p : Post g.row.T.Denot). p.keys.mail ≡ None)) list c.requires.chits) (get_last inv.0 post rest) }
 
 pub loop-post-preserved : goal.loop-post-preserved
 loop-post-preserved g c =

@@ -3,8 +3,9 @@ use Rattle.std.specs.declared.option.Option.TheVariants.{None}
 use Rattle.std.specs.Vec.Iter.{into_iter_items, into_iter_len}
 use Rattle.desk_keys.specs.Keys.{Agree}
 use Rattle.phase_threads.specs.declared.crew.Post.{Post}
-use Rattle.phase_threads.specs.Phased.{Beside, IsSeatOf, IsHandOf}
-use Rattle.phase_threads.proofs.Places.{Walked}
+use Rattle.crews.specs.Crews.{Beside}
+use Rattle.phase_threads.specs.Phased.{IsSeatOf, IsHandOf}
+use Rattle.crews.proofs.Places.{Walked}
 use Rattle.phase_threads.proofs.close.part.Given as goal
 
 -- the posts so far are parted

@@ -5,8 +5,8 @@ use Rattle.std.specs.declared.option.Option.TheVariants.{None}
 use Rattle.client_desks.specs.Later.{IsLater}
 use Rattle.desk_keys.specs.Keys.{Fit}
 use Rattle.phase_threads.specs.declared.crew.Post.{Post}
-use Rattle.phase_threads.specs.Phased.{Beside}
-use Rattle.phase_threads.proofs.Places.{written_back, made_beside, all_right}
+use Rattle.crews.specs.Crews.{Beside}
+use Rattle.crews.proofs.Places.{written_back, made_beside, all_right}
 use Rattle.phase_threads.proofs.Sending.{post_send, floor_sync}
 use Rattle.phase_threads.proofs.crew.work_all.Goals as goal
 

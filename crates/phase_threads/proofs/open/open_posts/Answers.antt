@@ -7,8 +7,9 @@ use Rattle.locked_nodes.specs.declared.charter.Item.{Item}
 use Rattle.desk_keys.specs.Keys.{Agree}
 use Rattle.phase_threads.specs.declared.duty.Seat.{Seat}
 use Rattle.phase_threads.specs.declared.crew.Post.{Post}
-use Rattle.phase_threads.specs.Phased.{Beside, IsPostOf}
-use Rattle.phase_threads.proofs.Places.{none_beside, push_beside, walk_on, walk_end, all_at, get_last}
+use Rattle.crews.specs.Crews.{Beside}
+use Rattle.phase_threads.specs.Phased.{IsPostOf}
+use Rattle.crews.proofs.Places.{none_beside, push_beside, walk_on, walk_end, all_at, get_last}
 use Rattle.phase_threads.proofs.open.open_posts.Goals as goal
 
 pub loop-seat-init : goal.loop-seat-init
@@ -68,7 +69,7 @@ loop-seat-preserved g c =
           let before = inv.5 all same in
           let p = All-pop (λ (h : List (Chit Item)). h ≡ all) was now (Some hand) popped before.0 in
           let chits = c.into_vec.ensures ∙ p.1 in
-          let is : IsPostOf all (length inv.0) seat post = record { keys = c.new-keys.ensures ∙ (λ i. record { desk = seat.desk; chits = chits i; refused = None }); duty = refl } in
+          let is : IsPostOf all (length inv.0) seat post = record { keys = c.new-keys.ensures ∙ (λ i. record { desk = seat.desk; chits = chits i; mail = None; refused = None }); duty = refl } in
           (p.0, subst (Beside (IsPostOf all) (inv.0 ++ seat ∷ [])) (sym c.in_ok-push.ensures.items) (push_beside (IsPostOf all) inv.0 c.loop-seat.posts.items seat post before.1 is))),
     )
 

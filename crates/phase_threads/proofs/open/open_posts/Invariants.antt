@@ -5,8 +5,9 @@ use Rattle.receipt_lock.specs.Chits.{Holder as Chit}
 use Rattle.locked_nodes.specs.declared.charter.Item.{Item}
 use Rattle.desk_keys.specs.Keys.{Agree}
 use Rattle.phase_threads.specs.declared.duty.Seat.{Seat}
-use Rattle.phase_threads.specs.Phased.{Beside, IsPostOf}
-use Rattle.phase_threads.proofs.Places.{Walked}
+use Rattle.crews.specs.Crews.{Beside}
+use Rattle.phase_threads.specs.Phased.{IsPostOf}
+use Rattle.crews.proofs.Places.{Walked}
 use Rattle.phase_threads.proofs.open.open_posts.Given as goal
 
 -- the seats so far have their hands

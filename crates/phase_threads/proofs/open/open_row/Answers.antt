@@ -2,8 +2,9 @@ use Rattle.std.proofs.Common.{◌≡◌, ◌++◌, ◌∷◌, [], List, length, 
 use Rattle.std.specs.Vec.Iter.{into_iter_items, into_iter_len}
 use Rattle.receipt_lock.specs.Chits.{Holder as Chit, new_chit}
 use Rattle.locked_nodes.specs.declared.charter.Item.{Item}
-use Rattle.phase_threads.specs.Phased.{Beside, IsVaultOf, new_hand}
-use Rattle.phase_threads.proofs.Places.{none_beside, push_beside, walk_on, walk_end}
+use Rattle.crews.specs.Crews.{Beside}
+use Rattle.phase_threads.specs.Phased.{IsVaultOf, new_hand}
+use Rattle.crews.proofs.Places.{none_beside, push_beside, walk_on, walk_end}
 use Rattle.phase_threads.proofs.Opening.{hand_more, vault_at}
 use Rattle.phase_threads.proofs.open.open_row.Goals as goal
 

@@ -1,8 +1,9 @@
 use Rattle.std.proofs.Common.{◌≡◌, List, length, All}
 use Rattle.std.specs.Vec.Iter.{into_iter_items, into_iter_len}
 use Rattle.locked_nodes.specs.Cells.{CellView}
-use Rattle.phase_threads.specs.Phased.{Beside, IsVaultOf, new_hand}
-use Rattle.phase_threads.proofs.Places.{Walked}
+use Rattle.crews.specs.Crews.{Beside}
+use Rattle.phase_threads.specs.Phased.{IsVaultOf, new_hand}
+use Rattle.crews.proofs.Places.{Walked}
 use Rattle.phase_threads.proofs.open.open_row.Given as goal
 
 -- the cells so far have vaults, and each hand has a chit for each

@@ -1,4 +1,4 @@
-use Rattle.std.proofs.Common.{refl, sym, ap, subst}
+use Rattle.std.proofs.Common.{sym, subst}
 use Rattle.client_desks.specs.Desks.{IsDesk}
 use Rattle.client_desks.proofs.Desking.{desk_meets}
 use Rattle.client_desks.proofs.desk.Desk.meet.Goals as goal

@@ -1,0 +1,6 @@
+use Rattle.client_desks.specs.Desks.{reply_told}
+use Rattle.client_desks.proofs.Desking.{calls_as}
+use Rattle.client_desks.proofs.desk.Desk.hear.Goals as goal
+
+pub add-requires-clause-may : goal.add-requires-clause-may
+add-requires-clause-may c = calls_as c.args.self.now c.args.way c.args.ask (reply_told c.args.told) c.requires.can c.requires.asked

@@ -1,0 +1,103 @@
+ghost use Rattle.std.specs.Prelude.{◌≡◌, ◌+◌, ◌≤◌, All, IfOk, vec_len};
+
+use crews::{Crew, Gate, OpenGate, Started, each, each_at_once};
+use lists::NoMemory;
+use std::alloc::Global;
+use std::sync::{Barrier, Wait};
+use std::test::Fail;
+
+// A post, and how often it was worked.
+#[derive(Drop)]
+struct Post {
+    number: u32,
+    rounds: u32,
+}
+
+// So many posts, from 0 on, at which nobody has worked.
+fn posts_of(alloc: Global, count: u32) -> Result<Vec<Post>, NoMemory>
+    ensures { IfOk result (λ v. All (λ p. p.rounds ≡ 0) v.items) }
+{
+    let mut posts = Vec::new(alloc);
+    for number in 0..count {
+        posts.push(Post { number, rounds: 0 })?;
+    }
+    Ok(posts)
+}
+
+// Whether these are all posts in order, each worked so often.
+fn are_worked(posts: &[Post], count: usize, rounds: u32) -> bool {
+    let mut fit = posts.len() == count;
+    for i in 0..posts.len() {
+        fit = fit && posts[i].number as usize == i && posts[i].rounds == rounds;
+    }
+    fit
+}
+
+// Whoever works at a post waits until all others do.
+#[derive(Drop)]
+struct Meeting {
+    all: Barrier,
+}
+
+impl Crew<Post> for Meeting {
+    ghost use Rattle.std.specs.Prelude.{◌≡◌, ◌+◌};
+
+    ghost can_work = { λ m p. p.rounds ≡ 0 };
+
+    ghost works = { λ m p q. (q.number ≡ p.number) × (q.rounds ≡ p.rounds + 1) };
+
+    fn work<R: Wait, G: Gate>(&self, rt: &R, _gate: &G, post: &mut Post) {
+        self.all.wait(rt);
+        post.rounds += 1;
+    }
+}
+
+// Whoever works at a post waits for nobody.
+#[derive(Drop)]
+struct Alone;
+
+impl Crew<Post> for Alone {
+    ghost use Rattle.std.specs.Prelude.{◌≡◌, ◌+◌};
+
+    ghost can_work = { λ a p. p.rounds ≡ 0 };
+
+    ghost works = { λ a p q. (q.number ≡ p.number) × (q.rounds ≡ p.rounds + 1) };
+
+    fn work<R: Wait, G: Gate>(&self, _rt: &R, _gate: &G, post: &mut Post) {
+        post.rounds += 1;
+    }
+}
+
+#[test]
+fn posts_that_wait_for_one_another_end(rt: HostRuntime) -> Result<(), Fail> {
+    let posts = posts_of(rt.alloc(), 3)?;
+    let crew = Meeting {
+        all: Barrier::new(3),
+    };
+    match each_at_once(&rt, rt.alloc(), &OpenGate, &crew, posts)? {
+        Started::Whole(posts) => assert!(&rt; are_worked(posts.as_slice(), 3, 1)),
+        Started::Nobody(posts) => {
+            assert!(&rt; are_worked(posts.as_slice(), 3, 0));
+            return Err(Fail::new("a thread couldn't be made"));
+        }
+    }
+    Ok(())
+}
+
+#[test]
+fn no_post_is_a_crew_too(rt: HostRuntime) -> Result<(), Fail> {
+    let posts = posts_of(rt.alloc(), 0)?;
+    match each_at_once(&rt, rt.alloc(), &OpenGate, &Alone, posts)? {
+        Started::Whole(posts) => assert!(&rt; posts.is_empty()),
+        Started::Nobody(_) => return Err(Fail::new("no thread was wanted")),
+    }
+    Ok(())
+}
+
+#[test]
+fn each_post_is_worked_once(rt: HostRuntime) -> Result<(), Fail> {
+    let mut posts = posts_of(rt.alloc(), 5)?;
+    each(&rt, &OpenGate, &Alone, posts.as_mut_slice());
+    assert!(&rt; are_worked(posts.as_slice(), 5, 1));
+    Ok(())
+}

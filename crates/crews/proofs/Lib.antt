@@ -1,0 +1,2 @@
+mod Goings
+pub mod Places

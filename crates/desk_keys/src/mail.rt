@@ -1,0 +1,160 @@
+//! A client's way to nodes that run in threads of their own.
+ghost use Rattle.std.specs.Prelude.{◌≡◌, ◌≤◌, ◌<◌, ◌+◌, ℕ, Some, true, IfOk, OnOk, OnErr, length, slice_get};
+ghost use Rattle.protocol.specs.Messages.{IsFormedBody, Message as AnyMessage};
+ghost use Rattle.inboxes.specs.Sides.{took, Putting};
+ghost use Rattle.locked_nodes.specs.Cells.{number_of};
+ghost use Rattle.client_desks.specs.Desks.{CanCall, KeepsDesk, asks_of};
+ghost use Rattle.node_mail.specs.declared.asked.Asked.{Asked as AnyAsked};
+ghost use Rattle.node_mail.specs.declared.asked.NodePlace.{NodePlace};
+ghost use Rattle.desk_keys.specs.Keys.{CanAsk, HasTaken, IsSameMail, HasEnded, AddHeard, AddTold};
+
+use client_desks::Desk;
+use event_clock::{Clock, Note};
+use inboxes::{Putter, Taker};
+use journals::Way;
+use lists::Copied;
+use locked_nodes::{CellRefusal, Told};
+use node_mail::{Answered, Asked};
+use run_words::Outcome;
+use std::sync::Wait;
+use wire_forms::Message;
+
+/// A client's way to nodes that run in threads of their own: the right to ask each cell, by the cells' places, and to take the
+/// answers to the client.
+#[derive(Drop)]
+pub struct ByMail {
+    /// Which of the clients it is, to the nodes.
+    pub seat: u32,
+    pub asks: Vec<Putter<Asked>>,
+    pub answers: Taker<Answered>,
+}
+
+impl ByMail {
+    // Asks the cell at a place, and waits for what is told, with a note that has seen it.
+    fn ask<R: Wait>(
+        &mut self,
+        rt: &R,
+        clock: &Clock,
+        place: usize,
+        desk: &mut Desk,
+        way: Way,
+        ask: &Message,
+    ) -> Result<(Told, Note), CellRefusal>
+        requires place { place < length self.old.asks.items }
+        requires clock { desk.old.pass.clock ≡ clock.now }
+        requires asks { (p : Putting AnyAsked NodePlace) → slice_get self.old.asks.items place ≡ Some p → CanAsk clock.now self.old.seat way ask.now p.inbox.place }
+        requires answers { self.old.answers.inbox.place.clock.value ≡ clock.now }
+        ensures taken { IfOk result (λ r. HasTaken self.old way ask.now r.0 self.new) }
+        ensures later { IfOk result (λ r. desk.old.pass.seen ≤ number_of r.0) }
+        ensures note { IfOk result (λ r. (r.1.clock ≡ clock.now) × (r.1.seen ≡ number_of r.0 + 1)) }
+        ensures desk { desk.new ≡ desk.old }
+        ensures same { IsSameMail self.old self.new }
+    {
+        let asked = Asked {
+            seat: self.seat,
+            way,
+            ask: ask.copy()?,
+            note: desk.note(clock),
+        };
+        let inbox = &mut self.asks[place];
+        inbox.put(rt, asked);
+        // A node ends after its clients, and answers an ask with what was asked, under a number above what the ask's note has seen.
+        let Some((_, answer)) = self.answers.take(rt) else {
+            return Err(CellRefusal::NoMemory);
+        };
+        if !answer.is_to(way, ask) {
+            return Err(CellRefusal::NoMemory);
+        }
+        let Answered {
+            way: _,
+            ask: _,
+            told,
+            note,
+        } = answer;
+        let told = told?;
+        if !desk.can_hear(number_in(&told)) {
+            return Err(CellRefusal::NoMemory);
+        }
+        Ok((told, note))
+    }
+
+    /// Puts the client's last word into each inbox, and takes the answers that are left, up to the last word of each node. It
+    /// tells whether there were none.
+    pub(crate) fn end<R: Wait>(&mut self, rt: &R) -> bool
+        ensures none { result ≡ true → took self.new.answers ≡ took self.old.answers }
+        ensures ended { HasEnded self.old self.new }
+    {
+        while let Some(inbox) = self.asks.pop() {
+            let _sent = inbox.last(rt);
+        }
+        let mut none = true;
+        for _ in rt.forever() {
+            if self.answers.take(rt).is_none() {
+                return none;
+            }
+            none = false;
+        }
+        unreachable!()
+    }
+}
+
+// The number of what was told.
+fn number_in(told: &Told) -> u64
+    ensures { result ≡ number_of told.now }
+{
+    match told {
+        Told::Answered { number, .. } | Told::Silent { number, .. } => *number,
+    }
+}
+
+/// Asks the cell at a place what the client's phase asks of the node, and hears what it answers.
+pub(crate) fn call_by<R: Wait>(
+    rt: &R,
+    clock: &Clock,
+    mail: &mut ByMail,
+    place: usize,
+    desk: &mut Desk,
+    node: u8,
+    way: Way,
+) -> Result<Option<Outcome>, CellRefusal>
+    requires place { place < length mail.old.asks.items }
+    requires clock { desk.old.pass.clock ≡ clock.now }
+    requires can { CanCall desk.old node }
+    requires asks { (ask : AnyMessage) (p : Putting AnyAsked NodePlace) → asks_of desk.old node ≡ Some ask → slice_get mail.old.asks.items place ≡ Some p → CanAsk clock.now mail.old.seat way ask p.inbox.place }
+    requires answers { mail.old.answers.inbox.place.clock.value ≡ clock.now }
+    ensures heard { IfOk result (λ outcome. AddHeard desk.old mail.old node way outcome desk.new mail.new) }
+    ensures kept { OnErr result (KeepsDesk desk.old desk.new) }
+    ensures same { IsSameMail mail.old mail.new }
+{
+    let asked = desk.asks(node)?;
+    let Some(ask) = asked else { unreachable!() };
+    let (told, note) = mail.ask(rt, clock, place, desk, way, &ask)?;
+    let outcome = desk.hear(clock, way, ask, told, note)?;
+    Ok(outcome)
+}
+
+/// Sends an ask of a lying client to the cell at a place, and notes what it answers.
+pub(crate) fn send_by<R: Wait>(
+    rt: &R,
+    clock: &Clock,
+    mail: &mut ByMail,
+    place: usize,
+    desk: &mut Desk,
+    ask: &Message,
+) -> Result<(), CellRefusal>
+    requires place { place < length mail.old.asks.items }
+    requires clock { desk.old.pass.clock ≡ clock.now }
+    requires lying { desk.old.lying ≡ true }
+    requires client { ask.now.client ≡ desk.old.id }
+    requires formed { IsFormedBody ask.now.body }
+    requires asks { (p : Putting AnyAsked NodePlace) → slice_get mail.old.asks.items place ≡ Some p → CanAsk clock.now mail.old.seat Way.Call ask.now p.inbox.place }
+    requires answers { mail.old.answers.inbox.place.clock.value ≡ clock.now }
+    ensures sent { OnOk result (AddTold desk.old mail.old ask.now desk.new mail.new) }
+    ensures kept { OnErr result (KeepsDesk desk.old desk.new) }
+    ensures same { IsSameMail mail.old mail.new }
+{
+    let kept = ask.copy()?;
+    let (told, note) = mail.ask(rt, clock, place, desk, Way::Call, ask)?;
+    desk.note_sent(clock, kept, told, note)?;
+    Ok(())
+}

@@ -1,0 +1,45 @@
+//! What a node answers a client.
+ghost use Rattle.std.specs.Prelude.{◌≡◌, ◌↔◌, IsTrue};
+ghost use Rattle.node_mail.specs.Mail.{IsAnswerTo};
+
+use client_desks::Desk;
+use event_clock::{Clock, Note};
+use inboxes::Mail;
+use journals::Way;
+use locked_nodes::{CellRefusal, Told};
+use message_same::same;
+use std::snapshot::Snapshot;
+use wire_forms::Message;
+
+/// Where the answers to one client lie: by which clock, the client's number, and its desk as it was before the first ask.
+#[derive(Drop)]
+pub struct ClientPlace {
+    pub clock: Snapshot<Clock>,
+    pub client: u32,
+    pub began: Snapshot<Desk>,
+}
+
+/// A node's answer on its way to a client: what the node's cell told or refused, and the ask itself, with the way that it went.
+#[derive(Drop)]
+pub struct Answered {
+    pub way: Way,
+    pub ask: Message,
+    pub told: Result<Told, CellRefusal>,
+    /// What the client's pass has seen, and the number of what was told.
+    pub note: Note,
+}
+
+impl Mail for Answered {
+    type Place = ClientPlace;
+
+    ghost fits = { IsAnswerTo };
+}
+
+impl Answered {
+    /// Whether it is the answer to this ask, which went this way.
+    pub fn is_to(&self, way: Way, ask: &Message) -> bool
+        ensures { IsTrue result ↔ ((self.now.way ≡ way) × (self.now.ask ≡ ask.now)) }
+    {
+        self.way == way && same(&self.ask, ask)
+    }
+}

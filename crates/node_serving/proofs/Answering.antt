@@ -1,0 +1,256 @@
+-- What one ask more adds to what a worker has answered.
+use Rattle.std.proofs.Common.{◌≡◌, ◌≢◌, ℕ, zero, suc, ◌<◌, List, [], ◌∷◌, ◌++◌, length, length-set, refl, sym, ap, subst, ◌∙◌, arith, inl, inr, append_assoc, append-nil}
+use Rattle.std.specs.declared.option.Option.TheVariants.{Some, None}
+use Rattle.std.specs.declared.result.Result.{Result}
+use Rattle.std.specs.declared.result.Result.TheVariants.{Ok, Err}
+use Rattle.std.specs.Prelude.{◌⊎◌, Bool, true, false, slice_get, slice_set, IfOk, OnErr}
+use Rattle.std.specs.List.{Contains}
+use Rattle.std.proofs.lemmas.List.Elements.{Contains-append_left, Contains-append_right, Contains-append_cases, Contains-push, Contains-push_cases}
+use Rattle.crews.specs.Crews.{Beside}
+use Rattle.crews.proofs.Places.{at_place, same_at, within, get_set, left_of}
+use Rattle.inboxes.specs.Sides.{put_more}
+use Rattle.journals.specs.declared.desk.DeskAct.{DeskAct}
+use Rattle.journals.specs.declared.node.NodeEntry.{NodeEntry}
+use Rattle.journals.specs.Steps.{side}
+use Rattle.locked_nodes.specs.declared.answers.Told.{Told}
+use Rattle.locked_nodes.specs.Cells.{CellView, BroughtLate, state_of, loses, told_as, number_of, entry, with_entry}
+use Rattle.locked_nodes.specs.declared.answers.CellRefusal.{CellRefusal}
+use Rattle.locked_nodes.specs.declared.answers.Late.{Late}
+use Rattle.locked_nodes.specs.declared.answers.Late.TheVariants.{NoMail, Delivered as CameIn, Lost}
+use Rattle.protocol.specs.Messages.{Message}
+use Rattle.event_clock.specs.Passes.{ClockId, Sight}
+use Rattle.journals.specs.declared.desk.Way.{Way}
+use Rattle.journals.specs.declared.desk.DeskAct.TheVariants.{Call}
+use Rattle.journals.specs.declared.node.Nature.{Nature}
+use Rattle.journals.specs.Acts.{act, late_act, answer_of, reply_in}
+use Rattle.client_desks.specs.Desks.{reply_told}
+use Rattle.client_desks.proofs.Desking.{act_side, late_side, told_reply}
+use Rattle.node_mail.specs.declared.asked.Asked.{Asked}
+use Rattle.node_mail.specs.declared.asked.NodePlace.{NodePlace}
+use Rattle.node_mail.specs.declared.answered.Answered.{Answered}
+use Rattle.node_mail.specs.Mail.{IsAskAt}
+use Rattle.node_serving.specs.Workers.{Line, WorkerView, clients_of, CanServe, IsLineTo, Tells, WasTold, TellsOf, IsSameLine, HasAnswered, HasMet, CameAside}
+
+-- the items of a list of which one was replaced
+set_here : {A : Type 0} (xs : List A) (k : ℕ) (x y : A) → slice_get xs k ≡ Some x → slice_get (slice_set xs k y) k ≡ Some y
+set_here [] k x y at = absurd cc
+set_here (z ∷ xs) zero x y at = refl
+set_here (z ∷ xs) (suc k) x y at = set_here xs k x y at
+
+set_elsewhere : {A : Type 0} (xs : List A) (k i : ℕ) (x y : A) → i ≢ k → slice_get xs i ≡ Some x → slice_get (slice_set xs k y) i ≡ Some x
+set_elsewhere [] k i x y apart at = absurd cc
+set_elsewhere (z ∷ xs) zero zero x y apart at = absurd (apart refl)
+set_elsewhere (z ∷ xs) zero (suc i) x y apart at = at
+set_elsewhere (z ∷ xs) (suc k) zero x y apart at = at
+set_elsewhere (z ∷ xs) (suc k) (suc i) x y apart at = set_elsewhere xs k i x y (λ e. apart (ap suc e)) at
+
+same_or : (i k : ℕ) → (i ≡ k) ⊎ (i ≢ k)
+same_or zero zero = inl refl
+same_or zero (suc k) = inr (λ e. omega arith)
+same_or (suc i) zero = inr (λ e. omega arith)
+same_or (suc i) (suc k) = same_suc i k (same_or i k)
+  where
+    same_suc : (i k : ℕ) → (i ≡ k) ⊎ (i ≢ k) → (suc i ≡ suc k) ⊎ (suc i ≢ suc k)
+    same_suc i k (inl h) = inl (ap suc h)
+    same_suc i k (inr h) = inr (λ e. h (omega arith))
+
+none_in : {A : Type 0} (xs : List A) (x : A) → xs ≡ [] → Contains xs x → ⊥
+none_in xs x none (k, lt, is) = let few = ap length none in omega (arith, lt, few)
+
+-- a worker that has answered nobody
+same_line : (seat : ℕ) (x y : Line) → x ≡ y → IsSameLine seat x y
+same_line seat x y same = record { inbox = ap (λ (l : Line). l.inbox) (sym same); number = ap (λ (l : Line). l.number) (sym same) }
+
+pub answered_none : (clients : List ℕ) (cell : CellView) (lines : List Line) → ((seat : ℕ) (line : Line) → slice_get lines seat ≡ Some line → line.put ≡ []) → HasAnswered clients cell lines cell lines
+answered_none clients cell lines new = record {
+  charter = refl;
+  more = [];
+  grew = sym (append-nil cell.journal);
+  same = record { count = refl; each = λ i x y a b. same_line i x y (same_at lines i x y a b) };
+  told = λ n c act has is. absurd (none_in [] n refl has);
+  done = λ seat line a t at has is. absurd (none_in line.put a (new seat line at) has);
+}
+
+-- the lines after an answer was put into one of them
+module _ (lines : List Line) (seat : ℕ) (line : Line) (here : slice_get lines seat ≡ Some line) (a : Answered) where
+  abbrev after : List Line
+  after = slice_set lines seat (put_more line a)
+
+  new_line : slice_get after seat ≡ Some (put_more line a)
+  new_line = set_here lines seat line (put_more line a) here
+
+  kept_by : (clients : List ℕ) (n : NodeEntry) (w : WasTold clients lines n) → (w.seat ≡ seat) ⊎ (w.seat ≢ seat) → WasTold clients after n
+  kept_by clients n w (inl is) =
+      let same : w.line ≡ line = same_at lines seat w.line line (ap (slice_get lines) (sym is) ∙ w.there) here in
+      record {
+        seat = seat;
+        line = put_more line a;
+        there = new_line;
+        answer = w.answer;
+        client = ap (slice_get clients) (sym is) ∙ w.client;
+        put = Contains-append_left line.put (a ∷ []) w.answer (subst (λ (l : Line). Contains l.put w.answer) same w.put);
+        tells = w.tells;
+      }
+  kept_by clients n w (inr apart) =
+      record { seat = w.seat; line = w.line; there = set_elsewhere lines seat w.seat w.line (put_more line a) apart w.there; answer = w.answer; client = w.client; put = w.put; tells = w.tells }
+
+  kept : (clients : List ℕ) (n : NodeEntry) → WasTold clients lines n → WasTold clients after n
+  kept clients n w = kept_by clients n w (same_or w.seat seat)
+
+  told_now : (clients : List ℕ) (n : NodeEntry) → slice_get clients seat ≡ Some a.ask.client → Tells n a → WasTold clients after n
+  told_now clients n client tells = record { seat = seat; line = put_more line a; there = new_line; answer = a; client = client; put = Contains-push line.put a; tells = tells }
+
+  module _ (clients : List ℕ) (old now new : CellView) (first : List Line) (so : HasAnswered clients old first now lines) (met : HasMet now a new) (client : slice_get clients seat ≡ Some a.ask.client) where
+    abbrev all_more : List NodeEntry
+    all_more = so.more ++ met.tail
+
+    told_of : (n : NodeEntry) (c : ℕ) (act : DeskAct) → side n.act ≡ Some (c, act) → Contains so.more n ⊎ Contains met.tail n → WasTold clients after n
+    told_of n c act is (inl has) = kept clients n (so.told n c act has is)
+    told_of n c act is (inr has) = told_now clients n client (met.told n has)
+
+    of_old : (s : ℕ) (b : Answered) → TellsOf clients so.more s b → TellsOf clients all_more s b
+    of_old s b of = record { entry = of.entry; there = Contains-append_left so.more met.tail of.entry of.there; client = of.client; tells = of.tells }
+
+    of_new : (s : ℕ) (b : Answered) (t : Told) → s ≡ seat → a ≡ b → b.told ≡ Ok t → TellsOf clients all_more s b
+    of_new s b t at same is =
+        let entry = met.done t (ap (λ (x : Answered). x.told) same ∙ is) in
+        record {
+          entry = entry.0;
+          there = Contains-append_right so.more met.tail entry.0 entry.1;
+          client = ap (slice_get clients) at ∙ client ∙ ap (λ (x : Answered). Some x.ask.client) same;
+          tells = subst (Tells entry.0) same (met.told entry.0 entry.1);
+        }
+
+    done_put : (s : ℕ) (b : Answered) (t : Told) → s ≡ seat → b.told ≡ Ok t → Contains line.put b ⊎ (a ≡ b) → TellsOf clients all_more s b
+    done_put s b t at is (inl has) = of_old s b (so.done s line b t (ap (slice_get lines) at ∙ here) has is)
+    done_put s b t at is (inr same) = of_new s b t at same is
+
+    done_of : (s : ℕ) (l : Line) (b : Answered) (t : Told) → Contains l.put b → b.told ≡ Ok t → ((s ≡ seat) × (l ≡ put_more line a)) ⊎ ((s ≢ seat) × (slice_get lines s ≡ Some l)) → TellsOf clients all_more s b
+    done_of s l b t has is (inl h) = done_put s b t h.0 is (Contains-push_cases line.put a b (subst (λ (x : Line). Contains x.put b) h.1 has))
+    done_of s l b t has is (inr h) = of_old s b (so.done s l b t h.1 has is)
+
+    line_kept : (s : ℕ) (x y : Line) → slice_get first s ≡ Some x → ((s ≡ seat) × (y ≡ put_more line a)) ⊎ ((s ≢ seat) × (slice_get lines s ≡ Some y)) → IsSameLine s x y
+    line_kept s x y at (inl h) =
+        let was = so.same.each s x line at (ap (slice_get lines) h.0 ∙ here) in
+        record { inbox = ap (λ (l : Line). l.inbox) h.1 ∙ was.inbox; number = ap (λ (l : Line). l.number) h.1 ∙ was.number }
+    line_kept s x y at (inr h) = so.same.each s x y at h.1
+
+    pub answered_more : HasAnswered clients old first new after
+    answered_more = record {
+      charter = met.charter ∙ so.charter;
+      more = all_more;
+      grew = met.grew ∙ ap (λ l. l ++ met.tail) so.grew ∙ append_assoc old.journal so.more met.tail;
+      same = record { count = so.same.count ∙ sym (length-set lines seat (put_more line a)); each = λ s x y at to. line_kept s x y at (get_set lines seat s y (put_more line a) to) };
+      told = λ n c act has is. told_of n c act is (Contains-append_cases so.more met.tail n has);
+      done = λ s l b t at has is. done_of s l b t has is (get_set lines seat s l (put_more line a) at);
+    }
+
+-- what has no client's side is told to nobody
+module _ (clients : List ℕ) (old now new : CellView) (first lines : List Line) (so : HasAnswered clients old first now lines) (late : CameAside now new) where
+  told_before : (n : NodeEntry) (c : ℕ) (act : DeskAct) → side n.act ≡ Some (c, act) → Contains so.more n ⊎ Contains late.tail n → WasTold clients lines n
+  told_before n c act is (inl has) = so.told n c act has is
+  told_before n c act is (inr has) = let none = late.aside n has in absurd cc
+
+  done_before : (seat : ℕ) (a : Answered) → TellsOf clients so.more seat a → TellsOf clients (so.more ++ late.tail) seat a
+  done_before seat a of = record { entry = of.entry; there = Contains-append_left so.more late.tail of.entry of.there; client = of.client; tells = of.tells }
+
+  pub answered_late : HasAnswered clients old first new lines
+  answered_late = record {
+    charter = late.charter ∙ so.charter;
+    more = so.more ++ late.tail;
+    grew = late.grew ∙ ap (λ l. l ++ late.tail) so.grew ∙ append_assoc old.journal so.more late.tail;
+    same = so.same;
+    told = λ n c act has is. told_before n c act is (Contains-append_cases so.more late.tail n has);
+    done = λ seat line a t at has is. done_before seat a (so.done seat line a t at has is);
+  }
+
+-- the line of a seat, when a worker starts and later
+line_at : (of : ClockId) (clients : List ℕ) (lines : List Line) (seat : ℕ) (line : Line) → Beside (IsLineTo of) clients lines → slice_get lines seat ≡ Some line → (id : ℕ) × (slice_get clients seat ≡ Some id) × IsLineTo of seat id line
+line_at of clients lines seat line to at =
+    left_of (IsLineTo of) clients lines seat line to at
+
+pub new_lines : (of : ClockId) (clients : List ℕ) (lines : List Line) → Beside (IsLineTo of) clients lines → (seat : ℕ) (line : Line) → slice_get lines seat ≡ Some line → line.put ≡ []
+new_lines of clients lines to seat line at = (line_at of clients lines seat line to at).2.new
+
+pub seat_within : (of : ClockId) (clients : List ℕ) (old : CellView) (first : List Line) (now : CellView) (lines : List Line) → Beside (IsLineTo of) clients first → HasAnswered clients old first now lines → (seat id : ℕ) → slice_get clients seat ≡ Some id → seat < length lines
+seat_within of clients old first now lines to so seat id at = let lt = within clients seat id at in omega (arith, lt, to.count, so.same.count)
+
+pub line_of : (of : ClockId) (clients : List ℕ) (old : CellView) (first : List Line) (now : CellView) (lines : List Line) → Beside (IsLineTo of) clients first → HasAnswered clients old first now lines → (seat id : ℕ) (line : Line) → slice_get clients seat ≡ Some id → slice_get lines seat ≡ Some line
+    → (line.inbox.place.clock.value ≡ of) × (line.inbox.place.client ≡ id)
+line_of of clients old first now lines to so seat id line at here =
+    let lt = within lines seat line here in
+    let was = at_place first seat (omega (arith, lt, so.same.count)) in
+    let same = (so.same.each seat was.0 line was.1 here).inbox in
+    let is = to.each seat id was.0 at was.1 in
+    (ap (λ i. i.place.clock.value) same ∙ is.ticks, ap (λ i. i.place.client) same ∙ is.client)
+
+-- what a cell did with an ask, and what it told of it
+tells_act : (s : CellView) (n : ℕ) (way : Way) (ask : Message) (t : Told) (note : Sight) → t ≡ told_as (number_of t) (answer_of (act (state_of s) s.charter.nature way ask)) → Tells (entry (number_of t) (act (state_of s) s.charter.nature way ask)) (record { way = way; ask = ask; told = Ok t; note = note })
+tells_act s n way ask t note is = record {
+  told = t;
+  is = refl;
+  number = refl;
+  agree = act_side (state_of s) s.charter.nature way ask
+      ∙ ap (λ r. Some (ask.client, Call way ask r)) (sym (told_reply (number_of t) (answer_of (act (state_of s) s.charter.nature way ask))) ∙ ap reply_told (sym is));
+}
+
+one_of : {A : Type 0} (x y : A) → Contains (x ∷ []) y → x ≡ y
+one_of x y (zero, lt, is) = is
+one_of x y (suc k, lt, is) = absurd (omega (arith, lt))
+
+pub has_met : (told : Result Told CellRefusal) (old new : CellView) (way : Way) (ask : Message) (note before : Sight) → IfOk told (λ t. new ≡ with_entry old (number_of t) (act (state_of old) old.charter.nature way ask))
+    → IfOk told (λ t. t ≡ told_as (number_of t) (answer_of (act (state_of old) old.charter.nature way ask))) → OnErr told ((new ≡ old) × (note ≡ before)) → HasMet old (record { way = way; ask = ask; told = told; note = note }) new
+has_met (Ok t) old new way ask note before cell tell err = record {
+  charter = ap (λ (c : CellView). c.charter) cell;
+  tail = entry (number_of t) (act (state_of old) old.charter.nature way ask) ∷ [];
+  grew = ap (λ (c : CellView). c.journal) cell;
+  told = λ n has. subst (λ m. Tells m (record { way = way; ask = ask; told = Ok t; note = note })) (one_of (entry (number_of t) (act (state_of old) old.charter.nature way ask)) n has) (tells_act old 0 way ask t note tell);
+  done = λ u is. (entry (number_of t) (act (state_of old) old.charter.nature way ask), (0, omega arith, refl));
+}
+has_met (Err e) old new way ask note before cell tell err = record {
+  charter = ap (λ (c : CellView). c.charter) err.0;
+  tail = [];
+  grew = ap (λ (c : CellView). c.journal) err.0 ∙ sym (append-nil old.journal);
+  told = λ n has. absurd (none_in [] n refl has);
+  done = λ u is. absurd cc;
+}
+
+-- what a cell did with a held ask that came late, or did not come
+pub aside_none : (old new : CellView) → new ≡ old → CameAside old new
+aside_none old new same = record { charter = ap (λ (c : CellView). c.charter) same; tail = []; grew = ap (λ (c : CellView). c.journal) same ∙ sym (append-nil old.journal); aside = λ n has. absurd (none_in [] n refl has) }
+
+aside_one : (old new : CellView) (n : ℕ) → BroughtLate old n new → CameAside old new
+aside_one old new n late = record {
+  charter = ap (λ (c : CellView). c.charter) late.cell;
+  tail = entry n (late_act (state_of old) old.charter.nature late.ask) ∷ [];
+  grew = ap (λ (c : CellView). c.journal) late.cell;
+  aside = λ m has. ap (λ (e : NodeEntry). side e.act) (sym (one_of (entry n (late_act (state_of old) old.charter.nature late.ask)) m has)) ∙ late_side (state_of old) old.charter.nature late.ask;
+}
+
+pub came_aside : (result : Result Late CellRefusal) (old new : CellView) → ((n : ℕ) → result ≡ Ok (CameIn n) → BroughtLate old n new × (loses (state_of old) old.charter.nature ≡ false)) → ((n : ℕ) → result ≡ Ok (Lost n) → BroughtLate old n new × (loses (state_of old) old.charter.nature ≡ true))
+    → (result ≡ Ok NoMail → new ≡ old) → OnErr result (new ≡ old) → CameAside old new
+came_aside (Ok NoMail) old new came lost none err = aside_none old new (none refl)
+came_aside (Ok (CameIn n)) old new came lost none err = aside_one old new n (came n refl).0
+came_aside (Ok (Lost n)) old new came lost none err = aside_one old new n (lost n refl).0
+came_aside (Err e) old new came lost none err = aside_none old new err
+
+aside_in : (old now new : CellView) (first : CameAside old now) (then : CameAside now new) (n : NodeEntry) → Contains first.tail n ⊎ Contains then.tail n → side n.act ≡ None
+aside_in old now new first then n (inl has) = first.aside n has
+aside_in old now new first then n (inr has) = then.aside n has
+
+pub aside_more : (old now new : CellView) → CameAside old now → CameAside now new → CameAside old new
+aside_more old now new first then = record {
+  charter = then.charter ∙ first.charter;
+  tail = first.tail ++ then.tail;
+  grew = then.grew ∙ ap (λ l. l ++ then.tail) first.grew ∙ append_assoc old.journal first.tail then.tail;
+  aside = λ n has. aside_in old now new first then n (Contains-append_cases first.tail then.tail n has);
+}
+
+-- a worker that has answered what it was asked so far
+pub record IsServing (old new : WorkerView) : Type 0 where
+  pub asks : new.asks.inbox ≡ old.asks.inbox
+  pub answered : HasAnswered (clients_of old) old.cell old.answers new.cell new.answers
+  pub none : new.sents ≡ []
+
+pub serving_none : (of : ClockId) (w : WorkerView) → CanServe of w → IsServing w w
+serving_none of w can = record { asks = refl; answered = answered_none (clients_of w) w.cell w.answers (new_lines of (clients_of w) w.answers can.lines); none = can.none }

@@ -1,0 +1,9 @@
+mod Dealing
+mod Opening
+mod Settling
+mod Working
+mod Pairing
+mod Phasing
+mod Locking
+mod Staying
+mod Sending

@@ -1,0 +1,144 @@
+-- Inboxes and posts that are opened one after another.
+use Rattle.std.proofs.Common.{◌≡◌, ℕ, ◌+◌, ◌<◌, List, [], ◌∷◌, ◌++◌, length, length-append, map, reverse, refl, sym, ap, subst, ◌∙◌, arith, inl, inr, append_assoc, append-nil}
+use Rattle.std.specs.declared.option.Option.TheVariants.{Some}
+use Rattle.std.specs.Prelude.{◌⊎◌, slice_get, All}
+use Rattle.std.proofs.lemmas.List.{reverse-append, reverse-reverse, map-append}
+use Rattle.crews.specs.Crews.{Beside}
+use Rattle.crews.proofs.Places.{at_place, same_at, within, all_at, get_snoc, get_last}
+use Rattle.event_clock.specs.Passes.{ClockId}
+use Rattle.inboxes.specs.Sides.{Putting, Taking, new_putter}
+use Rattle.node_mail.specs.declared.answered.Answered.{Answered}
+use Rattle.node_mail.specs.declared.answered.ClientPlace.{ClientPlace}
+use Rattle.phase_threads.specs.declared.duty.Seat.{Seat}
+use Rattle.desk_keys.specs.Keys.{KeysView}
+use Rattle.node_serving.specs.Workers.{WorkerView}
+use Rattle.node_workers.specs.declared.crew.Post.{Post}
+use Rattle.node_workers.specs.declared.crew.Post.TheVariants.{Client, Node}
+use Rattle.node_workers.specs.Posts.{nodes_in, clients_in}
+use Rattle.node_workers.specs.Hands.{AreDealt, AreNewPutters, AreSpread}
+use Rattle.node_workers.specs.Opened.{IsAnswerBox}
+
+-- each item of the second list is so to the one of the first list at its place
+pub record UpTo {X Y : Type 0} (R : ℕ → X → Y → Type 0) (xs : List X) (ys : List Y) : Type 0 where
+  pub each : (k : ℕ) (x : X) (y : Y) → slice_get xs k ≡ Some x → slice_get ys k ≡ Some y → R k x y
+
+module _ {X Y : Type 0} (R : ℕ → X → Y → Type 0) where
+  pub up_to_none : (xs : List X) → UpTo R xs []
+  up_to_none xs = record { each = λ k x y a b. absurd cc }
+
+  next_each : (xs : List X) (ys : List Y) (x : X) (y : Y) (k : ℕ) (a : X) (b : Y) → UpTo R xs ys → slice_get xs (length ys) ≡ Some x → R (length ys) x y → slice_get xs k ≡ Some a → (slice_get ys k ≡ Some b) ⊎ ((k ≡ length ys) × (b ≡ y)) → R k a b
+  next_each xs ys x y k a b up here is at (inl there) = up.each k a b at there
+  next_each xs ys x y k a b up here is at (inr p) =
+      let same : x ≡ a = same_at xs (length ys) x a here (ap (slice_get xs) (sym p.0) ∙ at) in
+      subst (λ n. R n a b) (sym p.0) (subst (λ u. R (length ys) u b) same (subst (R (length ys) x) (sym p.1) is))
+
+  pub up_to_more : (xs : List X) (ys : List Y) (x : X) (y : Y) → UpTo R xs ys → slice_get xs (length ys) ≡ Some x → R (length ys) x y → UpTo R xs (ys ++ y ∷ [])
+  up_to_more xs ys x y up here is = record { each = λ k a b at there. next_each xs ys x y k a b up here is at (get_snoc ys y k b there) }
+
+  pub up_to_all : (xs : List X) (ys : List Y) → UpTo R xs ys → length ys ≡ length xs → Beside R xs ys
+  up_to_all xs ys up all = record { count = sym all; each = up.each }
+
+-- what is left of a list that was turned round, after so many items were taken from its end
+pub record AreLeft {A : Type 0} (all rest : List A) (k : ℕ) : Type 0 where
+  pub first : List A
+  pub is : all ≡ first ++ reverse rest
+  pub count : length first ≡ k
+
+module _ {A : Type 0} where
+  pub all_left : (all rest : List A) → rest ≡ reverse all → AreLeft all rest 0
+  all_left all rest is = record { first = []; is = sym (ap reverse is ∙ reverse-reverse all); count = refl }
+
+  turned : (less : List A) (x : A) → reverse (less ++ x ∷ []) ≡ x ∷ reverse less
+  turned less x = reverse-append less (x ∷ [])
+
+  pub next_left : (all rest less : List A) (x : A) (k : ℕ) → AreLeft all rest k → rest ≡ less ++ x ∷ [] → AreLeft all less (k + 1) × (slice_get all k ≡ Some x)
+  next_left all rest less x k l is =
+      let whole : all ≡ l.first ++ x ∷ reverse less = l.is ∙ ap (λ r. l.first ++ r) (ap reverse is ∙ turned less x) in (
+        record { first = l.first ++ x ∷ []; is = whole ∙ sym (append_assoc l.first (x ∷ []) (reverse less)); count = length-append l.first (x ∷ []) ∙ ap (λ n. n + 1) l.count },
+        ap (λ n. slice_get all n) (sym l.count) ∙ ap (λ xs. slice_get xs (length l.first)) whole ∙ get_last l.first x (reverse less),
+      )
+
+  pub some_left : (all rest : List A) (k : ℕ) → AreLeft all rest k → k < length all → rest ≡ [] → ⊥
+  some_left all rest k l lt none =
+      let few : length all ≡ length l.first = ap length (l.is ∙ ap (λ r. l.first ++ reverse r) none ∙ append-nil l.first) in
+      let n = l.count in
+      omega (arith, few, n, lt)
+
+-- putters into one box more
+module _ {T P : Type 0} (count : ℕ) where
+  pub none_spread : (hands : List (List (Putting T P))) → length hands ≡ count → All (λ (h : List (Putting T P)). h ≡ []) hands → AreSpread {T = T} {P = P} count [] hands
+  none_spread hands n empty = record {
+    count = n;
+    full = λ i hand at. ap length (all_at (λ (h : List (Putting T P)). h ≡ []) hands i hand empty at);
+    each = λ i k hand p box at here there. absurd cc;
+  }
+
+  module _ (boxes : List (Taking T P)) (hands new : List (List (Putting T P))) (box : Taking T P) (putters : List (Putting T P)) (so : AreSpread count boxes hands) (made : AreNewPutters count box putters) (dealt : AreDealt hands putters new) where
+    -- a hand before and after, and what it got
+    record Got (i : ℕ) (hand : List (Putting T P)) : Type 0 where
+      was : List (Putting T P)
+      there : slice_get hands i ≡ Some was
+      is : hand ≡ was ++ new_putter box.inbox i ∷ []
+
+    got : (i : ℕ) (hand : List (Putting T P)) → slice_get new i ≡ Some hand → Got i hand
+    got i hand at =
+        let lt = within new i hand at in
+        let was = at_place hands i (omega (arith, lt, dealt.count)) in
+        let own = made.each i (omega (arith, lt, dealt.count, so.count)) in
+        record { was = was.0; there = was.1; is = dealt.each i was.0 hand (new_putter box.inbox i) was.1 at own }
+
+    each_of : (i k : ℕ) (hand : List (Putting T P)) (p : Putting T P) (b : Taking T P) (g : Got i hand) → (slice_get g.was k ≡ Some p) ⊎ ((k ≡ length g.was) × (p ≡ new_putter box.inbox i)) → (slice_get boxes k ≡ Some b) ⊎ ((k ≡ length boxes) × (b ≡ box)) → p ≡ new_putter b.inbox i
+    each_of i k hand p b g (inl x) (inl y) = so.each i k g.was p b g.there x y
+    each_of i k hand p b g (inl x) (inr y) = absurd (let lt = within g.was k p x in let n = so.full i g.was g.there in let e = y.0 in omega (arith, lt, n, e))
+    each_of i k hand p b g (inr x) (inl y) = absurd (let lt = within boxes k b y in let n = so.full i g.was g.there in let e = x.0 in omega (arith, lt, n, e))
+    each_of i k hand p b g (inr x) (inr y) = x.1 ∙ ap (λ (z : Taking T P). new_putter z.inbox i) (sym y.1)
+
+    pub spread_more : AreSpread count (boxes ++ box ∷ []) new
+    spread_more = record {
+      count = dealt.count ∙ so.count;
+      full = λ i hand at. let g = got i hand at in ap length g.is ∙ length-append g.was (new_putter box.inbox i ∷ []) ∙ ap (λ n. n + 1) (so.full i g.was g.there) ∙ sym (length-append boxes (box ∷ []));
+      each = λ i k hand p b at here there. let g = got i hand at in each_of i k hand p b g (get_snoc g.was (new_putter box.inbox i) k p (ap (λ l. slice_get l k) (sym g.is) ∙ here)) (get_snoc boxes box k b there);
+    }
+
+-- posts one after another
+module _ {T : Type 0} where
+  pub nodes-append : (ps qs : List (Post T)) → nodes_in (ps ++ qs) ≡ nodes_in ps ++ nodes_in qs
+  nodes-append [] qs = refl
+  nodes-append (Node w ∷ ps) qs = ap (λ l. w ∷ l) (nodes-append ps qs)
+  nodes-append (Client keys duty ∷ ps) qs = nodes-append ps qs
+
+  pub clients-append : (ps qs : List (Post T)) → clients_in (ps ++ qs) ≡ clients_in ps ++ clients_in qs
+  clients-append [] qs = refl
+  clients-append (Node w ∷ ps) qs = clients-append ps qs
+  clients-append (Client keys duty ∷ ps) qs = ap (λ l. (keys, duty) ∷ l) (clients-append ps qs)
+
+  -- with a post more
+  pub node_nodes : (ps : List (Post T)) (p : Post T) (w : WorkerView) → p ≡ Node w → nodes_in (ps ++ p ∷ []) ≡ nodes_in ps ++ w ∷ []
+  node_nodes ps p w is = ap (λ q. nodes_in (ps ++ q ∷ [])) is ∙ nodes-append ps (Node w ∷ [])
+
+  pub node_clients : (ps : List (Post T)) (p : Post T) (w : WorkerView) → p ≡ Node w → clients_in (ps ++ p ∷ []) ≡ clients_in ps
+  node_clients ps p w is = ap (λ q. clients_in (ps ++ q ∷ [])) is ∙ clients-append ps (Node w ∷ []) ∙ append-nil (clients_in ps)
+
+  pub client_nodes : (ps : List (Post T)) (p : Post T) (keys : KeysView) (duty : T) → p ≡ Client keys duty → nodes_in (ps ++ p ∷ []) ≡ nodes_in ps
+  client_nodes ps p keys duty is = ap (λ q. nodes_in (ps ++ q ∷ [])) is ∙ nodes-append ps (Client keys duty ∷ []) ∙ append-nil (nodes_in ps)
+
+  pub client_clients : (ps : List (Post T)) (p : Post T) (keys : KeysView) (duty : T) → p ≡ Client keys duty → clients_in (ps ++ p ∷ []) ≡ clients_in ps ++ (keys, duty) ∷ []
+  client_clients ps p keys duty is = ap (λ q. clients_in (ps ++ q ∷ [])) is ∙ clients-append ps (Client keys duty ∷ [])
+
+  pub client_at : (all done rest : List (Post T)) (p : Post T) (keys : KeysView) (duty : T) → all ≡ done ++ p ∷ rest → p ≡ Client keys duty → slice_get (clients_in all) (length (clients_in done)) ≡ Some (keys, duty)
+  client_at all done rest p keys duty list is =
+      ap (λ l. slice_get l (length (clients_in done))) (ap (λ l. clients_in l) (list ∙ ap (λ q. done ++ q ∷ rest) is) ∙ clients-append done (Client keys duty ∷ rest)) ∙ get_last (clients_in done) (keys, duty) (clients_in rest)
+
+-- what stands at the place up to which a list was walked
+pub here_of : {A : Type 0} (all done rest : List A) (x : A) (n : ℕ) → all ≡ done ++ x ∷ rest → n ≡ length done → slice_get all n ≡ Some x
+here_of all done rest x n is count = ap (slice_get all) count ∙ ap (λ l. slice_get l (length done)) is ∙ get_last done x rest
+
+pub map_more : {A B : Type 0} (f : A → B) (xs l : List A) (x : A) (ys zs : List B) (y : B) → ys ≡ map f xs → y ≡ f x → l ≡ xs ++ x ∷ [] → zs ≡ ys ++ y ∷ [] → zs ≡ map f l
+map_more f xs l x ys zs y are is more grew = grew ∙ (λ j. are j ++ is j ∷ []) ∙ sym (map-append f xs (x ∷ [])) ∙ ap (map f) (sym more)
+
+pub same_some : {A : Type 0} (x y : A) → Some x ≡ Some y → x ≡ y
+same_some x y is = cc
+
+-- the inbox of a seat's client, whatever the seat's place
+pub answer_at : {T : Type 0} (of : ClockId) (senders i k : ℕ) (seat : Seat T) (box : Taking Answered ClientPlace) → IsAnswerBox of senders i seat box → IsAnswerBox of senders k seat box
+answer_at of senders i k seat box is = record { ticks = is.ticks; client = is.client; began = is.began; count = is.count; new = is.new }

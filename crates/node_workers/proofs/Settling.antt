@@ -1,0 +1,72 @@
+-- Inboxes that are settled with one line after another, the last seat's first.
+use Rattle.std.proofs.Common.{◌≡◌, ℕ, zero, suc, ◌≤◌, ◌<◌, List, [], ◌∷◌, ◌++◌, length, length-append, refl, sym, ap, subst, ◌∙◌, arith, inl, inr}
+use Rattle.std.specs.declared.option.Option.TheVariants.{Some}
+use Rattle.std.specs.Prelude.{◌⊎◌, slice_get, slice_set}
+use Rattle.crews.specs.Crews.{Beside}
+use Rattle.crews.proofs.Places.{same_at, within, get_front, get_last}
+use Rattle.inboxes.specs.Sides.{Taking}
+use Rattle.node_mail.specs.declared.answered.Answered.{Answered}
+use Rattle.node_mail.specs.declared.answered.ClientPlace.{ClientPlace}
+use Rattle.desk_keys.specs.declared.mail.ByMail.{ByMail}
+use Rattle.node_serving.specs.Workers.{Line}
+use Rattle.node_workers.specs.Closed.{IsOfMail, HasAllOf}
+
+pub set_same : {A : Type 0} (xs : List A) (k : ℕ) (x : A) → slice_get xs k ≡ Some x → slice_set xs k x ≡ xs
+set_same [] k x at = refl
+set_same (y ∷ xs) zero x at = let e : y ≡ x = cc in ap (λ z. z ∷ xs) (sym e)
+set_same (y ∷ xs) (suc k) x at = ap (λ l. y ∷ l) (set_same xs k x at)
+
+-- a way by mail, with this taker of its answers
+abbrev pub with_answers : ByMail → Taking Answered ClientPlace → ByMail
+with_answers m t = record m { answers = t }
+
+pub answers_same : (m : ByMail) (t : Taking Answered ClientPlace) → t ≡ m.answers → with_answers m t ≡ m
+answers_same m t is = ap (with_answers m) is
+
+-- the lines from this place on are settled
+pub record AreSettledFrom (mails : List ByMail) (row left : List Line) : Type 0 where
+  pub rest : (k : ℕ) (s : Line) → slice_get left k ≡ Some s → slice_get row k ≡ Some s
+  pub done : (k : ℕ) (m : ByMail) (s : Line) → length left ≤ k → slice_get mails k ≡ Some m → slice_get row k ≡ Some s → HasAllOf k m s
+
+pub none_settled : (mails : List ByMail) (row : List Line) → AreSettledFrom mails row row
+none_settled mails row = record { rest = λ k s at. at; done = λ k m s le at here. absurd (let lt = within row k s here in omega (arith, lt, le)) }
+
+pub all_settled : (mails : List ByMail) (row left : List Line) → Beside IsOfMail mails row → AreSettledFrom mails row left → left ≡ [] → Beside HasAllOf mails row
+all_settled mails row left own s none = record { count = own.count; each = λ k m x at here. s.done k m x (let e = ap length none in omega (arith, e)) at here }
+
+module _ (mails : List ByMail) (row left less : List Line) (x : Line) (own : Beside IsOfMail mails row) (s : AreSettledFrom mails row left) (is : left ≡ less ++ x ∷ []) where
+  here : slice_get row (length less) ≡ Some x
+  here = s.rest (length less) x (ap (λ l. slice_get l (length less)) is ∙ get_last less x [])
+
+  pub next_within : length less < length mails
+  next_within = let lt = within row (length less) x here in omega (arith, lt, own.count)
+
+  pub next_own : (m : ByMail) → slice_get mails (length less) ≡ Some m → x.inbox ≡ m.answers.inbox
+  next_own m at = own.each (length less) m x at here
+
+  module _ (m : ByMail) (at : slice_get mails (length less) ≡ Some m) (items : HasAllOf (length less) m x) where
+    split : (k : ℕ) → length less ≤ k → (k ≡ length less) ⊎ (length left ≤ k)
+    split k le = elim (one_more (length less) k le) [ inl e ↦ inl e | inr lt ↦ inr (let n = ap length is in omega (arith, lt, n, length-append less (x ∷ []))) ]
+      where
+        one_more : (n k : ℕ) → n ≤ k → (k ≡ n) ⊎ (n < k)
+        one_more zero zero le = inl refl
+        one_more zero (suc k) le = inr (omega arith)
+        one_more (suc n) zero le = absurd (omega arith)
+        one_more (suc n) (suc k) le = up n k (one_more n k (omega arith))
+          where
+            up : (n k : ℕ) → (k ≡ n) ⊎ (n < k) → (suc k ≡ suc n) ⊎ (suc n < suc k)
+            up n k (inl e) = inl (ap suc e)
+            up n k (inr lt) = inr (omega arith)
+
+    done_at : (k : ℕ) (n : ByMail) (y : Line) → slice_get mails k ≡ Some n → slice_get row k ≡ Some y → (k ≡ length less) ⊎ (length left ≤ k) → HasAllOf k n y
+    done_at k n y there of (inl e) =
+        let mail : m ≡ n = same_at mails (length less) m n at (ap (slice_get mails) (sym e) ∙ there) in
+        let line : x ≡ y = same_at row (length less) x y here (ap (slice_get row) (sym e) ∙ of) in
+        subst (λ u. HasAllOf k u y) mail (subst (λ u. HasAllOf k m u) line items)
+    done_at k n y there of (inr le) = s.done k n y le there of
+
+    pub settled_more : AreSettledFrom mails row less
+    settled_more = record {
+      rest = λ k y b. s.rest k y (ap (λ l. slice_get l k) is ∙ get_front less (x ∷ []) k y b);
+      done = λ k n y le there of. done_at k n y there of (split k le);
+    }

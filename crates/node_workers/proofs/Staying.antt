@@ -1,0 +1,53 @@
+-- Posts as they were, taken apart again.
+use Rattle.std.proofs.Common.{◌≡◌, ℕ, List, map, refl, sym, ap, subst, ◌∙◌}
+use Rattle.std.specs.declared.option.Option.{Option}
+use Rattle.std.specs.declared.result.Result.{Result}
+use Rattle.std.specs.declared.result.Result.TheVariants.{Ok, Err}
+use Rattle.std.specs.Prelude.{All, IsSome, IfOk}
+use Rattle.std.proofs.lemmas.List.{length-map}
+use Rattle.quorum_rules.specs.Limits.{Numbers}
+use Rattle.crews.proofs.Places.{all_from, map_get, right_of, left_of}
+use Rattle.event_clock.specs.Passes.{ClockId}
+use Rattle.inboxes.specs.Sides.{Putting, Taking}
+use Rattle.locked_nodes.specs.Cells.{CellView}
+use Rattle.node_mail.specs.declared.asked.Asked.{Asked}
+use Rattle.node_mail.specs.declared.asked.NodePlace.{NodePlace}
+use Rattle.node_mail.specs.declared.answered.Answered.{Answered}
+use Rattle.node_mail.specs.declared.answered.ClientPlace.{ClientPlace}
+use Rattle.desk_keys.specs.declared.mail.ByMail.{ByMail}
+use Rattle.desk_keys.specs.Keys.{KeysView, FloorView}
+use Rattle.node_serving.specs.Workers.{Line, WorkerView}
+use Rattle.phase_threads.specs.declared.duty.Seat.{Seat}
+use Rattle.node_workers.specs.Opened.{IsWorkerOf, IsClientOf}
+use Rattle.node_workers.specs.Posts.{seat_of}
+use Rattle.node_workers.proofs.Phasing.{Opened, ids_of}
+use Rattle.node_workers.proofs.Locking.{beside_map, map_id, again}
+
+pub ok_also : {T E : Type 0} (P Q : T → Type 0) (r : Result T E) → ((x : T) → P x → Q x) → IfOk r P → IfOk r Q
+ok_also P Q (Ok x) f has = f x has
+ok_also P Q (Err e) f has = has
+
+module _ {T : Type 0} (config : Numbers) (of : ClockId) (cells : List CellView) (seats : List (Seat T)) (boxes : List (Taking Answered ClientPlace)) (rows : List (List Line)) (hands : List (List (Putting Asked NodePlace))) (workers : List WorkerView) (clients : List (KeysView × T)) (floor : FloorView)
+    (o : Opened config of cells seats boxes rows hands workers clients floor) where
+  pub all_by_mail : All (λ (x : KeysView × T). IsSome x.0.mail) clients
+  all_by_mail = all_from (λ (x : KeysView × T). IsSome x.0.mail) clients (λ i x at.
+      let c = left_of (IsClientOf boxes hands) seats clients i x o.seated at in
+      subst (λ (m : Option ByMail). IsSome m) (sym (ap (λ (ks : KeysView). ks.mail) c.2.keys)) refl)
+
+  pub cells_stay : map (λ (w : WorkerView). w.cell) workers ≡ map again cells
+  cells_stay = beside_map again cells (map (λ (w : WorkerView). w.cell) workers) (record {
+    count = o.nodes.count ∙ sym (length-map workers (λ (w : WorkerView). w.cell));
+    each = λ k x y at to. let w = map_get (λ (v : WorkerView). v.cell) workers k y to in sym w.2 ∙ (o.nodes.each k x w.0 at w.1).is;
+  })
+
+  seat_stays : (i : ℕ) (s : Seat T) (x : KeysView × T) → IsClientOf boxes hands i s x → seat_of x ≡ s
+  seat_stays i s x c = let desk = ap (λ (ks : KeysView). ks.desk) c.keys in λ j. record { desk = desk j; duty = c.duty j }
+
+  pub seats_stay : map seat_of clients ≡ seats
+  seats_stay = beside_map (λ (s : Seat T). s) seats (map seat_of clients) (record {
+    count = o.seated.count ∙ sym (length-map clients seat_of);
+    each = λ k s y at to. let x = map_get seat_of clients k y to in sym x.2 ∙ seat_stays k s x.0 (o.seated.each k s x.0 at x.1);
+  }) ∙ map_id seats
+
+  pub cells_own : All (λ (c : CellView). c.pass.clock ≡ c.charter.pass.clock) cells
+  cells_own = all_from (λ (c : CellView). c.pass.clock ≡ c.charter.pass.clock) cells (λ k c at. (right_of (IsWorkerOf of (ids_of seats) rows) cells workers k c o.nodes at).2.own)

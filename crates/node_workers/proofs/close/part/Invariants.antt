@@ -1,0 +1,20 @@
+use Rattle.std.proofs.Common.{◌≡◌, List, map, All}
+use Rattle.std.specs.declared.option.Option.TheVariants.{None, Some}
+use Rattle.std.specs.Vec.Iter.{into_iter_items, into_iter_len}
+use Rattle.crews.proofs.Places.{Walked}
+use Rattle.desk_keys.specs.declared.mail.ByMail.{ByMail}
+use Rattle.desk_keys.specs.Keys.{AgreeByMail}
+use Rattle.node_workers.specs.declared.crew.Post.{Post}
+use Rattle.node_workers.specs.Posts.{nodes_in, clients_in, seat_of}
+use Rattle.node_workers.proofs.close.part.Given as goal
+
+-- the posts so far are parted
+abbrev pub invariant-loop-post : goal.invariant-loop-post
+invariant-loop-post g l =
+    (done : List (Post g.row.T.Denot)) × Walked l.fn.posts.items done (into_iter_items l.post-iterator) (into_iter_len l.post-iterator)
+    × (l.cells.items ≡ map (λ w. w.cell) (nodes_in done))
+    × (l.rows.items ≡ map (λ w. w.sents) (nodes_in done))
+    × (l.seats.items ≡ map seat_of (clients_in done))
+    × (map (λ (m : ByMail). Some m) l.mails.items ≡ map (λ x. x.0.mail) (clients_in done))
+    × (l.refused ≡ None → All (λ x. x.0.refused ≡ None) (clients_in done))
+    × All (λ x. x.0.refused ≡ None → (m : ByMail) → x.0.mail ≡ Some m → AgreeByMail x.0.desk m) (clients_in done)

@@ -1,0 +1,18 @@
+-- What posts leave, and inboxes that are settled.
+use Rattle.std.specs.Prelude.{◌≡◌, ℕ, List, slice_get}
+use Rattle.std.specs.declared.option.Option.TheVariants.{Some}
+use Rattle.inboxes.specs.Sides.{took, items_from}
+use Rattle.desk_keys.specs.declared.mail.ByMail.{ByMail}
+use Rattle.node_serving.specs.Workers.{Line}
+
+-- the line goes to the inbox out of which the client took
+abbrev pub IsOfMail : ℕ → ByMail → Line → Type 0
+IsOfMail i m line = line.inbox ≡ m.answers.inbox
+
+-- what was taken of the line is what was put into it
+abbrev pub HasAllOf : ℕ → ByMail → Line → Type 0
+HasAllOf i m line = items_from line.number (took m.answers) ≡ line.put
+
+-- each way by mail is that of its seat
+abbrev pub AreSeated : List ByMail → Type 0
+AreSeated mails = (i : ℕ) (m : ByMail) → slice_get mails i ≡ Some m → m.seat ≡ i

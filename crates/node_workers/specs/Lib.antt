@@ -1,0 +1,5 @@
+pub mod Hands
+pub mod Posts
+pub mod Opened
+pub mod Closed
+pub mod Ended

@@ -1,0 +1,127 @@
+//! Cells and desks, when the threads have ended.
+ghost use Rattle.std.specs.Prelude.{◌≡◌, true, None, Some, All, IsSome, map, IfOk, OnOk};
+ghost use Rattle.crews.specs.Crews.{Beside};
+ghost use Rattle.inboxes.specs.Sides.{IsDone};
+ghost use Rattle.desk_keys.specs.declared.mail.ByMail.{ByMail as MailView};
+ghost use Rattle.desk_keys.specs.Keys.{AgreeByMail};
+ghost use Rattle.node_workers.specs.Posts.{nodes_in, clients_in, seat_of};
+ghost use Rattle.node_workers.specs.Closed.{AreSeated, IsOfMail, HasAllOf};
+
+use crate::crew::Post;
+use desk_keys::ByMail;
+use inboxes::{Sents, settle};
+use lists::{ItemList, NoMemory};
+use locked_nodes::{CellRefusal, NodeCell};
+use node_mail::Answered;
+use phase_threads::{Duty, Seat};
+use std::alloc::Global;
+
+/// What posts leave: the cells, and what is left of their workers' lines, by seat; the desks with their duties, and their ways by
+/// mail; and the refusal that counts.
+#[derive(Drop)]
+pub struct Parted<T> {
+    pub cells: Vec<NodeCell>,
+    pub rows: Vec<Sents<Answered>>,
+    pub seats: Vec<Seat<T>>,
+    pub mails: Vec<ByMail>,
+    pub refused: Option<CellRefusal>,
+}
+
+/// Takes posts apart, in their order.
+pub fn part<T: Duty>(alloc: Global, posts: Vec<Post<T>>) -> Result<Parted<T>, NoMemory>
+    requires { All (λ x. IsSome x.0.mail) (clients_in posts.items) }
+    ensures cells { IfOk result (λ r. r.cells.items ≡ map (λ w. w.cell) (nodes_in posts.items)) }
+    ensures rows { IfOk result (λ r. r.rows.items ≡ map (λ w. w.sents) (nodes_in posts.items)) }
+    ensures seats { IfOk result (λ r. r.seats.items ≡ map seat_of (clients_in posts.items)) }
+    ensures mails { IfOk result (λ r. map (λ m. Some m) r.mails.items ≡ map (λ x. x.0.mail) (clients_in posts.items)) }
+    ensures refused { IfOk result (λ r. r.refused ≡ None → All (λ x. x.0.refused ≡ None) (clients_in posts.items)) }
+    ensures agree { IfOk result (λ r. All (λ x. x.0.refused ≡ None → (m : MailView) → x.0.mail ≡ Some m → AgreeByMail x.0.desk m) (clients_in posts.items)) }
+{
+    let mut cells = Vec::new(alloc);
+    let mut rows = Vec::new(alloc);
+    let mut seats = Vec::new(alloc);
+    let mut mails = Vec::new(alloc);
+    let mut refused = None;
+    for post in posts {
+        match post {
+            Post::Node(worker) => {
+                let (cell, sents) = worker.into_parts();
+                cells.push(cell)?;
+                rows.push(ItemList::from_vec(sents))?;
+            }
+            Post::Client { keys, duty } => {
+                refused = first_of(refused, keys.refused());
+                let (desk, mail) = keys.into_mail();
+                seats.push(Seat { desk, duty })?;
+                mails.push(mail)?;
+            }
+        }
+    }
+    Ok(Parted {
+        cells,
+        rows,
+        seats,
+        mails,
+        refused,
+    })
+}
+
+// The refusal that counts of two: want of memory comes before a full clock.
+fn first_of(one: Option<CellRefusal>, other: Option<CellRefusal>) -> Option<CellRefusal>
+    ensures none { result ≡ None → (one ≡ None) × (other ≡ None) }
+{
+    match (one, other) {
+        (None, _) => other,
+        (_, None) => one,
+        (Some(CellRefusal::ClockFull), Some(CellRefusal::ClockFull)) => one,
+        _ => Some(CellRefusal::NoMemory),
+    }
+}
+
+/// Whether each way by mail is that of its seat.
+pub fn are_seated(mails: &[ByMail]) -> bool
+    ensures { result ≡ true → AreSeated mails.now }
+{
+    for i in 0..mails.len() {
+        if mails[i].seat as usize != i {
+            return false;
+        }
+    }
+    true
+}
+
+/// Settles each client's inbox with what is left of the nodes' lines to it: so what was taken of each node is what the node put.
+pub fn settle_all(
+    alloc: Global,
+    mails: &mut Vec<ByMail>,
+    rows: Vec<Sents<Answered>>,
+) -> Result<(), NoMemory>
+    requires own { All (λ row. Beside IsOfMail mails.old.items row) rows.items }
+    requires done { All (λ m. IsDone m.answers) mails.old.items }
+    ensures settled { OnOk result (All (λ row. Beside HasAllOf mails.old.items row) rows.items) }
+{
+    for row in rows {
+        settle_row(alloc, mails, row)?;
+    }
+    Ok(())
+}
+
+// Settles each client's inbox with what is left of one node's line to it.
+fn settle_row(
+    alloc: Global,
+    mails: &mut Vec<ByMail>,
+    mut row: Sents<Answered>,
+) -> Result<(), NoMemory>
+    requires own { Beside IsOfMail mails.old.items row }
+    requires done { All (λ m. IsDone m.answers) mails.old.items }
+    ensures same { OnOk result (mails.new.items ≡ mails.old.items) }
+    ensures settled { OnOk result (Beside HasAllOf mails.old.items row) }
+{
+    while let Some(sent) = row.pop() {
+        let mail = &mut mails[row.len()];
+        let mut one = ItemList::new(alloc);
+        one.push(sent)?;
+        settle(&mut mail.answers, one);
+    }
+    Ok(())
+}

@@ -1,0 +1,13 @@
+//! A phase of a run in which each node has a thread of its own, as each desk has: clients ask nodes, and nodes answer clients, by
+//! inboxes alone.
+#![tactic(auto)]
+
+mod close;
+mod crew;
+mod hands;
+mod open;
+pub mod phase;
+pub mod run;
+
+pub use phase::run_mail_phase;
+pub use run::run_workers;

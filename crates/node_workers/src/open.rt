@@ -1,0 +1,167 @@
+//! Inboxes for nodes and clients, and the posts of their threads, before these start.
+ghost use Rattle.std.specs.Prelude.{◌≡◌, ◌≤◌, [], length, map, IfOk};
+ghost use Rattle.crews.specs.Crews.{Beside};
+ghost use Rattle.locked_nodes.specs.Slots.{slot_of};
+ghost use Rattle.node_workers.specs.Hands.{AreSpread, AreNewPutters};
+ghost use Rattle.node_workers.specs.Posts.{nodes_in, clients_in};
+ghost use Rattle.node_workers.specs.Opened.{IsAskBox, IsAnswerBox, IsWorkerOf, IsClientOf};
+
+use crate::crew::Post;
+use crate::hands::{Hands, deal, empty_hands};
+use desk_keys::{ByMail, Keys};
+use event_clock::Clock;
+use inboxes::{Inbox, Putter, Putters, Taker};
+use lists::{ItemList, NoMemory};
+use locked_nodes::{NodeCell, Slot};
+use node_mail::{Answered, Asked, ClientPlace, NodePlace};
+use node_serving::Worker;
+use phase_threads::{Duty, Seat};
+use std::alloc::Global;
+use std::snapshot::Snapshot;
+use std::sync::Wait;
+
+// How many items an inbox holds at a time.
+const ROOM: u32 = 16;
+
+/// The clients' numbers, by their seats.
+pub fn clients_of<T: Drop>(alloc: Global, seats: &[Seat<T>]) -> Result<ItemList<u32>, NoMemory>
+    ensures { IfOk result (λ ids. ids ≡ map (λ s. s.desk.id) seats.now) }
+{
+    let mut ids = ItemList::new(alloc);
+    for seat in seats {
+        ids.push(seat.desk.id())?;
+    }
+    Ok(ids)
+}
+
+/// An inbox for the answers to each client, which so many nodes have putters into: the takers by seat, and the putters in a hand
+/// for each node.
+pub fn open_answers<R: Wait, T: Drop>(
+    rt: &R,
+    alloc: Global,
+    clock: &Clock,
+    nodes: u32,
+    seats: &[Seat<T>],
+) -> Result<(ItemList<Taker<Answered>>, Hands<Putter<Answered>>), NoMemory>
+    requires { (1 ≤ nodes) × (nodes ≤ 65536) }
+    ensures boxes { IfOk result (λ r. Beside (IsAnswerBox clock.now nodes) seats.now r.0) }
+    ensures putters { IfOk result (λ r. AreSpread nodes r.0 r.1.items) }
+{
+    let mut takers = ItemList::new(alloc);
+    let mut putters = empty_hands(alloc, nodes)?;
+    for i in 0..seats.len() {
+        let (taker, more) = open_answer(rt, alloc, clock, nodes, &seats[i])?;
+        deal(&mut putters, more)?;
+        takers.push(taker)?;
+    }
+    Ok((takers, putters))
+}
+
+fn open_answer<R: Wait, T: Drop>(
+    rt: &R,
+    alloc: Global,
+    clock: &Clock,
+    nodes: u32,
+    seat: &Seat<T>,
+) -> Result<(Taker<Answered>, Putters<Answered>), NoMemory>
+    requires { (1 ≤ nodes) × (nodes ≤ 65536) }
+    ensures taker { IfOk result (λ r. IsAnswerBox clock.now nodes 0 seat.now r.0) }
+    ensures putters { IfOk result (λ r. AreNewPutters nodes r.0 r.1) }
+{
+    let place = ClientPlace {
+        clock: Snapshot::of(clock),
+        client: seat.desk.id(),
+        began: Snapshot::of(&seat.desk),
+    };
+    Inbox::open::<Answered, R>(rt, alloc, ROOM, nodes, &place)
+}
+
+/// A worker for each cell, with an inbox for asks and a line to each client, in the cells' order; and the putters into these
+/// inboxes in a hand for each client.
+pub fn open_nodes<R: Wait, T: Duty>(
+    rt: &R,
+    alloc: Global,
+    clock: &Clock,
+    cells: Vec<NodeCell>,
+    clients: &ItemList<u32>,
+    mut lines: Hands<Putter<Answered>>,
+) -> Result<(Vec<Post<T>>, Hands<Putter<Asked>>), NoMemory>
+    requires count { (1 ≤ length clients.now) × (length clients.now ≤ 65536) }
+    requires lines { length lines.items ≡ length cells.items }
+    ensures nodes { IfOk result (λ r. Beside (IsWorkerOf clock.now clients.now lines.items) cells.items (nodes_in r.0.items)) }
+    ensures clients { IfOk result (λ r. clients_in r.0.items ≡ []) }
+    ensures putters { IfOk result (λ r. AreSpread (length clients.now) (map (λ w. w.asks) (nodes_in r.0.items)) r.1.items) }
+{
+    let mut posts = Vec::new(alloc);
+    let mut putters = empty_hands(alloc, clients.len() as u32)?;
+    lines.reverse();
+    for cell in cells {
+        let Some(row) = lines.pop() else {
+            unreachable!()
+        };
+        let (asks, more) = open_asks(rt, alloc, clock, cell.slot(), clients)?;
+        deal(&mut putters, more)?;
+        cell.known();
+        let worker = Worker::new(alloc, cell.go_on(false), asks, row.into_vec())?;
+        posts.push(Post::Node(worker))?;
+    }
+    Ok((posts, putters))
+}
+
+fn open_asks<R: Wait>(
+    rt: &R,
+    alloc: Global,
+    clock: &Clock,
+    slot: Slot,
+    clients: &ItemList<u32>,
+) -> Result<(Taker<Asked>, Putters<Asked>), NoMemory>
+    requires { (1 ≤ length clients.now) × (length clients.now ≤ 65536) }
+    ensures taker { IfOk result (λ r. IsAskBox clock.now slot clients.now r.0) }
+    ensures putters { IfOk result (λ r. AreNewPutters (length clients.now) r.0 r.1) }
+{
+    let place = NodePlace {
+        clock: Snapshot::of(clock),
+        slot,
+        clients: Snapshot::of(clients),
+    };
+    Inbox::open::<Asked, R>(rt, alloc, ROOM, clients.len() as u32, &place)
+}
+
+/// Adds the posts of clients: each desk with its inbox, a putter into each node's, and its duty, in the seats' order.
+pub fn open_clients<T: Duty>(
+    alloc: Global,
+    mut posts: Vec<Post<T>>,
+    seats: Vec<Seat<T>>,
+    boxes: ItemList<Taker<Answered>>,
+    mut putters: Hands<Putter<Asked>>,
+) -> Result<Vec<Post<T>>, NoMemory>
+    requires clients { clients_in posts.items ≡ [] }
+    requires boxes { (of : _) × (nodes : _) × Beside (IsAnswerBox of nodes) seats.items boxes }
+    requires putters { length putters.items ≡ length seats.items }
+    requires count { length seats.items ≤ 65536 }
+    ensures nodes { IfOk result (λ r. nodes_in r.items ≡ nodes_in posts.items) }
+    ensures clients { IfOk result (λ r. Beside (IsClientOf boxes putters.items) seats.items (clients_in r.items)) }
+{
+    let mut takers = boxes.into_vec();
+    takers.reverse();
+    putters.reverse();
+    let mut number = 0;
+    for seat in seats {
+        let Some(answers) = takers.pop() else {
+            unreachable!()
+        };
+        let Some(asks) = putters.pop() else {
+            unreachable!()
+        };
+        let Seat { desk, duty } = seat;
+        let mail = ByMail {
+            seat: number,
+            asks: asks.into_vec(),
+            answers,
+        };
+        let keys = Keys::by_mail(alloc, desk, mail);
+        posts.push(Post::Client { keys, duty })?;
+        number += 1;
+    }
+    Ok(posts)
+}

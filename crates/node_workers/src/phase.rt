@@ -1,0 +1,90 @@
+//! One phase of a run by mail.
+ghost use Rattle.std.specs.Prelude.{◌≡◌, ◌≤◌, None, Some, All, IsSome, IfOk, map, length};
+ghost use Rattle.std.specs.List.{AllZip};
+ghost use Rattle.crews.specs.Crews.{Beside};
+ghost use Rattle.phase_threads.specs.Phases.{MayPhase, HasPhased};
+ghost use Rattle.client_desks.specs.Later.{IsLater};
+ghost use Rattle.run_journals.specs.Standing.{HasWorked, PairsStand};
+ghost use Rattle.node_workers.specs.Ended.{MayClose, HasClosed};
+
+use crate::close::{Parted, are_seated, part, settle_all};
+use crate::crew::Post;
+use crate::open::{clients_of, open_answers, open_clients, open_nodes};
+use crews::{Gate, Started, each_at_once};
+use desk_keys::Floor;
+use event_clock::Clock;
+use lists::NoMemory;
+use locked_nodes::{CellRefusal, NodeCell, slots_in};
+use phase_threads::{Duty, Left, Seat, run_phase};
+use std::alloc::Global;
+use std::sync::Wait;
+use std::thread::Threads;
+
+// How many nodes may put answers into an inbox.
+const MOST: usize = 65_536;
+
+/// Lets a thread for each cell answer what is asked of it, and a thread for each seat do its duty: a client puts its asks into the
+/// cells' inboxes, and takes the answers out of its own. There are from 1 to 65,536 seats. Where not all threads can be made, or
+/// there is no cell or more than 65,536, the phase is done by locks, as `run_phase` does it.
+///
+/// A refusal ends the work of the client to which it comes, and the others end theirs. If none came, cells and desks agree in pairs
+/// again.
+pub fn run_mail_phase<R: Threads + Wait + Sync, G: Gate + Sync, T: Duty + Send>(
+    rt: &R,
+    alloc: Global,
+    gate: &G,
+    clock: Clock,
+    cells: Vec<NodeCell>,
+    seats: Vec<Seat<T>>,
+) -> Result<(Clock, Left<T>), NoMemory>
+    requires { MayPhase T.ready clock cells.items seats.items }
+    ensures { IfOk result (λ r. HasPhased T.done clock cells.items seats.items r.0 r.1) }
+{
+    if cells.is_empty() || cells.len() > MOST {
+        return run_phase(rt, alloc, gate, clock, cells, seats);
+    }
+    let nodes = cells.len() as u32;
+    let slots = slots_in(alloc, cells.as_slice())?;
+    let clients = clients_of(alloc, seats.as_slice())?;
+    let (boxes, lines) = open_answers(rt, alloc, &clock, nodes, seats.as_slice())?;
+    let floor = Floor::by_mail(alloc, clock, slots, &boxes);
+    let (posts, putters) = open_nodes(rt, alloc, floor.clock(), cells, &clients, lines)?;
+    let posts = open_clients(alloc, posts, seats, boxes, putters)?;
+    let started = each_at_once(rt, alloc, gate, &floor, posts)?;
+    let (clock, _vaults) = floor.into_parts();
+    match started {
+        Started::Whole(posts) => Ok((clock, close(alloc, posts)?)),
+        Started::Nobody(posts) => {
+            let Parted { cells, seats, .. } = part(alloc, posts)?;
+            run_phase(rt, alloc, gate, clock, cells, seats)
+        }
+    }
+}
+
+// What posts leave whose threads have all worked.
+fn close<T: Duty>(alloc: Global, posts: Vec<Post<T>>) -> Result<Left<T>, NoMemory>
+    requires { MayClose posts.items }
+    ensures { IfOk result (λ left. HasClosed posts.items left) }
+{
+    let Parted {
+        cells,
+        rows,
+        seats,
+        mut mails,
+        refused,
+    } = part(alloc, posts)?;
+    if !are_seated(mails.as_slice()) {
+        // Keys stay those of their seat, which no clause of a duty says.
+        return Ok(Left {
+            cells,
+            seats,
+            refused: Some(CellRefusal::NoMemory),
+        });
+    }
+    settle_all(alloc, &mut mails, rows)?;
+    Ok(Left {
+        cells,
+        seats,
+        refused,
+    })
+}

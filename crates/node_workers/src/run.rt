@@ -1,0 +1,48 @@
+//! A plan, run with each node in a thread of its own.
+ghost use Rattle.std.specs.Prelude.{◌≡◌, Err, IfOk};
+ghost use Rattle.std.specs.Thread.{IsSync};
+ghost use Rattle.event_clock.specs.Passes.{Tally};
+ghost use Rattle.plan_words.specs.Plans.{Fits};
+ghost use Rattle.plan_followed.specs.Followed.{AreOfPlan};
+ghost use Rattle.phase_threads.specs.Phases.{MayPhase, HasPhased};
+ghost use Rattle.client_work.specs.Work.{Ready, Done};
+ghost use Rattle.client_threads.specs.Ran.{HasFullPass};
+
+use crate::phase::run_mail_phase;
+use client_threads::{Phased, Ran, RunRefusal, run_by};
+use client_work::Work;
+use crews::Gate;
+use event_clock::Clock;
+use locked_nodes::NodeCell;
+use phase_threads::Seat;
+use plan_words::Plan;
+use std::alloc::Global;
+use std::sync::Wait;
+use std::thread::Threads;
+
+// How many cells a node has: its thread does one thing after the other all the same.
+const SHARDS: u32 = 1;
+
+/// Runs a plan that fits as `run_plan` does, with each node in a thread of its own, which takes asks from the node's inbox and puts
+/// answers into the clients' inboxes. Where not all threads of a phase can be made, the phase is done by locks.
+///
+/// Its journals are those of a run of the plan: each is kept, they agree in pairs, their numbers are those below the count of what was
+/// drawn, each once, and they follow the plan. `ClockFull` comes only where a pass has drawn 2^40 numbers.
+pub fn run_workers<R: Threads + Wait + Sync, G: Gate + Sync>(
+    rt: &R,
+    alloc: Global,
+    plan: &Plan,
+    gate: &G,
+) -> Result<Ran, RunRefusal>
+    requires { Fits plan.now }
+    ensures followed { IfOk result (λ r. AreOfPlan plan.now r.journals r.drawn.count) }
+    ensures full { (drawn : Tally) → result ≡ Err (RunRefusal.ClockFull drawn) → HasFullPass drawn }
+{
+    let phase = |clock: Clock, cells: Vec<NodeCell>, seats: Vec<Seat<Work>>| -> Phased
+        requires runtime { IsSync R.row }
+        requires gate { IsSync G.row }
+        requires may { MayPhase Ready clock cells.items seats.items }
+        ensures { IfOk result (λ r. HasPhased Done clock cells.items seats.items r.0 r.1) }
+    { run_mail_phase(rt, alloc, gate, clock, cells, seats) };
+    run_by(rt, alloc, plan, &phase, SHARDS)
+}
