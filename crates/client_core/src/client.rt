@@ -93,6 +93,22 @@ impl Client {
         })
     }
 
+    /// An idle client of the same cluster, in this life. It needs no memory, and the stamp of the first version isn't computed
+    /// again.
+    pub fn sibling(&self, id: u32, life: u32) -> Client
+        ensures { result ≡ record { config = self.now.config; id = id; seen = record { life = life; started = 0; task = None } } }
+    {
+        Client {
+            alloc: self.alloc,
+            config: self.config,
+            first: self.first,
+            id,
+            life,
+            started: 0,
+            work: Work::Idle,
+        }
+    }
+
     /// Starts an operation. The messages are those of its first phase.
     pub fn start(&mut self, op: &Op) -> Result<Mail, NoMemory>
         requires idle { self.now.seen.task ≡ None }

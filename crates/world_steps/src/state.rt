@@ -137,10 +137,11 @@ fn new_client_slots(
     ensures count { IfOk result (λ slots. length slots.items ≡ 1001) }
     ensures new { IfOk result (λ slots. AreNewClientSlots config.now (has_number liars.now.clients) slots.items) }
 {
+    let nobody = Client::new(alloc, config, 0)?;
     let mut slots = Vec::new(alloc);
     for id in 0..1001 {
         slots.push(ClientSlot {
-            client: Client::new(alloc, config, id)?,
+            client: nobody.sibling(id, 0),
             start: 0,
             index: 0,
             crashed: false,
