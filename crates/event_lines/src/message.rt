@@ -13,7 +13,7 @@ ghost use Rattle.quorum_rules.specs.Limits.{Numbers};
 use crate::line::ReplayLine;
 use crate::word::Speech;
 use line_forms::{Cause, LineRefusal};
-use run_words::Line;
+use run_words::{BoxedMessage, Line};
 use std::alloc::Global;
 use wire_forms::{Body, Message, TextRefusal, read};
 
@@ -27,7 +27,8 @@ pub fn read_speech(
         (message_cause (messages_of speech) (fields_after rest.entry)) result }
 {
     let message = read_any(alloc, rest)?;
-    match (speech, &message.body) {
+    let message = BoxedMessage::new(alloc, message)?;
+    match (speech, &message.get().body) {
         (Speech::Lie, _) => Ok(ReplayLine::Plain(Line::Lie { message })),
         (Speech::Tell, Body::Answer(_)) => Ok(ReplayLine::Plain(Line::Tell { message })),
         (Speech::Poke, Body::Ask(_)) => Ok(ReplayLine::Plain(Line::Poke { message })),

@@ -68,9 +68,9 @@ fn add_line(alloc: Global, text: &mut Text, line: &Line) -> Result<(), NoMemory>
         Line::Lost { client, node } => add_two(text, b"lost", u64::from(*client), u64::from(*node)),
         Line::CrashNode { node } => add_one(text, b"crash node", u64::from(*node)),
         Line::CrashClient { client } => add_one(text, b"crash client", u64::from(*client)),
-        Line::Lie { message } => add_message(alloc, text, b"lie", message),
-        Line::Tell { message } => add_message(alloc, text, b"tell", message),
-        Line::Poke { message } => add_message(alloc, text, b"poke", message),
+        Line::Lie { message } => add_message(alloc, text, b"lie", message.get()),
+        Line::Tell { message } => add_message(alloc, text, b"tell", message.get()),
+        Line::Poke { message } => add_message(alloc, text, b"poke", message.get()),
         Line::False { client, node, rule } => add_false(text, *client, *node, *rule),
         Line::Sound {
             client,

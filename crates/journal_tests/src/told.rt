@@ -54,7 +54,7 @@ fn has_text(line: &Line) -> bool
 {
     match line {
         Line::Lie { message } | Line::Tell { message } | Line::Poke { message } => {
-            is_short(&message.body)
+            is_short(&message.get().body)
         }
         Line::Restart { .. } => false,
         _ => true,

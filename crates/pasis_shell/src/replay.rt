@@ -12,12 +12,13 @@ use script_run::{World, perform};
 use script_text::read_replay;
 use std::alloc::Global;
 
-// The report of a world's history.
-fn told(alloc: Global, world: &World) -> Result<Bytes, NoMemory>
-    requires { world.now.seen.place < 2 ^ 31 - 1 }
-    ensures { IfOk result (λ text. IsReportOf world.now text) }
+// The report of a world's history. The world goes before the text is made.
+fn told(alloc: Global, world: World) -> Result<Bytes, NoMemory>
+    requires { world.seen.place < 2 ^ 31 - 1 }
+    ensures { IfOk result (λ text. IsReportOf world text) }
 {
-    let history = history_of(alloc, world)?;
+    let history = history_of(alloc, &world)?;
+    drop(world);
     print(alloc, &history)
 }
 
@@ -28,7 +29,11 @@ pub fn report_of(alloc: Global, input: &Bytes) -> Result<Answer, Refusal>
 {
     let replay = read_replay(alloc, input.as_slice())?;
     match perform(alloc, &replay) {
-        Ok(world) => Ok(Answer::of(told(alloc, &world)?)),
+        Ok(world) => {
+            // The lines take about as much memory as all messages, and nothing asks for them any more.
+            drop(replay);
+            Ok(Answer::of(told(alloc, world)?))
+        }
         Err(refusal) => Err(Refusal::from(refusal)),
     }
 }

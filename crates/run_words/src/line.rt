@@ -1,5 +1,6 @@
+use crate::boxed_message::BoxedMessage;
 use cross_sum::Bytes;
-use wire_forms::{Message, Rule};
+use wire_forms::Rule;
 
 /// A line of a script: what takes place at one place of a run.
 pub enum Line {
@@ -46,15 +47,15 @@ pub enum Line {
     },
     /// A liar sends the message.
     Lie {
-        message: Message,
+        message: BoxedMessage,
     },
     /// A lying node sends the answer, and its client hears it.
     Tell {
-        message: Message,
+        message: BoxedMessage,
     },
     /// A lying client sends the ask, and its node is given it.
     Poke {
-        message: Message,
+        message: BoxedMessage,
     },
     /// A lying node answers the client's outstanding message by a rule, and the client hears it.
     False {

@@ -23,7 +23,7 @@ pub fn form_line(config: &Config, line: &Line)
     match line {
         Line::Write { value, .. } => form_value(value),
         Line::Give { message, .. } => form_long(*message),
-        Line::Tell { message } | Line::Poke { message } => form_message(message),
+        Line::Tell { message } | Line::Poke { message } => form_message(message.get()),
         _ => {}
     }
 }

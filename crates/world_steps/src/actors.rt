@@ -34,14 +34,14 @@ pub(crate) fn takes_part(line: &Line) -> Actors
         | Line::CrashClient { client }
         | Line::False { client, .. }
         | Line::Back { client } => Actors::One(Actor::Client(*client)),
-        Line::Tell { message } => Actors::One(Actor::Client(message.client)),
+        Line::Tell { message } => Actors::One(Actor::Client(message.get().client)),
         Line::Give { node, .. }
         | Line::CrashNode { node }
         | Line::Sound { node, .. }
         | Line::Mix { node, .. }
         | Line::Prune { node, .. }
         | Line::Restart { node } => Actors::One(Actor::Node(*node)),
-        Line::Poke { message } => Actors::One(Actor::Node(message.node)),
+        Line::Poke { message } => Actors::One(Actor::Node(message.get().node)),
         Line::Call { client, node } => Actors::Two(Actor::Client(*client), Actor::Node(*node)),
         Line::Lost { .. } | Line::Lie { .. } => Actors::Nobody,
     }
@@ -53,7 +53,7 @@ pub(crate) fn lies(line: &Line) -> Actors
 {
     match line {
         Line::Lie { message } | Line::Tell { message } | Line::Poke { message } => {
-            Actors::One(sender(message))
+            Actors::One(sender(message.get()))
         }
         Line::False { node, .. } => Actors::One(Actor::Node(*node)),
         Line::Sound { client, .. } | Line::Mix { client, .. } => {
@@ -69,6 +69,7 @@ pub(crate) fn named(line: &Line) -> Actors
 {
     match line {
         Line::Lie { message } | Line::Tell { message } | Line::Poke { message } => {
+            let message = message.get();
             Actors::Two(Actor::Node(message.node), Actor::Client(message.client))
         }
         Line::False { client, node, .. }

@@ -4,7 +4,8 @@ ghost use Rattle.std.specs.Prelude.{◌≡◌, IfOk};
 ghost use Rattle.world_steps.specs.Starts.{start_of};
 
 use lists::{Copied, NoMemory};
-use run_words::Line;
+use run_words::{BoxedMessage, Line};
+use std::alloc::Global;
 use wire_forms::{Message, Op};
 
 /// What can take place by itself.
@@ -32,7 +33,7 @@ impl Event {
     ghost use Rattle.world_steps.specs.Events.{line_of};
 
     /// The line of which it is the only event.
-    pub(crate) fn line(&self) -> Result<Line, NoMemory>
+    pub(crate) fn line(&self, alloc: Global) -> Result<Line, NoMemory>
         ensures { IfOk result (λ line. line ≡ line_of self.now) }
     {
         match self {
@@ -49,7 +50,7 @@ impl Event {
             Event::CrashNode { node } => Ok(Line::CrashNode { node: *node }),
             Event::CrashClient { client } => Ok(Line::CrashClient { client: *client }),
             Event::Lie(message) => Ok(Line::Lie {
-                message: message.copy()?,
+                message: BoxedMessage::new(alloc, message.copy()?)?,
             }),
             Event::Prune { node, block } => Ok(Line::Prune {
                 node: *node,

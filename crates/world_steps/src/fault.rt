@@ -184,8 +184,8 @@ impl State {
                 Some(message) => !is_answer_to(*client, message),
                 None => false,
             },
-            Line::Tell { message } => !is_answer_to(message.client, message),
-            Line::Poke { message } => !is_ask_to(message.node, message),
+            Line::Tell { message } => !is_answer_to(message.get().client, message.get()),
+            Line::Poke { message } => !is_ask_to(message.get().node, message.get()),
             _ => false,
         }
     }

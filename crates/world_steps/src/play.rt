@@ -75,9 +75,12 @@ impl State {
                 self.crash_client(place, *client);
                 Ok(())
             }
-            Line::Lie { message } => self.lie(place, message),
-            Line::Tell { message } => self.hear_sent(place, message.client, message.copy()?),
-            Line::Poke { message } => self.poke(place, message.copy()?),
+            Line::Lie { message } => self.lie(place, message.get()),
+            Line::Tell { message } => {
+                let message = message.get().copy()?;
+                self.hear_sent(place, message.client, message)
+            }
+            Line::Poke { message } => self.poke(place, message.get().copy()?),
             Line::False { client, node, rule } => self.tell_false(place, *client, *node, *rule),
             Line::Sound {
                 client,

@@ -86,7 +86,7 @@ impl World {
         ensures fault { (f : Faults) → IsErrOf result (StepRefusal.Fault f) → fault (setting_in self.old) (world_in self.old) (line_of event.now) ≡ Some f }
         ensures unchanged { OnErr result (self.new ≡ self.old) }
     {
-        let line = event.line()?;
+        let line = event.line(self.state.alloc)?;
         self.play(place, &line)
     }
 

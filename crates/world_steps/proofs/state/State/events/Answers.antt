@@ -32,13 +32,13 @@ returns-in-Hear-clause-ok c =
     (c.hear.ensures.ok there.0 there.1))
 
 -- src/play.rt:39:5
-pub returns-in_ok-copy-in-Tell-clause-ok : goal.returns-in_ok-copy-in-Tell-clause-ok
-returns-in_ok-copy-in-Tell-clause-ok c =
+pub returns-in_ok-message-in-Tell-clause-ok : goal.returns-in_ok-message-in-Tell-clause-ok
+returns-in_ok-message-in-Tell-clause-ok c =
     let s = setting_in c.args.self.now in
     let w = world_in c.args.self.now in
     rw c.in-Tell.is (on_ok_weaker c.hear_sent.result
     (λ e. record {
-      world = e ∙ ap (λ (z : Messages). heard s (sent s w c.args.place (z ∷ [])) c.args.place c.in-Tell.message.client z z.body) c.in_ok-copy-in-Tell.ensures ∙ told_plays s c.args.place w c.in-Tell.message;
+      world = e ∙ ap (λ (z : Messages). heard s (sent s w c.args.place (z ∷ [])) c.args.place z.client z z.body) (c.in_ok-message-in-Tell.ensures ∙ c.get-in-Tell.ensures) ∙ told_plays s c.args.place w c.in-Tell.message;
       config = search rules;
       lying_nodes = search rules;
       lying_clients = search rules;
