@@ -4,7 +4,6 @@ ghost use Rattle.protocol.specs.Seen.{ops_of, phase_of};
 ghost use Rattle.event_clock.specs.Passes.{left_of, met, sight_of};
 ghost use Rattle.receipt_lock.specs.Turns.{Begins};
 ghost use Rattle.journals.specs.Desks.{FitsOp, ActsAs};
-ghost use Rattle.journals.specs.Phases.{IsAtRest};
 ghost use Rattle.locked_nodes.specs.Cells.{Serves, HoldsWhole, HasNoLateMail, items, number_of};
 ghost use Rattle.client_desks.specs.Desks.{DeskView, first_desk, met_desk, state_at, task_at, asks_of, IsUp, CanStart, CanCall, with_own, desk_entry, KeptDesk, AddPair, Calls, KeepsDesk, Delivers, with_call, reply_told, reply_by, heard, ending};
 
@@ -101,26 +100,11 @@ impl Desk {
             && self.client.phase() < u64::MAX
     }
 
-    /// Whether the client does nothing any more, or not until it starts its next operation: it has crashed, or none is under
-    /// way.
-    pub fn is_at_rest(&self) -> bool
-        ensures { IsTrue result ↔ IsAtRest (state_at self.now) }
-    {
-        self.crashed || self.client.is_idle()
-    }
-
     /// The client's number.
     pub fn id(&self) -> u32
         ensures { result ≡ self.now.id }
     {
         self.id
-    }
-
-    /// How many nodes the cluster has.
-    pub fn nodes(&self) -> u8
-        ensures { result ≡ self.now.config.n }
-    {
-        self.config.n() as u8
     }
 
     /// The number of the last operation that the client started, counted from 1.
@@ -389,9 +373,18 @@ impl Desk {
         ensures kept { OnErr result (KeepsDesk self.old self.new) }
         ensures grew { Begins (items cell.old) (items cell.new) }
     {
+        // Before the cell changes, so that want of it leaves no entry there.
+        self.make_room()?;
         let mut note = self.note(clock);
         let told = cell.answer(clock, &mut note, way, &ask)?;
         Ok(self.add(clock, way, ask, told, note)?)
+    }
+
+    // Makes room for an entry more.
+    fn make_room(&mut self) -> Result<(), NoMemory>
+        ensures { self.new ≡ self.old }
+    {
+        Ok(self.entries.reserve(1)?)
     }
 
     // Adds the entry of a call that the client may make and that was told this, and hears the reply, if there is one.

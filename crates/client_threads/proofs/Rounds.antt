@@ -4,7 +4,6 @@ use Rattle.std.specs.Prelude.{slice_get}
 use Rattle.std.specs.declared.option.Option.TheVariants.{Some}
 use Rattle.std.specs.List.{AllZip, All}
 use Rattle.std.proofs.lemmas.List.Elements.{All-nil, All-cons, All-head, All-tail}
-use Rattle.std.proofs.lemmas.Option.{slice_get-get_or}
 use Rattle.quorum_rules.specs.Limits.{Numbers}
 use Rattle.event_clock.specs.Passes.{ClockId, Holder}
 use Rattle.locked_nodes.specs.Cells.{CellView}
@@ -15,9 +14,6 @@ use Rattle.client_work.specs.declared.work.Work.{Work}
 use Rattle.client_threads.specs.Met.{HasMetCell, HasMetSeat}
 use Rattle.client_threads.specs.Running.{desks_of}
 use Rattle.client_threads.proofs.Working.{zip_map, IsFixedAs, fixed_same, cells_fixed, inside_fixed}
-
-pub all_from : {A : Type 0} (P : A → Type 0) (xs : List A) → ((k : ℕ) (x : A) → slice_get xs k ≡ Some x → P x) → All P xs
-all_from P xs f k d lt = f k (get_or xs k d) (slice_get-get_or xs k d lt)
 
 pub cells_tick : (config : Numbers) (clock : ClockId) (xs : List CellView) → AreCells config clock xs → All (λ c. c.charter.pass.clock ≡ clock) xs
 cells_tick config clock xs h = λ k d lt. (h.each k d lt).ticks

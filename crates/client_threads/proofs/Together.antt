@@ -19,7 +19,8 @@ use Rattle.client_threads.specs.Ran.{HasFullPass, IsOneFull}
 use Rattle.client_threads.specs.Running.{desks_of}
 use Rattle.client_threads.proofs.Threading.{desks_pushed}
 use Rattle.client_threads.proofs.Rounds.{cells_tick}
-use Rattle.client_threads.proofs.Walking.{Walked, walk_on, made_more}
+use Rattle.crews.proofs.Places.{Walked, walk_on}
+use Rattle.client_threads.proofs.Walking.{made_more}
 
 -- all passes, in the order in which they are put together
 abbrev pub passes_of : List CellView → List DeskView → Holder → Holder → List Holder

@@ -2,7 +2,7 @@
 ghost use Rattle.std.specs.Prelude.{◌≡◌, ◌≤◌, ◌<◌, ◌+◌, [], map, All, length, IfOk, OnOk};
 ghost use Rattle.plan_words.specs.Plans.{Fits};
 ghost use Rattle.plan_tasks.specs.Tasks.{IsTaskOf, client_of};
-ghost use Rattle.client_threads.specs.Running.{IsBetween, IsOpen, StandsAt, desks_of, plan_of};
+ghost use Rattle.client_threads.specs.Running.{IsBetween, plan_of};
 ghost use Rattle.run_journals.specs.Standing.{needs_whole};
 ghost use Rattle.client_threads.specs.Opened.{IsUnusedPass, AreNewCells, IsNewSeat, cell_count, shards_of};
 

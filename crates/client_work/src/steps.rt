@@ -18,7 +18,7 @@ use std::sync::Wait;
 
 impl Worker {
     /// Does the steps of the next phase, until they are done, the client crashes, or the keys note a refusal. It calls the gate
-    /// before each operation starts, under each lock, and after each operation ended.
+    /// before each operation starts, under each lock where nodes stand under locks, and after each operation ended.
     pub fn work<R: Wait, G: Gate>(&mut self, rt: &R, gate: &G, floor: &Floor, keys: &mut Keys)
         requires fit { Fit keys.old floor.now }
         requires sound { keys.old.refused ≡ None }

@@ -1,10 +1,8 @@
 //! Which node a client asks next.
 ghost use Rattle.std.specs.Prelude.{◌≡◌, ◌<◌, ◌≤◌, ◌%◌, IfSome, Some};
-ghost use Rattle.protocol.specs.Messages.{Tag};
 ghost use Rattle.protocol.specs.Seen.{ops_of, phase_of};
 ghost use Rattle.client_desks.specs.Desks.{CanCall, IsUp, state_at, task_at};
 ghost use Rattle.plan_followed.specs.Clients.{IsNext, last_of, turn_after};
-ghost use Rattle.client_work.specs.Work.{IsOn};
 
 use client_desks::Desk;
 use journals::{DeskAct, DeskEntry};

@@ -11,17 +11,6 @@ contains_one x y (suc k) lt is = absurd (omega arith)
 pub only_one : {X : Type 0} (x y : X) → Contains (y ∷ []) x → x ≡ y
 only_one x y (k, lt, is) = contains_one x y k lt is
 
-moved_up : {A : Type 0} (xs : List A) (k i : ℕ) (x y : A) → ((i ≡ k) × (x ≡ y)) ⊎ ((i ≢ k) × (slice_get xs i ≡ Some x)) → ((suc i ≡ suc k) × (x ≡ y)) ⊎ ((suc i ≢ suc k) × (slice_get xs i ≡ Some x))
-moved_up xs k i x y (inl h) = inl (ap suc h.0, h.1)
-moved_up xs k i x y (inr h) = inr ((λ e. h.0 (omega arith)), h.1)
-
-pub get_set : {A : Type 0} (xs : List A) (k i : ℕ) (x y : A) → slice_get (slice_set xs k y) i ≡ Some x → ((i ≡ k) × (x ≡ y)) ⊎ ((i ≢ k) × (slice_get xs i ≡ Some x))
-get_set [] k i x y is = inr (absurd cc)
-get_set (z ∷ xs) zero zero x y is = inl (refl, cc)
-get_set (z ∷ xs) zero (suc i) x y is = inr ((λ e. omega arith), is)
-get_set (z ∷ xs) (suc k) zero x y is = inr ((λ e. omega arith), is)
-get_set (z ∷ xs) (suc k) (suc i) x y is = moved_up xs k i x y (get_set xs k i x y is)
-
 -- the new item stands where it was put
 pub set_at : {A : Type 0} (xs : List A) (k : ℕ) (x y : A) → slice_get xs k ≡ Some x → slice_get (slice_set xs k y) k ≡ Some y
 set_at [] k x y at = absurd cc

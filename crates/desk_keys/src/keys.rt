@@ -9,7 +9,6 @@ ghost use Rattle.client_desks.specs.Later.{IsLater};
 ghost use Rattle.locked_nodes.specs.declared.slot.Slot.{Slot};
 ghost use Rattle.locked_nodes.specs.Slots.{IsWholeAt};
 ghost use Rattle.inboxes.specs.Sides.{took};
-ghost use Rattle.desk_keys.specs.declared.mail.ByMail.{ByMail as MailView};
 ghost use Rattle.desk_keys.specs.Keys.{KeysView, IsHead, Agree, AgreeByMail, Fit, refusal_in, IsAskOn, AsksOn, CanMeet, CanTake, HasCalled, HasSent, HaveEnded, AddCall, AddSent, LeavesNoSide};
 
 use crate::floor::Floor;
@@ -144,7 +143,8 @@ impl Keys {
     /// Waits for the node's cell for the block of the operation under way, asks the node what the client's phase asks of it, hears the
     /// reply, if there is one, and gives the cell back; by mail, it puts the ask into the cell's inbox, and waits for the answer. An
     /// ask is held back only by a node with one cell. It answers the outcome exactly where the reply ends the operation. `ClockFull`
-    /// comes where the cell's pass or the chit is used up, each after more than 10^12 calls.
+    /// comes where the cell's pass or the chit is used up, each after more than 10^12 calls, or where the node's thread says so; no
+    /// clause says when.
     pub fn call<R: Wait, G: Gate>(
         &mut self,
         rt: &R,
@@ -189,7 +189,7 @@ impl Keys {
 
     /// Waits for the cell that serves a lying client's ask, sends the ask, and gives the cell back; by mail, it puts the ask into the
     /// cell's inbox, and waits for the answer. `ClockFull` comes where the cell's pass or the chit is used up, each after more than
-    /// 10^12 calls.
+    /// 10^12 calls, or where the node's thread says so; no clause says when.
     pub fn send<R: Wait>(&mut self, rt: &R, floor: &Floor, ask: &Message) -> Result<(), CellRefusal>
         requires fit { Fit self.old floor.now }
         requires sound { self.old.refused ≡ None }
@@ -224,7 +224,8 @@ impl Keys {
     }
 
     /// Waits for the cell at a place, lets the oldest ask that it holds back come late, and gives the cell back. The desk gets no
-    /// entry. By mail there is no such place. `ClockFull` comes where the cell's pass or the chit is used up, each after more than 10^12 calls.
+    /// entry. By mail there is no such place. `ClockFull` comes where the cell's pass or the chit is used up, each after more than
+    /// 10^12 calls; no clause says when.
     pub fn deliver<R: Wait>(
         &mut self,
         rt: &R,

@@ -146,7 +146,7 @@ needs_whole i (CrashNode node count) = i == node
 needs_whole i (Hold client node count) = i == node
 needs_whole i _ = false
 
--- some rule does
+-- node i is to crash or to hold back asks, so that it has one cell
 abbrev pub is_whole : Plan → ℕ → Bool
 is_whole plan i = list_any (needs_whole i) plan.rules
 

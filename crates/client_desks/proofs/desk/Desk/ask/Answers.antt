@@ -1,6 +1,6 @@
 use Rattle.std.proofs.Common.{◌≡◌, ap, subst, ◌≤◌, ◌∙◌}
 use Rattle.std.specs.declared.option.Option.TheVariants.{Some}
-use Rattle.event_clock.specs.Passes.{Sight}
+use Rattle.event_clock.specs.Passes.{Sight, sight_of}
 use Rattle.journals.specs.declared.desk.DeskAct.TheVariants.{Call}
 use Rattle.journals.specs.Acts.{answer_of}
 use Rattle.locked_nodes.specs.Cells.{state_of, number_of}
@@ -25,9 +25,9 @@ returns-clause-pair c =
     let replied : reply_told told ≡ reply_by cell c.args.way c.args.ask = ap reply_told c.in_ok-told.ensures.told ∙ told_reply n (answer_of (done_by cell c.args.way c.args.ask)) in
     record {
       number = n;
-      later = subst (λ (k : Sight). k.seen ≤ n) c.note-note.ensures.note c.in_ok-told.ensures.later;
+      later = subst (λ (k : Sight). k.seen ≤ n) (c.note-note.ensures.note ∙ ap (λ (d : DeskView). sight_of d.pass) c.make_room.ensures) c.in_ok-told.ensures.later;
       cell = c.in_ok-told.ensures.cell;
-      desk = c.in_ok-add.ensures.ok ∙ ap (λ (d : DeskView). with_call d n (Call c.args.way c.args.ask (reply_told told))) c.note-note.ensures.same ∙ ap (λ r. with_call now n (Call c.args.way c.args.ask r)) replied;
+      desk = c.in_ok-add.ensures.ok ∙ ap (λ (d : DeskView). with_call d n (Call c.args.way c.args.ask (reply_told told))) (c.note-note.ensures.same ∙ c.make_room.ensures) ∙ ap (λ r. with_call now n (Call c.args.way c.args.ask r)) replied;
       agree = act_side (state_of cell) cell.charter.nature c.args.way c.args.ask ∙ ap (λ i. Some (i, call_by cell c.args.way c.args.ask)) c.requires.own;
     }
 
@@ -36,4 +36,4 @@ returns-clause-ended c =
     let cell = c.args.cell.now in
     let told = c.in_ok-told.told in
     let replied : reply_told told ≡ reply_by cell c.args.way c.args.ask = ap reply_told c.in_ok-told.ensures.told ∙ told_reply (number_of told) (answer_of (done_by cell c.args.way c.args.ask)) in
-    c.in_ok-add.ensures.ended ∙ ap (λ (d : DeskView). ending (state_at d).client (reply_told told)) c.note-note.ensures.same ∙ ap (ending (state_at c.args.self.now).client) replied
+    c.in_ok-add.ensures.ended ∙ ap (λ (d : DeskView). ending (state_at d).client (reply_told told)) (c.note-note.ensures.same ∙ c.make_room.ensures) ∙ ap (ending (state_at c.args.self.now).client) replied
