@@ -2,7 +2,7 @@
 
 use crate::gates::{InBetween, SideBySide};
 use crate::tests::{TWO_SHARDS, TWO_WRITES};
-use client_threads::Gate;
+use client_threads::{Edge, Gate};
 use cross_sum::Bytes;
 use outside_io::{Calls, MemorySink, MemorySource};
 use pasis_shell::{Status, pasis};
@@ -66,12 +66,14 @@ fn a_run_by_workers_has_both_clients_at_work(rt: HostRuntime) -> Result<(), Fail
     has_both_at_work(&rt, "run workers")
 }
 
-// The gate fixes the order of all steps: all of client 2's stand between the first and the second of client 1.
+// The gate fixes the order of all steps: all of client 2's stand between the first and the second of client 1. No run comes to the
+// edge of the other command.
 fn reports_the_order_of_its_steps<R: Abort + AllocGlobal + Threads + Wait + Sync>(
     rt: &R,
     command: &str,
+    at: Edge,
 ) -> Result<(), Fail> {
-    let gate = InBetween::new(2);
+    let gate = InBetween::new(2, at);
     let (status, sink) = ran(rt, rt.alloc(), command, TWO_WRITES, &gate)?;
     assert!(rt; status.is_done());
     assert!(rt; gate.in_hand.is_met());
@@ -86,18 +88,18 @@ end done=2 spent=0 pending=0 repaired=0 rounds=0
 
 #[test]
 fn a_run_reports_the_order_of_its_steps(rt: HostRuntime) -> Result<(), Fail> {
-    reports_the_order_of_its_steps(&rt, "run")
+    reports_the_order_of_its_steps(&rt, "run", Edge::Locked(1))
 }
 
 #[test]
 fn a_run_by_workers_reports_the_order_of_its_steps(rt: HostRuntime) -> Result<(), Fail> {
-    reports_the_order_of_its_steps(&rt, "run workers")
+    reports_the_order_of_its_steps(&rt, "run workers", Edge::Taken(1))
 }
 
 // The gate fixes the order here too: all steps of client 6, at node 1 too, stand between the first and the second of client 1.
 #[test]
 fn a_run_reports_two_clients_at_one_node(rt: HostRuntime) -> Result<(), Fail> {
-    let gate = InBetween::new(6);
+    let gate = InBetween::new(6, Edge::Locked(1));
     let (status, sink) = ran(&rt, rt.alloc(), "run", TWO_SHARDS, &gate)?;
     assert!(rt; status.is_done());
     assert!(rt; gate.in_hand.is_met());
