@@ -74,21 +74,23 @@ impl Gate for SideBySide {
     }
 }
 
-/// Holds another client at the beginning of its operation until client 1 has node 1 in hand for the first time, or node 1 has an ask
-/// of client 1 in hand, and whoever has it there until the other has ended its operation. It sees whether the other had node 1 in
-/// hand too.
+/// Holds another client at the beginning of its operation until client 1 comes to an edge for the first time, and whoever is there
+/// until the other has ended its operation. It sees whether the other had node 1 in hand too.
 #[derive(Drop)]
 pub struct InBetween {
     other: u32,
+    /// Where client 1 is held: `Locked` where nodes stand under locks, `Taken` where they have threads.
+    at: Edge,
     pub in_hand: Mark,
     pub beside: Mark,
     pub ended: Mark,
 }
 
 impl InBetween {
-    pub fn new(other: u32) -> InBetween {
+    pub fn new(other: u32, at: Edge) -> InBetween {
         InBetween {
             other,
+            at,
             in_hand: Mark::new(),
             beside: Mark::new(),
             ended: Mark::new(),
@@ -105,7 +107,7 @@ impl Gate for InBetween {
                 Edge::End => self.ended.see(),
                 Edge::Locked(_) | Edge::Taken(_) => {}
             }
-        } else if matches!(edge, Edge::Locked(1) | Edge::Taken(1)) {
+        } else if edge == self.at {
             self.in_hand.see();
             self.ended.wait();
         }

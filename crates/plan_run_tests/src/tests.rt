@@ -1,7 +1,7 @@
 //! Two clients that write to two blocks, under gates that hold them; and a plan with all kinds of faults.
 
 use crate::gates::{InBetween, SideBySide};
-use client_threads::{Gate, OpenGate, Ran, run_plan};
+use client_threads::{Edge, Gate, OpenGate, Ran, run_plan};
 use journal_check::can_merge;
 use journals::{DeskAct, DeskJournal};
 use plan_text::read_plan;
@@ -71,7 +71,7 @@ fn clients_run_side_by_side(rt: HostRuntime) -> Result<(), Fail> {
 // Client 2 asks nodes 2, 3, 4 and 0 while client 1 holds node 1, at its first ask.
 #[test]
 fn a_client_holds_one_node(rt: HostRuntime) -> Result<(), Fail> {
-    let gate = InBetween::new(2);
+    let gate = InBetween::new(2, Edge::Locked(1));
     let _ran = ran(&rt, rt.alloc(), TWO_WRITES, &gate)?;
     assert!(rt; gate.in_hand.is_met());
     assert!(rt; gate.ended.is_met());
@@ -81,7 +81,7 @@ fn a_client_holds_one_node(rt: HostRuntime) -> Result<(), Fail> {
 // Client 6 has node 1 in hand for block 1, and ends its whole operation, while client 1 has it in hand for block 0, at its first ask.
 #[test]
 fn clients_of_two_blocks_hold_one_node(rt: HostRuntime) -> Result<(), Fail> {
-    let gate = InBetween::new(6);
+    let gate = InBetween::new(6, Edge::Locked(1));
     let _ran = ran(&rt, rt.alloc(), TWO_SHARDS, &gate)?;
     assert!(rt; gate.in_hand.is_met());
     assert!(rt; gate.beside.is_met());
