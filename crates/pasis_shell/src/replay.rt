@@ -28,12 +28,8 @@ pub fn report_of(alloc: Global, input: &Bytes) -> Result<Answer, Refusal>
     ensures refused { IfErr result (λ refusal. Refuses Command.Replay input.now refusal) }
 {
     let replay = read_replay(alloc, input.as_slice())?;
-    match perform(alloc, &replay) {
-        Ok(world) => {
-            // The lines take about as much memory as all messages, and nothing asks for them any more.
-            drop(replay);
-            Ok(Answer::of(told(alloc, world)?))
-        }
+    match perform(alloc, replay) {
+        Ok(world) => Ok(Answer::of(told(alloc, world)?)),
         Err(refusal) => Err(Refusal::from(refusal)),
     }
 }
