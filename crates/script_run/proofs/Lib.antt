@@ -3,3 +3,4 @@ pub mod Leading
 pub mod Counting
 pub mod Keeping
 pub mod Fitting
+pub mod Taking

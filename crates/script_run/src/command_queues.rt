@@ -22,7 +22,7 @@ use block_device::{BlockStep, Command, DeviceOp, commands, merge, range_fault};
 use cross_sum::Bytes;
 use event_lines::ReplayLine;
 use line_forms::{Cause, LineRefusal};
-use lists::{Copied, ItemList, NoMemory};
+use lists::{ItemList, NoMemory};
 use quorum_rules::Config;
 use run_words::Line;
 use std::alloc::Global;
@@ -73,40 +73,28 @@ impl CommandQueues {
     }
 
     /// Does what a line of a replay asks at one place. A line that can't take place is refused with its first cause.
-    pub fn perform(&mut self, place: u64, line: &ReplayLine) -> Result<(), LineRefusal>
+    pub fn perform(&mut self, place: u64, line: ReplayLine) -> Result<(), LineRefusal>
         requires later { self.now.world.seen.place < place }
-        requires line { IsEventLine self.now.world.config line.now }
-        ensures allowed { OnOk result (cause_of (setting_in self.old.world) self.old.world.config (queues_in self.old) line.now ≡ None) }
-        ensures ok { OnOk result (queues_in self.new ≡ after_line (setting_in self.old.world) self.old.world.config (queues_in self.old) place line.now) }
+        requires line { IsEventLine self.now.world.config line }
+        ensures allowed { OnOk result (cause_of (setting_in self.old.world) self.old.world.config (queues_in self.old) line ≡ None) }
+        ensures ok { OnOk result (queues_in self.new ≡ after_line (setting_in self.old.world) self.old.world.config (queues_in self.old) place line) }
         ensures cluster { OnOk result (self.new.world.config ≡ self.old.world.config) }
         ensures setting { OnOk result (setting_in self.new.world ≡ setting_in self.old.world) }
-        ensures cause { (c : Causes) → IsErrOf result (LineRefusal.Cause c) → cause_of (setting_in self.old.world) self.old.world.config (queues_in self.old) line.now ≡ Some c }
+        ensures cause { (c : Causes) → IsErrOf result (LineRefusal.Cause c) → cause_of (setting_in self.old.world) self.old.world.config (queues_in self.old) line ≡ Some c }
     {
         match line {
-            ReplayLine::Plain(line) => self.play(place, line),
+            ReplayLine::Plain(line) => self.play(place, &line),
             ReplayLine::Put {
                 client,
                 offset,
                 bytes,
-            } => {
-                let op = DeviceOp::Put {
-                    offset: *offset,
-                    bytes: bytes.copy()?,
-                };
-                self.begin(place, *client, &op)
-            }
+            } => self.begin(place, client, &DeviceOp::Put { offset, bytes }),
             ReplayLine::Get {
                 client,
                 offset,
                 length,
-            } => {
-                let op = DeviceOp::Get {
-                    offset: *offset,
-                    length: *length,
-                };
-                self.begin(place, *client, &op)
-            }
-            ReplayLine::Next { client } => self.step(place, *client),
+            } => self.begin(place, client, &DeviceOp::Get { offset, length }),
+            ReplayLine::Next { client } => self.step(place, client),
         }
     }
 

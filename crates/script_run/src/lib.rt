@@ -3,6 +3,7 @@
 
 mod command_queues;
 mod latest;
+mod lines_left;
 mod run;
 
 pub use run::perform;

@@ -8,6 +8,7 @@ ghost use Rattle.world_steps.specs.Worlds.{setting_in, world_in};
 ghost use Rattle.script_run.specs.Performing.{CommandQueues as TheQueues, Performs, StopsAt};
 
 use crate::command_queues::CommandQueues;
+use crate::lines_left::LinesLeft;
 use line_forms::{ScriptRefusal, refused};
 use script_text::Replay;
 use std::alloc::Global;
@@ -15,24 +16,31 @@ use wire_forms::Liars;
 use world_steps::World;
 
 /// The world to which the lines of a replay lead. The first line that can't take place is refused with its number in the
-/// script and its first cause: that of a device command, or the fault of a step.
-pub fn perform(alloc: Global, replay: &Replay) -> Result<World, ScriptRefusal>
-    requires { IsReplay replay.now.config replay.now.liars replay.now.lines }
-    ensures cluster { IfOk result (λ w. w.config ≡ replay.now.config) }
-    ensures liars { IfOk result (λ w. setting_in w ≡ setting_of replay.now.config (has_number replay.now.liars.nodes) (has_number replay.now.liars.clients)) }
-    ensures run { IfOk result (λ w. (d : TheQueues) × Performs (setting_in w) w.config replay.now.lines d × (d.world ≡ world_in w)) }
-    ensures placed { IfOk result (λ w. w.seen.place ≡ length replay.now.lines) }
+/// script and its first cause: that of a device command, or the fault of a step. The lines' memory is given back as they are
+/// done, while the world grows.
+pub fn perform(alloc: Global, replay: Replay) -> Result<World, ScriptRefusal>
+    requires { IsReplay replay.config replay.liars replay.lines }
+    ensures cluster { IfOk result (λ w. w.config ≡ replay.config) }
+    ensures liars { IfOk result (λ w. setting_in w ≡ setting_of replay.config (has_number replay.liars.nodes) (has_number replay.liars.clients)) }
+    ensures run { IfOk result (λ w. (d : TheQueues) × Performs (setting_in w) w.config replay.lines d × (d.world ≡ world_in w)) }
+    ensures placed { IfOk result (λ w. w.seen.place ≡ length replay.lines) }
     // The lines of a script are two head lines, one for each liar, and the event lines.
     ensures stop { (line : ℕ) (cause : Causes) → IsErrOf result (ScriptRefusal.Fault (record { line = line; cause = cause }))
-        → (done : ℕ) × StopsAt (setting_of replay.now.config (has_number replay.now.liars.nodes) (has_number replay.now.liars.clients)) replay.now.config replay.now.lines done cause
-        × (line ≡ 2 + length replay.now.liars.nodes + length replay.now.liars.clients + done + 1) }
+        → (done : ℕ) × StopsAt (setting_of replay.config (has_number replay.liars.nodes) (has_number replay.liars.clients)) replay.config replay.lines done cause
+        × (line ≡ 2 + length replay.liars.nodes + length replay.liars.clients + done + 1) }
 {
-    let mut queues = CommandQueues::new(alloc, &replay.config, &replay.liars)?;
+    let Replay {
+        config,
+        liars,
+        lines,
+    } = replay;
+    let mut queues = CommandQueues::new(alloc, &config, &liars)?;
+    let mut left = LinesLeft::of(lines);
     let mut place = 0;
-    for line in replay.lines.as_slice() {
+    while let Some(line) = left.next() {
         place += 1;
         if let Err(refusal) = queues.perform(place, line) {
-            return Err(refused(lines_before(&replay.liars) + place, refusal));
+            return Err(refused(lines_before(&liars) + place, refusal));
         }
     }
     Ok(queues.into_world())

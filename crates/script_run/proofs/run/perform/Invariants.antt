@@ -1,4 +1,4 @@
-use Rattle.std.proofs.Common.{◌≡◌, take}
+use Rattle.std.proofs.Common.{◌≡◌, ◌≤◌, take, drop, length}
 use Rattle.wire_forms.specs.Liars.{has_number}
 use Rattle.protocol.specs.Instance.{setting_of}
 use Rattle.world_steps.specs.Worlds.{setting_in}
@@ -8,11 +8,15 @@ use Rattle.script_run.proofs.run.perform.Given as goal
 
 abbrev pub invariant-loop-line : goal.invariant-loop-line
 invariant-loop-line l = record {
-  place : l.place ≡ l.line-index;
+  within : l.place ≤ length l.fn.replay.lines;
+  rest : l.left ≡ drop l.place l.fn.replay.lines;
   placed : l.queues.world.seen.place ≡ l.place;
-  cluster : l.queues.world.config ≡ l.replay.config;
-  setting : setting_in l.queues.world ≡ setting_of l.replay.config (has_number l.replay.liars.nodes) (has_number l.replay.liars.clients);
+  cluster : l.queues.world.config ≡ l.fn.replay.config;
+  setting : setting_in l.queues.world ≡ setting_of l.fn.replay.config (has_number l.fn.replay.liars.nodes) (has_number l.fn.replay.liars.clients);
   leads :
-      LeadsTo (setting_of l.replay.config (has_number l.replay.liars.nodes) (has_number l.replay.liars.clients)) l.replay.config
-      (start_queues (setting_of l.replay.config (has_number l.replay.liars.nodes) (has_number l.replay.liars.clients))) 1 (take l.line-index l.replay.lines) (queues_in l.queues);
+      LeadsTo (setting_of l.fn.replay.config (has_number l.fn.replay.liars.nodes) (has_number l.fn.replay.liars.clients)) l.fn.replay.config
+      (start_queues (setting_of l.fn.replay.config (has_number l.fn.replay.liars.nodes) (has_number l.fn.replay.liars.clients))) 1 (take l.place l.fn.replay.lines) (queues_in l.queues);
 }
+
+abbrev pub decreases-loop-line : goal.decreases-loop-line
+decreases-loop-line l = length l.left
