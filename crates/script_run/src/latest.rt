@@ -22,13 +22,13 @@ pub fn latest_read(records: &[Record], client: u32, block: u32) -> Option<&Bytes
 }
 
 /// The value that the client's read of the block gave, if this is one that has.
-fn read_by(record: &Record, client: u32, block: u32) -> Option<&Bytes>
-    ensures { option_copied result ≡ read_by client block (record_of record.now) }
+fn read_by(operation: &Record, client: u32, block: u32) -> Option<&Bytes>
+    ensures { option_copied result ≡ read_by client block (record_of operation.now) }
 {
-    if record.client != client || block_of(&record.op) != block {
+    if operation.client != client || block_of(&operation.op) != block {
         return None;
     }
-    match &record.outcome {
+    match &operation.outcome {
         Some(Outcome::Gave { value, .. }) => Some(value),
         _ => None,
     }
