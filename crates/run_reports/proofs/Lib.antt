@@ -1,4 +1,5 @@
 mod Accepting
+mod LastWorlds
 mod Records
 mod Reports
 mod Telling

@@ -44,3 +44,14 @@ pub fn history_of(alloc: Global, world: &World) -> Result<History, NoMemory>
     world.is_reached();
     history_of_records(alloc, world.records(), world.first_stamp())
 }
+
+/// The history of the run that leads to a world, which is given up: its records alone stay while the history is made.
+pub fn last_history(alloc: Global, world: World) -> Result<History, NoMemory>
+    requires { world.seen.place < 2 ^ 31 - 1 }
+    ensures { IfOk result (TellsHistory (setting_in world) (world_in world)) }
+{
+    world.is_reached();
+    let first = *world.first_stamp();
+    let records = world.into_records();
+    history_of_records(alloc, records.as_slice(), &first)
+}

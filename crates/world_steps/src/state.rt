@@ -20,6 +20,7 @@ use wire_forms::{First, Liars, Message};
 
 /// All that there is at one moment, whether or not a run leads to it. Contracts see the cluster's numbers, who lies, and the
 /// world of the definitions.
+#[derive(Drop)]
 pub struct State {
     pub(crate) alloc: Global,
     pub(crate) config: Config,
@@ -36,23 +37,6 @@ pub struct State {
     pub(crate) accepted: ItemList<Accepted>,
     /// The place of the last line.
     pub(crate) place: u64,
-}
-
-impl Drop for State {
-    fn drop(self) {
-        let State {
-            alloc: _alloc,
-            config: _config,
-            first: _first,
-            pool: _pool,
-            node_slots: _node_slots,
-            client_slots: _client_slots,
-            records: _records,
-            uses: _uses,
-            accepted: _accepted,
-            place: _place,
-        } = self;
-    }
 }
 
 impl Model for State {

@@ -15,7 +15,7 @@ ghost use Rattle.world_steps.specs.Events.{line_of, Happens};
 use crate::event::Event;
 use crate::refusal::StepRefusal;
 use crate::state::State;
-use lists::NoMemory;
+use lists::{ItemList, NoMemory};
 use quorum_rules::Config;
 use run_words::{Accepted, Line, Record};
 use stamp_order::Stamp;
@@ -25,14 +25,9 @@ use wire_forms::{Liars, Message};
 
 /// The last world of a run. Contracts see the cluster's numbers, who lies, and the world of the definitions; and that lines of
 /// a run lead to it, so that the laws of every run hold of it.
+#[derive(Drop)]
 pub struct World {
     state: State,
-}
-
-impl Drop for World {
-    fn drop(self) {
-        let World { state: _state } = self;
-    }
 }
 
 impl Model for World {
@@ -102,6 +97,15 @@ impl World {
         ensures { map record_of result.now ≡ self.now.seen.records }
     {
         self.state.records.as_slice()
+    }
+
+    /// The operations of correct clients alone, in order of start: all else is given up.
+    pub fn into_records(self) -> ItemList<Record>
+        ensures { map record_of result ≡ self.seen.records }
+    {
+        let World { state } = self;
+        let State { records, .. } = state;
+        records
     }
 
     /// The versions that nodes accepted, in order of acceptance, first versions aside.
