@@ -7,18 +7,17 @@ use crate::words::Command;
 use cross_sum::Bytes;
 use history_book::print;
 use lists::NoMemory;
-use run_reports::history_of;
+use run_reports::last_history;
 use script_run::{World, perform};
 use script_text::read_replay;
 use std::alloc::Global;
 
-// The report of a world's history. The world goes before the text is made.
+// The report of the history of the run that leads to a world.
 fn told(alloc: Global, world: World) -> Result<Bytes, NoMemory>
     requires { world.seen.place < 2 ^ 31 - 1 }
     ensures { IfOk result (λ text. IsReportOf world text) }
 {
-    let history = history_of(alloc, &world)?;
-    drop(world);
+    let history = last_history(alloc, world)?;
     print(alloc, &history)
 }
 
