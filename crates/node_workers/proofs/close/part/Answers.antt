@@ -62,7 +62,7 @@ loop-post-preserved g c =
       map_more seat_of (clients_in inv.0) (clients_in (inv.0 ++ post ∷ [])) (keys, duty) c.loop-post.seats.items c.push-in-Client.new.self.items (record { desk = parts.result.0; duty = duty }) inv.4 (ap (λ d. record { desk = d; duty = duty }) parts.ensures.desk) clients c.in_ok-push-in-Client.ensures.items,
       map_more (λ (x : KeysView × g.row.T.Denot). x.0.mail) (clients_in inv.0) (clients_in (inv.0 ++ post ∷ [])) (keys, duty) (map (λ (m : ByMail). Some m) was) (map (λ (m : ByMail). Some m) c.push-in-Client-2.new.self.items) (Some mail) inv.5 (sym parts.ensures.mail) clients (ap (map (λ (m : ByMail). Some m)) c.in_ok-push-in-Client-2.ensures.items ∙ map-append (λ (m : ByMail). Some m) was (mail ∷ [])),
       (λ none.
-          let both = c.first_of-refused.ensures.none none in
+          let both = c.first_refusal-refused.ensures.none.0 none in
           subst (All (λ (x : KeysView × g.row.T.Denot). x.0.refused ≡ None)) (sym clients) (All-push (λ (x : KeysView × g.row.T.Denot). x.0.refused ≡ None) (clients_in inv.0) (keys, duty) (inv.6 both.0) (sym c.refused.ensures ∙ both.1))),
       subst (All (λ (x : KeysView × g.row.T.Denot). x.0.refused ≡ None → (m : ByMail) → x.0.mail ≡ Some m → AgreeByMail x.0.desk m)) (sym clients)
           (All-push (λ (x : KeysView × g.row.T.Denot). x.0.refused ≡ None → (m : ByMail) → x.0.mail ≡ Some m → AgreeByMail x.0.desk m) (clients_in inv.0) (keys, duty) inv.7 (λ none m is. subst (AgreeByMail keys.desk) (same_some mail m (sym parts.ensures.mail ∙ is)) (parts.ensures.agree none))),
