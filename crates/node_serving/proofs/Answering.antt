@@ -23,14 +23,11 @@ use Rattle.protocol.specs.Messages.{Message}
 use Rattle.event_clock.specs.Passes.{ClockId, Sight}
 use Rattle.journals.specs.declared.desk.Way.{Way}
 use Rattle.journals.specs.declared.desk.DeskAct.TheVariants.{Call}
-use Rattle.journals.specs.declared.node.Nature.{Nature}
-use Rattle.journals.specs.Acts.{act, late_act, answer_of, reply_in}
+use Rattle.journals.specs.Acts.{act, late_act, answer_of}
 use Rattle.client_desks.specs.Desks.{reply_told}
 use Rattle.client_desks.proofs.Desking.{act_side, late_side, told_reply}
 use Rattle.node_mail.specs.declared.asked.Asked.{Asked}
-use Rattle.node_mail.specs.declared.asked.NodePlace.{NodePlace}
 use Rattle.node_mail.specs.declared.answered.Answered.{Answered}
-use Rattle.node_mail.specs.Mail.{IsAskAt}
 use Rattle.node_serving.specs.Workers.{Line, WorkerView, clients_of, CanServe, IsLineTo, Tells, WasTold, TellsOf, IsSameLine, HasAnswered, HasMet, CameAside, asks_from, asks_told, AreAnswered}
 
 -- the items of a list of which one was replaced

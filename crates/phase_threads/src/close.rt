@@ -1,5 +1,5 @@
 //! Desks without their chits, and cells out of their vaults, when the threads have ended.
-ghost use Rattle.std.specs.Prelude.{◌≡◌, ◌<◌, List, length, map, reverse, All, None, IfOk};
+ghost use Rattle.std.specs.Prelude.{◌≡◌, ◌<◌, length, map, reverse, All, None, IfOk};
 ghost use Rattle.desk_keys.specs.Keys.{Agree};
 ghost use Rattle.crews.specs.Crews.{Beside};
 ghost use Rattle.phase_threads.specs.Phased.{IsSeatOf, IsHandOf, AreTaken, IsClosed};
