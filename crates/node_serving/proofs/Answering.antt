@@ -53,7 +53,7 @@ same_or (suc i) (suc k) = same_suc i k (same_or i k)
     same_suc i k (inl h) = inl (ap suc h)
     same_suc i k (inr h) = inr (λ e. h (omega arith))
 
-none_in : {A : Type 0} (xs : List A) (x : A) → xs ≡ [] → Contains xs x → ⊥
+pub none_in : {A : Type 0} (xs : List A) (x : A) → xs ≡ [] → Contains xs x → ⊥
 none_in xs x none (k, lt, is) = let few = ap length none in omega (arith, lt, few)
 
 -- a worker that has answered nobody
