@@ -16,9 +16,9 @@ use std::thread::{Promise, PromisedHandle, Scope, Threads};
 /// What came of a crew that was to start whole.
 #[derive(Drop)]
 pub enum Started<P> {
-    /// Each post had a thread of its own, and all were at work at once.
+    /// Each post was worked, in a thread of its own; all threads were made before one of them worked.
     Whole(Vec<P>),
-    /// A thread couldn't be made: nobody worked, and the posts are as they were.
+    /// Nobody worked, and the posts are as they were. It comes where a thread couldn't be made; no clause says so.
     Nobody(Vec<P>),
 }
 

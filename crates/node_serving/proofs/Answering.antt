@@ -1,14 +1,16 @@
 -- What one ask more adds to what a worker has answered.
-use Rattle.std.proofs.Common.{◌≡◌, ◌≢◌, ℕ, zero, suc, ◌<◌, List, [], ◌∷◌, ◌++◌, length, length-set, refl, sym, ap, subst, ◌∙◌, arith, inl, inr, append_assoc, append-nil}
+use Rattle.std.proofs.Common.{◌≡◌, ◌≢◌, ℕ, zero, suc, ◌<◌, List, [], ◌∷◌, ◌++◌, length, length-set, map, cond, refl, sym, ap, subst, ◌∙◌, arith, inl, inr, append_assoc, append-nil}
 use Rattle.std.specs.declared.option.Option.TheVariants.{Some, None}
 use Rattle.std.specs.declared.result.Result.{Result}
 use Rattle.std.specs.declared.result.Result.TheVariants.{Ok, Err}
-use Rattle.std.specs.Prelude.{◌⊎◌, Bool, true, false, slice_get, slice_set, IfOk, OnErr}
-use Rattle.std.specs.List.{Contains}
-use Rattle.std.proofs.lemmas.List.Elements.{Contains-append_left, Contains-append_right, Contains-append_cases, Contains-push, Contains-push_cases}
+use Rattle.std.specs.Prelude.{◌⊎◌, Bool, true, false, nat_eq, slice_get, slice_set, IfOk, OnErr}
+use Rattle.std.specs.List.{Contains, filter}
+use Rattle.std.proofs.lemmas.List.{map-append}
+use Rattle.std.proofs.lemmas.List.Elements.{filter-append, Contains-append_left, Contains-append_right, Contains-append_cases, Contains-push, Contains-push_cases}
 use Rattle.crews.specs.Crews.{Beside}
 use Rattle.crews.proofs.Places.{at_place, same_at, within, get_set, left_of}
-use Rattle.inboxes.specs.Sides.{put_more}
+use Rattle.inboxes.specs.Sides.{put_more, took, took_in}
+use Rattle.inboxes.proofs.SenderWords.{true_here, false_here}
 use Rattle.journals.specs.declared.desk.DeskAct.{DeskAct}
 use Rattle.journals.specs.declared.node.NodeEntry.{NodeEntry}
 use Rattle.journals.specs.Steps.{side}
@@ -21,15 +23,12 @@ use Rattle.protocol.specs.Messages.{Message}
 use Rattle.event_clock.specs.Passes.{ClockId, Sight}
 use Rattle.journals.specs.declared.desk.Way.{Way}
 use Rattle.journals.specs.declared.desk.DeskAct.TheVariants.{Call}
-use Rattle.journals.specs.declared.node.Nature.{Nature}
-use Rattle.journals.specs.Acts.{act, late_act, answer_of, reply_in}
+use Rattle.journals.specs.Acts.{act, late_act, answer_of}
 use Rattle.client_desks.specs.Desks.{reply_told}
 use Rattle.client_desks.proofs.Desking.{act_side, late_side, told_reply}
 use Rattle.node_mail.specs.declared.asked.Asked.{Asked}
-use Rattle.node_mail.specs.declared.asked.NodePlace.{NodePlace}
 use Rattle.node_mail.specs.declared.answered.Answered.{Answered}
-use Rattle.node_mail.specs.Mail.{IsAskAt}
-use Rattle.node_serving.specs.Workers.{Line, WorkerView, clients_of, CanServe, IsLineTo, Tells, WasTold, TellsOf, IsSameLine, HasAnswered, HasMet, CameAside}
+use Rattle.node_serving.specs.Workers.{Line, WorkerView, clients_of, CanServe, IsLineTo, Tells, WasTold, TellsOf, IsSameLine, HasAnswered, HasMet, CameAside, asks_from, asks_told, AreAnswered}
 
 -- the items of a list of which one was replaced
 set_here : {A : Type 0} (xs : List A) (k : ℕ) (x y : A) → slice_get xs k ≡ Some x → slice_get (slice_set xs k y) k ≡ Some y
@@ -54,7 +53,7 @@ same_or (suc i) (suc k) = same_suc i k (same_or i k)
     same_suc i k (inl h) = inl (ap suc h)
     same_suc i k (inr h) = inr (λ e. h (omega arith))
 
-none_in : {A : Type 0} (xs : List A) (x : A) → xs ≡ [] → Contains xs x → ⊥
+pub none_in : {A : Type 0} (xs : List A) (x : A) → xs ≡ [] → Contains xs x → ⊥
 none_in xs x none (k, lt, is) = let few = ap length none in omega (arith, lt, few)
 
 -- a worker that has answered nobody
@@ -70,6 +69,32 @@ answered_none clients cell lines new = record {
   told = λ n c act has is. absurd (none_in [] n refl has);
   done = λ seat line a t at has is. absurd (none_in line.put a (new seat line at) has);
 }
+
+-- what was asked from a seat, with one ask more
+asks-append : (seat : ℕ) (xs ys : List (ℕ × Asked))
+    → asks_from seat (xs ++ ys) ≡ asks_from seat xs ++ asks_from seat ys
+asks-append seat xs ys =
+    let f : ℕ × Asked → Way × Message = λ i. (i.1.way, i.1.ask) in
+    let p : ℕ × Asked → Bool = λ i. nat_eq i.1.seat seat in
+    ap (map f) (filter-append p xs ys) ∙ map-append f (filter p xs) (filter p ys)
+
+module _ (seat from : ℕ) (q : Asked) where
+  one_ask : (b : Bool) → nat_eq q.seat seat ≡ b
+      → asks_from seat ((from, q) ∷ []) ≡ map (λ (i : ℕ × Asked). (i.1.way, i.1.ask)) (cond b ((from, q) ∷ []) [])
+  one_ask b is = ap (λ c. map (λ (i : ℕ × Asked). (i.1.way, i.1.ask)) (cond c ((from, q) ∷ []) [])) is
+
+  one_more : (asks : List (ℕ × Asked)) → q.seat ≡ seat
+      → asks_from seat (asks ++ (from, q) ∷ []) ≡ asks_from seat asks ++ (q.way, q.ask) ∷ []
+  one_more asks same =
+      let here : nat_eq q.seat seat ≡ true = ap (λ k. nat_eq k seat) same ∙ true_here seat in
+      asks-append seat asks ((from, q) ∷ []) ∙ ap (λ l. asks_from seat asks ++ l) (one_ask true here)
+
+  none_more : (asks : List (ℕ × Asked)) → q.seat ≢ seat
+      → asks_from seat (asks ++ (from, q) ∷ []) ≡ asks_from seat asks
+  none_more asks apart =
+      let none = one_ask false (false_here q.seat seat apart) in
+      asks-append seat asks ((from, q) ∷ []) ∙ ap (λ l. asks_from seat asks ++ l) none
+      ∙ append-nil (asks_from seat asks)
 
 -- the lines after an answer was put into one of them
 module _ (lines : List Line) (seat : ℕ) (line : Line) (here : slice_get lines seat ≡ Some line) (a : Answered) where
@@ -144,6 +169,23 @@ module _ (lines : List Line) (seat : ℕ) (line : Line) (here : slice_get lines 
       told = λ n c act has is. told_of n c act is (Contains-append_cases so.more met.tail n has);
       done = λ s l b t at has is. done_of s l b t has is (get_set lines seat s l (put_more line a) at);
     }
+
+  -- and the asks with the one to which it is the answer
+  module _ (asks : List (ℕ × Asked)) (from : ℕ) (q : Asked) (own : q.seat ≡ seat)
+      (is : (a.way ≡ q.way) × (a.ask ≡ q.ask)) (so : AreAnswered asks lines) where
+    asked_at : (s : ℕ) (l : Line)
+        → ((s ≡ seat) × (l ≡ put_more line a)) ⊎ ((s ≢ seat) × (slice_get lines s ≡ Some l))
+        → asks_told l.put ≡ asks_from s (asks ++ (from, q) ∷ [])
+    asked_at s l (inl h) =
+        ap (λ (x : Line). asks_told x.put) h.1
+        ∙ map-append (λ (x : Answered). (x.way, x.ask)) line.put (a ∷ [])
+        ∙ (λ j. so seat line here j ++ (is.0 j, is.1 j) ∷ [])
+        ∙ sym (one_more seat from q asks own)
+        ∙ ap (λ k. asks_from k (asks ++ (from, q) ∷ [])) (sym h.0)
+    asked_at s l (inr h) = so s l h.1 ∙ sym (none_more s from q asks (λ e. h.0 (sym e ∙ own)))
+
+    pub asked_more : AreAnswered (asks ++ (from, q) ∷ []) after
+    asked_more s l at = asked_at s l (get_set lines seat s l (put_more line a) at)
 
 -- what has no client's side is told to nobody
 module _ (clients : List ℕ) (old now new : CellView) (first lines : List Line) (so : HasAnswered clients old first now lines) (late : CameAside now new) where
@@ -249,8 +291,16 @@ aside_more old now new first then = record {
 -- a worker that has answered what it was asked so far
 pub record IsServing (old new : WorkerView) : Type 0 where
   pub asks : new.asks.inbox ≡ old.asks.inbox
+  pub asked : AreAnswered (took new.asks) new.answers
   pub answered : HasAnswered (clients_of old) old.cell old.answers new.cell new.answers
   pub none : new.sents ≡ []
 
 pub serving_none : (of : ClockId) (w : WorkerView) → CanServe of w → IsServing w w
-serving_none of w can = record { asks = refl; answered = answered_none (clients_of w) w.cell w.answers (new_lines of (clients_of w) w.answers can.lines); none = can.none }
+serving_none of w can =
+    let new = new_lines of (clients_of w) w.answers can.lines in
+    record {
+      asks = refl;
+      asked = λ seat line at. ap asks_told (new seat line at) ∙ ap (λ h. asks_from seat (took_in h)) (sym can.new);
+      answered = answered_none (clients_of w) w.cell w.answers new;
+      none = can.none;
+    }

@@ -1,19 +1,21 @@
 -- A node with its inbox and the inboxes of those who ask, and what it does until the last ask was taken.
-use Rattle.std.specs.Prelude.{◌≡◌, ℕ, List, [], ◌++◌, length, slice_get}
+use Rattle.std.specs.Prelude.{◌≡◌, ◌==◌, ℕ, List, [], ◌++◌, map, slice_get}
 use Rattle.std.specs.declared.option.Option.TheVariants.{None, Some}
 use Rattle.std.specs.declared.result.Result.TheVariants.{Ok}
-use Rattle.std.specs.List.{Contains}
+use Rattle.std.specs.List.{Contains, filter}
 use Rattle.crews.specs.Crews.{Beside}
 use Rattle.event_clock.specs.Passes.{ClockId}
-use Rattle.inboxes.specs.Sides.{Putting, Taking, IsDone}
+use Rattle.inboxes.specs.Sides.{Putting, Taking, took, IsDone}
 use Rattle.journals.specs.declared.desk.DeskAct.{DeskAct}
 use Rattle.journals.specs.declared.desk.DeskAct.TheVariants.{Call}
+use Rattle.journals.specs.declared.desk.Way.{Way}
 use Rattle.journals.specs.declared.node.NodeEntry.{NodeEntry}
 use Rattle.journals.specs.Steps.{side}
 use Rattle.locked_nodes.specs.declared.answers.Told.{Told}
 use Rattle.locked_nodes.specs.Cells.{CellView, number_of}
 use Rattle.locked_nodes.specs.Slots.{slot_of}
 use Rattle.client_desks.specs.Desks.{reply_told}
+use Rattle.protocol.specs.Messages.{Message}
 use Rattle.node_mail.specs.declared.asked.Asked.{Asked}
 use Rattle.node_mail.specs.declared.asked.NodePlace.{NodePlace}
 use Rattle.node_mail.specs.declared.answered.Answered.{Answered}
@@ -40,11 +42,13 @@ pub record IsLineTo (of : ClockId) (seat id : ℕ) (line : Line) : Type 0 where
   pub client : line.inbox.place.client ≡ id
   pub new : line.put ≡ []
 
--- a worker that has served nobody: the inbox is that of its cell's slot, and there is a line to each client
+-- a worker that has served nobody: the inbox is that of its cell's slot, nothing was taken out of it,
+-- and there is a line to each client
 pub record CanServe (of : ClockId) (w : WorkerView) : Type 0 where
   pub cell : w.cell.charter.pass.clock ≡ of
   pub ticks : w.asks.inbox.place.clock.value ≡ of
   pub slot : w.asks.inbox.place.slot ≡ slot_of w.cell.charter
+  pub new : w.asks.heard ≡ []
   pub lines : Beside (IsLineTo of) (clients_of w) w.answers
   pub none : w.sents ≡ []
 
@@ -102,9 +106,24 @@ pub record CameAside (old new : CellView) : Type 0 where
   pub grew : new.journal ≡ old.journal ++ tail
   pub aside : (n : NodeEntry) → Contains tail n → side n.act ≡ None
 
--- all asks were taken, up to the last word of each who asks; each line has had its last word
+-- the ways and messages of what was asked from this seat, in order
+abbrev pub asks_from : ℕ → List (ℕ × Asked) → List (Way × Message)
+asks_from seat asks = map (λ i. (i.1.way, i.1.ask)) (filter (λ i. i.1.seat == seat) asks)
+
+-- the ways and messages of what was asked, as the answers tell them
+abbrev pub asks_told : List Answered → List (Way × Message)
+asks_told answers = map (λ a. (a.way, a.ask)) answers
+
+-- each seat was answered just what it asked, in its order
+abbrev pub AreAnswered : List (ℕ × Asked) → List Line → Type 0
+AreAnswered asks lines =
+    (seat : ℕ) (line : Line) → slice_get lines seat ≡ Some line
+    → asks_told line.put ≡ asks_from seat asks
+
+-- all asks were taken, up to the last word of each who asks, and answered; each line has had its last word
 pub record HasServed (old new : WorkerView) : Type 0 where
   pub asks : new.asks.inbox ≡ old.asks.inbox
   pub done : IsDone new.asks
+  pub asked : AreAnswered (took new.asks) new.sents
   pub none : new.answers ≡ []
   pub answered : HasAnswered (clients_of old) old.cell old.answers new.cell new.sents

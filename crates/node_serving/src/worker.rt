@@ -3,7 +3,8 @@ ghost use Rattle.std.specs.Prelude.{◌≡◌, ◌+◌, [], Ok, IfOk};
 ghost use Rattle.node_mail.specs.Mail.{IsAskAt};
 ghost use Rattle.node_mail.specs.declared.asked.NodePlace.{NodePlace};
 ghost use Rattle.locked_nodes.specs.declared.answers.Told.{Told};
-ghost use Rattle.locked_nodes.specs.Cells.{number_of};
+ghost use Rattle.journals.specs.Acts.{act, answer_of};
+ghost use Rattle.locked_nodes.specs.Cells.{number_of, state_of, told_as, with_entry};
 ghost use Rattle.locked_nodes.specs.Slots.{slot_of};
 ghost use Rattle.node_serving.specs.Workers.{CanServe, HasMet, CameAside, HasServed};
 
@@ -119,7 +120,11 @@ fn answer_to(cell: &mut NodeCell, clock: &Clock, asked: Asked) -> Answered
     requires clock { cell.old.charter.pass.clock ≡ clock.now }
     requires fits { (place : NodePlace) × IsAskAt place asked × (place.clock.value ≡ clock.now) × (place.slot ≡ slot_of cell.old.charter) }
     ensures clock { result.note.clock ≡ clock.now }
-    ensures client { result.ask.client ≡ asked.ask.client }
+    ensures to { (result.way ≡ asked.way) × (result.ask ≡ asked.ask) }
+    ensures acted { IfOk result.told (λ told. cell.new ≡ with_entry cell.old (number_of told)
+        (act (state_of cell.old) cell.old.charter.nature asked.way asked.ask)) }
+    ensures told { IfOk result.told (λ told. told ≡ told_as (number_of told)
+        (answer_of (act (state_of cell.old) cell.old.charter.nature asked.way asked.ask))) }
     ensures seen { (t : Told) → result.told ≡ Ok t → result.note.seen ≡ number_of t + 1 }
     ensures met { HasMet cell.old result cell.new }
 {

@@ -136,9 +136,6 @@ here_of all done rest x n is count = ap (slice_get all) count ∙ ap (λ l. slic
 pub map_more : {A B : Type 0} (f : A → B) (xs l : List A) (x : A) (ys zs : List B) (y : B) → ys ≡ map f xs → y ≡ f x → l ≡ xs ++ x ∷ [] → zs ≡ ys ++ y ∷ [] → zs ≡ map f l
 map_more f xs l x ys zs y are is more grew = grew ∙ (λ j. are j ++ is j ∷ []) ∙ sym (map-append f xs (x ∷ [])) ∙ ap (map f) (sym more)
 
-pub same_some : {A : Type 0} (x y : A) → Some x ≡ Some y → x ≡ y
-same_some x y is = cc
-
 -- the inbox of a seat's client, whatever the seat's place
 pub answer_at : {T : Type 0} (of : ClockId) (senders i k : ℕ) (seat : Seat T) (box : Taking Answered ClientPlace) → IsAnswerBox of senders i seat box → IsAnswerBox of senders k seat box
 answer_at of senders i k seat box is = record { ticks = is.ticks; client = is.client; began = is.began; count = is.count; new = is.new }

@@ -7,6 +7,7 @@ use Rattle.std.specs.Prelude.{◌⊎◌, slice_get, nat_eq, All}
 use Rattle.std.specs.List.{Contains, filter}
 use Rattle.std.proofs.lemmas.List.Elements.{Contains-append_left, Contains-append_right, Contains-append_cases}
 use Rattle.std.proofs.lemmas.Bool.Decides.{eqb_tells}
+use Rattle.std.proofs.lemmas.Option.{same_Some}
 use Rattle.inboxes.specs.Sides.{took, items_from}
 use Rattle.journals.specs.declared.node.NodeEntry.{NodeEntry}
 use Rattle.journals.specs.declared.desk.DeskAct.{DeskAct}
@@ -23,6 +24,7 @@ use Rattle.node_mail.specs.declared.answered.Answered.{Answered}
 use Rattle.desk_keys.specs.declared.mail.ByMail.{ByMail}
 use Rattle.desk_keys.specs.Keys.{AgreeByMail, HasAnswer}
 use Rattle.node_serving.specs.Workers.{Line, WasTold, HasAnswered}
+use Rattle.node_serving.proofs.Answering.{none_in}
 use Rattle.run_journals.specs.Standing.{HasSideIn, HasSideOn, PairsStand}
 use Rattle.crews.proofs.Places.{at_place, same_at, place_of, contains_at, within, all_at, right_of, left_of}
 
@@ -30,9 +32,6 @@ use Rattle.crews.proofs.Places.{at_place, same_at, place_of, contains_at, within
 module _ {T : Type 0} where
   further : (z : T) (xs : List T) (x : T) → Contains xs x → Contains (z ∷ xs) x
   further z xs x (k, lt, is) = (suc k, omega (arith, lt), is)
-
-  none_in : (x : T) → Contains [] x → ⊥
-  none_in x (k, lt, is) = omega (arith, lt)
 
   front : (y : T) (xs : List T) (x : T) → Contains (y ∷ xs) x → (y ≡ x) ⊎ Contains xs x
   front y xs x (zero, lt, is) = inl is
@@ -43,9 +42,6 @@ eq_of q p is = elim (eqb_tells q p) [ inl same ↦ same.1 | inr not ↦ absurd (
 
 eq_same : (p : ℕ) → nat_eq p p ≡ true
 eq_same p = elim (eqb_tells p p) [ inl same ↦ same.0 | inr not ↦ absurd (not.1 refl) ]
-
-same_some : {A : Type 0} (x y : A) → Some x ≡ Some y → x ≡ y
-same_some x y is = cc
 
 same_ok : (r : Result Told CellRefusal) (x y : Told) → r ≡ Ok x → r ≡ Ok y → x ≡ y
 same_ok (Ok z) x y a b = let e : z ≡ x = cc in let f : z ≡ y = cc in sym e ∙ f
@@ -61,7 +57,7 @@ module _ {T : Type 0} where
   by_test true p q y fs x is has = elim (front y (map (λ (i : ℕ × T). i.1) fs) x has) [ inl same ↦ inr (eq_of q p is, same) | inr later ↦ inl later ]
 
   pub taken_of : (p : ℕ) (xs : List (ℕ × T)) (x : T) → Contains (items_from p xs) x → Contains xs (p, x)
-  taken_of p [] x has = absurd (none_in x has)
+  taken_of p [] x has = absurd (none_in [] x refl has)
   taken_of p ((q, y) ∷ xs) x has = taken_more p q y xs x (by_test (nat_eq q p) p q y (filter (λ (i : ℕ × T). nat_eq i.0 p) xs) x refl has) (taken_of p xs x)
 
   put_here : (b : Bool) (p : ℕ) (x : T) (fs : List (ℕ × T)) → b ≡ true → Contains (map (λ (i : ℕ × T). i.1) (cond b ((p, x) ∷ fs) fs)) x
@@ -76,7 +72,7 @@ module _ {T : Type 0} where
   put_first p q y xs x num same = subst (λ z. Contains (items_from p ((q, y) ∷ xs)) z) same (put_here (nat_eq q p) q y (filter (λ (i : ℕ × T). nat_eq i.0 p) xs) (ap (λ n. nat_eq n p) num ∙ eq_same p))
 
   pub of_taken : (p : ℕ) (xs : List (ℕ × T)) (x : T) → Contains xs (p, x) → Contains (items_from p xs) x
-  of_taken p [] x has = absurd (none_in (p, x) has)
+  of_taken p [] x has = absurd (none_in [] (p, x) refl has)
   of_taken p ((q, y) ∷ xs) x has =
       elim (front (q, y) xs (p, x) has) [
         | inl same ↦ put_first p q y xs x (ap (λ (i : ℕ × T). i.0) same) (ap (λ (i : ℕ × T). i.1) same)
@@ -152,7 +148,7 @@ module _ (clients : List ℕ) (cells now : List CellView) (rows : List (List Lin
       let put : Contains (items_from w.line.number (took mail.0.answers)) w.answer = subst (λ l. Contains l w.answer) (sym (desk.2.items k row w.line here w.there)) w.put in
       let told = w.tells.told in
       let stands = desk.2.agree.heard w.line.number w.answer told (taken_of w.line.number (took mail.0.answers) w.answer put) w.tells.is in
-      let both : (w.answer.ask.client, Call w.answer.way w.answer.ask (reply_told told)) ≡ (c, act) = same_some {A = ℕ × DeskAct} (w.answer.ask.client, Call w.answer.way w.answer.ask (reply_told told)) (c, act) (sym w.tells.agree ∙ is) in
+      let both : (w.answer.ask.client, Call w.answer.way w.answer.ask (reply_told told)) ≡ (c, act) = same_Some {A = ℕ × DeskAct} (w.answer.ask.client, Call w.answer.way w.answer.ask (reply_told told)) (c, act) (sym w.tells.agree ∙ is) in
       let client : w.answer.ask.client ≡ c = ap (λ (p : ℕ × DeskAct). p.0) both in
       let call : Call w.answer.way w.answer.ask (reply_told told) ≡ act = ap (λ (p : ℕ × DeskAct). p.1) both in
       let id : desk.0.id ≡ w.answer.ask.client = same_at clients w.seat desk.0.id w.answer.ask.client desk.2.client w.client in

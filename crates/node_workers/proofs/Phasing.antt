@@ -111,6 +111,7 @@ module _ {T : Type 0} (config : Numbers) (of : ClockId) (row : List CellView) (s
         cell = ap (λ (x : CellView). x.charter.pass.clock) worker.is ∙ worker.own ∙ of_cell.ticks;
         ticks = worker.box.ticks;
         slot = worker.box.slot ∙ ap (λ (x : CellView). slot_of x.charter) (sym worker.is);
+        new = worker.box.new;
         lines = record {
           count = ap length worker.box.clients ∙ length-map seats (λ (s : Seat T). s.desk.id) ∙ sym (lines_count k cell w worker);
           each = λ i id line there here. line_to k cell w worker i id line (ap (λ l. slice_get l i) (sym worker.box.clients) ∙ there) here;

@@ -23,11 +23,12 @@ pub record IsAnswerBox {T : Type 0} (of : ClockId) (senders i : ℕ) (seat : Sea
   pub count : box.senders ≡ senders
   pub new : box.heard ≡ []
 
--- the inbox of asks to the cell in a slot, by one of these clients
+-- the inbox of asks to the cell in a slot, by one of these clients, which gave nothing yet
 pub record IsAskBox (of : ClockId) (to : Slot) (ids : List ℕ) (box : Taking Asked NodePlace) : Type 0 where
   pub ticks : box.inbox.place.clock.value ≡ of
   pub slot : box.inbox.place.slot ≡ to
   pub clients : box.inbox.place.clients.value ≡ ids
+  pub new : box.heard ≡ []
 
 -- the worker of a cell, with an inbox for its slot, and the lines at the cell's place
 pub record IsWorkerOf (of : ClockId) (ids : List ℕ) (rows : List (List Line)) (k : ℕ) (cell : CellView) (w : WorkerView) : Type 0 where

@@ -40,6 +40,7 @@ pub record HasAll (of : FloorView) (mail : ByMail) : Type 0 where
   pub done : IsDone mail.answers
   pub known : All (λ i. i.0 < mail.answers.senders) (took mail.answers)
 
+-- the client went by mail, and has taken all its answers
 abbrev pub HasTakenAll : FloorView → Option ByMail → Type 0
 HasTakenAll of None = ⊥
 HasTakenAll of (Some mail) = HasAll of mail
@@ -58,10 +59,12 @@ module _ {T : Type 0} where
     pub done : after.refused ≡ None → did duty keys.desk left after.desk
     pub all : HasTakenAll of after.mail
 
+  -- a post whose thread can work: a client that is ready to do its duty by mail, or a worker that can serve
   abbrev pub CanWork : (T → List Slot → DeskView → Type 0) → FloorView → Post T → Type 0
   CanWork ready of (Client keys duty) = IsReady ready of keys duty
   CanWork ready of (Node w) = CanServe of.clock w
 
+  -- a post before its thread worked, and after it: a client has done its duty, or a worker has served
   abbrev pub DidWork : (T → DeskView → T → DeskView → Type 0) → FloorView → Post T → Post T → Type 0
   DidWork done of (Client keys duty) (Client after left) = HasDone done of keys duty after left
   DidWork done of (Client keys duty) (Node v) = ⊥

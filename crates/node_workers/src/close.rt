@@ -13,7 +13,7 @@ use inboxes::{Sents, settle};
 use lists::{ItemList, NoMemory};
 use locked_nodes::{CellRefusal, NodeCell};
 use node_mail::Answered;
-use phase_threads::{Duty, Seat};
+use phase_threads::{Duty, Seat, first_refusal};
 use std::alloc::Global;
 
 /// What posts leave: the cells, and what is left of their workers' lines, by seat; the desks with their duties, and their ways by
@@ -50,7 +50,7 @@ pub fn part<T: Duty>(alloc: Global, posts: Vec<Post<T>>) -> Result<Parted<T>, No
                 rows.push(ItemList::from_vec(sents))?;
             }
             Post::Client { keys, duty } => {
-                refused = first_of(refused, keys.refused());
+                refused = first_refusal(refused, keys.refused());
                 let (desk, mail) = keys.into_mail();
                 seats.push(Seat { desk, duty })?;
                 mails.push(mail)?;
@@ -64,18 +64,6 @@ pub fn part<T: Duty>(alloc: Global, posts: Vec<Post<T>>) -> Result<Parted<T>, No
         mails,
         refused,
     })
-}
-
-// The refusal that counts of two: want of memory comes before a full clock.
-fn first_of(one: Option<CellRefusal>, other: Option<CellRefusal>) -> Option<CellRefusal>
-    ensures none { result ≡ None → (one ≡ None) × (other ≡ None) }
-{
-    match (one, other) {
-        (None, _) => other,
-        (_, None) => one,
-        (Some(CellRefusal::ClockFull), Some(CellRefusal::ClockFull)) => one,
-        _ => Some(CellRefusal::NoMemory),
-    }
 }
 
 /// Whether each way by mail is that of its seat.

@@ -1,7 +1,6 @@
 //! Inboxes for nodes and clients, and the posts of their threads, before these start.
 ghost use Rattle.std.specs.Prelude.{◌≡◌, ◌≤◌, [], length, map, IfOk};
 ghost use Rattle.crews.specs.Crews.{Beside};
-ghost use Rattle.locked_nodes.specs.Slots.{slot_of};
 ghost use Rattle.node_workers.specs.Hands.{AreSpread, AreNewPutters};
 ghost use Rattle.node_workers.specs.Posts.{nodes_in, clients_in};
 ghost use Rattle.node_workers.specs.Opened.{IsAskBox, IsAnswerBox, IsWorkerOf, IsClientOf};

@@ -1,10 +1,6 @@
 //! One phase of a run by mail.
-ghost use Rattle.std.specs.Prelude.{◌≡◌, ◌≤◌, None, Some, All, IsSome, IfOk, map, length};
-ghost use Rattle.std.specs.List.{AllZip};
-ghost use Rattle.crews.specs.Crews.{Beside};
+ghost use Rattle.std.specs.Prelude.{IfOk};
 ghost use Rattle.phase_threads.specs.Phases.{MayPhase, HasPhased};
-ghost use Rattle.client_desks.specs.Later.{IsLater};
-ghost use Rattle.run_journals.specs.Standing.{HasWorked, PairsStand};
 ghost use Rattle.node_workers.specs.Ended.{MayClose, HasClosed};
 
 use crate::close::{Parted, are_seated, part, settle_all};

@@ -9,8 +9,6 @@ use Rattle.receipt_lock.specs.contracts.vault.Vault as vault
 use Rattle.receipt_lock.specs.declared.Kept as kept
 use Rattle.stamp_order.specs.contracts.Stamp as stamp
 use Rattle.wire_forms.specs.contracts.message.Message as message
-use Rattle.wire_forms.specs.contracts.op.Op as op
-use Rattle.wire_forms.specs.contracts.first.First as first
 use Rattle.write_core.specs.contracts.writer.Writer as writer
 use Rattle.read_core.specs.contracts.reader.Reader as reader
 use Rattle.client_core.specs.contracts.client.Client as client
@@ -34,12 +32,6 @@ use Rattle.phase_threads.specs.contracts.crew.Post as post
 
 pub clock_sync : IsSync clock.the_row
 clock_sync = search all depth 60 fits 50000
-
-pub op_send : IsSend op.the_row
-op_send = search all depth 40
-
-pub first_send : IsSend first.the_row
-first_send = search all depth 40
 
 pub writer_send : IsSend writer.the_row
 writer_send = search (all, bytes_send, sum_send) depth 60 fits 50000
@@ -95,7 +87,7 @@ pub terms_send : IsSend terms.the_row
 terms_send = search all depth 40
 
 pub state_send : IsSend state.the_row
-state_send = search (all, first_send, node_send, message_send, bytes_send, sum_send) depth 60 fits 50000
+state_send = search (all, node_send, message_send, bytes_send, sum_send) depth 60 fits 50000
 
 pub cell_send : IsSend cell.the_row
 cell_send = search (all, terms_send, state_send, node_entry_send, pass_send) depth 40

@@ -1,5 +1,5 @@
 //! Desks without their chits, and cells out of their vaults, when the threads have ended.
-ghost use Rattle.std.specs.Prelude.{◌≡◌, ◌<◌, List, length, map, reverse, All, None, IfOk};
+ghost use Rattle.std.specs.Prelude.{◌≡◌, ◌<◌, length, map, reverse, All, None, IfOk};
 ghost use Rattle.desk_keys.specs.Keys.{Agree};
 ghost use Rattle.crews.specs.Crews.{Beside};
 ghost use Rattle.phase_threads.specs.Phased.{IsSeatOf, IsHandOf, AreTaken, IsClosed};
@@ -7,6 +7,7 @@ ghost use Rattle.phase_threads.specs.Phased.{IsSeatOf, IsHandOf, AreTaken, IsClo
 use crate::crew::Post;
 use crate::duty::{Duty, Seat};
 use crate::open::Hand;
+use crate::refusal::first_refusal;
 use lists::{ItemList, NoMemory};
 use locked_nodes::{CellRefusal, Item, NodeCell};
 use receipt_lock::laws::each_entry_has_one_receipt;
@@ -34,7 +35,7 @@ pub fn part<T: Duty>(alloc: Global, posts: Vec<Post<T>>) -> Result<Parted<T>, No
     let mut refused = None;
     for post in posts {
         let Post { keys, duty } = post;
-        refused = first_of(refused, keys.refused());
+        refused = first_refusal(refused, keys.refused());
         let (desk, mut chits) = keys.into_parts();
         chits.reverse();
         hands.push(ItemList::from_vec(chits))?;
@@ -45,18 +46,6 @@ pub fn part<T: Duty>(alloc: Global, posts: Vec<Post<T>>) -> Result<Parted<T>, No
         hands,
         refused,
     })
-}
-
-// The refusal that counts of two: want of memory comes before a full clock.
-fn first_of(one: Option<CellRefusal>, other: Option<CellRefusal>) -> Option<CellRefusal>
-    ensures none { result ≡ None → (one ≡ None) × (other ≡ None) }
-{
-    match (one, other) {
-        (None, _) => other,
-        (_, None) => one,
-        (Some(CellRefusal::ClockFull), Some(CellRefusal::ClockFull)) => one,
-        _ => Some(CellRefusal::NoMemory),
-    }
 }
 
 /// Takes the cells out of their vaults, in their order, given all chits, the last vault's first.

@@ -6,6 +6,8 @@ mod crew;
 pub mod duty;
 mod open;
 pub mod phase;
+pub mod refusal;
 
 pub use duty::{Duty, Seat};
 pub use phase::{Left, run_phase};
+pub use refusal::first_refusal;

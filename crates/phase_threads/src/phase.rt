@@ -15,8 +15,8 @@ use std::alloc::Global;
 use std::sync::Wait;
 use std::thread::Threads;
 
-/// What a phase leaves: the cells and the seats, in their order, and the refusal that came, if one did: want of memory where both
-/// kinds came.
+/// What a phase leaves: the cells and the seats, in their order, and the refusal that came, if one did: of two the one that
+/// `first_refusal` gives.
 #[derive(Drop)]
 pub struct Left<T> {
     pub cells: Vec<NodeCell>,

@@ -4,6 +4,7 @@ use Rattle.std.specs.declared.option.Option.TheVariants.{None, Some}
 use Rattle.std.specs.Prelude.{IsSome}
 use Rattle.std.specs.Vec.Iter.{into_iter_items, into_iter_len}
 use Rattle.std.proofs.lemmas.List.{map-append}
+use Rattle.std.proofs.lemmas.Option.{same_Some}
 use Rattle.std.proofs.lemmas.List.Elements.{All-push}
 use Rattle.crews.proofs.Places.{walk_on, walk_end, all_at}
 use Rattle.desk_keys.specs.declared.mail.ByMail.{ByMail}
@@ -11,7 +12,7 @@ use Rattle.desk_keys.specs.Keys.{KeysView, AgreeByMail}
 use Rattle.node_serving.specs.Workers.{WorkerView}
 use Rattle.node_workers.specs.declared.crew.Post.{Post}
 use Rattle.node_workers.specs.Posts.{nodes_in, clients_in, seat_of}
-use Rattle.node_workers.proofs.Opening.{node_nodes, node_clients, client_nodes, client_clients, client_at, map_more, same_some}
+use Rattle.node_workers.proofs.Opening.{node_nodes, node_clients, client_nodes, client_clients, client_at, map_more}
 use Rattle.node_workers.proofs.close.part.Goals as goal
 
 pub loop-post-preserved-in-Continue-branch-2 : goal.loop-post-preserved-in-Continue-branch-2
@@ -62,10 +63,10 @@ loop-post-preserved g c =
       map_more seat_of (clients_in inv.0) (clients_in (inv.0 ++ post ∷ [])) (keys, duty) c.loop-post.seats.items c.push-in-Client.new.self.items (record { desk = parts.result.0; duty = duty }) inv.4 (ap (λ d. record { desk = d; duty = duty }) parts.ensures.desk) clients c.in_ok-push-in-Client.ensures.items,
       map_more (λ (x : KeysView × g.row.T.Denot). x.0.mail) (clients_in inv.0) (clients_in (inv.0 ++ post ∷ [])) (keys, duty) (map (λ (m : ByMail). Some m) was) (map (λ (m : ByMail). Some m) c.push-in-Client-2.new.self.items) (Some mail) inv.5 (sym parts.ensures.mail) clients (ap (map (λ (m : ByMail). Some m)) c.in_ok-push-in-Client-2.ensures.items ∙ map-append (λ (m : ByMail). Some m) was (mail ∷ [])),
       (λ none.
-          let both = c.first_of-refused.ensures.none none in
+          let both = c.first_refusal-refused.ensures.none.0 none in
           subst (All (λ (x : KeysView × g.row.T.Denot). x.0.refused ≡ None)) (sym clients) (All-push (λ (x : KeysView × g.row.T.Denot). x.0.refused ≡ None) (clients_in inv.0) (keys, duty) (inv.6 both.0) (sym c.refused.ensures ∙ both.1))),
       subst (All (λ (x : KeysView × g.row.T.Denot). x.0.refused ≡ None → (m : ByMail) → x.0.mail ≡ Some m → AgreeByMail x.0.desk m)) (sym clients)
-          (All-push (λ (x : KeysView × g.row.T.Denot). x.0.refused ≡ None → (m : ByMail) → x.0.mail ≡ Some m → AgreeByMail x.0.desk m) (clients_in inv.0) (keys, duty) inv.7 (λ none m is. subst (AgreeByMail keys.desk) (same_some mail m (sym parts.ensures.mail ∙ is)) (parts.ensures.agree none))),
+          (All-push (λ (x : KeysView × g.row.T.Denot). x.0.refused ≡ None → (m : ByMail) → x.0.mail ≡ Some m → AgreeByMail x.0.desk m) (clients_in inv.0) (keys, duty) inv.7 (λ none m is. subst (AgreeByMail keys.desk) (same_Some mail m (sym parts.ensures.mail ∙ is)) (parts.ensures.agree none))),
     )
 
 pub returns-clause-cells : goal.returns-clause-cells

@@ -55,6 +55,7 @@ loop-cell-preserved g c =
         ticks = ap (λ (w : WorkerView). w.asks.inbox.place.clock.value) is ∙ box.ticks;
         slot = ap (λ (w : WorkerView). w.asks.inbox.place.slot) is ∙ box.slot ∙ c.slot.ensures;
         clients = ap (λ (w : WorkerView). w.asks.inbox.place.clients.value) is ∙ box.clients;
+        new = ap (λ (w : WorkerView). w.asks.heard) is ∙ box.new;
       };
       lines = ap (slice_get lines) inv.3 ∙ next.1 ∙ ap (λ l. Some l) (sym (ap (λ (w : WorkerView). w.answers) is ∙ c.into_vec.ensures));
       none = ap (λ (w : WorkerView). w.sents) is;

@@ -46,7 +46,7 @@ loop-post-preserved g c =
       walk_on c.args.posts.items inv.0 (into_iter_items c.loop-post.post-iterator) (into_iter_items c.next.new.self) post (into_iter_len c.loop-post.post-iterator) (into_iter_len c.next.new.self) inv.1 steps.0 steps.1,
       subst (Beside IsSeatOf (inv.0 ++ post ∷ [])) (sym c.in_ok-push-2.ensures.items) (push_beside IsSeatOf inv.0 c.loop-post.seats.items post seat inv.2 is),
       subst (Beside IsHandOf (inv.0 ++ post ∷ [])) (sym c.in_ok-push.ensures.items) (push_beside IsHandOf inv.0 c.loop-post.hands.items post hand inv.3 given),
-      (λ none. let both = c.first_of-refused.ensures.none none in All-push (λ (p : Post g.row.T.Denot). p.keys.refused ≡ None) inv.0 post (inv.4 both.0) (sym c.refused.ensures ∙ both.1)),
+      (λ none. let both = c.first_refusal-refused.ensures.none.0 none in All-push (λ (p : Post g.row.T.Denot). p.keys.refused ≡ None) inv.0 post (inv.4 both.0) (sym c.refused.ensures ∙ both.1)),
       All-push (λ (p : Post g.row.T.Denot). All (λ x. x.holds ≡ None) p.keys.chits) inv.0 post inv.5 parts.ensures.rest,
       All-push (λ (p : Post g.row.T.Denot). p.keys.refused ≡ None → Agree p.keys.desk p.keys.chits) inv.0 post inv.6 parts.ensures.agree,
     )
