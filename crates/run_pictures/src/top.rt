@@ -41,7 +41,9 @@ fn performed(alloc: Global, input: &Bytes) -> Result<World, Refusal>
 }
 
 /// The picture of the run of a script's lines. A script that `replay` refuses is refused as by it; one that it takes is refused
-/// where it has more than 400 event lines. A run uses its lines up, so those few are read once more.
+/// where it has more than 400 event lines.
+///
+/// A run uses its lines up, so those few are read once more.
 pub fn picture_of(alloc: Global, input: &Bytes) -> Result<Picture, PictureRefusal>
     ensures refused { (r : Refusals) → IsErrOf result (PictureRefusal.Replay r) → Refuses TheReplay input.now r }
     ensures too_many { (lines : ℕ) → IsErrOf result (PictureRefusal.TooManyLines lines) → MOST_LINES < lines }
