@@ -1,7 +1,8 @@
 //! From a script to its picture.
-ghost use Rattle.std.specs.Prelude.{◌≡◌, ◌≢◌, ◌<◌, ◌≤◌, ℕ, length, IfOk, IfErr, IsErrOf};
+ghost use Rattle.std.specs.Prelude.{◌≡◌, ◌≢◌, ◌<◌, ◌≤◌, ℕ, IfOk, IfErr, IsErrOf};
 ghost use Rattle.line_forms.specs.declared.cause.Cause.{Cause};
 ghost use Rattle.outside_io.specs.Causes.{Rose};
+ghost use Rattle.pasis_shell.specs.Replays.{IsScript};
 ghost use Rattle.pasis_shell.specs.Texts.{Refuses, IsRefusedFor};
 ghost use Rattle.pasis_shell.specs.declared.text.Refusal.{Refusal as Refusals};
 ghost use Rattle.pasis_shell.specs.declared.words.Command.TheVariants.{Replay as TheReplay};
@@ -19,31 +20,41 @@ use script_run::{World, perform};
 use script_text::{Replay, read_replay};
 use std::alloc::Global;
 
-/// The replay that a script spells, and the world to which its lines lead.
-fn performed(alloc: Global, input: &Bytes) -> Result<(Replay, World), Refusal>
-    ensures placed { IfOk result (λ r. r.1.seen.place ≡ length r.0.lines) }
-    ensures liars { IfOk result (λ r. AreLiars r.0.config r.0.liars) }
+/// The replay that a script spells.
+fn replay_of(alloc: Global, input: &Bytes) -> Result<Replay, Refusal>
+    ensures script { IfOk result (λ r. IsScript input.now r.config r.liars r.lines) }
+    ensures liars { IfOk result (λ r. AreLiars r.config r.liars) }
     ensures refused { IfErr result (λ refusal. Refuses TheReplay input.now refusal) }
 {
-    let replay = read_replay(alloc, input.as_slice())?;
-    match perform(alloc, &replay) {
-        Ok(world) => Ok((replay, world)),
+    Ok(read_replay(alloc, input.as_slice())?)
+}
+
+/// The world to which the lines of a script lead.
+fn performed(alloc: Global, input: &Bytes) -> Result<World, Refusal>
+    ensures refused { IfErr result (λ refusal. Refuses TheReplay input.now refusal) }
+{
+    let replay = replay_of(alloc, input)?;
+    match perform(alloc, replay) {
+        Ok(world) => Ok(world),
         Err(refusal) => Err(Refusal::from(refusal)),
     }
 }
 
 /// The picture of the run of a script's lines. A script that `replay` refuses is refused as by it; one that it takes is refused
 /// where it has more than 400 event lines.
+///
+/// A run uses its lines up, so those few are read once more.
 pub fn picture_of(alloc: Global, input: &Bytes) -> Result<Picture, PictureRefusal>
     ensures refused { (r : Refusals) → IsErrOf result (PictureRefusal.Replay r) → Refuses TheReplay input.now r }
     ensures too_many { (lines : ℕ) → IsErrOf result (PictureRefusal.TooManyLines lines) → MOST_LINES < lines }
 {
-    let (replay, world) = performed(alloc, input)?;
-    let lines = replay.lines.len();
+    let world = performed(alloc, input)?;
+    let lines = world.place() as usize;
     if lines > MOST_LINES {
         return Err(PictureRefusal::TooManyLines(lines));
     }
     let history = history_of(alloc, &world)?;
+    let replay = replay_of(alloc, input)?;
     Ok(told(alloc, &replay, &world, &history, input.as_slice())?)
 }
 

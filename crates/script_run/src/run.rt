@@ -16,8 +16,9 @@ use wire_forms::Liars;
 use world_steps::World;
 
 /// The world to which the lines of a replay lead. The first line that can't take place is refused with its number in the
-/// script and its first cause: that of a device command, or the fault of a step. The lines' memory is given back as they are
-/// done, while the world grows.
+/// script and its first cause: that of a device command, or the fault of a step.
+///
+/// The lines' memory is given back as they are done, while the world grows.
 pub fn perform(alloc: Global, replay: Replay) -> Result<World, ScriptRefusal>
     requires { IsReplay replay.config replay.liars replay.lines }
     ensures cluster { IfOk result (λ w. w.config ≡ replay.config) }
