@@ -1,5 +1,5 @@
 -- Which command the words are those of.
-use Rattle.std.proofs.Common.{◌≡◌, ℕ, List, sym, inl, inr, ◌⊎◌, ◌∙◌}
+use Rattle.std.proofs.Common.{◌≡◌, ℕ, List, sym, inl, inr, ◌∙◌}
 use Rattle.pasis_shell.specs.Words.{words_of, IsForm, RunsThreads, AskForThreads, AskForPlan, AskForLoad}
 use Rattle.pasis_shell.specs.declared.words.Command.{Command}
 use Rattle.pasis_shell.specs.declared.words.Command.TheVariants.{Replay, Run, Trace, Check, Sum, Soak}

@@ -1,5 +1,5 @@
 -- What is told of a run's records is the history of its last world.
-use Rattle.std.proofs.Common.{◌≡◌, ℕ, ◌≤◌, List, Result, Ok, Err, sym, subst}
+use Rattle.std.proofs.Common.{List, Result, Ok, Err, sym, subst}
 use Rattle.std.specs.Prelude.{IfOk}
 use Rattle.stamp_order.specs.declared.Stamp.{Stamp}
 use Rattle.protocol.specs.Setting.{Setting, first_stamp}

@@ -1,10 +1,10 @@
 -- Answers that a client counts in a phase that goes on.
-use Rattle.std.proofs.Common.{◌≡◌, ◌⊎◌, ℕ, ◌≤◌, Bool, true, false, cond, get_or, Option, refl, sym, ◌∙◌, ap, inl, inr, eqb}
+use Rattle.std.proofs.Common.{◌≡◌, ◌⊎◌, ℕ, ◌≤◌, true, false, cond, get_or, Option, refl, sym, ◌∙◌, ap, inl, inr, eqb}
 use Rattle.std.specs.declared.option.Option.TheVariants.{None, Some}
 use Rattle.std.proofs.lemmas.Bool.Decides.{eqb_tells}
 use Rattle.protocol.specs.Messages.{Reply, Message, Tag}
 use Rattle.protocol.specs.Instance.{setting}
-use Rattle.protocol.specs.Seen.{SeenTask, Hearing, client_at, hearing, hears as hears_answer}
+use Rattle.protocol.specs.Seen.{SeenTask, Hearing, hearing, hears as hears_answer}
 use Rattle.protocol.specs.Seen.Hearing.{Ignored, Counted, Begins, Ended}
 use Rattle.client_core.specs.Clients.{ClientView, with_task, hears, told, goes_to, is_only_counted}
 use Rattle.world_steps.specs.declared.client_slot.ClientSlot.{ClientSlot}

@@ -22,7 +22,7 @@ use Rattle.world_steps.specs.declared.client_slot.ClientSlot.{ClientSlot}
 use Rattle.world_steps.specs.declared.state.State.TheInside.{Inside}
 use Rattle.world_steps.specs.contracts.state.State.{the_view}
 use Rattle.world_steps.specs.Worlds.{AreLiars, setting_in, world_in}
-use Rattle.world_steps.specs.Slots.{IsWorld, IsNodeSlot, IsClientSlot}
+use Rattle.world_steps.specs.Slots.{IsWorld, IsClientSlot}
 use Rattle.world_steps.specs.declared.block_use.BlockUse.{BlockUse}
 use Rattle.world_steps.specs.BlockUses.{unused, AreUses}
 use Rattle.world_steps.proofs.BlockUses.{uses_begin}

@@ -1,5 +1,5 @@
 -- The effect that is done to a client is what it heard.
-use Rattle.std.proofs.Common.{◌≡◌, ◌⊎◌, ℕ, ◌+◌, ◌-◌, ◌<◌, ◌≤◌, Bool, true, false, cond, List, [], ◌∷◌, ◌++◌, length, map, get_or, Option, refl, sym, ◌∙◌, ap, subst, inl, inr, arith, eqb, ltb}
+use Rattle.std.proofs.Common.{◌≡◌, ◌⊎◌, ℕ, ◌+◌, ◌-◌, ◌<◌, ◌≤◌, Bool, true, false, cond, List, [], ◌∷◌, ◌++◌, length, map, get_or, Option, refl, sym, ◌∙◌, ap, subst, inl, inr, arith, ltb}
 use Rattle.std.specs.Prelude.{IfSome, slice_get, slice_index_or}
 use Rattle.std.specs.declared.option.Option.TheVariants.{None, Some}
 use Rattle.std.proofs.lemmas.List.{append-nil, append_assoc}
@@ -8,14 +8,13 @@ use Rattle.quorum_rules.specs.Limits.{Numbers}
 use Rattle.protocol.specs.Count.{update}
 use Rattle.protocol.specs.Messages.{Reply, Message}
 use Rattle.protocol.specs.Setting.{Setting}
-use Rattle.protocol.specs.Instance.{setting}
 use Rattle.protocol.specs.Operations.{Task, Outcome, Decision, answered, decide}
 use Rattle.protocol.specs.Operations.Decision.{GoesOn, Ends as EndsWith}
 use Rattle.protocol.specs.World.{World, heard, heard_by, with_record, chosen_stamp}
-use Rattle.protocol.specs.Seen.{SeenTask, record_of, phase_of, chosen_of, Hearing, new_client, client_at, task_at, started_task, seen_goes_on, seen_counted, is_counted, answers_of, by_decision, after_counting, hearing}
+use Rattle.protocol.specs.Seen.{SeenTask, record_of, phase_of, Hearing, new_client, client_at, task_at, started_task, seen_goes_on, seen_counted, is_counted, answers_of, by_decision, after_counting, hearing}
 use Rattle.protocol.specs.Seen.Hearing.{Ignored, Counted, Begins, Ended}
 use Rattle.protocol.proofs.Seeing.{length-goes_on, length-counted, after_hearing, heard_by-seen}
-use Rattle.client_core.specs.Clients.{ClientView, with_task, hears, told, goes_to, is_only_counted}
+use Rattle.client_core.specs.Clients.{ClientView, with_task, hears, goes_to, is_only_counted}
 use Rattle.world_steps.specs.declared.answer_effect.AnswerEffect.{AnswerEffect}
 use Rattle.world_steps.specs.declared.answer_effect.AnswerEffect.TheVariants.{Same, Counts, Goes, Ends}
 use Rattle.world_steps.specs.declared.client_slot.ClientSlot.{ClientSlot}

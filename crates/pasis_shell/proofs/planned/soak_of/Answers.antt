@@ -1,6 +1,5 @@
 use Rattle.std.proofs.Common.{List, ℕ, ap, subst, sym}
 use Rattle.std.specs.Prelude.{Err}
-use Rattle.load_reports.specs.Told.{TellsLoad}
 use Rattle.pasis_shell.specs.PlanRuns.{Soaks}
 use Rattle.pasis_shell.specs.Texts.{Refuses}
 use Rattle.pasis_shell.specs.Statuses.{refusal_of_run}

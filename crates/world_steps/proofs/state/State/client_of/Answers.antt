@@ -1,9 +1,6 @@
-use Rattle.std.proofs.Common.{◌≡◌, ◌≤◌, sym, ◌∙◌, ap, subst}
+use Rattle.std.proofs.Common.{◌≤◌, ◌∙◌, ap, subst}
 use Rattle.protocol.specs.Seen.{client_at, phase_of}
-use Rattle.world_steps.specs.contracts.state.State.{the_view}
 use Rattle.world_steps.specs.Steps.{client_in}
-use Rattle.world_steps.proofs.KeptWorlds.{client_slot-within}
-use Rattle.world_steps.proofs.ClientSlots.{slot-client, client_slot-there}
 use Rattle.world_steps.proofs.CountedAnswers.{slot-is}
 use Rattle.world_steps.proofs.HeardEffects.{slot-fits, fits-phase}
 use Rattle.world_steps.proofs.state.State.client_of.Goals as goal

@@ -1,8 +1,8 @@
-use Rattle.std.proofs.Common.{◌≡◌, true, refl, sym, ◌∙◌, ap, subst}
+use Rattle.std.proofs.Common.{◌≡◌, refl, sym, ◌∙◌, ap, subst}
 use Rattle.std.specs.Prelude.{IfSome}
 use Rattle.std.specs.Vec.{with_item}
 use Rattle.std.specs.declared.option.Option.TheVariants.{None}
-use Rattle.client_core.specs.Clients.{ClientView, goes_to, is_only_counted}
+use Rattle.client_core.specs.Clients.{goes_to, is_only_counted}
 use Rattle.world_steps.specs.Worlds.{world_in}
 use Rattle.world_steps.specs.contracts.state.State.{the_view}
 use Rattle.world_steps.specs.Steps.{client_in}
