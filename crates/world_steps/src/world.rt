@@ -27,7 +27,8 @@ use wire_forms::{Liars, Message};
 /// a run lead to it, so that the laws of every run hold of it.
 #[derive(Drop)]
 pub struct World {
-    state: State,
+    /// On the heap, so that what moves and drops a world does so in one step.
+    state: Box<State>,
 }
 
 impl Model for World {
@@ -35,9 +36,9 @@ impl Model for World {
 
     ghost Value = { WorldView };
 
-    ghost view = { λ w. w.state };
+    ghost view = { λ w. w.state.value };
 
-    ghost invariant = { λ w. IsReached w.state };
+    ghost invariant = { λ w. IsReached w.state.value };
 }
 
 impl World {
@@ -50,7 +51,9 @@ impl World {
     {
         let state = State::new(alloc, config, liars)?;
         let _ = &state.place;
-        Ok(World { state })
+        Ok(World {
+            state: Box::new(alloc, state)?,
+        })
     }
 
     /// Does the line's events at one place. A line that can't take place is refused with the first fault that it meets. After
@@ -104,7 +107,7 @@ impl World {
         ensures { map record_of result ≡ self.seen.records }
     {
         let World { state } = self;
-        let State { records, .. } = state;
+        let State { records, .. } = Box::into_inner(state);
         records
     }
 

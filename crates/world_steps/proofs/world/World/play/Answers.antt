@@ -1,29 +1,25 @@
-use Rattle.std.proofs.Common.{subst, sym, ◌≡◌, ◌<◌, OnOk, IsErrOf}
+use Rattle.std.proofs.Common.{subst, sym, ◌∙◌, ◌≡◌, ◌<◌, OnOk, IsErrOf}
 use Rattle.std.specs.declared.option.Option.TheVariants.{None, Some}
 use Rattle.protocol.specs.Lines.{fault, plays, FitsLine}
 use Rattle.run_words.specs.declared.line.StepFault.{StepFault as Faults}
-use Rattle.world_steps.specs.Worlds.{setting_in, world_in}
+use Rattle.world_steps.specs.Worlds.{setting_in, world_in, IsReached}
 use Rattle.world_steps.proofs.world.World.play.Goals as goal
 use Rattle.world_steps.specs.declared.refusal.StepRefusal.TheVariants as StepRefusals
 use Rattle.world_steps.proofs.Reached.{still_reached}
 
--- src/world.rt:53:5
 pub invariant_of-self : goal.invariant_of-self
 invariant_of-self c =
-    let v = sym c.self.view_is in
-    still_reached c.play.result c.self.inside.state c.play.new.self c.args.place c.args.line.now c.self.invariant
+    let v = sym (c.deref_mut.ensures.value ∙ c.self.view_is) in
+    still_reached c.play.result c.deref_mut.result.now c.play.new.self c.args.place c.args.line.now (subst IsReached (sym c.deref_mut.ensures.value) c.self.invariant)
     (subst (λ z. z.seen.place < c.args.place) v c.requires.later)
     (subst (λ z. FitsLine (setting_in z) c.args.line.now) v c.requires.fits)
     c.play.ensures.allowed c.play.ensures.ok c.play.ensures.cluster c.play.ensures.lying_nodes c.play.ensures.lying_clients c.play.ensures.unchanged
 
--- src/world.rt:53:5
 pub returns-clause-allowed : goal.returns-clause-allowed
-returns-clause-allowed c = subst (λ z. OnOk c.play.result (fault (setting_in z) (world_in z) c.args.line.now ≡ None)) c.self.view_is c.play.ensures.allowed
+returns-clause-allowed c = subst (λ z. OnOk c.play.result (fault (setting_in z) (world_in z) c.args.line.now ≡ None)) (c.deref_mut.ensures.value ∙ c.self.view_is) c.play.ensures.allowed
 
--- src/world.rt:53:5
 pub returns-clause-ok : goal.returns-clause-ok
-returns-clause-ok c = subst (λ z. OnOk c.play.result (world_in c.play.new.self ≡ plays (setting_in z) (world_in z) c.args.place c.args.line.now)) c.self.view_is c.play.ensures.ok
+returns-clause-ok c = subst (λ z. OnOk c.play.result (world_in c.play.new.self ≡ plays (setting_in z) (world_in z) c.args.place c.args.line.now)) (c.deref_mut.ensures.value ∙ c.self.view_is) c.play.ensures.ok
 
--- src/world.rt:53:5
 pub returns-clause-fault : goal.returns-clause-fault
-returns-clause-fault c = subst (λ z. (f : Faults) → IsErrOf c.play.result (StepRefusals.Fault f) → fault (setting_in z) (world_in z) c.args.line.now ≡ Some f) c.self.view_is c.play.ensures.fault
+returns-clause-fault c = subst (λ z. (f : Faults) → IsErrOf c.play.result (StepRefusals.Fault f) → fault (setting_in z) (world_in z) c.args.line.now ≡ Some f) (c.deref_mut.ensures.value ∙ c.self.view_is) c.play.ensures.fault
