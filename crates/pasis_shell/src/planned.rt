@@ -105,16 +105,16 @@ pub fn text_in_threads<R: Threads + Wait + Sync, G: Gate + Sync>(
     rt: &R,
     alloc: Global,
     command: Command,
-    input: Bytes,
+    input: &Bytes,
     gate: &G,
 ) -> Result<Answer, Refusal>
-    requires { length input < 2 ^ 32 }
-    ensures text { IfOk result (λ answer. Writes command input answer.text answer.flaw) }
-    ensures refused { IfErr result (λ refusal. Refuses command input refusal) }
+    requires { length input.now < 2 ^ 32 }
+    ensures text { IfOk result (λ answer. Writes command input.now answer.text answer.flaw) }
+    ensures refused { IfErr result (λ refusal. Refuses command input.now refusal) }
 {
     match command {
-        Command::Run(serving) => run_of(rt, alloc, serving, &input, gate),
-        Command::Trace(serving) => trace_of(rt, alloc, serving, &input, gate),
+        Command::Run(serving) => run_of(rt, alloc, serving, input, gate),
+        Command::Trace(serving) => trace_of(rt, alloc, serving, input, gate),
         Command::Soak(number) => soak_of(rt, alloc, number, gate),
         Command::Replay | Command::Check | Command::Sum => text_of(alloc, command, input),
     }

@@ -21,13 +21,12 @@ fn told(alloc: Global, world: World) -> Result<Bytes, NoMemory>
     print(alloc, &history)
 }
 
-/// The report of the history of the run of a script's lines. The script's text goes before its lines are played.
-pub fn report_of(alloc: Global, input: Bytes) -> Result<Answer, Refusal>
-    ensures text { IfOk result (λ answer. Writes Command.Replay input answer.text answer.flaw) }
-    ensures refused { IfErr result (λ refusal. Refuses Command.Replay input refusal) }
+/// The report of the history of the run of a script's lines.
+pub fn report_of(alloc: Global, input: &Bytes) -> Result<Answer, Refusal>
+    ensures text { IfOk result (λ answer. Writes Command.Replay input.now answer.text answer.flaw) }
+    ensures refused { IfErr result (λ refusal. Refuses Command.Replay input.now refusal) }
 {
     let replay = read_replay(alloc, input.as_slice())?;
-    drop(input);
     match perform(alloc, replay) {
         Ok(world) => Ok(Answer::of(told(alloc, world)?)),
         Err(refusal) => Err(Refusal::from(refusal)),

@@ -74,16 +74,16 @@ fn sum_of(alloc: Global, input: &Bytes) -> Result<Answer, Refusal>
 }
 
 /// What a command that runs no threads writes for an input, and the flaw that it finds.
-pub fn text_of(alloc: Global, command: Command, input: Bytes) -> Result<Answer, Refusal>
-    requires short { length input < 2 ^ 32 }
+pub fn text_of(alloc: Global, command: Command, input: &Bytes) -> Result<Answer, Refusal>
+    requires short { length input.now < 2 ^ 32 }
     requires alone { RunsThreads command → ⊥ }
-    ensures text { IfOk result (λ answer. Writes command input answer.text answer.flaw) }
-    ensures refused { IfErr result (λ refusal. Refuses command input refusal) }
+    ensures text { IfOk result (λ answer. Writes command input.now answer.text answer.flaw) }
+    ensures refused { IfErr result (λ refusal. Refuses command input.now refusal) }
 {
     match command {
         Command::Replay => report_of(alloc, input),
-        Command::Check => verdict_of(alloc, &input),
-        Command::Sum => sum_of(alloc, &input),
+        Command::Check => verdict_of(alloc, input),
+        Command::Sum => sum_of(alloc, input),
         Command::Run(_) | Command::Trace(_) | Command::Soak(_) => unreachable!(),
     }
 }

@@ -53,7 +53,7 @@ fn answer<S: Source>(alloc: Global, command: Command, source: &mut S) -> Result<
     ensures calm { result ≢ Err Status.ReadFault → S.faults source.new ≡ S.faults source.old }
 {
     match input_of(alloc, command, source) {
-        Ok(input) => match text_of(alloc, command, input) {
+        Ok(input) => match text_of(alloc, command, &input) {
             Ok(answer) => Ok(answer),
             Err(refusal) => Err(Status::of_refusal(refusal)),
         },
@@ -76,7 +76,7 @@ fn answer_in_threads<R: Threads + Wait + Sync, S: Source, G: Gate + Sync>(
     ensures calm { result ≢ Err Status.ReadFault → S.faults source.new ≡ S.faults source.old }
 {
     match input_of(alloc, command, source) {
-        Ok(input) => match text_in_threads(rt, alloc, command, input, gate) {
+        Ok(input) => match text_in_threads(rt, alloc, command, &input, gate) {
             Ok(answer) => Ok(answer),
             Err(refusal) => Err(Status::of_refusal(refusal)),
         },

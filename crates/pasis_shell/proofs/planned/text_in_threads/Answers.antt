@@ -5,4 +5,4 @@ use Rattle.pasis_shell.specs.declared.words.Command.{Command}
 use Rattle.pasis_shell.proofs.planned.text_in_threads.Goals as goal
 
 pub returns-in-Soak-clause-refused : goal.returns-in-Soak-clause-refused
-returns-in-Soak-clause-refused g c = subst (λ (k : Command). IfErr c.soak_of.result (λ refusal. Refuses k c.args.input refusal)) (sym c.in-Soak.is) (c.soak_of.ensures.refused c.args.input)
+returns-in-Soak-clause-refused g c = subst (λ (k : Command). IfErr c.soak_of.result (λ refusal. Refuses k c.args.input.now refusal)) (sym c.in-Soak.is) (c.soak_of.ensures.refused c.args.input.now)

@@ -8,28 +8,30 @@ use Rattle.pasis_shell.specs.declared.words.Command.TheVariants.{Replay}
 use Rattle.pasis_shell.specs.Replays.{IsScript, Replays}
 use Rattle.pasis_shell.proofs.Replaying.{replays, refuses}
 
-pub returns-in_ok-told-in-Ok-clause-text : goal.returns-in_ok-told-in-Ok-clause-text
-returns-in_ok-told-in-Ok-clause-text c =
+-- src/replay.rt:34:1
+pub returns-in-Ok-clause-text : goal.returns-in-Ok-clause-text
+returns-in-Ok-clause-text c =
     let r = c.in_ok-replay.replay in
     let e = c.as_slice.ensures.value in
-    let script : IsScript c.args.input r.config r.liars r.lines = record {
+    let script : IsScript c.args.input.now r.config r.liars r.lines = record {
       replay = c.in_ok-replay.ensures.replay;
       spelled = subst (λ t. Spells t r.config r.liars r.lines) e c.in_ok-replay.ensures.spelled;
       faultless = subst (λ t. IsFaultless replay_script t) e c.in_ok-replay.ensures.faultless;
     } in (
-      subst (λ (t : List ℕ). Replays c.args.input t) (sym c.of.ensures.text)
-          (replays c.args.input r.config r.liars r.lines script c.in_ok-told-in-Ok.field-0 c.in-Ok.world c.in-Ok.ensures.cluster c.in-Ok.ensures.liars c.in-Ok.ensures.run c.in_ok-told-in-Ok.ensures),
+      subst (λ (t : List ℕ). Replays c.args.input.now t) (sym c.of.ensures.text)
+          (replays c.args.input.now r.config r.liars r.lines script c.in_ok-told-in-Ok.field-0 c.in-Ok.world c.in-Ok.ensures.cluster c.in-Ok.ensures.liars c.in-Ok.ensures.run c.in_ok-told-in-Ok.ensures),
       c.of.ensures.flaw,
     )
 
-pub returns-in-Err-clause-refused : goal.returns-in-Err-clause-refused
-returns-in-Err-clause-refused c =
+-- src/replay.rt:31:1
+pub returns-clause-refused : goal.returns-clause-refused
+returns-clause-refused c =
     let r = c.in_ok-replay.replay in
     let e = c.as_slice.ensures.value in
-    let script : IsScript c.args.input r.config r.liars r.lines = record {
+    let script : IsScript c.args.input.now r.config r.liars r.lines = record {
       replay = c.in_ok-replay.ensures.replay;
       spelled = subst (λ t. Spells t r.config r.liars r.lines) e c.in_ok-replay.ensures.spelled;
       faultless = subst (λ t. IsFaultless replay_script t) e c.in_ok-replay.ensures.faultless;
     } in
-    subst (λ z. Refuses Replay c.args.input z) (sym c.from.ensures)
-    (refuses c.args.input r.config r.liars r.lines script c.in-Err.refusal (λ line cause k. c.perform.ensures.stop line cause (c.in-Err.is ∙ ap (λ (z : ScriptRefusal). Err z) k)))
+    subst (λ z. Refuses Replay c.args.input.now z) (sym c.from.ensures)
+    (refuses c.args.input.now r.config r.liars r.lines script c.in-Err.refusal (λ line cause k. c.perform.ensures.stop line cause (c.in-Err.is ∙ ap (λ (z : ScriptRefusal). Err z) k)))
