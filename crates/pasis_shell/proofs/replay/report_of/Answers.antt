@@ -8,9 +8,8 @@ use Rattle.pasis_shell.specs.declared.words.Command.TheVariants.{Replay}
 use Rattle.pasis_shell.specs.Replays.{IsScript, Replays}
 use Rattle.pasis_shell.proofs.Replaying.{replays, refuses}
 
--- src/replay.rt:34:1
-pub returns-in-Ok-clause-text : goal.returns-in-Ok-clause-text
-returns-in-Ok-clause-text c =
+pub returns-in_ok-told-in-Ok-clause-text : goal.returns-in_ok-told-in-Ok-clause-text
+returns-in_ok-told-in-Ok-clause-text c =
     let r = c.in_ok-replay.replay in
     let e = c.as_slice.ensures.value in
     let script : IsScript c.args.input.now r.config r.liars r.lines = record {
@@ -23,9 +22,8 @@ returns-in-Ok-clause-text c =
       c.of.ensures.flaw,
     )
 
--- src/replay.rt:31:1
-pub returns-clause-refused : goal.returns-clause-refused
-returns-clause-refused c =
+pub returns-in-Err-clause-refused : goal.returns-in-Err-clause-refused
+returns-in-Err-clause-refused c =
     let r = c.in_ok-replay.replay in
     let e = c.as_slice.ensures.value in
     let script : IsScript c.args.input.now r.config r.liars r.lines = record {
