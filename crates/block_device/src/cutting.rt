@@ -36,8 +36,10 @@ pub fn commands(alloc: Global, config: &Config, op: &DeviceOp) -> Result<BlockSt
     ensures steps { IfOk result (λ steps. steps ≡ steps_of config.now op.now) }
     ensures fit { IfOk result (λ steps. All (Fits config.now) steps) }
     ensures ok { OnOk result (fault_of config.now op.now ≡ None) }
-    ensures past_end { IsErrOf result DeviceRefusal.PastEnd ↔ (fault_of config.now op.now ≡ Some DeviceFault.PastEnd) }
-    ensures empty_range { IsErrOf result DeviceRefusal.EmptyRange ↔ (fault_of config.now op.now ≡ Some DeviceFault.EmptyRange) }
+    ensures past_end { IsErrOf result DeviceRefusal.PastEnd
+        ↔ (fault_of config.now op.now ≡ Some DeviceFault.PastEnd) }
+    ensures empty_range { IsErrOf result DeviceRefusal.EmptyRange
+        ↔ (fault_of config.now op.now ≡ Some DeviceFault.EmptyRange) }
 {
     if let Some(fault) = range_fault(config, op) {
         return Err(DeviceRefusal::from(fault));
@@ -132,7 +134,8 @@ fn add_put_steps(
     requires within { start + length bytes.now ≤ config.now.size * config.now.blocks }
     requires before_end { block * config.now.size < start + length bytes.now }
     requires after_start { start < (block + 1) * config.now.size }
-    ensures { OnOk result (steps.new ≡ steps.old ++ put_steps config.now.size start bytes.now block) }
+    ensures { OnOk result (steps.new
+        ≡ steps.old ++ put_steps config.now.size start bytes.now block) }
 {
     let size = u64::from(config.size());
     let first = u64::from(block) * size;

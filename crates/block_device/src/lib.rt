@@ -10,8 +10,6 @@ mod merging;
 mod queue;
 mod refusal;
 mod steps;
-#[cfg(test)]
-mod tests;
 
 pub use cutting::{commands, range_fault, step_count};
 pub use line_forms::DeviceFault;

@@ -28,15 +28,19 @@ impl Points {
 
     /// The place of a number.
     pub fn index_of(&self, x: u8) -> Option<usize>
-        ensures found { IfSome result (λ k. (k < length self.now.numbers.items) × (slice_index self.now.numbers.items k ≡ x)) }
-        ensures absent { IfNone result (EachIndex self.now.numbers.items (λ k. slice_index self.now.numbers.items k ≢ x)) }
+        ensures found { IfSome result
+            (λ k. (k < length self.now.numbers.items)
+            × (slice_index self.now.numbers.items k ≡ x)) }
+        ensures absent { IfNone result
+            (EachIndex self.now.numbers.items (λ k. slice_index self.now.numbers.items k ≢ x)) }
     {
         self.numbers.iter().position(|number| *number == x)
     }
 
     /// The product of the sums of `x` and each number.
     pub fn whole<P: Products>(&self, x: u8) -> Gf
-        ensures { result.0 ≡ product_below (length self.now.numbers.items) (added self.now.numbers.items x) }
+        ensures { result.0 ≡ product_below (length self.now.numbers.items)
+            (added self.now.numbers.items x) }
     {
         let mut out = Gf(1);
         for number in &self.numbers {
@@ -48,7 +52,8 @@ impl Points {
     /// How much the string of index `k` counts in the one at `x`, where `whole` is the product at `x`.
     pub fn weight<P: Products>(&self, whole: Gf, k: usize, x: u8) -> u8
         requires within { k < length self.now.numbers.items }
-        requires whole { whole.0 ≡ product_below (length self.now.numbers.items) (added self.now.numbers.items x) }
+        requires whole { whole.0 ≡ product_below (length self.now.numbers.items)
+            (added self.now.numbers.items x) }
         requires apart { slice_index self.now.numbers.items k ≢ x }
         ensures { result ≡ weight self.now.numbers.items k x }
     {

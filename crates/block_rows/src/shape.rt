@@ -66,14 +66,18 @@ impl CodeShape {
         size: usize,
         parts: &[Part],
     ) -> Result<Bytes, NoMemory>
-        requires { AreParts self.now.n self.now.m (string_len self.now.m size) (numbers parts.now) (strings parts.now) }
-        ensures determined { IfOk result (λ d. IsDecoded self.now.m size (numbers parts.now) (strings parts.now) d) }
-        ensures value { IfOk result (λ d. d ≡ decoded self.now.m size (numbers parts.now) (strings parts.now)) }
+        requires { AreParts self.now.n self.now.m (string_len self.now.m size) (numbers parts.now)
+            (strings parts.now) }
+        ensures determined { IfOk result (λ d. IsDecoded self.now.m size (numbers parts.now)
+            (strings parts.now) d) }
+        ensures value { IfOk result (λ d. d ≡ decoded self.now.m size (numbers parts.now)
+            (strings parts.now)) }
         ensures len { IfOk result (λ d. length d ≡ size) }
 
         // Fragments of a block decode to it.
         ensures inverse { IfOk result (λ d. (D : List ℕ) → length D ≡ size
-            → AreFragmentsOf self.now.n self.now.m D (numbers parts.now) (strings parts.now) → d ≡ D) }
+            → AreFragmentsOf self.now.n self.now.m D (numbers parts.now) (strings parts.now)
+            → d ≡ D) }
     {
         let len = size.div_ceil(self.m as usize);
         let points = Points::of::<P>(alloc, numbers_of(alloc, parts)?)?;

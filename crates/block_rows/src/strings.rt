@@ -51,9 +51,11 @@ pub fn strings_of(alloc: Global, parts: &[Part]) -> Result<Vec<&[u8]>, NoMemory>
 fn add_weighted<P: Products, S: ByteString>(out: &mut [u8], points: &Points, strings: &[S], x: u8)
     requires count { length points.now.numbers.items ≡ length strings.now }
     requires lengths { All (λ s. length (S.string s) ≡ length out.old) strings.now }
-    requires apart { EachIndex points.now.numbers.items (λ k. slice_index points.now.numbers.items k ≢ x) }
+    requires apart { EachIndex points.now.numbers.items
+        (λ k. slice_index points.now.numbers.items k ≢ x) }
     requires zeros { out.old ≡ replicate (length out.old) 0 }
-    ensures { out.new ≡ string_at (length out.old) points.now.numbers.items (map S.string strings.now) x }
+    ensures { out.new ≡ string_at (length out.old) points.now.numbers.items
+        (map S.string strings.now) x }
 {
     let whole = points.whole::<P>(x);
     for (k, string) in strings.iter().enumerate() {
@@ -72,7 +74,8 @@ pub fn push_string_at<P: Products, S: ByteString>(
     requires count { length points.now.numbers.items ≡ length strings.now }
     requires lengths { All (λ s. length (S.string s) ≡ len) strings.now }
     requires elements { HaveElements (map S.string strings.now) }
-    ensures { OnOk result (out.new.items ≡ out.old.items ++ string_at len points.now.numbers.items (map S.string strings.now) x) }
+    ensures { OnOk result (out.new.items ≡ out.old.items ++ string_at len points.now.numbers.items
+        (map S.string strings.now) x) }
 {
     match points.index_of(x) {
         Some(k) => out.extend_from_slice(strings[k].bytes())?,

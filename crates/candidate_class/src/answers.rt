@@ -26,7 +26,10 @@ pub fn pivot(config: &Config, first: &Stamp, bound: &Bound, answers: &[Answer]) 
     requires first { first.now ≡ first_stamp (setting config.now) }
     requires nodes { AreOfNodes config.now.n answers.now }
     ensures value { result ≡ pivot (setting config.now) (by_node answers.now) bound.now }
-    ensures none { (result ≡ None) ↔ (count config.now.n (λ i. is_there (stamps (setting config.now) (by_node answers.now) bound.now i)) < repairable_of config.now) }
+    ensures none { (result ≡ None)
+        ↔ (count config.now.n (λ i.
+        is_there (stamps (setting config.now) (by_node answers.now) bound.now i))
+        < repairable_of config.now) }
 {
     let n = config.n() as usize;
     let stamps = stamps_of(config, first, bound, answers);
@@ -62,7 +65,8 @@ fn stamps_of(
     requires first { first.now ≡ first_stamp (setting config.now) }
     requires nodes { AreOfNodes config.now.n answers.now }
     ensures places { length result ≡ 16 }
-    ensures stamps { (i : ℕ) → slice_index_or result i None ≡ stamps (setting config.now) (by_node answers.now) bound.now i }
+    ensures stamps { (i : ℕ) → slice_index_or result i None
+        ≡ stamps (setting config.now) (by_node answers.now) bound.now i }
 {
     let mut stamps = [None; 16];
     for answer in answers {

@@ -17,7 +17,8 @@ pub enum Class {
 /// The class of a stamp that so many valid answers carry.
 pub fn class_of(config: &Config, count: u32) -> Class
     ensures complete { (result ≡ Class.Complete) ↔ (complete_of config.now ≤ count) }
-    ensures repairable { (result ≡ Class.Repairable) ↔ ((repairable_of config.now ≤ count) × (count < complete_of config.now)) }
+    ensures repairable { (result ≡ Class.Repairable)
+        ↔ ((repairable_of config.now ≤ count) × (count < complete_of config.now)) }
     ensures incomplete { (result ≡ Class.Incomplete) ↔ (count < repairable_of config.now) }
 {
     if count >= config.complete() {

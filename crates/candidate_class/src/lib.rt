@@ -10,6 +10,3 @@ pub use answers::{Answer, pivot, support};
 pub use class::{Class, class_of};
 pub use stamps::{is_stamp, pivot_of, support_of};
 pub use validity::{valid, valid_stamp};
-
-#[cfg(test)]
-mod tests;

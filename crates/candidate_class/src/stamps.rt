@@ -13,7 +13,8 @@ pub fn pivot_of(stamps: &[Option<Stamp>], repairable: u32) -> Option<Stamp>
     requires few { length stamps.now < 2 ^ 32 }
     requires some { 1 ≤ repairable }
     ensures value { result ≡ highest up_to (length stamps.now) (stamp_at stamps.now) repairable }
-    ensures none { (result ≡ None) ↔ (count (length stamps.now) (λ i. is_there (stamp_at stamps.now i)) < repairable) }
+    ensures none { (result ≡ None)
+        ↔ (count (length stamps.now) (λ i. is_there (stamp_at stamps.now i)) < repairable) }
 {
     let mut pivot = None;
     for stamp in stamps {
@@ -39,7 +40,8 @@ pub fn support_of(stamps: &[Option<Stamp>], stamp: &Stamp) -> u32
 // The stamp, if at least `repairable` of them reach it.
 fn if_reached(stamps: &[Option<Stamp>], repairable: u32, stamp: &Option<Stamp>) -> Option<Stamp>
     requires { length stamps.now < 2 ^ 32 }
-    ensures { result ≡ if_reached up_to (length stamps.now) (stamp_at stamps.now) repairable stamp.now }
+    ensures { result ≡ if_reached up_to (length stamps.now) (stamp_at stamps.now) repairable
+        stamp.now }
 {
     match stamp {
         Some(stamp) => {

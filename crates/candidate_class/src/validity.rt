@@ -16,7 +16,8 @@ use wire_forms::{Reply, Version};
 pub fn valid(config: &Config, first: &Stamp, node: u8, bound: &Bound, reply: &Reply) -> bool
     requires node { node < config.now.n }
     requires first { first.now ≡ first_stamp (setting config.now) }
-    ensures { result ≡ is_there (stamp_of (valid (setting config.now) node bound.now (Some reply.now))) }
+    ensures { result ≡ is_there
+        (stamp_of (valid (setting config.now) node bound.now (Some reply.now))) }
 {
     valid_stamp(config, first, node, bound, reply).is_some()
 }
@@ -62,7 +63,9 @@ fn is_whole(config: &Config, first: &Stamp, node: u8, version: &Version) -> bool
 
 // Whether there is a digest for each node, and the fragment has its length.
 fn has_lengths(config: &Config, version: &Version) -> bool
-    ensures { IsTrue result ↔ ((length version.now.sum ≡ config.now.n) × (length version.now.fragment ≡ share_of config.now)) }
+    ensures { IsTrue result
+        ↔ ((length version.now.sum ≡ config.now.n)
+        × (length version.now.fragment ≡ share_of config.now)) }
 {
     version.sum.len() == config.n() as usize && version.fragment.len() == config.share() as usize
 }
@@ -77,7 +80,8 @@ fn has_verifier(version: &Version) -> bool
 // Whether the fragment's digest is the one that the cross checksum has for the node.
 fn has_digest(version: &Version, node: u8) -> bool
     requires { node < length version.now.sum }
-    ensures { IsTrue result ↔ (slice_get version.now.sum node ≡ Some (digest version.now.fragment)) }
+    ensures { IsTrue result
+        ↔ (slice_get version.now.sum node ≡ Some (digest version.now.fragment)) }
 {
     version
         .sum

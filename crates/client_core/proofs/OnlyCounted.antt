@@ -1,5 +1,5 @@
 -- Which answers are only counted: those that the phase counts and that don't end it.
-use Rattle.std.proofs.Common.{◌≡◌, ℕ, ◌-◌, Bool, true, false, cond, not, ◌&&◌, Option, refl, sym, ◌∙◌, ap, ltb}
+use Rattle.std.proofs.Common.{◌≡◌, ℕ, ◌-◌, Bool, true, false, cond, not, ◌&&◌, Option, refl, sym, ◌∙◌, ltb}
 use Rattle.std.specs.declared.option.Option.TheVariants.{None, Some}
 use Rattle.protocol.specs.Messages.{Reply, Tag}
 use Rattle.protocol.specs.Setting.{Setting}

@@ -6,10 +6,12 @@ use Rattle.wire_forms.specs.declared.message.Message.{Message}
 use Rattle.wire_forms.specs.declared.message.Body.{Body}
 use Rattle.wire_forms.specs.declared.message.Body.TheVariants.{Ask as Asks, Answer as Answers}
 use Rattle.wire_forms.specs.declared.op.Op.{Op}
+use Rattle.protocol.specs.Messages.{Reply, Tag}
 use Rattle.protocol.specs.Instance.{setting}
 use Rattle.protocol.specs.Operations.{mail}
-use Rattle.protocol.specs.Seen.{SeenTask, SeenClient, Hearing, task_at, seen_begun, hearing, ops_of, block_of, work_of}
+use Rattle.protocol.specs.Seen.{SeenTask, SeenOperation, SeenClient, Hearing, task_at, seen_begun, hearing, ops_of, block_of, work_of}
 use Rattle.protocol.specs.Seen.Hearing.{Ignored, Counted, Begins, Ended}
+use Rattle.operation_core.specs.Counting.{hears_in}
 use Rattle.client_core.specs.declared.heard.Heard.{Heard}
 use Rattle.client_core.specs.declared.heard.Heard.TheVariants.{Unchanged, More, Send, Ended as EndedWith}
 
@@ -18,6 +20,18 @@ pub record ClientView : Type 0 where
   pub config : Numbers
   pub id : ℕ
   pub seen : SeenClient
+
+-- its operation, as a writer or a reader shows it
+abbrev pub operation_of : ClientView → SeenOperation
+operation_of c = record { config = c.config; client = c.id; task = c.seen.task }
+
+-- an idle client in this life
+abbrev pub idle_client : Numbers → ℕ → ℕ → ClientView
+idle_client c id life = record { config = c; id = id; seen = record { life = life; started = 0; task = None } }
+
+-- what an answer to it does to its operation
+abbrev pub hears_answer : ClientView → ℕ → Tag → Reply → Hearing
+hears_answer c node tag reply = hears_in (operation_of c) node tag reply
 
 -- the client with this operation under way, or none
 abbrev pub with_task : ClientView → Option SeenTask → ClientView

@@ -1,12 +1,11 @@
 -- What a client does: the operation under way, and what an answer does to it.
-use Rattle.std.specs.Prelude.{◌≡◌, ℕ, ◌<◌, ◌^◌, Option, IsSome, IfSome}
+use Rattle.std.specs.Prelude.{◌≡◌, ℕ, ◌<◌, ◌^◌, Option, IsSome}
 use Rattle.std.specs.declared.option.Option.TheVariants.{None, Some}
 use Rattle.quorum_rules.specs.Limits.{Numbers}
 use Rattle.stamp_order.specs.declared.Stamp.{Stamp}
 use Rattle.wire_forms.specs.Firsts.{first_of}
 use Rattle.protocol.specs.Instance.{setting}
 use Rattle.protocol.specs.Operations.{mail as mail_of}
-use Rattle.protocol.specs.Operations.Work.{Reads}
 use Rattle.protocol.specs.Seen.{SeenTask, SeenOperation, Hearing, task_at, with_task}
 use Rattle.protocol.specs.Seen.Hearing.{Ignored, Counted, Begins, Ended}
 use Rattle.client_core.specs.declared.client.Work.{Work}
@@ -30,7 +29,7 @@ pub record IsOwn (config : Numbers) (id : ℕ) (o : SeenOperation) : Type 0 wher
 abbrev pub IsWork : Numbers → ℕ → Work → Type 0
 IsWork config id Idle = Unit {0}
 IsWork config id (Writing o) = IsOwn config id o
-IsWork config id (Reading o) = IsOwn config id o × IfSome o.task (λ t. t.work ≡ Reads)
+IsWork config id (Reading o) = IsOwn config id o
 
 -- the stamp is that of the cluster's first version, the lives and operations are numbers of 32 bits, and the operation under way is
 -- the client's own

@@ -1,15 +1,16 @@
-ghost use Rattle.std.specs.Prelude.{◌≡◌, ◌↔◌, ◌<◌, ◌-◌, ◌^◌, IsTrue, IsSome, IfOk, OnOk, OnErr, Some, None, true};
+ghost use Rattle.std.specs.Prelude.{◌≡◌, ◌↔◌, ◌<◌, ◌-◌, ◌^◌, IsTrue, IsSome, MatchOption, IfOk, OnOk, OnErr, Some, None, true};
 ghost use Rattle.std.specs.Option.{ForSome};
-ghost use Rattle.protocol.specs.Seen.{new_client, ops_of, block_of, work_of, seen_begun, task_at, hears, outstanding_of, has_answered, phase_of, chosen_of};
+ghost use Rattle.protocol.specs.Seen.{ops_of, block_of, work_of, has_answered, phase_of, chosen_of};
 ghost use Rattle.protocol.specs.World.{Fits};
-ghost use Rattle.protocol.specs.Operations.{mail as all_mail};
 ghost use Rattle.protocol.specs.Instance.{setting};
 ghost use Rattle.wire_forms.specs.Firsts.{first_of};
+ghost use Rattle.operation_core.specs.Counting.{begun_task, first_mail, hears_in, outstanding_in};
 ghost use Rattle.client_core.specs.Works.{HasBegun, IsTold};
-ghost use Rattle.client_core.specs.Clients.{with_task, with_started, started, mail_of, is_only_counted, goes_to, IsHeard};
+ghost use Rattle.client_core.specs.Clients.{operation_of, idle_client, hears_answer, with_task, with_started, started, mail_of, is_only_counted, goes_to, IsHeard};
 
 use crate::heard::Heard;
 use lists::{Copied, NoMemory};
+use operation_core::Operation;
 use quorum_rules::Config;
 use read_core::{Reader, Reading};
 use run_words::Outcome;
@@ -61,6 +62,7 @@ impl Drop for Client {
 
 impl Model for Client {
     ghost use Rattle.client_core.specs.Clients.{ClientView};
+    ghost use Rattle.operation_core.specs.Counting.{begun_task, first_mail, hears_in, outstanding_in};
     ghost use Rattle.client_core.specs.Works.{task_of, IsClient};
 
     ghost Value = { ClientView };
@@ -73,14 +75,14 @@ impl Model for Client {
 impl Client {
     /// A client before its first operation.
     pub fn new(alloc: Global, config: &Config, id: u32) -> Result<Client, NoMemory>
-        ensures { IfOk result (λ c. c ≡ record { config = config.now; id = id; seen = new_client }) }
+        ensures { IfOk result (λ c. c ≡ idle_client config.now id 0) }
     {
         Client::again(alloc, config, id, 0)
     }
 
     /// A client that comes back: idle, in its next life.
     pub fn again(alloc: Global, config: &Config, id: u32, life: u32) -> Result<Client, NoMemory>
-        ensures { IfOk result (λ c. c ≡ record { config = config.now; id = id; seen = record { life = life; started = 0; task = None } }) }
+        ensures { IfOk result (λ c. c ≡ idle_client config.now id life) }
     {
         Ok(Client {
             alloc,
@@ -96,7 +98,7 @@ impl Client {
     /// An idle client of the same cluster, in this life. It needs no memory, and the stamp of the first version isn't computed
     /// again.
     pub fn sibling(&self, id: u32, life: u32) -> Client
-        ensures { result ≡ record { config = self.now.config; id = id; seen = record { life = life; started = 0; task = None } } }
+        ensures { result ≡ idle_client self.now.config id life }
     {
         Client {
             alloc: self.alloc,
@@ -153,23 +155,20 @@ impl Client {
     /// Whether an answer to this client is one that the phase under way counts, and then waits for more: `count` hears it
     /// without memory.
     pub fn only_counts(&self, node: u8, tag: Tag, reply: &Reply) -> bool
-        ensures { result ≡ is_only_counted (hears (setting self.now.config) self.now.id self.now.seen.task node tag reply.now) }
+        ensures { result ≡ is_only_counted (hears_answer self.now node tag reply.now) }
     {
-        match &self.work {
-            Work::Idle => false,
-            Work::Writing(writer) => {
-                writer.counts(node, tag, reply) && !writer.ends_phase(node, tag, reply)
+        match self.operation() {
+            Some(operation) => {
+                operation.counts(node, tag, reply) && !operation.ends_phase(node, tag, reply)
             }
-            Work::Reading(reader) => {
-                reader.counts(node, tag, reply) && !reader.ends_phase(node, tag, reply)
-            }
+            None => false,
         }
     }
 
     /// Hears an answer that is only counted.
     pub fn count(&mut self, node: u8, tag: Tag, reply: Reply)
-        requires { is_only_counted (hears (setting self.old.config) self.old.id self.old.seen.task node tag reply) ≡ true }
-        ensures { self.new ≡ with_task self.old (goes_to (hears (setting self.old.config) self.old.id self.old.seen.task node tag reply)) }
+        requires { is_only_counted (hears_answer self.old node tag reply) ≡ true }
+        ensures { self.new ≡ with_task self.old (goes_to (hears_answer self.old node tag reply)) }
     {
         match &mut self.work {
             Work::Idle => {}
@@ -180,12 +179,11 @@ impl Client {
 
     /// The present phase's message to the node; None exactly where the client is idle or there is no such node.
     pub fn outstanding(&self, node: u8) -> Result<Option<Message>, NoMemory>
-        ensures { IfOk result (λ message. message ≡ outstanding_of (setting self.now.config) self.now.id self.now.seen.task node) }
+        ensures { IfOk result (λ message. message ≡ outstanding_in (operation_of self.now) node) }
     {
-        match &self.work {
-            Work::Idle => Ok(None),
-            Work::Writing(writer) => writer.outstanding(node),
-            Work::Reading(reader) => reader.outstanding(node),
+        match self.operation() {
+            Some(operation) => operation.outstanding(node),
+            None => Ok(None),
         }
     }
 
@@ -193,10 +191,9 @@ impl Client {
     pub fn answered(&self, node: u8) -> bool
         ensures { result ≡ has_answered self.now.seen.task node }
     {
-        match &self.work {
-            Work::Idle => false,
-            Work::Writing(writer) => writer.has_answered(node),
-            Work::Reading(reader) => reader.has_answered(node),
+        match self.operation() {
+            Some(operation) => operation.has_answered(node),
+            None => false,
         }
     }
 
@@ -232,10 +229,9 @@ impl Client {
     pub fn phase(&self) -> u64
         ensures { result ≡ phase_of self.now.seen.task }
     {
-        match &self.work {
-            Work::Idle => 0,
-            Work::Writing(writer) => writer.phase(),
-            Work::Reading(reader) => reader.phase(),
+        match self.operation() {
+            Some(operation) => operation.phase(),
+            None => 0,
         }
     }
 
@@ -243,9 +239,21 @@ impl Client {
     pub fn stamp(&self) -> Option<Stamp>
         ensures { result ≡ chosen_of self.now.seen.task }
     {
+        match self.operation() {
+            Some(operation) => operation.chosen_stamp(),
+            None => None,
+        }
+    }
+
+    // The operation under way, if there is one.
+    fn operation(&self) -> Option<&Operation>
+        ensures { MatchOption result (self.now.seen.task ≡ None)
+            (λ o. o.now ≡ operation_of self.now) }
+    {
         match &self.work {
-            Work::Writing(writer) => writer.chosen_stamp(),
-            Work::Idle | Work::Reading(_) => None,
+            Work::Idle => None,
+            Work::Writing(writer) => Some(writer.operation()),
+            Work::Reading(reader) => Some(reader.operation()),
         }
     }
 }
@@ -260,8 +268,9 @@ fn begin(
     op: &Op,
 ) -> Result<(Work, Mail), NoMemory>
     requires first { first.now ≡ (first_of config.now).stamp }
-    ensures work { IfOk result (λ r. HasBegun config.now id (seen_begun (setting config.now) number (block_of op.now) (work_of op.now)) r.0) }
-    ensures mail { IfOk result (λ r. r.1 ≡ all_mail (setting config.now) id (task_at 0 (seen_begun (setting config.now) number (block_of op.now) (work_of op.now)))) }
+    ensures work { IfOk result (λ r.
+        HasBegun config.now id (begun_task config.now number op.now) r.0) }
+    ensures mail { IfOk result (λ r. r.1 ≡ first_mail config.now id number op.now) }
 {
     match op {
         Op::Read { block } => {
@@ -278,7 +287,8 @@ fn begin(
 /// Hears an answer in a write.
 fn hear_write(writer: &mut Writer, node: u8, tag: Tag, reply: &Reply) -> Result<Heard, NoMemory>
     requires { IsSome writer.old.task }
-    ensures ok { IfOk result (IsTold writer.old writer.new (hears (setting writer.old.config) writer.old.client writer.old.task node tag reply.now)) }
+    ensures ok { IfOk result (IsTold writer.old writer.new
+        (hears_in writer.old node tag reply.now)) }
     ensures err { OnErr result (writer.new ≡ writer.old) }
 {
     if !writer.counts(node, tag, reply) {
@@ -295,7 +305,8 @@ fn hear_write(writer: &mut Writer, node: u8, tag: Tag, reply: &Reply) -> Result<
 /// Hears an answer in a read.
 fn hear_read(reader: &mut Reader, node: u8, tag: Tag, reply: &Reply) -> Result<Heard, NoMemory>
     requires { ForSome reader.old.task (λ t. t.phase < 2 ^ 64 - 1) }
-    ensures ok { IfOk result (IsTold reader.old reader.new (hears (setting reader.old.config) reader.old.client reader.old.task node tag reply.now)) }
+    ensures ok { IfOk result (IsTold reader.old reader.new
+        (hears_in reader.old node tag reply.now)) }
     ensures err { OnErr result (reader.new ≡ reader.old) }
 {
     if !reader.counts(node, tag, reply) {

@@ -38,7 +38,8 @@ use Rattle.journals.specs.Desks.{DeskState, new_desk, by_hearing, desk_told, des
 use Rattle.journals.specs.Steps.{side}
 use Rattle.locked_nodes.specs.declared.charter.Item.TheVariants.{Head, Entry}
 use Rattle.locked_nodes.specs.Cells.{CellView, CameLate, state_of, loses, Rises, told_as, with_seen, with_entry, entry, items}
-use Rattle.client_desks.specs.Desks.{DeskView, state_at, reply_by, ending, asks_of, CanCall, AddPair, Calls, Delivers, own_of, own_numbers, numbers_of, IsDesk, desk_entry, reply_told, heard}
+use Rattle.client_desks.specs.Desks.{DeskView, state_at, reply_by, ending, asks_of, CanCall, AddPair, Calls, Delivers, own_of, own_numbers, numbers_of, IsDesk, desk_entry, heard}
+use Rattle.locked_nodes.specs.Cells.{reply_told}
 
 -- numbers that rise, with one more
 pub rises_snoc : (low : ℕ) (xs : List ℕ) (high n : ℕ) → Rises low xs high → high ≤ n → Rises low (xs ++ n ∷ []) (n + 1)

@@ -17,8 +17,6 @@ use Rattle.journals.specs.Acts.{act, answer_of, reply_in}
 use Rattle.journals.specs.Desks.{DeskState, new_desk, by_hearing, DeskKept, desk_after_all}
 use Rattle.journals.specs.declared.desk.DeskAct.TheVariants.{Start, Crash, Call}
 use Rattle.journals.specs.Steps.{side}
-use Rattle.locked_nodes.specs.declared.answers.Told.{Told}
-use Rattle.locked_nodes.specs.declared.answers.Told.TheVariants.{Answered, Silent}
 use Rattle.locked_nodes.specs.Cells.{CellView, Rises, state_of, with_seen, with_entry}
 
 -- a desk: its cluster, the number of its client and whether that lies, its journal, and its pass
@@ -138,11 +136,6 @@ pub record KeepsDesk (old new : DeskView) : Type 0 where
 -- the cell is as it was, or has one entry more, of which no client has a side
 abbrev pub Delivers : CellView → CellView → Type 0
 Delivers old new = (new ≡ old) ⊎ ((n : ℕ) × (done : NodeAct) × (new ≡ with_entry old n done) × (side done ≡ None))
-
--- the reply that is told, if there is one
-abbrev pub reply_told : Told → Option Message
-reply_told (Answered n reply) = Some reply
-reply_told (Silent n why) = None
 
 -- the client after a reply, if there is one
 abbrev pub heard : ClientView → Option Message → ClientView

@@ -5,7 +5,8 @@ ghost use Rattle.event_clock.specs.Passes.{left_of, met, sight_of};
 ghost use Rattle.receipt_lock.specs.Turns.{Begins};
 ghost use Rattle.journals.specs.Desks.{FitsOp, ActsAs};
 ghost use Rattle.locked_nodes.specs.Cells.{Serves, HoldsWhole, HasNoLateMail, items, number_of};
-ghost use Rattle.client_desks.specs.Desks.{DeskView, first_desk, met_desk, state_at, task_at, asks_of, IsUp, CanStart, CanCall, with_own, desk_entry, KeptDesk, AddPair, Calls, KeepsDesk, Delivers, with_call, reply_told, reply_by, heard, ending};
+ghost use Rattle.client_desks.specs.Desks.{DeskView, first_desk, met_desk, state_at, task_at, asks_of, IsUp, CanStart, CanCall, with_own, desk_entry, KeptDesk, AddPair, Calls, KeepsDesk, Delivers, with_call, reply_by, heard, ending};
+ghost use Rattle.locked_nodes.specs.Cells.{reply_told};
 
 use client_core::{Client, Heard};
 use event_clock::{Clock, Note, Pass};
@@ -20,7 +21,6 @@ use wire_forms::{Message, Op};
 
 /// One client's journal and its pass, which one thread owns. A correct client's desk also has the client, which is what its
 /// journal leaves. Contracts see the cluster, the client's number and whether it lies, the journal and the pass.
-#[derive(Drop)]
 pub struct Desk {
     config: Config,
     id: u32,
@@ -30,6 +30,21 @@ pub struct Desk {
     crashed: bool,
     entries: Vec<DeskEntry>,
     pass: Pass,
+}
+
+// By hand, since a derived drop is proved anew wherever one is let go.
+impl Drop for Desk {
+    fn drop(self) {
+        let Desk {
+            config: _config,
+            id: _id,
+            lying: _lying,
+            client: _client,
+            crashed: _crashed,
+            entries: _entries,
+            pass: _pass,
+        } = self;
+    }
 }
 
 impl Model for Desk {
@@ -158,7 +173,8 @@ impl Desk {
     /// What the client's phase asks of a node, if it asks anything.
     pub fn asks(&self, node: u8) -> Result<Option<Message>, NoMemory>
         ensures asked { IfOk result (λ ask. ask ≡ asks_of self.now node) }
-        ensures to { IfOk result (λ ask. IfSome ask (λ m. (m.node ≡ node) × (m.client ≡ self.now.id))) }
+        ensures to { IfOk result (λ ask.
+            IfSome ask (λ m. (m.node ≡ node) × (m.client ≡ self.now.id))) }
         ensures some { CanCall self.now node → IfOk result (λ ask. IsSome ask) }
     {
         self.client.outstanding(node)
@@ -199,7 +215,9 @@ impl Desk {
         requires clock { self.old.pass.clock ≡ clock.now }
         requires can { CanStart self.old }
         requires fits { FitsOp self.old.config op.now }
-        ensures ok { OnOk result ((n : ℕ) × (self.old.pass.seen ≤ n) × (self.new ≡ with_own self.old n (DeskAct.Start op.now))) }
+        ensures ok { OnOk result
+            ((n : ℕ) × (self.old.pass.seen ≤ n)
+            × (self.new ≡ with_own self.old n (DeskAct.Start op.now))) }
         ensures full { (result ≡ Err CellRefusal.ClockFull) ↔ (left_of self.old.pass ≡ 0) }
         ensures err { OnErr result (self.new ≡ self.old) }
     {
@@ -221,7 +239,8 @@ impl Desk {
     pub fn crash(&mut self, clock: &Clock) -> Result<(), CellRefusal>
         requires clock { self.old.pass.clock ≡ clock.now }
         requires up { IsUp self.old }
-        ensures ok { OnOk result ((n : ℕ) × (self.old.pass.seen ≤ n) × (self.new ≡ with_own self.old n DeskAct.Crash)) }
+        ensures ok { OnOk result
+            ((n : ℕ) × (self.old.pass.seen ≤ n) × (self.new ≡ with_own self.old n DeskAct.Crash)) }
         ensures full { (result ≡ Err CellRefusal.ClockFull) ↔ (left_of self.old.pass ≡ 0) }
         ensures err { OnErr result (self.new ≡ self.old) }
     {
@@ -247,14 +266,19 @@ impl Desk {
         cell: &mut NodeCell,
         way: Way,
     ) -> Result<Option<Outcome>, CellRefusal>
-        requires clock { (self.old.pass.clock ≡ clock.now) × (cell.old.charter.pass.clock ≡ clock.now) }
+        requires clock { (self.old.pass.clock ≡ clock.now)
+            × (cell.old.charter.pass.clock ≡ clock.now) }
         requires can { CanCall self.old cell.old.charter.number }
-        requires serves { (ask : AnyMessage) → asks_of self.old cell.old.charter.number ≡ Some ask → Serves cell.old.charter ask }
+        requires serves { (ask : AnyMessage) →
+            asks_of self.old cell.old.charter.number ≡ Some ask → Serves cell.old.charter ask }
         requires whole { HoldsWhole cell.old.charter way }
         ensures calls { OnOk result (Calls self.old cell.old way self.new cell.new) }
-        ensures ended { IfOk result (λ outcome. (ask : AnyMessage) → asks_of self.old cell.old.charter.number ≡ Some ask → outcome ≡ ending (state_at self.old).client (reply_by cell.old way ask)) }
+        ensures ended { IfOk result (λ outcome.
+            (ask : AnyMessage) → asks_of self.old cell.old.charter.number ≡ Some ask →
+            outcome ≡ ending (state_at self.old).client (reply_by cell.old way ask)) }
         ensures full { (result ≡ Err CellRefusal.ClockFull) ↔ (left_of cell.old.pass ≡ 0) }
-        ensures same { result ≡ Err CellRefusal.ClockFull → (self.new ≡ self.old) × (cell.new ≡ cell.old) }
+        ensures same { result ≡ Err CellRefusal.ClockFull →
+            (self.new ≡ self.old) × (cell.new ≡ cell.old) }
         ensures kept { OnErr result (KeepsDesk self.old self.new) }
         ensures grew { Begins (items cell.old) (items cell.new) }
     {
@@ -275,14 +299,16 @@ impl Desk {
         cell: &mut NodeCell,
         ask: &Message,
     ) -> Result<(), CellRefusal>
-        requires clock { (self.old.pass.clock ≡ clock.now) × (cell.old.charter.pass.clock ≡ clock.now) }
+        requires clock { (self.old.pass.clock ≡ clock.now)
+            × (cell.old.charter.pass.clock ≡ clock.now) }
         requires lying { self.old.lying ≡ true }
         requires own { ask.now.client ≡ self.old.id }
         requires formed { IsFormedBody ask.now.body }
         requires serves { Serves cell.old.charter ask.now }
         ensures pair { OnOk result (AddPair self.old cell.old Way.Call ask.now self.new cell.new) }
         ensures full { (result ≡ Err CellRefusal.ClockFull) ↔ (left_of cell.old.pass ≡ 0) }
-        ensures same { result ≡ Err CellRefusal.ClockFull → (self.new ≡ self.old) × (cell.new ≡ cell.old) }
+        ensures same { result ≡ Err CellRefusal.ClockFull →
+            (self.new ≡ self.old) × (cell.new ≡ cell.old) }
         ensures kept { OnErr result (KeepsDesk self.old self.new) }
         ensures grew { Begins (items cell.old) (items cell.new) }
     {
@@ -310,8 +336,11 @@ impl Desk {
         requires asked { asks_of self.old ask.node ≡ Some ask }
         requires later { self.old.pass.seen ≤ number_of told }
         requires seen { note.seen ≡ number_of told + 1 }
-        ensures ok { OnOk result (self.new ≡ with_call self.old (number_of told) (DeskAct.Call way ask (reply_told told))) }
-        ensures ended { IfOk result (λ outcome. outcome ≡ ending (state_at self.old).client (reply_told told)) }
+        ensures ok { OnOk result
+            (self.new
+            ≡ with_call self.old (number_of told) (DeskAct.Call way ask (reply_told told))) }
+        ensures ended { IfOk result (λ outcome.
+            outcome ≡ ending (state_at self.old).client (reply_told told)) }
         ensures err { OnErr result (self.new ≡ self.old) }
     {
         self.add(clock, way, ask, told, note)
@@ -331,7 +360,9 @@ impl Desk {
         requires formed { IsFormedBody ask.body }
         requires later { self.old.pass.seen ≤ number_of told }
         requires seen { note.seen ≡ number_of told + 1 }
-        ensures ok { OnOk result (self.new ≡ with_call self.old (number_of told) (DeskAct.Call Way.Call ask (reply_told told))) }
+        ensures ok { OnOk result
+            (self.new
+            ≡ with_call self.old (number_of told) (DeskAct.Call Way.Call ask (reply_told told))) }
         ensures err { OnErr result (self.new ≡ self.old) }
     {
         let _idle = &self.client;
@@ -342,11 +373,13 @@ impl Desk {
     /// Lets the oldest ask that the cell holds back come late. The desk has no entry of it; its pass has seen the number.
     /// `ClockFull` comes exactly where an ask is held back and the cell's pass can't draw.
     pub fn deliver(&mut self, clock: &Clock, cell: &mut NodeCell) -> Result<Late, CellRefusal>
-        requires clock { (self.old.pass.clock ≡ clock.now) × (cell.old.charter.pass.clock ≡ clock.now) }
+        requires clock { (self.old.pass.clock ≡ clock.now)
+            × (cell.old.charter.pass.clock ≡ clock.now) }
         ensures kept { KeepsDesk self.old self.new }
         ensures cell { Delivers cell.old cell.new }
         ensures none { (result ≡ Ok Late.NoMail) ↔ HasNoLateMail cell.old }
-        ensures full { (result ≡ Err CellRefusal.ClockFull) ↔ ((HasNoLateMail cell.old → ⊥) × (left_of cell.old.pass ≡ 0)) }
+        ensures full { (result ≡ Err CellRefusal.ClockFull)
+            ↔ ((HasNoLateMail cell.old → ⊥) × (left_of cell.old.pass ≡ 0)) }
         ensures err { OnErr result ((self.new ≡ self.old) × (cell.new ≡ cell.old)) }
     {
         cell.late(clock, &mut self.pass)
@@ -360,15 +393,18 @@ impl Desk {
         way: Way,
         ask: Message,
     ) -> Result<Option<Outcome>, CellRefusal>
-        requires clock { (self.old.pass.clock ≡ clock.now) × (cell.old.charter.pass.clock ≡ clock.now) }
-        requires may { (reply : Option AnyMessage) → ActsAs self.old.lying (state_at self.old) (DeskAct.Call way ask reply) }
+        requires clock { (self.old.pass.clock ≡ clock.now)
+            × (cell.old.charter.pass.clock ≡ clock.now) }
+        requires may { (reply : Option AnyMessage) →
+            ActsAs self.old.lying (state_at self.old) (DeskAct.Call way ask reply) }
         requires own { ask.client ≡ self.old.id }
         requires serves { Serves cell.old.charter ask }
         requires whole { HoldsWhole cell.old.charter way }
         requires phase { phase_of (task_at self.old) < 2 ^ 64 - 1 }
         requires left { 0 < left_of cell.old.pass }
         ensures pair { OnOk result (AddPair self.old cell.old way ask self.new cell.new) }
-        ensures ended { IfOk result (λ outcome. outcome ≡ ending (state_at self.old).client (reply_by cell.old way ask)) }
+        ensures ended { IfOk result (λ outcome.
+            outcome ≡ ending (state_at self.old).client (reply_by cell.old way ask)) }
         ensures memory { IfErr result (λ e. e ≡ CellRefusal.NoMemory) }
         ensures kept { OnErr result (KeepsDesk self.old self.new) }
         ensures grew { Begins (items cell.old) (items cell.new) }
@@ -397,12 +433,16 @@ impl Desk {
         note: Note,
     ) -> Result<Option<Outcome>, NoMemory>
         requires clock { (self.old.pass.clock ≡ clock.now) × (note.clock ≡ clock.now) }
-        requires may { ActsAs self.old.lying (state_at self.old) (DeskAct.Call way ask (reply_told told)) }
+        requires may { ActsAs self.old.lying (state_at self.old)
+            (DeskAct.Call way ask (reply_told told)) }
         requires phase { phase_of (task_at self.old) < 2 ^ 64 - 1 }
         requires later { self.old.pass.seen ≤ number_of told }
         requires seen { note.seen ≡ number_of told + 1 }
-        ensures ok { OnOk result (self.new ≡ with_call self.old (number_of told) (DeskAct.Call way ask (reply_told told))) }
-        ensures ended { IfOk result (λ outcome. outcome ≡ ending (state_at self.old).client (reply_told told)) }
+        ensures ok { OnOk result
+            (self.new
+            ≡ with_call self.old (number_of told) (DeskAct.Call way ask (reply_told told))) }
+        ensures ended { IfOk result (λ outcome.
+            outcome ≡ ending (state_at self.old).client (reply_told told)) }
         ensures err { OnErr result (self.new ≡ self.old) }
     {
         self.entries.reserve(1)?;
@@ -433,22 +473,9 @@ fn listen(client: &mut Client, told: &Told) -> Result<Option<Outcome>, NoMemory>
 fn entry_of(way: Way, ask: Message, told: Told) -> DeskEntry
     ensures { result ≡ desk_entry (number_of told) (DeskAct.Call way ask (reply_told told)) }
 {
-    match told {
-        Told::Answered { number, reply } => DeskEntry {
-            number,
-            act: DeskAct::Call {
-                way,
-                ask,
-                reply: Some(reply),
-            },
-        },
-        Told::Silent { number, why: _ } => DeskEntry {
-            number,
-            act: DeskAct::Call {
-                way,
-                ask,
-                reply: None,
-            },
-        },
+    let (number, reply) = told.into_reply();
+    DeskEntry {
+        number,
+        act: DeskAct::Call { way, ask, reply },
     }
 }

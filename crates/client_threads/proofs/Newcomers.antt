@@ -13,7 +13,7 @@ use Rattle.protocol.specs.Report.{Ascend}
 use Rattle.journals.proofs.Lists.{number_of}
 use Rattle.protocol.proofs.Lists.{Contains-none, Contains-head, Contains-rest, Contains-cons_cases, Contains-map, Contains-map_cases, Contains-slice_get}
 use Rattle.quorum_rules.specs.Limits.{Numbers}
-use Rattle.wire_forms.specs.Liars.{has_number}
+use Rattle.wire_forms.specs.Liars.{has_number, IsClientNumber}
 use Rattle.event_clock.specs.Passes.{ClockId, Holder, IsUnused, unused}
 use Rattle.locked_nodes.specs.Cells.{CellView}
 use Rattle.locked_nodes.specs.declared.slot.Slot.{Slot}
@@ -26,7 +26,7 @@ use Rattle.plan_words.specs.declared.job.Job.TheVariants.{Block, Device, Phase}
 use Rattle.plan_words.specs.declared.plan.Plan.{Plan}
 use Rattle.plan_words.specs.Named.{clients, ascending, lying_client, lying_clients, troubled_client, job_client, asking_clients}
 use Rattle.plan_words.specs.Plans.{IsFault, IsJob, Fits}
-use Rattle.plan_followed.proofs.Plans.{IsNumber, liar_there}
+use Rattle.plan_followed.proofs.Plans.{liar_there}
 use Rattle.plan_phases.specs.Closed.{Begins}
 use Rattle.plan_tasks.specs.declared.task.Task.{Task}
 use Rattle.plan_tasks.specs.Tasks.{client_of}
@@ -235,30 +235,30 @@ named_is {X} h Q P to (x ∷ xs) a q there = at (h x) refl (λ l. named_is h Q P
     at None e rest l = rest l
     at (Some k) e rest l = elim (Contains-cons_cases q k (filter_map h xs) l) [ inl is ↦ subst P (sym is) (to x k a.0 e) | inr later ↦ rest later ]
 
-some_same : (a b : ℕ) → ◌≡◌ {A = Option ℕ} (Some a) (Some b) → IsNumber a → IsNumber b
-some_same a b e h = let same : a ≡ b = cc in subst IsNumber same h
+some_same : (a b : ℕ) → ◌≡◌ {A = Option ℕ} (Some a) (Some b) → IsClientNumber a → IsClientNumber b
+some_same a b e h = let same : a ≡ b = cc in subst IsClientNumber same h
 
-trouble_there : (c : Numbers) (rule : Fault) (k : ℕ) → IsFault c rule → troubled_client rule ≡ Some k → IsNumber k
+trouble_there : (c : Numbers) (rule : Fault) (k : ℕ) → IsFault c rule → troubled_client rule ≡ Some k → IsClientNumber k
 trouble_there c (LiarNode node rule) k h e = absurd (cc)
 trouble_there c (LiarSound client block time value count) k h e = absurd (cc)
 trouble_there c (LiarMix client block time value other count) k h e = absurd (cc)
 trouble_there c (LiarFlood client block time value other count) k h e = absurd (cc)
 trouble_there c (CrashNode node count) k h e = absurd (cc)
-trouble_there c (CrashClient client count) k h e = some_same client k e (h.0.first, h.0.last)
-trouble_there c (Drop client node count) k h e = some_same client k e (h.0.first, h.0.last)
-trouble_there c (Hold client node count) k h e = some_same client k e (h.0.first, h.0.last)
+trouble_there c (CrashClient client count) k h e = some_same client k e h.0
+trouble_there c (Drop client node count) k h e = some_same client k e h.0
+trouble_there c (Hold client node count) k h e = some_same client k e h.0
 
-worker_there : (c : Numbers) (job : Job) (k : ℕ) → IsJob c job → job_client job ≡ Some k → IsNumber k
-worker_there c (Block client op) k h e = some_same client k e (h.0.first, h.0.last)
-worker_there c (Device client op) k h e = some_same client k e (h.0.first, h.0.last)
+worker_there : (c : Numbers) (job : Job) (k : ℕ) → IsJob c job → job_client job ≡ Some k → IsClientNumber k
+worker_there c (Block client op) k h e = some_same client k e h.0
+worker_there c (Device client op) k h e = some_same client k e h.0
 worker_there c Phase k h e = absurd (cc)
 
-client_there : (plan : Plan) → Fits plan → (q : ℕ) → Contains (clients plan.rules plan.work) q → IsNumber q
+client_there : (plan : Plan) → Fits plan → (q : ℕ) → Contains (clients plan.rules plan.work) q → IsClientNumber q
 client_there plan h q there = elim (Contains-append_cases (lying_clients plan.rules) (asking_clients plan.rules plan.work) q there) [
-  | inl lies ↦ named_is lying_client (IsFault plan.config) IsNumber (liar_there plan.config) plan.rules h.fitting.each_rule q lies
+  | inl lies ↦ named_is lying_client (IsFault plan.config) IsClientNumber (liar_there plan.config) plan.rules h.fitting.each_rule q lies
   | inr asks ↦ elim (Contains-append_cases (filter_map troubled_client plan.rules) (filter_map job_client plan.work) q asks) [
-    | inl trouble ↦ named_is troubled_client (IsFault plan.config) IsNumber (trouble_there plan.config) plan.rules h.fitting.each_rule q trouble
-    | inr works ↦ named_is job_client (IsJob plan.config) IsNumber (worker_there plan.config) plan.work h.fitting.each_job q works
+    | inl trouble ↦ named_is troubled_client (IsFault plan.config) IsClientNumber (trouble_there plan.config) plan.rules h.fitting.each_rule q trouble
+    | inr works ↦ named_is job_client (IsJob plan.config) IsClientNumber (worker_there plan.config) plan.work h.fitting.each_job q works
   ]
 ]
 

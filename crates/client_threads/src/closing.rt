@@ -36,7 +36,8 @@ pub(crate) fn close(alloc: Global, plan: &Plan, run: Run) -> Result<Closed, NoMe
     requires plan { plan_of run ≡ plan.now }
     ensures nodes { IfOk result (λ r. r.nodes ≡ node_journals run.cells.items plan.now.config.n) }
     ensures desks { IfOk result (λ r. r.desks ≡ map journal_at (desks_of run.clients.items)) }
-    ensures drawn { IfOk result (λ r. run.courier.entries ≡ [] → IsDrawnOnce r.drawn.count (shares_of run)) }
+    ensures drawn { IfOk result (λ r.
+        run.courier.entries ≡ [] → IsDrawnOnce r.drawn.count (shares_of run)) }
     ensures full { IfOk result (λ r. r.full ≡ true → HasFullPass r.drawn) }
     ensures cells { OnOk result (All KeptCell run.cells.items) }
     ensures kept { OnOk result (All KeptDesk (desks_of run.clients.items)) }
@@ -122,7 +123,9 @@ fn add_journal(
     journal: NodeJournal,
 ) -> Result<(), NoMemory>
     requires { node < length nodes.old }
-    ensures { OnOk result (nodes.new ≡ slice_set nodes.old node (joined.join (slice_index_or nodes.old node []) journal)) }
+    ensures { OnOk result
+        (nodes.new
+        ≡ slice_set nodes.old node (joined.join (slice_index_or nodes.old node []) journal)) }
 {
     let before = nodes.replace(node, ItemList::new(alloc));
     let _empty = nodes.replace(node, join(alloc, before, journal)?);
@@ -136,7 +139,8 @@ fn finish_desks(
     passes: &mut Passes,
 ) -> Result<DeskJournals, NoMemory>
     ensures desks { IfOk result (λ desks. desks ≡ map journal_at (desks_of seats.items)) }
-    ensures passes { OnOk result (passes.new ≡ passes.old ++ map (λ d. d.pass) (desks_of seats.items)) }
+    ensures passes { OnOk result
+        (passes.new ≡ passes.old ++ map (λ d. d.pass) (desks_of seats.items)) }
     ensures kept { OnOk result (All KeptDesk (desks_of seats.items)) }
 {
     let mut desks = ItemList::new(alloc);

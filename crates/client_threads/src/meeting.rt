@@ -17,7 +17,8 @@ pub(crate) fn meet_cells(clock: &Clock, keeper: &mut Pass, cells: &mut [NodeCell
     requires cells { All (λ c. c.charter.pass.clock ≡ clock.now) cells.old }
     ensures keeper { IsKeeper keeper.old keeper.new }
     ensures cells { AllZip HasMetCell cells.old cells.new }
-    ensures seen { All (λ c. (keeper.old.seen ≤ c.pass.seen) × (c.pass.seen ≤ keeper.new.seen)) cells.new }
+    ensures seen { All (λ c.
+        (keeper.old.seen ≤ c.pass.seen) × (c.pass.seen ≤ keeper.new.seen)) cells.new }
     ensures kept { All KeptCell cells.new }
 {
     for cell in cells.iter_mut() {
@@ -32,7 +33,8 @@ pub(crate) fn meet_desks(clock: &Clock, keeper: &mut Pass, seats: &mut [Seat<Wor
     requires desks { All (λ s. s.desk.pass.clock ≡ clock.now) seats.old }
     ensures keeper { IsKeeper keeper.old keeper.new }
     ensures seats { AllZip HasMetSeat seats.old seats.new }
-    ensures seen { All (λ s. (keeper.old.seen ≤ s.desk.pass.seen) × (s.desk.pass.seen ≤ keeper.new.seen)) seats.new }
+    ensures seen { All (λ s.
+        (keeper.old.seen ≤ s.desk.pass.seen) × (s.desk.pass.seen ≤ keeper.new.seen)) seats.new }
     ensures kept { All KeptDesk (desks_of seats.new) }
 {
     for seat in seats.iter_mut() {

@@ -65,9 +65,11 @@ fn open_cells(
     requires fits { Fits plan.now }
     requires unused { All (IsUnusedPass clock.now) passes.old }
     requires enough { cell_count plan.now shards plan.now.config.n ≤ length passes.old }
-    ensures cells { IfOk result (λ cells. AreNewCells plan.now shards clock.now plan.now.config.n 0 cells.items) }
+    ensures cells { IfOk result (λ cells.
+        AreNewCells plan.now shards clock.now plan.now.config.n 0 cells.items) }
     ensures unused { OnOk result (All (IsUnusedPass clock.now) passes.new) }
-    ensures left { OnOk result (length passes.new + cell_count plan.now shards plan.now.config.n ≡ length passes.old) }
+    ensures left { OnOk result
+        (length passes.new + cell_count plan.now shards plan.now.config.n ≡ length passes.old) }
 {
     let mut cells = Vec::new(alloc);
     for number in 0..plan.config.n() as u8 {
@@ -90,9 +92,11 @@ fn open_node(
     requires cells { AreNewCells plan.now shards clock.now number 0 cells.old.items }
     requires unused { All (IsUnusedPass clock.now) passes.old }
     requires enough { shards_of plan.now shards number ≤ length passes.old }
-    ensures cells { OnOk result (AreNewCells plan.now shards clock.now (number + 1) 0 cells.new.items) }
+    ensures cells { OnOk result
+        (AreNewCells plan.now shards clock.now (number + 1) 0 cells.new.items) }
     ensures unused { OnOk result (All (IsUnusedPass clock.now) passes.new) }
-    ensures left { OnOk result (length passes.new + shards_of plan.now shards number ≡ length passes.old) }
+    ensures left { OnOk result
+        (length passes.new + shards_of plan.now shards number ≡ length passes.old) }
 {
     let nature = nature_of(plan, number);
     let crash_after = crash_after(plan, number);

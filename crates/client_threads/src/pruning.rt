@@ -33,7 +33,8 @@ pub(crate) fn prune_all(
     requires blocks { All (λ x. x.block < plan.now.config.blocks) prunings.now }
     ensures keeper { IsKeeper keeper.old keeper.new }
     ensures some { IfOk result (λ r. AllZip HasMorePrunes (reopened cells.items) r.0.items) }
-    ensures all { IfOk result (λ r. r.1 ≡ None → AllPruned plan.now keeper.old.seen prunings.now cells.items r.0.items) }
+    ensures all { IfOk result (λ r.
+        r.1 ≡ None → AllPruned plan.now keeper.old.seen prunings.now cells.items r.0.items) }
     ensures seen { IfOk result (λ r. All (λ c. c.pass.seen ≤ keeper.new.seen) r.0.items) }
     ensures kept { IfOk result (λ r. All KeptCell r.0.items) }
 {
@@ -73,7 +74,8 @@ fn prune_nodes(
     ensures keeper { IsKeeper keeper.old keeper.new }
     ensures cells { All (IsOpenCell clock.now keeper.new.seen prunings.now) cells.new }
     ensures some { AllZip HasMorePrunes cells.old cells.new }
-    ensures all { OnOk result (AllPruned plan.now keeper.old.seen prunings.now cells.old cells.new) }
+    ensures all { OnOk result
+        (AllPruned plan.now keeper.old.seen prunings.now cells.old cells.new) }
 {
     phases_work();
     let slots = slots_in(alloc, cells)?;

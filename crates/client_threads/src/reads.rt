@@ -25,7 +25,8 @@ pub(crate) fn gather(
     counted: &[usize],
 ) -> Result<Gathered, NoMemory>
     requires { AllZip (λ s n. n ≤ length (reads_of s)) seats.now counted.now }
-    ensures given { IfOk result (λ g. g.given.items ≡ early_reads seats.now counted.now ++ late_reads seats.now counted.now) }
+    ensures given { IfOk result (λ g.
+        g.given.items ≡ early_reads seats.now counted.now ++ late_reads seats.now counted.now) }
     ensures early { IfOk result (λ g. g.early ≡ length (early_reads seats.now counted.now)) }
 {
     let mut given = Vec::new(alloc);

@@ -22,7 +22,8 @@ pub(crate) fn work<F: Fn(Clock, Vec<NodeCell>, Vec<Seat<Work>>) -> Phased>(
     requires standing { (k : ℕ) × IsStanding k run × (k ≤ cuts (plan_of run)) }
     ensures open { IfOk result (λ r. IsOpen r.0) }
     ensures plan { IfOk result (λ r. plan_of r.0 ≡ plan_of run) }
-    ensures done { IfOk result (λ r. r.1 ≡ None → (k : ℕ) → IsStanding k run → HasDonePhase k run r.0) }
+    ensures done { IfOk result (λ r.
+        r.1 ≡ None → (k : ℕ) → IsStanding k run → HasDonePhase k run r.0) }
 {
     let Run {
         plan,

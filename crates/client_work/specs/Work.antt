@@ -1,5 +1,5 @@
 -- When the threads of clients do what the plan says.
-use Rattle.std.specs.Prelude.{◌≡◌, ◌⊎◌, ℕ, ◌+◌, ◌-◌, ◌<◌, ◌≤◌, ◌==◌, if◌then◌else◌, true, false, List, [], ◌++◌, length, take, fold, count_by, All, Option, slice_get, slice_set}
+use Rattle.std.specs.Prelude.{◌≡◌, ◌⊎◌, ℕ, ◌+◌, ◌-◌, ◌%◌, ◌<◌, ◌≤◌, ◌==◌, if◌then◌else◌, true, false, List, [], ◌++◌, length, take, fold, count_by, All, Option, slice_get, slice_set}
 use Rattle.std.specs.declared.option.Option.TheVariants.{None, Some}
 use Rattle.std.specs.List.{filter_map}
 use Rattle.block_device.specs.declared.steps.BlockStep.{BlockStep}
@@ -7,7 +7,8 @@ use Rattle.block_device.specs.declared.steps.BlockStep.TheVariants.{Read, Whole,
 use Rattle.block_device.specs.Steps.{Fits}
 use Rattle.wire_forms.specs.declared.op.Op.{Op}
 use Rattle.protocol.specs.Operations.{Outcome}
-use Rattle.protocol.specs.Seen.{SeenTask}
+use Rattle.protocol.specs.Messages.{Tag}
+use Rattle.protocol.specs.Seen.{SeenTask, ops_of, phase_of}
 use Rattle.run_words.specs.declared.outcome.Outcome.TheVariants.{Gave}
 use Rattle.plan_words.specs.declared.plan.Plan.{Plan}
 use Rattle.plan_words.specs.Named.{is_phase}
@@ -18,7 +19,7 @@ use Rattle.journals.specs.declared.desk.Way.{Way}
 use Rattle.journals.specs.Desks.{Ended, DeskState, FitsOp}
 use Rattle.client_desks.specs.Desks.{DeskView, state_at, task_at}
 use Rattle.plan_followed.specs.Asked.{steps_for, first_phases, drops, holds, client_crash, messages}
-use Rattle.plan_followed.specs.Clients.{InEach, GoesByPlan, IsDone, IsCutOff, client_after, times, starts, asks, asks_of, all_asked, op_of, way_of}
+use Rattle.plan_followed.specs.Clients.{InEach, GoesByPlan, IsDone, IsCutOff, client_after, times, starts, asks, asks_of, all_asked, op_of, way_of, last_of, turn_after}
 use Rattle.plan_tasks.specs.declared.task.Ways.{Ways}
 use Rattle.plan_tasks.specs.Phases.{all_steps}
 use Rattle.plan_tasks.specs.Tasks.{IsSendable}
@@ -239,3 +240,11 @@ Done (Client old) before (Client new) d = HasWorked old new d
 Done (Lying old) before (Lying new) d = HasSentAll old before new d
 Done Courier before Courier d = d.entries ≡ []
 Done _ before _ d = ⊥
+
+-- the operation and the phase that are under way at the desk
+abbrev pub tag_at : DeskView → Tag
+tag_at d = record { op = ops_of (state_at d).client.seen; phase = phase_of (task_at d) }
+
+-- the node from which the client looks for the next one to ask
+abbrev pub turn_at : DeskView → ℕ
+turn_at d = turn_after (d.id % d.config.n) (tag_at d) (last_of d.entries)

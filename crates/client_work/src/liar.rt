@@ -10,11 +10,21 @@ use std::snapshot::Snapshot;
 use wire_forms::{Mail, Message};
 
 /// A lying client at work, by its plan: the messages that are left.
-#[derive(Drop)]
 pub struct Liar {
     pub plan: Snapshot<Plan>,
     pub client: u32,
     pub mail: VecDeque<Message>,
+}
+
+// By hand, since a derived drop is proved anew wherever one is let go.
+impl Drop for Liar {
+    fn drop(self) {
+        let Liar {
+            plan: _plan,
+            client: _client,
+            mail: _mail,
+        } = self;
+    }
 }
 
 impl Liar {
@@ -23,7 +33,8 @@ impl Liar {
         requires { IsLiarTask plan.now client mail }
         ensures plan { result.plan.value ≡ plan.now }
         ensures client { result.client ≡ client }
-        ensures ready { (d : DeskView) → d.config ≡ plan.now.config → d.id ≡ client → d.lying ≡ true → d.entries ≡ [] → HasMail result d }
+        ensures ready { (d : DeskView) → d.config ≡ plan.now.config → d.id ≡ client →
+            d.lying ≡ true → d.entries ≡ [] → HasMail result d }
     {
         Liar {
             plan: Snapshot::of(plan),

@@ -19,7 +19,8 @@ pub struct GivenRead {
 /// from the end, since a step that needs it follows its read.
 pub fn latest(alloc: Global, reads: &[GivenRead], block: u32, size: u32) -> Result<Bytes, NoMemory>
     requires { All (λ r. length r.value ≡ size) reads.now }
-    ensures value { IfOk result (λ value. value ≡ latest_given block (Rattle.std.specs.Prelude.replicate size 0) reads.now) }
+    ensures value { IfOk result (λ value.
+        value ≡ latest_given block (Rattle.std.specs.Prelude.replicate size 0) reads.now) }
     ensures len { IfOk result (λ value. length value ≡ size) }
 {
     let mut left = reads.len();

@@ -17,7 +17,8 @@ impl Liar {
         requires mail { HasMail self.old keys.old.desk }
         ensures fit { Fit keys.new floor.now }
         ensures later { IsLater keys.old.desk keys.new.desk }
-        ensures done { keys.new.refused ≡ None → HasSentAll self.old keys.old.desk self.new keys.new.desk }
+        ensures done { keys.new.refused ≡ None →
+            HasSentAll self.old keys.old.desk self.new keys.new.desk }
     {
         desks_go_on();
         while let Some(ask) = self.mail.pop_front() {

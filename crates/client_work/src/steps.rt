@@ -50,7 +50,8 @@ impl Worker {
         requires whole { HoldsWhole self.old floor.now.slots }
         ensures fit { Fit keys.new floor.now }
         ensures later { IsLater keys.old.desk keys.new.desk }
-        ensures same { keys.new.refused ≡ None → IsSame self.old self.new × (self.new.phases.items ≡ self.old.phases.items) }
+        ensures same { keys.new.refused ≡ None →
+            IsSame self.old self.new × (self.new.phases.items ≡ self.old.phases.items) }
         ensures goes { keys.new.refused ≡ None → Goes self.new keys.new.desk }
         ensures done { keys.new.refused ≡ None → IsAmidOrOff self.new [] keys.new.desk }
     {
@@ -80,12 +81,14 @@ impl Worker {
         requires sound { keys.old.refused ≡ None }
         requires can { CanStart keys.old.desk }
         requires goes { Goes self.old keys.old.desk }
-        requires next { slice_get (every_step self.old.plan.value self.old.client) (times starts keys.old.desk.entries) ≡ Some step }
+        requires next { slice_get (every_step self.old.plan.value self.old.client)
+            (times starts keys.old.desk.entries) ≡ Some step }
         requires fits { StepFits self.old.plan.value.config step }
         requires whole { HoldsWhole self.old floor.now.slots }
         ensures fit { Fit keys.new floor.now }
         ensures later { IsLater keys.old.desk keys.new.desk }
-        ensures stepped { keys.new.refused ≡ None → HasStepped self.old keys.old.desk self.new keys.new.desk }
+        ensures stepped { keys.new.refused ≡ None →
+            HasStepped self.old keys.old.desk self.new keys.new.desk }
     {
         desks_go_on();
         let block = block_of(&step);
@@ -120,7 +123,8 @@ impl Worker {
         requires whole { HoldsWhole self.old floor.now.slots }
         ensures fit { Fit keys.new floor.now }
         ensures later { IsLater keys.old.desk keys.new.desk }
-        ensures asked { keys.new.refused ≡ None → HasAskedOn self.old keys.old.desk self.new keys.new.desk }
+        ensures asked { keys.new.refused ≡ None →
+            HasAskedOn self.old keys.old.desk self.new keys.new.desk }
     {
         desks_go_on();
         let nodes = self.config.n();

@@ -1,8 +1,8 @@
 //! Which node a client asks next.
-ghost use Rattle.std.specs.Prelude.{◌≡◌, ◌<◌, ◌≤◌, ◌%◌, IfSome, Some};
-ghost use Rattle.protocol.specs.Seen.{ops_of, phase_of};
-ghost use Rattle.client_desks.specs.Desks.{CanCall, IsUp, state_at, task_at};
-ghost use Rattle.plan_followed.specs.Clients.{IsNext, last_of, turn_after};
+ghost use Rattle.std.specs.Prelude.{◌≡◌, ◌<◌, ◌≤◌, IfSome, Some};
+ghost use Rattle.client_desks.specs.Desks.{CanCall, IsUp, task_at};
+ghost use Rattle.plan_followed.specs.Clients.{IsNext};
+ghost use Rattle.client_work.specs.Work.{turn_at};
 
 use client_desks::Desk;
 use journals::{DeskAct, DeskEntry};
@@ -16,8 +16,8 @@ pub fn next_node(desk: &Desk, nodes: u32) -> Option<u8>
     requires busy { Rattle.std.specs.Prelude.IsSome (task_at desk.now) }
     ensures node { IfSome result (λ node. node < desk.now.config.n) }
     ensures can { IfSome result (λ node. CanCall desk.now node) }
-    ensures next { IfSome result (λ node. IsNext desk.now.config.n (task_at desk.now)
-        (turn_after (desk.now.id % desk.now.config.n) (record { op = ops_of (state_at desk.now).client.seen; phase = phase_of (task_at desk.now) }) (last_of desk.now.entries)) node) }
+    ensures next { IfSome result (λ node.
+        IsNext desk.now.config.n (task_at desk.now) (turn_at desk.now) node) }
 {
     if desk.phase() == u64::MAX {
         return None;
@@ -37,8 +37,7 @@ fn turn(desk: &Desk, nodes: u32) -> u32
     requires nodes { nodes ≡ desk.now.config.n }
     requires some { 0 < nodes }
     requires few { nodes ≤ 256 }
-    ensures turn { result ≡ turn_after (desk.now.id % desk.now.config.n)
-        (record { op = ops_of (state_at desk.now).client.seen; phase = phase_of (task_at desk.now) }) (last_of desk.now.entries) }
+    ensures turn { result ≡ turn_at desk.now }
     ensures small { result ≤ 256 }
 {
     if let Some(

@@ -25,7 +25,6 @@ use wire_forms::Op;
 
 /// A correct client at work, by its plan: the steps of the phases that are left, what is left of the asks to each node that go wrong,
 /// and of all asks until it crashes, and its reads that gave a value.
-#[derive(Drop)]
 pub struct Worker {
     pub plan: Snapshot<Plan>,
     pub config: Config,
@@ -34,6 +33,21 @@ pub struct Worker {
     pub ways: ItemList<Ways>,
     pub crash_after: Option<u64>,
     pub reads: ItemList<GivenRead>,
+}
+
+// By hand, since a derived drop is proved anew wherever one is let go.
+impl Drop for Worker {
+    fn drop(self) {
+        let Worker {
+            plan: _plan,
+            config: _config,
+            client: _client,
+            phases: _phases,
+            ways: _ways,
+            crash_after: _crash_after,
+            reads: _reads,
+        } = self;
+    }
 }
 
 impl Worker {
@@ -45,7 +59,8 @@ impl Worker {
         ensures client { result.client ≡ task.client }
         ensures reads { result.reads ≡ [] }
         ensures first { phase_at result ≡ 0 }
-        ensures ready { (d : DeskView) → d.config ≡ plan.now.config → d.id ≡ task.client → d.lying ≡ false → d.entries ≡ [] → IsReady result d }
+        ensures ready { (d : DeskView) → d.config ≡ plan.now.config → d.id ≡ task.client →
+            d.lying ≡ false → d.entries ≡ [] → IsReady result d }
     {
         let ClientTask {
             client,
@@ -88,7 +103,9 @@ impl Worker {
 
     /// Notes what an operation on the block gave, if it gave a value.
     pub fn note(&mut self, block: u32, outcome: Outcome) -> Result<(), NoMemory>
-        ensures ok { OnOk result (self.new ≡ record self.old { reads = one_more self.old.reads (given_by block outcome) }) }
+        ensures ok { OnOk result
+            (self.new
+            ≡ record self.old { reads = one_more self.old.reads (given_by block outcome) }) }
         ensures whole { OnOk result (IsWholeIn self.old.config.size (given_by block outcome)) }
     {
         let Outcome::Gave { stamp, value, .. } = outcome else {

@@ -4,7 +4,7 @@
 #![tactic(auto)]
 
 ghost use Rattle.std.specs.Prelude.{◌≡◌, ◌⊎◌, IfErr};
-ghost use Rattle.pasis_shell.specs.declared.status.Status.TheVariants as statuses;
+ghost use Rattle.call_statuses.specs.declared.status.Status.TheVariants as statuses;
 
 use outside_io::{StdSink, StdSource};
 use pasis_shell::{OpenGate, Status};

@@ -1,5 +1,5 @@
 -- Posts that went by one word were all worked, or all stay as they were.
-use Rattle.std.proofs.Common.{◌≡◌, ℕ, suc, Bool, true, false, List, [], ◌∷◌, length, refl, ◌∙◌, arith}
+use Rattle.std.proofs.Common.{◌≡◌, ℕ, suc, Bool, true, false, List, [], ◌∷◌, length, refl, sym, ◌∙◌, arith}
 use Rattle.std.specs.declared.option.Option.TheVariants.{Some}
 use Rattle.std.specs.Prelude.{slice_get}
 use Rattle.crews.specs.Crews.{Beside}
@@ -22,6 +22,9 @@ same_lists (x ∷ xs) (y ∷ ys) count f =
     let head : y ≡ x = f 0 x y refl refl in
     let tail : ys ≡ xs = same_lists xs ys (omega arith) (λ i a b p q. f (suc i) a b p q) in
     cc
+
+pub by_same_word : {P : Type 0} (works : P → P → Type 0) (word heard : Bool) (p q : P) → word ≡ heard → GoesBy works heard p q → GoesBy works word p q
+by_same_word works word heard p q same by = record { went = λ go. by.went (sym same ∙ go); stayed = λ stay. by.stayed (sym same ∙ stay) }
 
 module _ {P : Type 0} (works : P → P → Type 0) (word : Bool) (posts ended : List P) (by : Beside (λ (i : ℕ) (p q : P). GoesBy works word p q) posts ended) where
   pub all_worked : word ≡ true → Beside (λ (i : ℕ) (p q : P). works p q) posts ended

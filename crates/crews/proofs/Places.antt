@@ -1,9 +1,10 @@
 -- Lists side by side, and what stands at their places.
-use Rattle.std.proofs.Common.{◌≡◌, ◌≢◌, ℕ, zero, suc, ◌+◌, ◌<◌, List, [], ◌∷◌, ◌++◌, length, map, refl, sym, ap, subst, ◌∙◌, arith, inl, inr, length-append, get_or, append_assoc, append-nil, take, drop}
+use Rattle.std.proofs.Common.{◌≡◌, ◌≢◌, ℕ, zero, suc, ◌+◌, ◌<◌, ◌≤◌, List, [], ◌∷◌, ◌++◌, length, map, refl, sym, ap, subst, ◌∙◌, arith, inl, inr, length-append, get_or, append_assoc, append-nil, take, drop}
 use Rattle.std.specs.declared.option.Option.TheVariants.{Some}
 use Rattle.std.specs.Prelude.{◌⊎◌, All, slice_get, slice_set}
 use Rattle.std.specs.List.{AllZip, Contains}
 use Rattle.std.proofs.Math.Seq.{take-append_seam}
+use Rattle.std.proofs.lemmas.List.Elements.{All-nil, All-push}
 use Rattle.std.proofs.lemmas.Option.{slice_get_within, slice_get-get_or, get_or_from_slice_get}
 use Rattle.crews.specs.Crews.{Beside}
 
@@ -105,6 +106,9 @@ all_zip R (x ∷ xs) (y ∷ ys) count f = (f 0 x y refl refl, all_zip R xs ys (o
 abbrev pub Walked : {A : Type 0} → List A → List A → List A → ℕ → Type 0
 Walked all done rest n = (all ≡ done ++ rest) × (n ≡ length rest)
 
+pub walk_begin : {A : Type 0} (all rest : List A) (n len : ℕ) → rest ≡ all → n ≡ len → len ≡ length all → Walked all [] rest n
+walk_begin all rest n len is few count = (sym is, few ∙ count ∙ ap length (sym is))
+
 pub walk_on : {A : Type 0} (all done rest next : List A) (x : A) (n m : ℕ) → Walked all done rest n → rest ≡ x ∷ next → m + 1 ≡ n → Walked all (done ++ x ∷ []) next m
 walk_on all done rest next x n m walked is one =
     let few = ap length is in (
@@ -118,6 +122,37 @@ nil_of (x ∷ xs) is = absurd (omega arith)
 
 pub walk_end : {A : Type 0} (all done rest : List A) (n : ℕ) → Walked all done rest n → n ≡ 0 → all ≡ done
 walk_end all done rest n walked none = walked.0 ∙ ap (λ l. done ++ l) (nil_of rest (sym none ∙ walked.1)) ∙ append-nil done
+
+-- what holds of all items holds of the one that is taken next
+pub walked_at : {A : Type 0} (P : A → Type 0) (all done rest next : List A) (x : A) (n : ℕ) → Walked all done rest n → rest ≡ x ∷ next → All P all → P x
+walked_at P all done rest next x n walked is each = all_at P (done ++ x ∷ next) (length done) x (subst (All P) (walked.0 ∙ ap (λ l. done ++ l) is) each) (get_last done x next)
+
+-- a list that is filled while another one is walked
+module _ {X Y : Type 0} (R : ℕ → X → Y → Type 0) where
+  pub none_filled : (ys : List Y) → ys ≡ [] → Beside R [] ys
+  none_filled ys none = subst (Beside R []) (sym none) (none_beside R)
+
+  pub one_filled : (xs : List X) (x : X) (ys zs : List Y) (y : Y) → zs ≡ ys ++ y ∷ [] → Beside R xs ys → R (length xs) x y → Beside R (xs ++ x ∷ []) zs
+  one_filled xs x ys zs y is beside one = subst (Beside R (xs ++ x ∷ [])) (sym is) (push_beside R xs ys x y beside one)
+
+  pub all_filled : (all done rest : List X) (n : ℕ) (ys : List Y) → Walked all done rest n → n ≡ 0 → Beside R done ys → Beside R all ys
+  all_filled all done rest n ys walked none beside = subst (λ l. Beside R l ys) (sym (walk_end all done rest n walked none)) beside
+
+pub none_all : {A : Type 0} (P : A → Type 0) (xs : List A) → xs ≡ [] → All P xs
+none_all P xs none = subst (All P) (sym none) (All-nil P)
+
+pub one_all : {A : Type 0} (P : A → Type 0) (xs ys : List A) (x : A) → ys ≡ xs ++ x ∷ [] → All P xs → P x → All P ys
+one_all P xs ys x is all one = subst (All P) (sym is) (All-push P xs x all one)
+
+-- there is room for the items that are left, at first and after one more
+pub room_first : {Y : Type 0} (ys : List Y) (len left all cap : ℕ) → ys ≡ [] → len ≡ length ys → left ≡ all → all ≤ cap → len + left ≤ cap
+room_first ys len left all cap none is same room = let few = ap length none in omega (arith, few, is, same, room)
+
+pub room_one : (len left next now cap more : ℕ) → len + left ≤ cap → next + 1 ≡ left → now ≡ len + 1 → more ≡ cap → now + next ≤ more
+room_one len left next now cap more room one is same = omega arith
+
+pub room_some : (len left next cap : ℕ) → len + left ≤ cap → next + 1 ≡ left → len < cap
+room_some len left next cap room one = omega arith
 
 -- what a slice of a whole vector was written, the vector has
 pub written_back : {A : Type 0} (n : ℕ) (xs ys : List A) → length xs ≡ n → take n (xs ++ drop (length xs) ys) ≡ xs

@@ -52,7 +52,8 @@ pub fn each_at_once<
             requires { All (C.can_work shared.now.crew.now) posts.items }
             ensures whole { IfOk result (λ s. (worked : _) → s ≡ Whole worked →
                 Beside (λ i p q. C.works shared.entry.now.crew.now p q) posts.items worked.items) }
-            ensures nobody { IfOk result (λ s. (same : _) → s ≡ Nobody same → same.items ≡ posts.items) }
+            ensures nobody { IfOk result (λ s.
+                (same : _) → s ≡ Nobody same → same.items ≡ posts.items) }
         {
             let begun = Vec::with_capacity(alloc, posts.len())?;
             let ended = Vec::with_capacity(alloc, posts.len())?;
@@ -125,11 +126,21 @@ struct Ended<'a, P> {
 }
 
 // What is to be left at a post.
-#[derive(Drop)]
 struct Owed<'a, P, C> {
     crew: &'a C,
     word: &'a OnceLock<bool>,
     post: Snapshot<P>,
+}
+
+// By hand, as for what has begun: so it asks nothing of a post and of a crew.
+impl<'a, P, C> Drop for Owed<'a, P, C> {
+    fn drop(self) {
+        let Owed {
+            crew: _crew,
+            word: _word,
+            post: _post,
+        } = self;
+    }
 }
 
 impl<'a, P, C: Crew<P>> Promise<Ended<'a, P>> for Owed<'a, P, C> {
@@ -141,10 +152,18 @@ impl<'a, P, C: Crew<P>> Promise<Ended<'a, P>> for Owed<'a, P, C> {
 }
 
 // A post with its thread, or what is left of it where none could be made.
-#[derive(Drop)]
 enum Begun<'a, P: Drop, C: Crew<P>> {
     There(PromisedHandle<Ended<'a, P>, Owed<'a, P, C>>),
     Here(Ended<'a, P>),
+}
+
+impl<'a, P: Drop, C: Crew<P>> Drop for Begun<'a, P, C> {
+    fn drop(self) {
+        match self {
+            Begun::There(_thread) => {}
+            Begun::Here(_ended) => {}
+        }
+    }
 }
 
 impl<'a, P: Drop, C: Crew<P>> Begun<'a, P, C> {
@@ -209,7 +228,8 @@ fn begin_all<
     requires none { begun.items ≡ [] }
     requires room { vec_len posts ≤ vec_capacity begun }
     ensures lock { All (λ b. lock_of b ≡ call.now.word.now.id) result.items }
-    ensures posts { Beside (λ i p b. IsBegun C.works call.now.crew.now p b) posts.items result.items }
+    ensures posts { Beside (λ i p b.
+        IsBegun C.works call.now.crew.now p b) posts.items result.items }
 {
     for post in posts {
         begun.push_reserved(begin(scope, call, post));

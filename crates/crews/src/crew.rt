@@ -28,7 +28,8 @@ pub fn each<R: Threads + Wait + Sync, G: Gate + Sync, P: Send, C: Crew<P> + Sync
 )
     requires can { All (C.can_work crew.now) posts.old }
     ensures count { length posts.new ≡ length posts.old }
-    ensures done { (i : ℕ) (d : P) → i < length posts.old → C.works crew.now (slice_index_or posts.old i d) (slice_index_or posts.new i d) }
+    ensures done { (i : ℕ) (d : P) → i < length posts.old →
+        C.works crew.now (slice_index_or posts.old i d) (slice_index_or posts.new i d) }
 {
     let threads = posts.len();
     if threads == 0 {

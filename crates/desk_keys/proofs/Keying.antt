@@ -23,7 +23,8 @@ use Rattle.locked_nodes.specs.declared.charter.Item.{Item}
 use Rattle.locked_nodes.specs.declared.charter.Item.TheVariants.{Entry}
 use Rattle.locked_nodes.specs.declared.answers.Told.{Told}
 use Rattle.locked_nodes.specs.Cells.{entry, number_of}
-use Rattle.client_desks.specs.Desks.{DeskView, desk_entry, with_own, reply_told, KeepsDesk}
+use Rattle.client_desks.specs.Desks.{DeskView, desk_entry, with_own, KeepsDesk}
+use Rattle.locked_nodes.specs.Cells.{reply_told}
 use Rattle.quorum_rules.specs.Limits.{Numbers}
 use Rattle.locked_nodes.specs.declared.slot.Slot.{Slot}
 use Rattle.locked_nodes.specs.Slots.{IsPlace}

@@ -21,7 +21,8 @@ use Rattle.locked_nodes.specs.declared.answers.Told.{Told}
 use Rattle.locked_nodes.specs.Cells.{IsShare, IsWhole, number_of}
 use Rattle.locked_nodes.specs.declared.slot.Slot.{Slot}
 use Rattle.locked_nodes.specs.Slots.{IsFor, IsPlace, IsWholeAt}
-use Rattle.client_desks.specs.Desks.{DeskView, task_at, asks_of, desk_entry, with_own, reply_told}
+use Rattle.client_desks.specs.Desks.{DeskView, task_at, asks_of, desk_entry, with_own}
+use Rattle.locked_nodes.specs.Cells.{reply_told}
 use Rattle.client_desks.proofs.Desking.{asks_node, asks_client}
 use Rattle.node_mail.specs.declared.asked.Asked.{Asked}
 use Rattle.node_mail.specs.declared.asked.NodePlace.{NodePlace}

@@ -28,7 +28,8 @@ use Rattle.locked_nodes.specs.declared.charter.Item.TheVariants.{Head, Entry}
 use Rattle.locked_nodes.specs.Cells.{entry, number_of}
 use Rattle.locked_nodes.specs.declared.slot.Slot.{Slot}
 use Rattle.locked_nodes.specs.Slots.{slot_of, IsFor, Cover}
-use Rattle.client_desks.specs.Desks.{DeskView, state_at, asks_of, desk_entry, with_call, reply_told, ending}
+use Rattle.client_desks.specs.Desks.{DeskView, state_at, asks_of, desk_entry, with_call, ending}
+use Rattle.locked_nodes.specs.Cells.{reply_told}
 use Rattle.node_mail.specs.declared.asked.Asked.{Asked}
 use Rattle.node_mail.specs.declared.asked.NodePlace.{NodePlace}
 use Rattle.node_mail.specs.declared.answered.Answered.{Answered}

@@ -16,12 +16,23 @@ use std::snapshot::Snapshot;
 /// The slots of all cells, place by place, and the clock; and the cells' vaults, by the same places, or, where nodes run in threads
 /// of their own, the takers of the clients' answers as they were at first, by seat. Threads share it by reference. Contracts see
 /// which clock, slots, vaults and takers these are; the takers are kept in proofs alone.
-#[derive(Drop)]
 pub struct Floor {
     slots: Vec<Slot>,
     vaults: Vec<Vault<NodeCell>>,
     answers: Option<Snapshot<ItemList<Taker<Answered>>>>,
     clock: Clock,
+}
+
+// By hand, since a derived drop is proved anew wherever one is let go.
+impl Drop for Floor {
+    fn drop(self) {
+        let Floor {
+            slots: _slots,
+            vaults: _vaults,
+            answers: _answers,
+            clock: _clock,
+        } = self;
+    }
 }
 
 impl Model for Floor {
@@ -35,7 +46,12 @@ impl Model for Floor {
 impl Floor {
     /// The floor with this clock and these vaults, of cells in these slots.
     pub fn new(clock: Clock, slots: Vec<Slot>, vaults: Vec<Vault<NodeCell>>) -> Floor
-        ensures { result ≡ record { clock = clock; slots = slots.items; vaults = vaults.items; answers = [] } }
+        ensures { result ≡ record {
+          clock = clock;
+          slots = slots.items;
+          vaults = vaults.items;
+          answers = [];
+        } }
     {
         Floor {
             slots,
@@ -52,7 +68,12 @@ impl Floor {
         slots: Vec<Slot>,
         answers: &ItemList<Taker<Answered>>,
     ) -> Floor
-        ensures { result ≡ record { clock = clock; slots = slots.items; vaults = []; answers = answers.now } }
+        ensures { result ≡ record {
+          clock = clock;
+          slots = slots.items;
+          vaults = [];
+          answers = answers.now;
+        } }
     {
         Floor {
             slots,

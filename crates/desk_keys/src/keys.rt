@@ -32,12 +32,23 @@ use wire_forms::{Body, Message, Op};
 /// Until a refusal comes, each entry that a chit left and of which a client has a side stands on the desk, and each entry of the
 /// desk is its own or the side of one that a cell has. By mail, the call that each answer told stands on the desk, and each entry
 /// of the desk is its own, or of before the first ask, or such a call.
-#[derive(Drop)]
 pub struct Keys {
     desk: Desk,
     chits: Vec<Chit<NodeCell>>,
     mail: Option<ByMail>,
     refused: Option<CellRefusal>,
+}
+
+// By hand, since a derived drop is proved anew wherever one is let go.
+impl Drop for Keys {
+    fn drop(self) {
+        let Keys {
+            desk: _desk,
+            chits: _chits,
+            mail: _mail,
+            refused: _refused,
+        } = self;
+    }
 }
 
 impl Model for Keys {
@@ -55,7 +66,12 @@ impl Keys {
     pub fn new(desk: Desk, chits: Vec<Chit<NodeCell>>) -> Keys
         requires rest { All (λ c. c.holds ≡ None) chits.items }
         requires agree { Agree desk chits.items }
-        ensures { result ≡ record { desk = desk; chits = chits.items; mail = None; refused = None } }
+        ensures { result ≡ record {
+          desk = desk;
+          chits = chits.items;
+          mail = None;
+          refused = None;
+        } }
     {
         Keys {
             desk,
@@ -107,7 +123,9 @@ impl Keys {
         requires sound { self.old.refused ≡ None }
         requires can { CanStart self.old.desk }
         requires fits { FitsOp self.old.desk.config op.now }
-        ensures ok { OnOk result ((n : ℕ) × (self.old.desk.pass.seen ≤ n) × (self.new.desk ≡ with_own self.old.desk n (DeskAct.Start op.now))) }
+        ensures ok { OnOk result
+            ((n : ℕ) × (self.old.desk.pass.seen ≤ n)
+            × (self.new.desk ≡ with_own self.old.desk n (DeskAct.Start op.now))) }
         ensures full { (result ≡ Err CellRefusal.ClockFull) ↔ (left_of self.old.desk.pass ≡ 0) }
         ensures err { OnErr result (self.new.desk ≡ self.old.desk) }
         ensures refused { self.new.refused ≡ refusal_in result }
@@ -126,7 +144,9 @@ impl Keys {
         requires fit { Fit self.old floor.now }
         requires sound { self.old.refused ≡ None }
         requires up { IsUp self.old.desk }
-        ensures ok { OnOk result ((n : ℕ) × (self.old.desk.pass.seen ≤ n) × (self.new.desk ≡ with_own self.old.desk n DeskAct.Crash)) }
+        ensures ok { OnOk result
+            ((n : ℕ) × (self.old.desk.pass.seen ≤ n)
+            × (self.new.desk ≡ with_own self.old.desk n DeskAct.Crash)) }
         ensures full { (result ≡ Err CellRefusal.ClockFull) ↔ (left_of self.old.desk.pass ≡ 0) }
         ensures err { OnErr result (self.new.desk ≡ self.old.desk) }
         ensures refused { self.new.refused ≡ refusal_in result }
@@ -160,7 +180,8 @@ impl Keys {
         requires can { CanCall self.old.desk node }
         requires on { AsksOn self.old.desk node block }
         requires whole { way ≡ Way.Hold → IsWholeAt floor.now.slots node }
-        ensures called { IfOk result (λ outcome. HasCalled self.old.desk node way outcome self.new.desk) }
+        ensures called { IfOk result (λ outcome.
+            HasCalled self.old.desk node way outcome self.new.desk) }
         ensures err { OnErr result (KeepsDesk self.old.desk self.new.desk) }
         ensures refused { self.new.refused ≡ refusal_in result }
         ensures later { IsLater self.old.desk self.new.desk }
@@ -342,7 +363,8 @@ fn call_in<R: Wait, G: Gate>(
     requires can { CanCall desk.old node }
     ensures own { chit.new.vault ≡ chit.old.vault }
     ensures rests { chit.new.holds ≡ None }
-    ensures both { IfOk result (λ outcome. AddCall desk.old chit.old node way outcome desk.new chit.new) }
+    ensures both { IfOk result (λ outcome.
+        AddCall desk.old chit.old node way outcome desk.new chit.new) }
     ensures kept { OnErr result (KeepsDesk desk.old desk.new) }
 {
     if chit.left() == 0 {

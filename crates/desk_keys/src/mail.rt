@@ -21,12 +21,22 @@ use wire_forms::Message;
 
 /// A client's way to nodes that run in threads of their own: the right to ask each cell, by the cells' places, and to take the
 /// answers to the client.
-#[derive(Drop)]
 pub struct ByMail {
     /// Which of the clients it is, to the nodes.
     pub seat: u32,
     pub asks: Vec<Putter<Asked>>,
     pub answers: Taker<Answered>,
+}
+
+// By hand, since a derived drop is proved anew wherever one is let go.
+impl Drop for ByMail {
+    fn drop(self) {
+        let ByMail {
+            seat: _seat,
+            asks: _asks,
+            answers: _answers,
+        } = self;
+    }
 }
 
 impl ByMail {
@@ -42,7 +52,9 @@ impl ByMail {
     ) -> Result<(Told, Note), CellRefusal>
         requires place { place < length self.old.asks.items }
         requires clock { desk.old.pass.clock ≡ clock.now }
-        requires asks { (p : Putting AnyAsked NodePlace) → slice_get self.old.asks.items place ≡ Some p → CanAsk clock.now self.old.seat way ask.now p.inbox.place }
+        requires asks { (p : Putting AnyAsked NodePlace) →
+            slice_get self.old.asks.items place ≡ Some p →
+            CanAsk clock.now self.old.seat way ask.now p.inbox.place }
         requires answers { self.old.answers.inbox.place.clock.value ≡ clock.now }
         ensures taken { IfOk result (λ r. HasTaken self.old way ask.now r.0 self.new) }
         ensures later { IfOk result (λ r. desk.old.pass.seen ≤ number_of r.0) }
@@ -65,12 +77,7 @@ impl ByMail {
         if !answer.is_to(way, ask) {
             return Err(CellRefusal::NoMemory);
         }
-        let Answered {
-            way: _,
-            ask: _,
-            told,
-            note,
-        } = answer;
+        let (told, note) = answer.into_told();
         let told = told?;
         if !desk.can_hear(number_in(&told)) {
             return Err(CellRefusal::NoMemory);
@@ -120,9 +127,12 @@ pub(crate) fn call_by<R: Wait>(
     requires place { place < length mail.old.asks.items }
     requires clock { desk.old.pass.clock ≡ clock.now }
     requires can { CanCall desk.old node }
-    requires asks { (ask : AnyMessage) (p : Putting AnyAsked NodePlace) → asks_of desk.old node ≡ Some ask → slice_get mail.old.asks.items place ≡ Some p → CanAsk clock.now mail.old.seat way ask p.inbox.place }
+    requires asks { (ask : AnyMessage) (p : Putting AnyAsked NodePlace) →
+        asks_of desk.old node ≡ Some ask → slice_get mail.old.asks.items place ≡ Some p →
+        CanAsk clock.now mail.old.seat way ask p.inbox.place }
     requires answers { mail.old.answers.inbox.place.clock.value ≡ clock.now }
-    ensures heard { IfOk result (λ outcome. AddHeard desk.old mail.old node way outcome desk.new mail.new) }
+    ensures heard { IfOk result (λ outcome.
+        AddHeard desk.old mail.old node way outcome desk.new mail.new) }
     ensures kept { OnErr result (KeepsDesk desk.old desk.new) }
     ensures same { IsSameMail mail.old mail.new }
 {
@@ -147,7 +157,9 @@ pub(crate) fn send_by<R: Wait>(
     requires lying { desk.old.lying ≡ true }
     requires client { ask.now.client ≡ desk.old.id }
     requires formed { IsFormedBody ask.now.body }
-    requires asks { (p : Putting AnyAsked NodePlace) → slice_get mail.old.asks.items place ≡ Some p → CanAsk clock.now mail.old.seat Way.Call ask.now p.inbox.place }
+    requires asks { (p : Putting AnyAsked NodePlace) →
+        slice_get mail.old.asks.items place ≡ Some p →
+        CanAsk clock.now mail.old.seat Way.Call ask.now p.inbox.place }
     requires answers { mail.old.answers.inbox.place.clock.value ≡ clock.now }
     ensures sent { OnOk result (AddTold desk.old mail.old ask.now desk.new mail.new) }
     ensures kept { OnErr result (KeepsDesk desk.old desk.new) }

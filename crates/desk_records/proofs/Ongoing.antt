@@ -7,9 +7,9 @@ use Rattle.wire_forms.specs.declared.Body.TheVariants.{Ask as Asks, Answer as An
 use Rattle.protocol.specs.Messages.{Message, Body, Reply, Stamp}
 use Rattle.protocol.specs.Count.{update}
 use Rattle.protocol.specs.Setting.{Setting}
-use Rattle.protocol.specs.Operations.{Task, Decision, counted, goes_on, begun, decide, answered, mail}
+use Rattle.protocol.specs.Operations.{is_counted, Task, Decision, counted, goes_on, begun, decide, answered, mail}
 use Rattle.protocol.specs.Operations.Decision.{GoesOn, Ends}
-use Rattle.protocol.specs.World.{World, Record, Event, Allowed, AllAllowed, happens, all_happen, start_world, only_place, moved, decided, advanced, heard, heard_by, counts, given, resent_by, pruned_at, with_record, open_record, closed_record, last_op, greatest_given}
+use Rattle.protocol.specs.World.{World, Record, Event, Allowed, AllAllowed, happens, all_happen, start_world, only_place, moved, decided, advanced, heard, heard_by, given, resent_by, pruned_at, with_record, open_record, closed_record, last_op, greatest_given}
 use Rattle.protocol.specs.World.Event.{Start, Resend, Give, Hear, CrashNode, CrashClient, Lie, Prune, Back}
 use Rattle.protocol.specs.Facts.{HasOperation, IsSameOperation}
 use Rattle.protocol.specs.Lines.{Line, Run, IsRun, IsPlayable, plays, events}
@@ -121,7 +121,7 @@ module _ (replaced : (records : List Record) → OneIsReplaced records) (s : Set
 
   hears_by : (c : ℕ) (o : Option Task) → w.task c ≡ o → (m : Message) (reply : Reply) → AreTold s (heard_by s w place c o m reply)
   hears_by c None busy m reply = h
-  hears_by c (Some task) busy m reply = at (counts s w place task m reply)
+  hears_by c (Some task) busy m reply = at (is_counted s task m.node m.tag reply)
     where
       at : (b : Bool) → AreTold s (cond b (advanced s w place c (counted task m.node reply)) (only_place s w place))
       at true = advances c (counted task m.node reply) task busy refl
@@ -159,7 +159,7 @@ module _ (replaced : (records : List Record) → OneIsReplaced records) (s : Set
       recorded j t = at_update (λ i o. o ≡ Some t → Contains w.records (open_record i t)) w.task c None j (λ own e. absurd (cc)) (λ other e. h.1 j t e)
 
   told_after : (e : Event) → Allowed s w place e → AreTold s (happens s w place e)
-  told_after (Start c block work) a = starts c (begun (last_op w c + 1) block work place) a.4 a.2
+  told_after (Start c block work) a = starts c (begun (last_op w c + 1) block work place) a.idle a.correct
   told_after (Resend c) a = resends c (w.task c)
   told_after (Give i m) a = gives i m m.body
   told_after (Hear c m) a = hears c m m.body

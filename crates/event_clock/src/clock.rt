@@ -1,6 +1,6 @@
 ghost use Rattle.std.specs.Prelude.{◌≡◌, ℕ, ◌+◌, ◌^◌, ◌<◌, ◌≤◌, [], ◌∷◌, length, map, All, Some, slice_get, IfOk};
 ghost use Rattle.event_clock.specs.Views.{IsDrawnOnce, IsEachPass, drawn_count, first_view, only, other_shares, with_shares};
-ghost use Rattle.event_clock.specs.Passes.{clock_id, unused, IsUnused, left_of, drew, met, heeded, sight_of, share_of, holder};
+ghost use Rattle.event_clock.specs.Passes.{clock_id, unused, IsUnused, left_of, drew, met, heeded, sight_of, sight_at, IsNote, share_of, holder};
 
 use crate::rule::{CutNote, Draw, FirstPass, Look, Numbering, TakeIn, View};
 use atomic_table::{Seat, Table};
@@ -16,9 +16,15 @@ type Ticker = Table<(), View, u64, Numbering, Global>;
 
 /// Gives out the numbers 0, 1, 2 and so on, each once, to the passes that draw them. Threads share it by reference.
 /// Contracts see which clock it is, and how many passes it has.
-#[derive(Drop)]
 pub struct Clock {
     table: Ticker,
+}
+
+// By hand, as for passes and notes: a derived drop is proved anew wherever one is let go.
+impl Drop for Clock {
+    fn drop(self) {
+        let Clock { table: _table } = self;
+    }
 }
 
 impl Model for Clock {
@@ -36,11 +42,20 @@ impl Model for Clock {
 /// The right to draw numbers from one clock. Contracts see its clock, its pass number, the least number that it may draw
 /// next (`seen`), and the list of the numbers that it drew. Of these `seen` and how many it may still draw are kept at run
 /// time.
-#[derive(Drop)]
 pub struct Pass {
     seat: Seat<(), View>,
     left: u64,
     seen: u64,
+}
+
+impl Drop for Pass {
+    fn drop(self) {
+        let Pass {
+            seat: _seat,
+            left: _left,
+            seen: _seen,
+        } = self;
+    }
 }
 
 impl Model for Pass {
@@ -55,10 +70,18 @@ impl Model for Pass {
 
 /// What a pass has seen, to be taken to another thread: the pass that heeds it there draws above that. Contracts see its
 /// clock, and the least number that such a pass may draw next (`seen`). It may be let go.
-#[derive(Drop)]
 pub struct Note {
     seat: Seat<(), View>,
     seen: u64,
+}
+
+impl Drop for Note {
+    fn drop(self) {
+        let Note {
+            seat: _seat,
+            seen: _seen,
+        } = self;
+    }
 }
 
 impl Model for Note {
@@ -75,10 +98,18 @@ impl Model for Note {
 pub type Passes = ItemList<Pass>;
 
 /// What a closed clock gave out. Contracts also see which pass drew which numbers. Only `Clock::close` makes one.
-#[derive(Drop)]
 pub struct Drawn {
     count: u64,
     keeper: Seat<(), View>,
+}
+
+impl Drop for Drawn {
+    fn drop(self) {
+        let Drawn {
+            count: _count,
+            keeper: _keeper,
+        } = self;
+    }
 }
 
 impl Model for Drawn {
@@ -124,6 +155,17 @@ impl Pass {
             seen: _,
         } = self;
         seat
+    }
+}
+
+impl Note {
+    // Its seat, with what it knows, and what it has seen.
+    fn into_parts(self) -> (Seat<(), View>, u64)
+        ensures sight { sight_at result.0.table_id result.0.me.0 ≡ self }
+        ensures note { IsNote result.0.me result.1 }
+    {
+        let Note { seat, seen } = self;
+        (seat, seen)
     }
 }
 
@@ -187,7 +229,7 @@ impl Clock {
         requires note { note.clock ≡ self.now }
         ensures { pass.new ≡ heeded pass.old note.seen }
     {
-        let Note { seat, seen } = note;
+        let (seat, seen) = note.into_parts();
         self.table.shared.join_seat::<TakeIn>(&mut pass.seat, seat);
         pass.seen = max(pass.seen, seen);
     }
@@ -261,7 +303,8 @@ fn cut_first(table: &Ticker, seat: &mut Seat<(), View>) -> Pass
 // One seat with all passes, in their order.
 fn join_all(table: &Ticker, mut passes: Passes) -> Seat<(), View>
     requires word { table.now.shared.table_id.words ≡ 1 }
-    requires own { All (λ p. p.clock ≡ clock_id table.now.shared.table_id table.now.shared.key) passes }
+    requires own { All (λ p.
+        p.clock ≡ clock_id table.now.shared.table_id table.now.shared.key) passes }
     requires some { 0 < length passes }
     ensures own { result.table_id ≡ table.now.shared.table_id }
     ensures passes { result.me.0.passes ≡ table.now.shared.key }

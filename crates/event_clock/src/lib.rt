@@ -5,6 +5,3 @@ pub mod clock;
 mod rule;
 
 pub use clock::{Clock, Drawn, Note, Pass, Passes};
-
-#[cfg(test)]
-mod tests;

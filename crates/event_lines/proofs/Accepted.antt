@@ -22,7 +22,8 @@ use Rattle.line_forms.specs.declared.cause.Cause.{Cause}
 use Rattle.line_forms.specs.declared.cause.Cause.TheVariants.{UnknownWord}
 use Rattle.event_lines.specs.declared.line.ReplayLine.{ReplayLine}
 use Rattle.event_lines.specs.declared.line.ReplayLine.TheVariants.{Plain, Put, Get, Next}
-use Rattle.event_lines.specs.Lines.{IsClient, IsNode, IsBlock, IsValue, IsEventLine, event_fields, event_text, rule_text}
+use Rattle.wire_forms.specs.Liars.{IsClientNumber}
+use Rattle.event_lines.specs.Lines.{IsNode, IsBlock, IsValue, IsEventLine, event_fields, event_text, rule_text}
 use Rattle.event_lines.specs.Forms.{rule, in_two, fields_cause, message_cause, line_cause, event_cause}
 use Rattle.event_lines.specs.Messages.{Part, are_of}
 use Rattle.event_lines.proofs.Lacking.{event_lacks}
@@ -96,8 +97,8 @@ a_number limit from end n small lt low high =
       values = refl;
     }
 
-a_client : (n : ℕ) → IsClient n → Fine client (decimal n)
-a_client n h = a_number (2 ^ 32) 1 1001 n (lit≤ tt) (omega arith) h.first (omega arith)
+a_client : (n : ℕ) → IsClientNumber n → Fine client (decimal n)
+a_client n h = a_number (2 ^ 32) 1 1001 n (lit≤ tt) (omega arith) h.0 (omega arith)
 
 a_node : (c : Numbers) (n : ℕ) → IsNode c n → Fine (node c.n) (decimal n)
 a_node c n h = a_number (2 ^ 8) 0 c.n n (lit≤ tt) h.typed (omega arith) h.there

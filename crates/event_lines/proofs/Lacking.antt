@@ -21,7 +21,8 @@ use Rattle.run_words.specs.declared.line.Line.{Line}
 use Rattle.run_words.specs.declared.line.Line.TheVariants.{Write, Read, Resend, Call, Give, Hear, Lost, CrashNode, CrashClient, Lie, Tell, Poke, False, Sound, Mix, Prune, Back, Restart}
 use Rattle.event_lines.specs.declared.line.ReplayLine.{ReplayLine}
 use Rattle.event_lines.specs.declared.line.ReplayLine.TheVariants.{Plain, Put, Get, Next}
-use Rattle.event_lines.specs.Lines.{IsClient, IsNode, IsBlock, IsEventLine, event_fields, rule_text}
+use Rattle.wire_forms.specs.Liars.{IsClientNumber}
+use Rattle.event_lines.specs.Lines.{IsNode, IsBlock, IsEventLine, event_fields, rule_text}
 use Rattle.event_lines.specs.Messages.{Part, is_part, are_parts, are_of, ask_forms, answer_forms}
 use Rattle.event_lines.specs.Messages.Part.{word, number, stamp, value}
 use Rattle.event_lines.proofs.Parts.{number_spelled, stamp_spelled, value_spelled}
@@ -107,7 +108,7 @@ module _ (mark : ℕ) (some : 0 < mark) (low : mark < 46) where
   number_lacks : (n : ℕ) → n < 2 ^ 64 → Lacks mark (decimal n)
   number_lacks n lt = Lacks-decimal mark n (omega arith) lt
 
-  client_lacks : (n : ℕ) → IsClient n → Lacks mark (decimal n)
+  client_lacks : (n : ℕ) → IsClientNumber n → Lacks mark (decimal n)
   client_lacks n h = number_lacks n (omega arith)
 
   node_lacks : (c : Numbers) (n : ℕ) → IsNode c n → Lacks mark (decimal n)

@@ -18,7 +18,8 @@ use Rattle.run_words.specs.declared.line.Line.{Line}
 use Rattle.run_words.specs.declared.line.Line.TheVariants as lines
 use Rattle.event_lines.specs.declared.line.ReplayLine.{ReplayLine}
 use Rattle.event_lines.specs.declared.line.ReplayLine.TheVariants as replay
-use Rattle.event_lines.specs.Lines.{IsClient, IsNode, IsBlock, IsEventLine, event_fields, event_text, rule_text}
+use Rattle.wire_forms.specs.Liars.{IsClientNumber}
+use Rattle.event_lines.specs.Lines.{IsNode, IsBlock, IsEventLine, event_fields, event_text, rule_text}
 use Rattle.event_lines.specs.Words.{Form, Speech, Word, word_of}
 use Rattle.event_lines.specs.declared.word.Form.TheVariants.{Write, Read, Resend, Call, Give, Hear, Lost, Crash, False, Sound, Mix, Prune, Back, Restart, Put, Get, Next}
 use Rattle.event_lines.specs.declared.word.Speech.TheVariants.{Lie, Tell, Poke}
@@ -89,8 +90,8 @@ Carries l m = (x : Message) → told l ≡ Some x → x ≡ m
 number_back : (limit n : ℕ) → limit ≤ 2 ^ 64 → n < limit → unwrap_or (number_of limit (decimal n)) 0 ≡ n
 number_back limit n small lt = rw (number_of-decimal limit n small lt) refl
 
-client_back : (n : ℕ) → IsClient n → unwrap_or (number_of (2 ^ 32) (decimal n)) 0 ≡ n
-client_back n h = number_back (2 ^ 32) n (lit≤ tt) (let k = h.last in omega arith)
+client_back : (n : ℕ) → IsClientNumber n → unwrap_or (number_of (2 ^ 32) (decimal n)) 0 ≡ n
+client_back n h = number_back (2 ^ 32) n (lit≤ tt) (let k = h.1 in omega arith)
 
 node_back : (c : Numbers) (n : ℕ) → IsNode c n → unwrap_or (number_of (2 ^ 8) (decimal n)) 0 ≡ n
 node_back c n h = number_back (2 ^ 8) n (lit≤ tt) h.typed

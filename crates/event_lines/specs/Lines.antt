@@ -4,6 +4,7 @@ use Rattle.quorum_rules.specs.Limits.{Numbers}
 use Rattle.quorum_rules.specs.declared.Edition.TheVariants.{Two}
 use Rattle.text_lines.specs.Lines.{line_of_fields}
 use Rattle.text_lines.specs.Fields.{value_text, IsBytes}
+use Rattle.wire_forms.specs.Liars.{IsClientNumber}
 use Rattle.wire_forms.specs.declared.rule.Rule.{Rule}
 use Rattle.wire_forms.specs.declared.rule.Rule.TheVariants.{Silent, Old, Top, Bad}
 use Rattle.wire_forms.specs.Texts.{IsMessage, HasLimits, message_fields}
@@ -14,10 +15,6 @@ use Rattle.event_lines.specs.declared.line.ReplayLine.{ReplayLine}
 use Rattle.event_lines.specs.declared.line.ReplayLine.TheVariants.{Plain, Put, Get, Next}
 
 -- ---- which lines there are: numbers in their types' ranges that may stand there
-
-pub record IsClient (client : ℕ) : Type 0 where
-  pub first : 1 ≤ client
-  pub last : client ≤ 1000
 
 pub record IsNode (c : Numbers) (node : ℕ) : Type 0 where
   pub typed : node < 2 ^ 8
@@ -33,31 +30,31 @@ pub record IsValue (c : Numbers) (value : List ℕ) : Type 0 where
   pub bytes : IsBytes value
 
 abbrev pub IsLine : Numbers → Line → Type 0
-IsLine c (Write client block value) = IsClient client × IsBlock c block × IsValue c value
-IsLine c (Read client block) = IsClient client × IsBlock c block
-IsLine c (Resend client) = IsClient client
-IsLine c (Call client node) = IsClient client × IsNode c node
+IsLine c (Write client block value) = IsClientNumber client × IsBlock c block × IsValue c value
+IsLine c (Read client block) = IsClientNumber client × IsBlock c block
+IsLine c (Resend client) = IsClientNumber client
+IsLine c (Call client node) = IsClientNumber client × IsNode c node
 IsLine c (Give node message) = IsNode c node × (message < 2 ^ 64)
-IsLine c (Hear client message) = IsClient client × (message < 2 ^ 64)
-IsLine c (Lost client node) = IsClient client × IsNode c node
+IsLine c (Hear client message) = IsClientNumber client × (message < 2 ^ 64)
+IsLine c (Lost client node) = IsClientNumber client × IsNode c node
 IsLine c (CrashNode node) = IsNode c node
-IsLine c (CrashClient client) = IsClient client
+IsLine c (CrashClient client) = IsClientNumber client
 IsLine c (Lie message) = IsMessage message
 IsLine c (Tell message) = IsMessage message × (is_answer message.body ≡ true)
 IsLine c (Poke message) = IsMessage message × (is_ask message.body ≡ true)
-IsLine c (False client node rule) = IsClient client × IsNode c node × (rule ≢ Silent)
-IsLine c (Sound client node block time value) = IsClient client × IsNode c node × IsBlock c block × (time < 2 ^ 64) × IsValue c value
-IsLine c (Mix client node block time value other) = IsClient client × IsNode c node × IsBlock c block × (time < 2 ^ 64) × IsValue c value × IsValue c other
+IsLine c (False client node rule) = IsClientNumber client × IsNode c node × (rule ≢ Silent)
+IsLine c (Sound client node block time value) = IsClientNumber client × IsNode c node × IsBlock c block × (time < 2 ^ 64) × IsValue c value
+IsLine c (Mix client node block time value other) = IsClientNumber client × IsNode c node × IsBlock c block × (time < 2 ^ 64) × IsValue c value × IsValue c other
 IsLine c (Prune node block) = IsNode c node × IsBlock c block
-IsLine c (Back client) = (c.edition ≡ Two) × IsClient client
+IsLine c (Back client) = (c.edition ≡ Two) × IsClientNumber client
 IsLine c (Restart node) = (c.edition ≡ Two) × IsNode c node
 
 -- an event line of a replay script for a cluster of these numbers
 abbrev pub IsEventLine : Numbers → ReplayLine → Type 0
 IsEventLine c (Plain line) = IsLine c line
-IsEventLine c (Put client offset bytes) = IsClient client × (offset < 2 ^ 64) × IsBytes bytes
-IsEventLine c (Get client offset length) = IsClient client × (offset < 2 ^ 64) × (length < 2 ^ 64)
-IsEventLine c (Next client) = IsClient client
+IsEventLine c (Put client offset bytes) = IsClientNumber client × (offset < 2 ^ 64) × IsBytes bytes
+IsEventLine c (Get client offset length) = IsClientNumber client × (offset < 2 ^ 64) × (length < 2 ^ 64)
+IsEventLine c (Next client) = IsClientNumber client
 
 -- ---- their texts
 

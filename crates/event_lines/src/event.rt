@@ -36,7 +36,8 @@ use text_lines::{cut, fields};
 /// an ask after `poke`.
 #[tactic(auto, using(text_lines::proofs::Joined::line_from_fields), unfolding(crate::specs::Forms::event_cause))]
 pub fn read_event(alloc: Global, config: &Config, line: &[u8]) -> Result<ReplayLine, LineRefusal>
-    ensures { Gives (λ l. IsEventLine config.now l × (event_text l ≡ line.now)) (event_cause config.now line.now) result }
+    ensures { Gives (λ l. IsEventLine config.now l × (event_text l ≡ line.now))
+        (event_cause config.now line.now) result }
 {
     let (word, rest) = first_word(line);
     match Word::of(word) {
@@ -63,7 +64,8 @@ fn read_form(
     form: Form,
     rest: Option<&[u8]>,
 ) -> Result<ReplayLine, LineRefusal>
-    ensures { Gives (IsSpelled config.now (form_text form ∷ fields_after rest.entry)) (fields_cause (forms_of config.now form) (fields_after rest.entry)) result }
+    ensures { Gives (IsSpelled config.now (form_text form ∷ fields_after rest.entry))
+        (fields_cause (forms_of config.now form) (fields_after rest.entry)) result }
 {
     match rest {
         Some(rest) => {
@@ -81,7 +83,8 @@ fn read_fields(
     form: Form,
     fields: &[&[u8]],
 ) -> Result<ReplayLine, LineRefusal>
-    ensures { Gives (IsSpelled config.now (form_text form ∷ texts fields.now)) (fields_cause (forms_of config.now form) (texts fields.now)) result }
+    ensures { Gives (IsSpelled config.now (form_text form ∷ texts fields.now))
+        (fields_cause (forms_of config.now form) (texts fields.now)) result }
 {
     if !has_words(config, form, fields) {
         return Err(LineRefusal::Cause(Cause::UnknownWord));
@@ -130,7 +133,8 @@ fn has_words(config: &Config, form: Form, fields: &[&[u8]]) -> bool
 
 /// Whether `node` or `client` follows `crash`, or nothing.
 fn has_crash_word(fields: &[&[u8]]) -> bool
-    ensures { (c : Numbers) → result ≡ list_any (has_its_words (texts fields.now)) (forms_of c Form.Crash) }
+    ensures { (c : Numbers)
+        → result ≡ list_any (has_its_words (texts fields.now)) (forms_of c Form.Crash) }
 {
     match fields.split_first() {
         Some((what, _)) => *what == b"node".as_slice() || *what == b"client".as_slice(),
@@ -155,7 +159,8 @@ fn has_word_of_two(config: &Config, word: &[u8], fields: &[&[u8]]) -> bool
 
 /// Whether the third field behind `false`, if there is one, is a rule.
 fn has_rule(fields: &[&[u8]]) -> bool
-    ensures { (c : Numbers) → result ≡ list_any (has_its_words (texts fields.now)) (forms_of c Form.False) }
+    ensures { (c : Numbers)
+        → result ≡ list_any (has_its_words (texts fields.now)) (forms_of c Form.False) }
 {
     match fields.get(2) {
         Some(rule) => forms::rule_of(rule).is_some(),

@@ -33,7 +33,8 @@ pub fn write(
 ) -> Result<ReplayLine, LineRefusal>
     requires { has_empty_field (client.now ∷ block.now ∷ value.now ∷ []) ≡ false }
     ensures { Gives (IsSpelled config.now (codes "write" ∷ client.now ∷ block.now ∷ value.now ∷ []))
-        (fields_cause (forms_of config.now Form.Write) (client.now ∷ block.now ∷ value.now ∷ [])) result }
+        (fields_cause (forms_of config.now Form.Write) (client.now ∷ block.now ∷ value.now ∷ []))
+        result }
 {
     let (client, block) = client_and_block(config, client, block)?;
     let value = value_of_len(alloc, value, config.size() as usize)?;
@@ -116,7 +117,8 @@ pub fn crash(config: &Config, what: &[u8], number: &[u8]) -> Result<ReplayLine, 
 
 /// The rule by which a lying node answers. `silent` is no answer.
 pub fn rule_of(field: &[u8]) -> Option<Rule>
-    ensures spelled { MatchOption result (is_other_word rule field.now ≡ true) (λ read. (read ≢ Rule.Silent) × (rule_text read ≡ field.now)) }
+    ensures spelled { MatchOption result (is_other_word rule field.now ≡ true)
+        (λ read. (read ≢ Rule.Silent) × (rule_text read ≡ field.now)) }
     ensures there { is_none result ≡ is_other_word rule field.now }
 {
     match field {
@@ -135,7 +137,8 @@ pub fn falsely(
 ) -> Result<ReplayLine, LineRefusal>
     requires { has_empty_field (client.now ∷ node.now ∷ rule.now ∷ []) ≡ false }
     ensures { Gives (IsSpelled config.now (codes "false" ∷ client.now ∷ node.now ∷ rule.now ∷ []))
-        (fields_cause (forms_of config.now Form.False) (client.now ∷ node.now ∷ rule.now ∷ [])) result }
+        (fields_cause (forms_of config.now Form.False) (client.now ∷ node.now ∷ rule.now ∷ []))
+        result }
 {
     let rule = rule_of(rule).ok_or(Cause::UnknownWord)?;
     let (client, node) = client_and_node(config, client, node)?;
@@ -151,9 +154,12 @@ pub fn sound(
     time: &[u8],
     value: &[u8],
 ) -> Result<ReplayLine, LineRefusal>
-    requires { has_empty_field (client.now ∷ node.now ∷ block.now ∷ time.now ∷ value.now ∷ []) ≡ false }
-    ensures { Gives (IsSpelled config.now (codes "sound" ∷ client.now ∷ node.now ∷ block.now ∷ time.now ∷ value.now ∷ []))
-        (fields_cause (forms_of config.now Form.Sound) (client.now ∷ node.now ∷ block.now ∷ time.now ∷ value.now ∷ [])) result }
+    requires { has_empty_field (client.now ∷ node.now ∷ block.now ∷ time.now ∷ value.now ∷ [])
+        ≡ false }
+    ensures { Gives (IsSpelled config.now
+        (codes "sound" ∷ client.now ∷ node.now ∷ block.now ∷ time.now ∷ value.now ∷ []))
+        (fields_cause (forms_of config.now Form.Sound)
+        (client.now ∷ node.now ∷ block.now ∷ time.now ∷ value.now ∷ [])) result }
 {
     let Forged {
         client,
@@ -179,9 +185,11 @@ fn two_values(
     len: usize,
 ) -> Result<(Bytes, Bytes), LineRefusal>
     requires { has_empty_field (first.now ∷ second.now ∷ []) ≡ false }
-    ensures { Gives (λ read. (value_text read.0 ≡ first.now) × (length read.0 ≡ len) × IsBytes read.0
+    ensures { Gives (λ read. (value_text read.0 ≡ first.now) × (length read.0 ≡ len)
+        × IsBytes read.0
         × (value_text read.1 ≡ second.now) × (length read.1 ≡ len) × IsBytes read.1)
-        (form_cause (value_of_size len ∷ value_of_size len ∷ []) (first.now ∷ second.now ∷ [])) result }
+        (form_cause (value_of_size len ∷ value_of_size len ∷ []) (first.now ∷ second.now ∷ []))
+        result }
 {
     let first = value_of_len(alloc, first, len)?;
     let second = value_of_len(alloc, second, len)?;
@@ -198,9 +206,12 @@ pub fn mix(
     value: &[u8],
     other: &[u8],
 ) -> Result<ReplayLine, LineRefusal>
-    requires { has_empty_field (client.now ∷ node.now ∷ block.now ∷ time.now ∷ value.now ∷ other.now ∷ []) ≡ false }
-    ensures { Gives (IsSpelled config.now (codes "mix" ∷ client.now ∷ node.now ∷ block.now ∷ time.now ∷ value.now ∷ other.now ∷ []))
-        (fields_cause (forms_of config.now Form.Mix) (client.now ∷ node.now ∷ block.now ∷ time.now ∷ value.now ∷ other.now ∷ [])) result }
+    requires { has_empty_field
+        (client.now ∷ node.now ∷ block.now ∷ time.now ∷ value.now ∷ other.now ∷ []) ≡ false }
+    ensures { Gives (IsSpelled config.now
+        (codes "mix" ∷ client.now ∷ node.now ∷ block.now ∷ time.now ∷ value.now ∷ other.now ∷ []))
+        (fields_cause (forms_of config.now Form.Mix)
+        (client.now ∷ node.now ∷ block.now ∷ time.now ∷ value.now ∷ other.now ∷ [])) result }
 {
     let Forged {
         client,
@@ -255,7 +266,8 @@ pub fn restart(config: &Config, what: &[u8], node: &[u8]) -> Result<ReplayLine, 
 /// The value of any length that a field spells.
 fn any_value(alloc: Global, field: &[u8]) -> Result<Bytes, LineRefusal>
     requires { has_empty_field (field.now ∷ []) ≡ false }
-    ensures { Gives (λ read. (value_text read ≡ field.now) × IsBytes read) (form_cause (any_bytes ∷ []) (field.now ∷ [])) result }
+    ensures { Gives (λ read. (value_text read ≡ field.now) × IsBytes read)
+        (form_cause (any_bytes ∷ []) (field.now ∷ [])) result }
 {
     let value = value(alloc, field)?.ok_or(Cause::BadValue)?;
     Ok(value)
@@ -268,7 +280,8 @@ pub fn put(
     bytes: &[u8],
 ) -> Result<ReplayLine, LineRefusal>
     requires { has_empty_field (client.now ∷ offset.now ∷ bytes.now ∷ []) ≡ false }
-    ensures { (c : Numbers) → Gives (IsSpelled c (codes "put" ∷ client.now ∷ offset.now ∷ bytes.now ∷ []))
+    ensures { (c : Numbers)
+        → Gives (IsSpelled c (codes "put" ∷ client.now ∷ offset.now ∷ bytes.now ∷ []))
         (fields_cause (forms_of c Form.Put) (client.now ∷ offset.now ∷ bytes.now ∷ [])) result }
 {
     let (client, offset) = client_and_u64(client, offset)?;
@@ -282,7 +295,8 @@ pub fn put(
 
 pub fn get(client: &[u8], offset: &[u8], length: &[u8]) -> Result<ReplayLine, LineRefusal>
     requires { has_empty_field (client.now ∷ offset.now ∷ length.now ∷ []) ≡ false }
-    ensures { (c : Numbers) → Gives (IsSpelled c (codes "get" ∷ client.now ∷ offset.now ∷ length.now ∷ []))
+    ensures { (c : Numbers)
+        → Gives (IsSpelled c (codes "get" ∷ client.now ∷ offset.now ∷ length.now ∷ []))
         (fields_cause (forms_of c Form.Get) (client.now ∷ offset.now ∷ length.now ∷ [])) result }
 {
     let client = number_u32(client).ok_or(Cause::BadNumber)?;

@@ -6,7 +6,8 @@ ghost use Rattle.std.specs.Prelude.{◌≡◌, ◌↔◌, ◌∷◌, ◌^◌, �
 ghost use Rattle.line_forms.specs.Kinds as kinds;
 ghost use Rattle.line_forms.specs.Kinds.{form_cause, has_empty_field};
 ghost use Rattle.line_forms.specs.Tables.{Gives};
-ghost use Rattle.event_lines.specs.Lines.{IsClient, IsNode, IsBlock};
+ghost use Rattle.wire_forms.specs.Liars.{IsClientNumber};
+ghost use Rattle.event_lines.specs.Lines.{IsNode, IsBlock};
 
 use line_forms::{Cause, LineRefusal};
 use quorum_rules::Config;
@@ -14,7 +15,7 @@ use text_lines::{number, number_u8, number_u32};
 
 /// Whether a client may have this number.
 pub fn is_client(client: u32) -> bool
-    ensures { IsTrue result ↔ IsClient client }
+    ensures { IsTrue result ↔ IsClientNumber client }
 {
     client >= 1 && client <= 1000
 }
@@ -36,7 +37,8 @@ pub fn is_block(config: &Config, block: u32) -> bool
 /// The client that a field spells.
 pub fn client(field: &[u8]) -> Result<u32, LineRefusal>
     requires { has_empty_field (field.now ∷ []) ≡ false }
-    ensures { Gives (λ read. IsClient read × (field.now ≡ decimal read)) (form_cause (kinds.client ∷ []) (field.now ∷ [])) result }
+    ensures { Gives (λ read. IsClientNumber read × (field.now ≡ decimal read))
+        (form_cause (kinds.client ∷ []) (field.now ∷ [])) result }
 {
     let client = number_u32(field).ok_or(Cause::BadNumber)?;
     if !is_client(client) {
@@ -48,7 +50,8 @@ pub fn client(field: &[u8]) -> Result<u32, LineRefusal>
 /// The node that a field spells.
 pub fn node(config: &Config, field: &[u8]) -> Result<u8, LineRefusal>
     requires { has_empty_field (field.now ∷ []) ≡ false }
-    ensures { Gives (λ read. IsNode config.now read × (field.now ≡ decimal read)) (form_cause (kinds.node config.now.n ∷ []) (field.now ∷ [])) result }
+    ensures { Gives (λ read. IsNode config.now read × (field.now ≡ decimal read))
+        (form_cause (kinds.node config.now.n ∷ []) (field.now ∷ [])) result }
 {
     let node = number_u8(field).ok_or(Cause::BadNumber)?;
     if !is_node(config, node) {
@@ -64,8 +67,10 @@ pub fn client_and_block(
     block: &[u8],
 ) -> Result<(u32, u32), LineRefusal>
     requires { has_empty_field (client.now ∷ block.now ∷ []) ≡ false }
-    ensures { Gives (λ read. IsClient read.0 × IsBlock config.now read.1 × (client.now ≡ decimal read.0) × (block.now ≡ decimal read.1))
-        (form_cause (kinds.client ∷ kinds.block config.now.blocks ∷ []) (client.now ∷ block.now ∷ [])) result }
+    ensures { Gives (λ read. IsClientNumber read.0 × IsBlock config.now read.1
+        × (client.now ≡ decimal read.0) × (block.now ≡ decimal read.1))
+        (form_cause (kinds.client ∷ kinds.block config.now.blocks ∷ [])
+        (client.now ∷ block.now ∷ [])) result }
 {
     let client = number_u32(client).ok_or(Cause::BadNumber)?;
     let block = number_u32(block).ok_or(Cause::BadNumber)?;
@@ -82,8 +87,10 @@ pub fn client_and_node(
     node: &[u8],
 ) -> Result<(u32, u8), LineRefusal>
     requires { has_empty_field (client.now ∷ node.now ∷ []) ≡ false }
-    ensures { Gives (λ read. IsClient read.0 × IsNode config.now read.1 × (client.now ≡ decimal read.0) × (node.now ≡ decimal read.1))
-        (form_cause (kinds.client ∷ kinds.node config.now.n ∷ []) (client.now ∷ node.now ∷ [])) result }
+    ensures { Gives (λ read. IsClientNumber read.0 × IsNode config.now read.1
+        × (client.now ≡ decimal read.0) × (node.now ≡ decimal read.1))
+        (form_cause (kinds.client ∷ kinds.node config.now.n ∷ []) (client.now ∷ node.now ∷ []))
+        result }
 {
     let client = number_u32(client).ok_or(Cause::BadNumber)?;
     let node = number_u8(node).ok_or(Cause::BadNumber)?;
@@ -96,8 +103,10 @@ pub fn client_and_node(
 /// The node and the block that two fields spell.
 pub fn node_and_block(config: &Config, node: &[u8], block: &[u8]) -> Result<(u8, u32), LineRefusal>
     requires { has_empty_field (node.now ∷ block.now ∷ []) ≡ false }
-    ensures { Gives (λ read. IsNode config.now read.0 × IsBlock config.now read.1 × (node.now ≡ decimal read.0) × (block.now ≡ decimal read.1))
-        (form_cause (kinds.node config.now.n ∷ kinds.block config.now.blocks ∷ []) (node.now ∷ block.now ∷ [])) result }
+    ensures { Gives (λ read. IsNode config.now read.0 × IsBlock config.now read.1
+        × (node.now ≡ decimal read.0) × (block.now ≡ decimal read.1))
+        (form_cause (kinds.node config.now.n ∷ kinds.block config.now.blocks ∷ [])
+        (node.now ∷ block.now ∷ [])) result }
 {
     let node = number_u8(node).ok_or(Cause::BadNumber)?;
     let block = number_u32(block).ok_or(Cause::BadNumber)?;
@@ -114,8 +123,10 @@ pub fn node_and_message(
     message: &[u8],
 ) -> Result<(u8, u64), LineRefusal>
     requires { has_empty_field (node.now ∷ message.now ∷ []) ≡ false }
-    ensures { Gives (λ read. IsNode config.now read.0 × (read.1 < 2 ^ 64) × (node.now ≡ decimal read.0) × (message.now ≡ decimal read.1))
-        (form_cause (kinds.node config.now.n ∷ kinds.any_u64 ∷ []) (node.now ∷ message.now ∷ [])) result }
+    ensures { Gives (λ read. IsNode config.now read.0 × (read.1 < 2 ^ 64)
+        × (node.now ≡ decimal read.0) × (message.now ≡ decimal read.1))
+        (form_cause (kinds.node config.now.n ∷ kinds.any_u64 ∷ []) (node.now ∷ message.now ∷ []))
+        result }
 {
     let node = number_u8(node).ok_or(Cause::BadNumber)?;
     let message = number(message).ok_or(Cause::BadNumber)?;
@@ -128,7 +139,9 @@ pub fn node_and_message(
 /// The client, and a number of any size, that two fields spell.
 pub fn client_and_u64(client: &[u8], more: &[u8]) -> Result<(u32, u64), LineRefusal>
     requires { has_empty_field (client.now ∷ more.now ∷ []) ≡ false }
-    ensures { Gives (λ read. IsClient read.0 × (read.1 < 2 ^ 64) × (client.now ≡ decimal read.0) × (more.now ≡ decimal read.1))
+    ensures { Gives (λ read. IsClientNumber read.0 × (read.1 < 2 ^ 64)
+        × (client.now ≡ decimal read.0)
+        × (more.now ≡ decimal read.1))
         (form_cause (kinds.client ∷ kinds.any_u64 ∷ []) (client.now ∷ more.now ∷ [])) result }
 {
     let client = number_u32(client).ok_or(Cause::BadNumber)?;
@@ -157,9 +170,12 @@ pub fn read_forged(
     time: &[u8],
 ) -> Result<Forged, LineRefusal>
     requires { has_empty_field (client.now ∷ node.now ∷ block.now ∷ time.now ∷ []) ≡ false }
-    ensures { Gives (λ read. IsClient read.client × IsNode config.now read.node × IsBlock config.now read.block × (read.time < 2 ^ 64)
-        × (client.now ≡ decimal read.client) × (node.now ≡ decimal read.node) × (block.now ≡ decimal read.block) × (time.now ≡ decimal read.time))
-        (form_cause (kinds.client ∷ kinds.node config.now.n ∷ kinds.block config.now.blocks ∷ kinds.any_u64 ∷ []) (client.now ∷ node.now ∷ block.now ∷ time.now ∷ [])) result }
+    ensures { Gives (λ read. IsClientNumber read.client × IsNode config.now read.node
+        × IsBlock config.now read.block × (read.time < 2 ^ 64)
+        × (client.now ≡ decimal read.client) × (node.now ≡ decimal read.node)
+        × (block.now ≡ decimal read.block) × (time.now ≡ decimal read.time))
+        (form_cause (kinds.client ∷ kinds.node config.now.n ∷ kinds.block config.now.blocks
+        ∷ kinds.any_u64 ∷ []) (client.now ∷ node.now ∷ block.now ∷ time.now ∷ [])) result }
 {
     let client = number_u32(client).ok_or(Cause::BadNumber)?;
     let node = number_u8(node).ok_or(Cause::BadNumber)?;

@@ -97,14 +97,18 @@ fn add_line(alloc: Global, text: &mut Text, line: &Line) -> Result<(), NoMemory>
 }
 
 fn add_write(text: &mut Text, client: u32, block: u32, value: &Bytes) -> Result<(), NoMemory>
-    ensures { OnOk result (text.new ≡ text.old ++ (codes "write " ++ (decimal client ++ 32 ∷ (decimal block ++ 32 ∷ value_text value.now)))) }
+    ensures { OnOk result (text.new
+        ≡ text.old ++ (codes "write "
+        ++ (decimal client ++ 32 ∷ (decimal block ++ 32 ∷ value_text value.now)))) }
 {
     add_two(text, b"write", u64::from(client), u64::from(block))?;
     add_value(text, value)
 }
 
 fn add_false(text: &mut Text, client: u32, node: u8, rule: Rule) -> Result<(), NoMemory>
-    ensures { OnOk result (text.new ≡ text.old ++ (codes "false " ++ (decimal client ++ 32 ∷ (decimal node ++ 32 ∷ rule_text rule)))) }
+    ensures { OnOk result (text.new
+        ≡ text.old ++ (codes "false "
+        ++ (decimal client ++ 32 ∷ (decimal node ++ 32 ∷ rule_text rule)))) }
 {
     add_two(text, b"false", u64::from(client), u64::from(node))?;
     text.add_space()?;
@@ -132,7 +136,11 @@ fn add_sound(
     time: u64,
     value: &Bytes,
 ) -> Result<(), NoMemory>
-    ensures { OnOk result (text.new ≡ text.old ++ (word.now ++ 32 ∷ (decimal client ++ 32 ∷ (decimal node ++ 32 ∷ (decimal block ++ 32 ∷ (decimal time ++ 32 ∷ value_text value.now)))))) }
+    ensures { OnOk result (text.new
+        ≡ text.old ++ (word.now ++ 32
+        ∷ (decimal client ++ 32
+        ∷ (decimal node ++ 32
+        ∷ (decimal block ++ 32 ∷ (decimal time ++ 32 ∷ value_text value.now)))))) }
 {
     add_two(text, word, u64::from(client), u64::from(node))?;
     add_number(text, u64::from(block))?;
@@ -148,7 +156,8 @@ fn add_one(text: &mut Text, word: &[u8], number: u64) -> Result<(), NoMemory>
 }
 
 fn add_two(text: &mut Text, word: &[u8], first: u64, second: u64) -> Result<(), NoMemory>
-    ensures { OnOk result (text.new ≡ text.old ++ (word.now ++ 32 ∷ (decimal first ++ 32 ∷ decimal second))) }
+    ensures { OnOk result (text.new
+        ≡ text.old ++ (word.now ++ 32 ∷ (decimal first ++ 32 ∷ decimal second))) }
 {
     add_one(text, word, first)?;
     add_number(text, second)

@@ -2,12 +2,11 @@
 //! a reader.
 #![tactic(auto)]
 
+mod cluster_code;
 mod summed;
 mod verdict;
 
+pub use cluster_code::code_of;
 pub use ida_lanes::{Code, Part, Shares};
 pub use summed::{Summed, summed_block};
 pub use verdict::{Checked, Verdict, checked_block, verdict_of};
-
-#[cfg(test)]
-mod tests;

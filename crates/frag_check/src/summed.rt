@@ -1,4 +1,4 @@
-ghost use Rattle.std.specs.Prelude.{◌≡◌, IfOk};
+ghost use Rattle.std.specs.Prelude.{◌≡◌, IfOk, length};
 ghost use Rattle.gf_field.specs.Fragments.{fragments_of};
 ghost use Rattle.block_rows.specs.Sums.{sum_of};
 
@@ -15,6 +15,7 @@ pub struct Summed {
 
 /// The fragments of a block and its cross checksum, each made once.
 pub fn summed_block(alloc: Global, code: &Code, block: &Bytes) -> Result<Summed, NoMemory>
+    ensures count { IfOk result (λ s. length s.shares ≡ code.now.n) }
     ensures shares { IfOk result (λ s. s.shares ≡ fragments_of code.now.n code.now.m block.now) }
     ensures sum { IfOk result (λ s. s.sum ≡ sum_of code.now.n code.now.m block.now) }
 {

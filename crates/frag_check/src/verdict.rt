@@ -36,9 +36,11 @@ pub fn verdict_of(
     sum: &CrossSum,
     parts: &[Part],
 ) -> Result<Verdict, NoMemory>
-    requires parts { AreParts code.now.n code.now.m (string_len code.now.m size) (numbers parts.now) (strings parts.now) }
+    requires parts { AreParts code.now.n code.now.m (string_len code.now.m size)
+        (numbers parts.now) (strings parts.now) }
     requires digests { length sum.now ≡ code.now.n }
-    ensures { IfOk result (IsVerdict code.now.n code.now.m size (numbers parts.now) (strings parts.now) sum.now) }
+    ensures { IfOk result (IsVerdict code.now.n code.now.m size (numbers parts.now)
+        (strings parts.now) sum.now) }
 {
     match checked_block(alloc, code, size, sum, parts, &[])? {
         Some(sound) => Ok(Verdict::Sound(sound.block)),
@@ -57,12 +59,17 @@ pub fn checked_block(
     parts: &[Part],
     known: &[Part],
 ) -> Result<Option<Checked>, NoMemory>
-    requires parts { AreParts code.now.n code.now.m (string_len code.now.m size) (numbers parts.now) (strings parts.now) }
+    requires parts { AreParts code.now.n code.now.m (string_len code.now.m size)
+        (numbers parts.now) (strings parts.now) }
     requires digests { length sum.now ≡ code.now.n }
     requires known { AllByRecursion (HasItsDigest sum.now) known.now }
-    ensures block { IfOk result (λ found. IfSome found (λ c. c.block ≡ decoded code.now.m size (numbers parts.now) (strings parts.now))) }
-    ensures shares { IfOk result (λ found. IfSome found (λ c. c.shares ≡ fragments_of code.now.n code.now.m c.block)) }
-    ensures sound { IfOk result (λ found. IfSome found (λ c. sum_of code.now.n code.now.m c.block ≡ sum.now)) }
+    ensures block { IfOk result (λ found.
+        IfSome found (λ c.
+        c.block ≡ decoded code.now.m size (numbers parts.now) (strings parts.now))) }
+    ensures shares { IfOk result (λ found.
+        IfSome found (λ c. c.shares ≡ fragments_of code.now.n code.now.m c.block)) }
+    ensures sound { IfOk result (λ found.
+        IfSome found (λ c. sum_of code.now.n code.now.m c.block ≡ sum.now)) }
     ensures poisonous { IfOk result (λ found. IfNone found
         (sum_of code.now.n code.now.m (decoded code.now.m size (numbers parts.now) (strings parts.now)) ≢ sum.now)) }
 {

@@ -6,8 +6,9 @@ use Rattle.std.proofs.lemmas.List.{length-map, get_or-map}
 use Rattle.protocol.specs.History.{Entry as FullEntry, Kind as FullKind, legal_at, values_after, LegalFrom, InTime}
 use Rattle.protocol.specs.History.Kind.{Write as FullWrite, Foreign as FullForeign, Read as FullRead}
 use Rattle.protocol.proofs.Lists.{Contains-head}
-use Rattle.history_book.specs.Judging.{full_kind, entry_of, IsLegal, IsInTime}
-use Rattle.history_book.specs.Tellings.{told_kind, told_entry}
+use Rattle.history_book.specs.Judging.{entry_of, IsLegal, IsInTime}
+use Rattle.history_entries.specs.Kinds.{full_kind}
+use Rattle.history_making.specs.Tellings.{told_kind, told_entry}
 
 module _ (all : List FullEntry) where
   -- ---- legal

@@ -1,10 +1,11 @@
 -- The flaws of the time with one entry as their second.
-use Rattle.std.proofs.Common.{◌≡◌, ℕ, suc, zero, ◌<◌, ◌≤◌, List, [], ◌∷◌, length, take, Option, Some, None, refl, sym, ap, ◌∙◌, subst, arith, inl, inr}
+use Rattle.std.proofs.Common.{◌≡◌, ℕ, ◌<◌, ◌≤◌, List, length, take, Option, Some, None, sym, ap, ◌∙◌, subst, arith, inl, inr}
 use Rattle.std.specs.Prelude.{slice_get, IfNone, IfSome}
 use Rattle.std.proofs.lemmas.Bool.{cases_lt}
 use Rattle.std.proofs.lemmas.List.{length-take-le}
 use Rattle.std.proofs.lemmas.Option.{slice_get_within}
-use Rattle.history_book.specs.declared.entry.Entry.{Entry}
+use Rattle.history_entries.specs.declared.entry.Entry.{Entry}
+use Rattle.history_entries.proofs.Fronts.{slice_get-take}
 use Rattle.history_book.specs.declared.judging.FlawKind.TheVariants.{Time}
 use Rattle.history_book.specs.Judging.{IsTimeFlaw, IsLeastFlaw}
 use Rattle.history_book.specs.Sweeps.{IsStartUpTo, StartsAfter}
@@ -52,12 +53,6 @@ low_starts entries place entry (Some latest) end bound there starts ends is low 
     let a : flaw.end ≡ end = cc in
     let b : latest ≡ bound = cc in
     absurd (omega arith)
-
-pub slice_get-take : (n : ℕ) (xs : List Entry) (k : ℕ) → k < n → slice_get (take n xs) k ≡ slice_get xs k
-slice_get-take zero xs k lt = absurd (omega arith)
-slice_get-take (suc n) [] k lt = refl
-slice_get-take (suc n) (x ∷ xs) zero lt = refl
-slice_get-take (suc n) (x ∷ xs) (suc k) lt = slice_get-take n xs k (omega arith)
 
 pub front_length : (entries : List Entry) (place : ℕ) (entry : Entry) → slice_get entries place ≡ Some entry → place ≡ length (take place entries)
 front_length entries place entry there = let lt = slice_get_within entries place entry there in sym (length-take-le place entries (omega arith))

@@ -1,21 +1,15 @@
 -- Whether a history is one of plain registers, and its first flaw.
 use Rattle.std.specs.Prelude.{◌≡◌, ◌≢◌, ◌⊎◌, ℕ, ◌+◌, ◌<◌, ◌≤◌, List, [], ◌∷◌, length, map, replicate, slice_get, slice_index_or}
 use Rattle.std.specs.declared.option.Option.TheVariants.{Some}
-use Rattle.protocol.specs.History.{Entry as FullEntry, Kind as FullKind, LegalFrom}
-use Rattle.protocol.specs.History.Kind.{Write as FullWrite, Foreign as FullForeign, Read as FullRead}
-use Rattle.history_book.specs.declared.entry.Kind.{Kind}
-use Rattle.history_book.specs.declared.entry.Kind.TheVariants.{Read, Write, Foreign}
-use Rattle.history_book.specs.declared.entry.Entry.{Entry}
+use Rattle.protocol.specs.History.{Entry as FullEntry, LegalFrom}
+use Rattle.history_entries.specs.Kinds.{full_kind}
+use Rattle.history_entries.specs.declared.entry.Kind.TheVariants.{Read}
+use Rattle.history_entries.specs.declared.entry.Entry.{Entry}
 use Rattle.history_book.specs.declared.judging.FlawKind.{FlawKind}
 use Rattle.history_book.specs.declared.judging.FlawKind.TheVariants.{Value, Time}
 use Rattle.history_book.specs.declared.judging.Flaw.{Flaw}
 
 -- ---- without a flaw
-
-abbrev pub full_kind : Kind → FullKind
-full_kind Read = FullRead
-full_kind Write = FullWrite
-full_kind Foreign = FullForeign
 
 -- an entry in the words of runs. The mark tells verifiers apart, and stands for the verifier
 abbrev pub entry_of : Entry → FullEntry

@@ -1,10 +1,2 @@
-pub mod Books
-pub mod Numbers
-pub mod Tellings
-pub mod Reports
-pub mod Drafts
-pub mod Rows
 pub mod Judging
 pub mod Sweeps
-pub mod ReportTexts
-pub mod ReportLines

@@ -1,13 +1,12 @@
 //! Whether a history is one of plain registers.
 
 ghost use Rattle.std.specs.Prelude.{◌≡◌, ◌≢◌, ◌↔◌, ◌⊎◌, ℕ, ◌+◌, ◌-◌, ◌<◌, ◌≤◌, ◌^◌, List, length, replicate, slice_get, IsTrue, IfNone, IfSome, MatchOption};
-ghost use Rattle.history_book.specs.declared.entry.Entry.{Entry};
+ghost use Rattle.history_entries.specs.declared.entry.Entry.{Entry};
 ghost use Rattle.history_book.specs.declared.judging.FlawKind.TheVariants.{Value, Time};
 ghost use Rattle.history_book.specs.Judging.{IsLegal, IsInTime, IsValueFlaw, IsTimeFlaw, IsLeastFlaw, HasNoFlaw, TellsFirstFlaw, zeros_of};
-ghost use Rattle.history_book.specs.Sweeps.{IsSweep, IsPlaceOfWrite, IsStartUpTo, IsOfBlockBefore, StartsAfter};
+ghost use Rattle.history_book.specs.Sweeps.{IsSweep, IsPlaceOfWrite, IsStartUpTo, StartsAfter};
 
-use crate::entry::{Entry, Kind};
-use crate::history::History;
+use history_entries::{Entry, History, Kind};
 
 /// What is wrong between two entries of a history.
 #[derive(Clone, Copy, Debug, PartialEq, Eq)]
@@ -42,7 +41,8 @@ struct Sweep {
 pub fn judge(history: &History) -> Option<Flaw>
     ensures none { IfNone result (IsLegal history.now.entries × IsInTime history.now.entries) }
     ensures flaw { IfSome result (TellsFirstFlaw history.now.entries) }
-    ensures illegal { IfSome result (λ _. IsLegal history.now.entries × IsInTime history.now.entries → ⊥) }
+    ensures illegal { IfSome result
+        (λ _. IsLegal history.now.entries × IsInTime history.now.entries → ⊥) }
 {
     let entries = history.entries();
     let mut sweep = Sweep::of(0);
@@ -72,7 +72,8 @@ impl Sweep {
     /// The same where the block is the same, and else one with no entry yet.
     fn at(self, block: u32) -> Sweep
         ensures same { self.block ≡ block → result ≡ self }
-        ensures other { self.block ≢ block → result ≡ record { block = block; last_write = None; latest_start = None } }
+        ensures other { self.block ≢ block
+            → result ≡ record { block = block; last_write = None; latest_start = None } }
     {
         if self.block == block {
             self
@@ -83,8 +84,9 @@ impl Sweep {
 
     /// With one more entry of the block.
     fn with(self, place: usize, entry: &Entry) -> Sweep
-        ensures sweep { (entries : List Entry) → slice_get entries place ≡ Some entry.now → entry.now.block ≡ self.block
-            → IsSweep entries place self → IsSweep entries (place + 1) result }
+        ensures sweep { (entries : List Entry) → slice_get entries place ≡ Some entry.now
+            → entry.now.block ≡ self.block → IsSweep entries place self
+            → IsSweep entries (place + 1) result }
         ensures block { result.block ≡ self.block }
     {
         Sweep {
@@ -108,7 +110,8 @@ impl Sweep {
 
 /// The greater of two places, where no place is the least.
 fn later(one: Option<u64>, other: Option<u64>) -> Option<u64>
-    ensures { (start : ℕ) → IsStartUpTo one start ⊎ (other ≡ Some start) → IsStartUpTo result start }
+    ensures { (start : ℕ)
+        → IsStartUpTo one start ⊎ (other ≡ Some start) → IsStartUpTo result start }
 {
     match (one, other) {
         (Some(a), Some(b)) => Some(a.max(b)),
@@ -173,7 +176,8 @@ fn gives_value(entries: &[Entry], read: &Entry, last_write: Option<usize>) -> bo
     requires some { 0 < length entries.now }
     requires within { IfSome last_write (λ at. at < length entries.now) }
     ensures { MatchOption last_write (IsTrue result ↔ (read.now.value ≡ zeros_of entries.now))
-        (λ at. (write : Entry) → slice_get entries.now at ≡ Some write → IsTrue result ↔ (read.now.value ≡ write.value)) }
+        (λ at. (write : Entry) → slice_get entries.now at ≡ Some write
+        → IsTrue result ↔ (read.now.value ≡ write.value)) }
 {
     match last_write {
         Some(at) => read.value.same(&entries[at].value),
@@ -216,9 +220,12 @@ fn time_flaw(
 
 /// The place of the first entry of the block that starts after the place `end`.
 fn first_after(entries: &[Entry], block: u32, end: u64) -> Option<usize>
-    ensures none { IfNone result ((k : ℕ) (e : Entry) → slice_get entries.now k ≡ Some e → StartsAfter block end e → ⊥) }
-    ensures first { IfSome result (λ i. (k : ℕ) (e : Entry) → k < i → slice_get entries.now k ≡ Some e → StartsAfter block end e → ⊥) }
-    ensures there { IfSome result (λ i. (e : Entry) × (slice_get entries.now i ≡ Some e) × StartsAfter block end e) }
+    ensures none { IfNone result ((k : ℕ) (e : Entry)
+        → slice_get entries.now k ≡ Some e → StartsAfter block end e → ⊥) }
+    ensures first { IfSome result (λ i. (k : ℕ) (e : Entry)
+        → k < i → slice_get entries.now k ≡ Some e → StartsAfter block end e → ⊥) }
+    ensures there { IfSome result (λ i. (e : Entry)
+        × (slice_get entries.now i ≡ Some e) × StartsAfter block end e) }
 {
     for (i, entry) in entries.iter().enumerate() {
         if entry.block == block && starts_after(entry.start, end) {

@@ -1,19 +1,11 @@
 //! The history of a run: completed operations with the writes that they read, in the order that makes them operations of plain
-//! registers; and its text.
+//! registers; its text; and whether it is one of plain registers.
 #![tactic(auto)]
 
-mod counts;
-mod draft;
-pub mod entry;
-pub mod history;
 mod judging;
 pub mod laws;
-mod reading;
-mod report;
-mod sweep;
 
-pub use entry::{Counts, Entry, Kind, Spent};
-pub use history::{History, history_of};
+pub use history_entries::{Counts, Entry, History, Kind, Spent};
+pub use history_making::history_of;
+pub use history_texts::{print, read};
 pub use judging::{Flaw, FlawKind, judge};
-pub use reading::read;
-pub use report::print;

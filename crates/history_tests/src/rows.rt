@@ -1,6 +1,6 @@
 ghost use Rattle.std.specs.Prelude.{◌≡◌, ◌<◌, ◌^◌, Some, IfOk, length, map, replicate};
 ghost use Rattle.protocol.specs.Seen.{record_of};
-ghost use Rattle.history_book.specs.Rows.{IsPlaced, IsRow};
+ghost use Rattle.history_tests.specs.Rows.{IsPlaced, IsRow};
 
 use cross_sum::Bytes;
 use history_book::{history_of, print};

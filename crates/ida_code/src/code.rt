@@ -43,9 +43,12 @@ impl Code {
     /// The parts have different numbers below `n`, and their strings the length `size` over `m`,
     /// rounded up.
     pub fn decode(&self, alloc: Global, size: usize, parts: &[Part]) -> Result<Bytes, NoMemory>
-        requires { AreParts self.now.n self.now.m (string_len self.now.m size) (numbers parts.now) (strings parts.now) }
-        ensures determined { IfOk result (λ d. IsDecoded self.now.m size (numbers parts.now) (strings parts.now) d) }
-        ensures value { IfOk result (λ d. d ≡ decoded self.now.m size (numbers parts.now) (strings parts.now)) }
+        requires { AreParts self.now.n self.now.m (string_len self.now.m size) (numbers parts.now)
+            (strings parts.now) }
+        ensures determined { IfOk result (λ d.
+            IsDecoded self.now.m size (numbers parts.now) (strings parts.now) d) }
+        ensures value { IfOk result (λ d.
+            d ≡ decoded self.now.m size (numbers parts.now) (strings parts.now)) }
         ensures len { IfOk result (λ d. length d ≡ size) }
 
         // Fragments of a block decode to it.

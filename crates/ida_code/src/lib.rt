@@ -10,6 +10,3 @@ mod shifts;
 
 pub use code::Code;
 pub use cross_sum::{Part, Shares};
-
-#[cfg(test)]
-mod tests;

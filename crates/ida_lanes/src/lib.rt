@@ -10,6 +10,3 @@ pub use code::Code;
 pub use cross_sum::{Part, Shares};
 pub use lanes::mul_lanes;
 pub use tables::table_mul;
-
-#[cfg(test)]
-mod tests;

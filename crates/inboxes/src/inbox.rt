@@ -33,12 +33,23 @@ type ReceiveEnd<T> = RuledReceiver<InboxPost<T>, InboxView<T>, Rule>;
 pub struct Inbox;
 
 // One sender of an inbox, before its last word or after it.
-#[derive(Drop)]
 struct Sender<T: Mail> {
     end: SendEnd<T>,
     pass: InboxPass<T>,
     place: Snapshot<T::Place>,
     number: u32,
+}
+
+// By hand, as for takers: a derived drop is proved anew wherever one is let go.
+impl<T: Mail> Drop for Sender<T> {
+    fn drop(self) {
+        let Sender {
+            end: _end,
+            pass: _pass,
+            place: _place,
+            number: _number,
+        } = self;
+    }
 }
 
 /// The right to put items into an inbox, as one of its senders. Contracts see the inbox, the sender's number, and the items
@@ -88,13 +99,24 @@ pub type Sents<T> = ItemList<Sent<T>>;
 
 /// The right to take items from an inbox. Contracts see the inbox, how many senders it has, and what was taken: the items
 /// with their senders' numbers, and the last words that were passed over. The list is kept in proofs alone.
-#[derive(Drop)]
 pub struct Taker<T: Mail> {
     end: ReceiveEnd<T>,
     pass: InboxPass<T>,
     place: Snapshot<T::Place>,
     senders: u32,
     lasts: u32,
+}
+
+impl<T: Mail> Drop for Taker<T> {
+    fn drop(self) {
+        let Taker {
+            end: _end,
+            pass: _pass,
+            place: _place,
+            senders: _senders,
+            lasts: _lasts,
+        } = self;
+    }
 }
 
 impl<T: Mail> Model for Taker<T> {

@@ -12,7 +12,9 @@ use wire_forms::{Body, Op, Reply, Request, Version};
 
 /// Whether the line of what a node did fits: a block that is pruned is one of the cluster's.
 pub fn fits_node(journals: &Journals, node: u8, act: &NodeAct) -> bool
-    ensures { IsTrue result ↔ ((k : ℕ) → FitsLine (setting_for journals.now) (line_of (setting_for journals.now) k (AtNode node act.now))) }
+    ensures { IsTrue result
+        ↔ ((k : ℕ) → FitsLine (setting_for journals.now)
+        (line_of (setting_for journals.now) k (AtNode node act.now))) }
 {
     match act {
         NodeAct::Answered { ask, .. } => {
@@ -30,7 +32,9 @@ pub fn fits_node(journals: &Journals, node: u8, act: &NodeAct) -> bool
 
 /// Whether the line of what a client did by itself fits: its operation is one of the cluster's.
 pub fn fits_desk(journals: &Journals, client: u32, act: &DeskAct) -> bool
-    ensures { IsTrue result ↔ ((k : ℕ) → FitsLine (setting_for journals.now) (line_of (setting_for journals.now) k (AtDesk client act.now))) }
+    ensures { IsTrue result
+        ↔ ((k : ℕ) → FitsLine (setting_for journals.now)
+        (line_of (setting_for journals.now) k (AtDesk client act.now))) }
 {
     match act {
         DeskAct::Start { op } => fits_op(journals, op),
@@ -39,7 +43,8 @@ pub fn fits_desk(journals: &Journals, client: u32, act: &DeskAct) -> bool
 }
 
 fn fits_op(journals: &Journals, op: &Op) -> bool
-    ensures { IsTrue result ↔ ((c : ℕ) → FitsLine (setting_for journals.now) (start_line c op.now)) }
+    ensures { IsTrue result
+        ↔ ((c : ℕ) → FitsLine (setting_for journals.now) (start_line c op.now)) }
 {
     match op {
         Op::Read { block } => *block < journals.config.blocks(),

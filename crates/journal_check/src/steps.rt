@@ -17,7 +17,8 @@ use std::collections::BTreeSet;
 /// Adds a number, and tells whether it is new.
 fn is_new(numbers: &mut BTreeSet<u64>, number: u64) -> Result<bool, NoMemory>
     ensures new { IfOk result (λ new. IsTrue new ↔ (contains nat_cmp numbers.old number ≡ false)) }
-    ensures numbers { IfOk result (λ new. IsTrue new → Updates nat_cmp numbers.old numbers.new number true) }
+    ensures numbers { IfOk result (λ new.
+        IsTrue new → Updates nat_cmp numbers.old numbers.new number true) }
 {
     if numbers.contains(&number) {
         return Ok(false);
@@ -33,8 +34,11 @@ fn add_node_entry(
     node: u8,
     entry: &NodeEntry,
 ) -> Result<bool, NoMemory>
-    ensures fine { IfOk result (λ fine. IsTrue fine ↔ AreNew (setting_for journals.now) numbers.old (node_steps node (entry.now ∷ []))) }
-    ensures numbers { IfOk result (λ fine. IsTrue fine → AreAdded numbers.old numbers.new (node_steps node (entry.now ∷ []))) }
+    ensures fine { IfOk result (λ fine.
+        IsTrue fine ↔ AreNew (setting_for journals.now) numbers.old
+        (node_steps node (entry.now ∷ []))) }
+    ensures numbers { IfOk result (λ fine.
+        IsTrue fine → AreAdded numbers.old numbers.new (node_steps node (entry.now ∷ []))) }
 {
     if !fits_node(journals, node, &entry.act) {
         return Ok(false);
@@ -49,8 +53,12 @@ fn add_desk_entry(
     client: u32,
     entry: &DeskEntry,
 ) -> Result<bool, NoMemory>
-    ensures fine { IfOk result (λ fine. IsTrue fine ↔ AreNew (setting_for journals.now) numbers.old (own_step client entry.now.number entry.now.act)) }
-    ensures numbers { IfOk result (λ fine. IsTrue fine → AreAdded numbers.old numbers.new (own_step client entry.now.number entry.now.act)) }
+    ensures fine { IfOk result (λ fine.
+        IsTrue fine ↔ AreNew (setting_for journals.now) numbers.old
+        (own_step client entry.now.number entry.now.act)) }
+    ensures numbers { IfOk result (λ fine.
+        IsTrue fine → AreAdded numbers.old numbers.new
+        (own_step client entry.now.number entry.now.act)) }
 {
     if let DeskAct::Call { .. } = entry.act {
         return Ok(true);
@@ -68,8 +76,10 @@ fn add_node(
     node: u8,
     entries: &[NodeEntry],
 ) -> Result<bool, NoMemory>
-    ensures fine { IfOk result (λ fine. IsTrue fine ↔ AreNew (setting_for journals.now) numbers.old (node_steps node entries.now)) }
-    ensures numbers { IfOk result (λ fine. IsTrue fine → AreAdded numbers.old numbers.new (node_steps node entries.now)) }
+    ensures fine { IfOk result (λ fine.
+        IsTrue fine ↔ AreNew (setting_for journals.now) numbers.old (node_steps node entries.now)) }
+    ensures numbers { IfOk result (λ fine.
+        IsTrue fine → AreAdded numbers.old numbers.new (node_steps node entries.now)) }
 {
     for entry in entries {
         if !add_node_entry(journals, numbers, node, entry)? {
@@ -86,8 +96,11 @@ fn add_desk(
     client: u32,
     entries: &[DeskEntry],
 ) -> Result<bool, NoMemory>
-    ensures fine { IfOk result (λ fine. IsTrue fine ↔ AreNew (setting_for journals.now) numbers.old (desk_steps client entries.now)) }
-    ensures numbers { IfOk result (λ fine. IsTrue fine → AreAdded numbers.old numbers.new (desk_steps client entries.now)) }
+    ensures fine { IfOk result (λ fine.
+        IsTrue fine ↔ AreNew (setting_for journals.now) numbers.old
+        (desk_steps client entries.now)) }
+    ensures numbers { IfOk result (λ fine.
+        IsTrue fine → AreAdded numbers.old numbers.new (desk_steps client entries.now)) }
 {
     for entry in entries {
         if !add_desk_entry(journals, numbers, client, entry)? {
@@ -104,8 +117,10 @@ fn add_nodes(
     nodes: &[NodeJournal],
 ) -> Result<bool, NoMemory>
     requires { length nodes.now ≤ 256 }
-    ensures fine { IfOk result (λ fine. IsTrue fine ↔ AreNew (setting_for journals.now) numbers.old (all_node_steps 0 nodes.now)) }
-    ensures numbers { IfOk result (λ fine. IsTrue fine → AreAdded numbers.old numbers.new (all_node_steps 0 nodes.now)) }
+    ensures fine { IfOk result (λ fine.
+        IsTrue fine ↔ AreNew (setting_for journals.now) numbers.old (all_node_steps 0 nodes.now)) }
+    ensures numbers { IfOk result (λ fine.
+        IsTrue fine → AreAdded numbers.old numbers.new (all_node_steps 0 nodes.now)) }
 {
     for node in 0..nodes.len() {
         if !add_node(journals, numbers, node as u8, nodes[node].as_slice())? {
@@ -121,8 +136,10 @@ fn add_desks(
     numbers: &mut BTreeSet<u64>,
     desks: &[DeskJournal],
 ) -> Result<bool, NoMemory>
-    ensures fine { IfOk result (λ fine. IsTrue fine ↔ AreNew (setting_for journals.now) numbers.old (all_desk_steps desks.now)) }
-    ensures numbers { IfOk result (λ fine. IsTrue fine → AreAdded numbers.old numbers.new (all_desk_steps desks.now)) }
+    ensures fine { IfOk result (λ fine.
+        IsTrue fine ↔ AreNew (setting_for journals.now) numbers.old (all_desk_steps desks.now)) }
+    ensures numbers { IfOk result (λ fine.
+        IsTrue fine → AreAdded numbers.old numbers.new (all_desk_steps desks.now)) }
 {
     for desk in desks {
         if !add_desk(journals, numbers, desk.client, desk.entries.as_slice())? {

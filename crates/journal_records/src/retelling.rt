@@ -45,7 +45,9 @@ impl Retelling {
     fn follow(&mut self, entry: &DeskEntry) -> Result<(), NoMemory>
         requires goes { (d : DeskState) × Tells self.now.id d self.now × DeskGoes d entry.now.act }
         requires phase { phase_of self.now.client.seen.task < 2 ^ 64 - 1 }
-        ensures tells { (d : DeskState) → Tells self.old.id d self.old → OnOk result (Tells self.old.id (desk_after d entry.now.number entry.now.act) self.new) }
+        ensures tells { (d : DeskState) → Tells self.old.id d self.old
+            → OnOk result
+            (Tells self.old.id (desk_after d entry.now.number entry.now.act) self.new) }
         ensures id { self.new.id ≡ self.old.id }
     {
         match &entry.act {
@@ -61,7 +63,8 @@ impl Retelling {
     /// Starts an operation, whose record is opened.
     fn start(&mut self, number: u64, op: &Op) -> Result<(), NoMemory>
         requires may { MayStart self.now.client op.now }
-        ensures tells { (d : DeskState) → Tells self.old.id d self.old → OnOk result (Tells self.old.id (desk_after d number (DeskAct.Start op.now)) self.new) }
+        ensures tells { (d : DeskState) → Tells self.old.id d self.old
+            → OnOk result (Tells self.old.id (desk_after d number (DeskAct.Start op.now)) self.new) }
         ensures id { self.new.id ≡ self.old.id }
     {
         let start = place_of(number)?;
@@ -81,7 +84,10 @@ impl Retelling {
     /// Hears a reply, which may end the operation under way.
     fn hear(&mut self, number: u64, reply: &Message) -> Result<(), NoMemory>
         requires phase { phase_of self.now.client.seen.task < 2 ^ 64 - 1 }
-        ensures tells { (d : DeskState) → Tells self.old.id d self.old → OnOk result (Tells self.old.id (desk_heard d number (hears d.client d.client.seen.task reply.now)) self.new) }
+        ensures tells { (d : DeskState) → Tells self.old.id d self.old
+            → OnOk result
+            (Tells self.old.id (desk_heard d number (hears d.client d.client.seen.task reply.now))
+            self.new) }
         ensures id { self.new.id ≡ self.old.id }
     {
         match self.client.hear(reply)? {
@@ -92,7 +98,10 @@ impl Retelling {
 
     /// Closes the open record: its operation ended at this place, and so.
     fn close(&mut self, end: u64, outcome: Outcome) -> Result<(), NoMemory>
-        ensures ended { (r : Told) → option_map record_of self.old.under_way ≡ Some r → OnOk result (map record_of self.new.ended.items ≡ map record_of self.old.ended.items ++ closed r end outcome ∷ []) }
+        ensures ended { (r : Told) → option_map record_of self.old.under_way ≡ Some r
+            → OnOk result
+            (map record_of self.new.ended.items ≡ map record_of self.old.ended.items
+            ++ closed r end outcome ∷ []) }
         ensures idle { OnOk result (self.new.under_way ≡ None) }
         ensures client { self.new.client ≡ self.old.client }
         ensures id { self.new.id ≡ self.old.id }
@@ -108,7 +117,8 @@ impl Retelling {
 
     /// The records of all that the client started, in order. What is under way has the stamp that it has chosen.
     fn finish(self) -> Result<Vec<Record>, NoMemory>
-        ensures { (d : DeskState) → Tells self.id d self → IfOk result (λ records. map record_of records.items ≡ client_records self.id d) }
+        ensures { (d : DeskState) → Tells self.id d self
+            → IfOk result (λ records. map record_of records.items ≡ client_records self.id d) }
     {
         let Retelling {
             id: _,
@@ -131,7 +141,10 @@ pub(crate) fn records_of_client(
     desk: &DeskJournal,
 ) -> Result<Vec<Record>, NoMemory>
     requires kept { DeskKept false (new_desk config.now desk.now.client) desk.now.entries }
-    ensures { IfOk result (λ records. map record_of records.items ≡ client_records desk.now.client (desk_after_all (new_desk config.now desk.now.client) desk.now.entries)) }
+    ensures { IfOk result (λ records.
+        map record_of records.items
+        ≡ client_records desk.now.client
+        (desk_after_all (new_desk config.now desk.now.client) desk.now.entries)) }
 {
     let mut retelling = Retelling::new(alloc, config, desk.client)?;
     for entry in desk.entries.as_slice() {

@@ -29,7 +29,8 @@ pub fn records_of(alloc: Global, journals: &Journals) -> Result<ItemList<Record>
 /// The records of all correct clients, one client's after another's.
 fn records_by_client(alloc: Global, journals: &Journals) -> Result<Vec<Record>, NoMemory>
     requires kept { AreKeptDesks journals.now }
-    ensures { IfOk result (λ records. map record_of records.items ≡ told_records journals.now journals.now.desks) }
+    ensures { IfOk result (λ records.
+        map record_of records.items ≡ told_records journals.now journals.now.desks) }
 {
     let mut records = Vec::new(alloc);
     for desk in journals.desks.as_slice() {

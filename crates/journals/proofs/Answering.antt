@@ -90,8 +90,8 @@ module _ {f : Frame} {w : World} {g : Cluster} {n : ℕ} (b : Before f w g n) wh
         → AllAllowed (set f) w (n + 1) (call_events (set f) w c i (Some task_now))
     call_allowed e l honest up number correct running =
         let busy : under_way w c ≡ Some task_now = rw running e in (
-          (soon b, l, honest, up, (b.works c task_now busy).asked i l, (refl, asked, refl)),
-          ((omega arith, number, correct, running, Contains-push w.pool _, (refl, reply (set f) i (w.versions i asked.block) asked, refl)), tt),
+          record { later = soon b; node = l; honest = honest; up = up; sent = (b.works c task_now busy).asked i l; asks = (refl, asked, refl) },
+          (record { later = omega arith; client = number; correct = correct; up = running; sent = Contains-push w.pool _; answers = (refl, reply (set f) i (w.versions i asked.block) asked, refl) }, tt),
         )
 
     -- the answer is the world's
@@ -190,7 +190,7 @@ module _ {f : Frame} {w : World} {g : Cluster} {n : ℕ} (b : Before f w g n) wh
           tt,
           (
             (soon b, inside, number, subst (λ (x : Body). IsOfLiar (set f) x ask) (sym is.comes.2) lying, formed),
-            ((omega arith, inside, upright, up, Contains-push w.pool ask, (refl, is.comes.1, is.comes.2)), tt),
+            (record { later = omega arith; node = inside; honest = upright; up = up; sent = Contains-push w.pool ask; asks = (refl, is.comes.1, is.comes.2) }, tt),
           ),
         );
         agrees = agree_node b u (grows b (Poke ask)) i (after (g.nodes i) (Answered ask answer)) (called g.desks n (side (Answered ask answer)))
@@ -260,7 +260,7 @@ module _ {f : Frame} {w : World} {g : Cluster} {n : ℕ} (b : Before f w g n) wh
           tt,
           (
             (soon b, below, numbered, subst (λ (x : Body). IsOfLiar (set f) x answer) (sym lie.answers) lying, formed),
-            ((omega arith, numbered, upright, running, Contains-push w.pool answer, (refl, lie.told, lie.answers)), tt),
+            (record { later = omega arith; client = numbered; correct = upright; up = running; sent = Contains-push w.pool answer; answers = (refl, lie.told, lie.answers) }, tt),
           ),
         );
         agrees = subst (λ (x : ℕ). Agrees (set f) (only_place (set f) (heard (set f) v (n + 1) x answer answer.body) (n + 1)) next) (sym lie.client)
@@ -339,7 +339,7 @@ module _ {f : Frame} {w : World} {g : Cluster} {n : ℕ} (b : Before f w g n) wh
         fits = tt;
         fine = b.laws.taken (set f) w (n + 1) (Give i k) tt (
           slice_get_within w.pool k ask there,
-          subst (λ (o : Option Message). AllAllowed (set f) w (n + 1) (given_at (set f) w i o)) (sym there) ((soon b, goes.0, here.0, here.2, was, (is.comes.0.0 ∙ (b.fixed.nodes i).number, is.comes.0.1, is.comes.0.2)), tt),
+          subst (λ (o : Option Message). AllAllowed (set f) w (n + 1) (given_at (set f) w i o)) (sym there) (record { later = soon b; node = goes.0; honest = here.0; up = here.2; sent = was; asks = (is.comes.0.0 ∙ (b.fixed.nodes i).number, is.comes.0.1, is.comes.0.2) }, tt),
         );
         agrees = subst (λ (o : Option Message). Agrees (set f) (only_place (set f) (all_happen (set f) w (n + 1) (given_at (set f) w i o)) (n + 1)) next) (sym there) agreed;
       }

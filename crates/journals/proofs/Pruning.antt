@@ -127,7 +127,7 @@ module _ {f : Frame} {w : World} {g : Cluster} {n : ℕ} (b : Before f w g n) wh
       let v = pruned_at (set f) w (n + 1) i block o in
       record {
         fits = there;
-        fine = b.laws.taken (set f) w (n + 1) (Prune i block) there (tt, ((soon b, goes.0, here.0, here.2, quiet block stamp goes.3, stamp, greatest), tt));
+        fine = b.laws.taken (set f) w (n + 1) (Prune i block) there (tt, (record { later = soon b; node = goes.0; honest = here.0; up = here.2; quiet = quiet block stamp goes.3; stamp = stamp; given = greatest }, tt));
         agrees = agree_node b u (grows b (Prune i block)) i (after d (Pruned block stamp)) g.desks
             (λ _. record {
               versions = subst (λ (z : Option Stamp). (other : ℕ) → other < f.config.blocks → (pruned_at (set f) w (n + 1) i block z).versions i other ≡ versions_in (after d (Pruned block stamp)).node other) (sym greatest) (pruned_same i block stamp there here.1);

@@ -126,7 +126,7 @@ module _ {f : Frame} {w : World} {g : Cluster} {n : ℕ} (b : Before f w g n) wh
           let there : block < f.config.blocks = rw (own.cluster) at k.1.fits.block in
           record {
             fits = there;
-            fine = b.laws.taken (set f) w (n + 1) (Read c block) there (tt, ((later, goes.0, goes.1, h.crashed ∙ k.0, h.task ∙ ap (started_task ((g.desks c).began + 1)) k.1.idle, fewer, there, tt), tt));
+            fine = b.laws.taken (set f) w (n + 1) (Read c block) there (tt, (record { later = later; client = goes.0; correct = goes.1; up = h.crashed ∙ k.0; idle = h.task ∙ ap (started_task ((g.desks c).began + 1)) k.1.idle; fresh = fewer; inside = there; fits = tt }, tt));
             agrees = start_taken c block Reads (ReadOp block) refl refl (plays (set f) w (n + 1) (Read c block)) refl refl refl refl refl refl (grows (Read c block)) goes.1;
           }
       at (WriteOp block value) k =
@@ -135,7 +135,7 @@ module _ {f : Frame} {w : World} {g : Cluster} {n : ℕ} (b : Before f w g n) wh
           let whole : IsBlock (set f) value = subst (λ (x : Numbers). IsBlock (setting x) value) own.cluster k.1.fits.fits in
           record {
             fits = (there, whole);
-            fine = b.laws.taken (set f) w (n + 1) (Write c block value) (there, whole) (tt, ((later, goes.0, goes.1, h.crashed ∙ k.0, h.task ∙ ap (started_task ((g.desks c).began + 1)) k.1.idle, fewer, there, whole), tt));
+            fine = b.laws.taken (set f) w (n + 1) (Write c block value) (there, whole) (tt, (record { later = later; client = goes.0; correct = goes.1; up = h.crashed ∙ k.0; idle = h.task ∙ ap (started_task ((g.desks c).began + 1)) k.1.idle; fresh = fewer; inside = there; fits = whole }, tt));
             agrees = start_taken c block (Writes value) (WriteOp block value) refl refl (plays (set f) w (n + 1) (Write c block value)) refl refl refl refl refl refl (grows (Write c block value)) goes.1;
           }
 

@@ -30,7 +30,6 @@ pub enum Answer {
 }
 
 /// What a node did at one number.
-#[derive(Drop)]
 pub enum NodeAct {
     /// It handled the ask, and the caller heard the answer.
     Answered { ask: Message, reply: Message },
@@ -46,6 +45,39 @@ pub enum NodeAct {
     LateLost { ask: Message },
     /// It dropped the versions of the block that no later read can need.
     Pruned { block: u32, stamp: Stamp },
+}
+
+// By hand, since a derived drop is proved anew wherever an act is let go.
+impl Drop for NodeAct {
+    fn drop(self) {
+        match self {
+            NodeAct::Answered {
+                ask: _ask,
+                reply: _reply,
+            }
+            | NodeAct::Lied {
+                ask: _ask,
+                reply: _reply,
+            }
+            | NodeAct::Delivered {
+                ask: _ask,
+                reply: _reply,
+            } => {}
+            NodeAct::Silent {
+                ask: _ask,
+                why: _why,
+            } => {}
+            NodeAct::CrashedAt {
+                ask: _ask,
+                late: _late,
+            } => {}
+            NodeAct::LateLost { ask: _ask } => {}
+            NodeAct::Pruned {
+                block: _block,
+                stamp: _stamp,
+            } => {}
+        }
+    }
 }
 
 /// A number and what the node did then.

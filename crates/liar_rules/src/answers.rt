@@ -27,7 +27,8 @@ pub fn false_answer(
     requires asked { IsAsk ask.now.body }
     requires node { ask.now.node < config.now.n }
     requires first { first.now ≡ first_of config.now }
-    ensures answer { IfOk result (λ answer. answer ≡ answer_to config.now rule ask.now ask.now.body) }
+    ensures answer { IfOk result (λ answer.
+        answer ≡ answer_to config.now rule ask.now ask.now.body) }
     ensures silent { IfOk result (λ answer. IsNone answer ↔ (rule ≡ Rule.Silent)) }
 {
     let Body::Ask(asked) = &ask.body else {
@@ -55,7 +56,8 @@ fn reply(
 ) -> Result<Option<Reply>, NoMemory>
     requires node { node < config.now.n }
     requires first { first.now ≡ first_of config.now }
-    ensures { IfOk result (λ reply. reply ≡ false_reply (setting config.now) rule node request.now) }
+    ensures { IfOk result (λ reply.
+        reply ≡ false_reply (setting config.now) rule node request.now) }
 {
     let is_node = u32::from(node) < config.n();
     prove!(is_node);
@@ -83,7 +85,13 @@ fn kept(first: &First) -> Result<Version, NoMemory>
 
 /// The first version, with a damaged fragment.
 fn kept_damaged(alloc: Global, first: &First) -> Result<Version, NoMemory>
-    ensures { IfOk result (λ v. v ≡ record { stamp = first.now.stamp; sum = first.now.sum; fragment = flipped first.now.fragment }) }
+    ensures { IfOk result (λ v.
+        v ≡ record {
+          stamp = first.now.stamp;
+          sum = first.now.sum;
+          fragment = flipped
+              first.now.fragment;
+        }) }
 {
     Ok(Version {
         stamp: first.stamp,
@@ -95,7 +103,8 @@ fn kept_damaged(alloc: Global, first: &First) -> Result<Version, NoMemory>
 /// The sound version of the block of all 0xff bytes with the greatest time, where the bound has it.
 fn top_in(alloc: Global, config: &Config, node: u8, bound: &Bound) -> Result<Reply, NoMemory>
     requires { node < config.now.n }
-    ensures { IfOk result (λ reply. Some reply ≡ false_reply (setting config.now) Rule.Top node (Request.Read bound.now)) }
+    ensures { IfOk result (λ reply.
+        Some reply ≡ false_reply (setting config.now) Rule.Top node (Request.Read bound.now)) }
 {
     let block = Bytes::shared(vec![in alloc; 0xff; config.size() as usize]?)?;
     let version = version(alloc, config, u64::MAX, u32::from(node), node, &block)?;

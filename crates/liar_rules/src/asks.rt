@@ -26,7 +26,8 @@ pub fn sound_ask(
 ) -> Result<Message, NoMemory>
     requires node { node < config.now.n }
     requires size { length value.now ≡ config.now.size }
-    ensures { IfOk result (λ m. m ≡ sound_ask_of (setting config.now) client node block time value.now) }
+    ensures { IfOk result (λ m.
+        m ≡ sound_ask_of (setting config.now) client node block time value.now) }
 {
     let version = version(alloc, config, time, client, node, value)?;
     Ok(write(client, node, block, version))
@@ -46,7 +47,8 @@ pub fn mix_ask(
     requires node { node < config.now.n }
     requires size { length value.now ≡ config.now.size }
     requires other_size { length other.now ≡ config.now.size }
-    ensures { IfOk result (λ m. m ≡ mix_ask_of (setting config.now) client node block time value.now other.now) }
+    ensures { IfOk result (λ m.
+        m ≡ mix_ask_of (setting config.now) client node block time value.now other.now) }
 {
     let even = fragments(alloc, config, value)?;
     let odd = fragments(alloc, config, other)?;
@@ -70,7 +72,13 @@ pub fn mix_ask(
 }
 
 fn write(client: u32, node: u8, block: u32, version: Version) -> Message
-    ensures { result ≡ record { client = client; node = node; tag = record { op = 0; phase = 0 }; body = Body.Ask (record { block = block; request = Request.Write version }) } }
+    ensures { result ≡ record {
+      client = client;
+      node = node;
+      tag = record { op = 0; phase = 0 };
+      body = Body.Ask
+          (record { block = block; request = Request.Write version });
+    } }
 {
     Message {
         client,
@@ -99,7 +107,8 @@ fn by_turns<'a>(even: &'a Shares, odd: &'a Shares, i: usize) -> &'a Bytes
 /// The cross checksum of the fragments by turns.
 fn sum_by_turns(alloc: Global, even: &Shares, odd: &Shares) -> Result<CrossSum, NoMemory>
     requires { length even.now ≡ length odd.now }
-    ensures { IfOk result (λ sum. sum ≡ collect (length even.now) (λ i. Some (digest (turn even.now odd.now i)))) }
+    ensures { IfOk result (λ sum.
+        sum ≡ collect (length even.now) (λ i. Some (digest (turn even.now odd.now i)))) }
 {
     let mut digests = Vec::new(alloc);
     for i in 0..even.len() {

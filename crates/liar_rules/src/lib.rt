@@ -8,6 +8,3 @@ mod versions;
 pub use answers::false_answer;
 pub use asks::{mix_ask, sound_ask};
 pub use wire_forms::Rule;
-
-#[cfg(test)]
-mod tests;

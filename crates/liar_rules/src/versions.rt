@@ -1,33 +1,23 @@
 //! Versions of blocks, as a liar makes them.
 ghost use Rattle.std.specs.Prelude.{◌≡◌, ◌<◌, length, slice_index_or, [], IfOk};
-ghost use Rattle.gf_field.specs.Fragments.{IsShape, fragments_of};
+ghost use Rattle.gf_field.specs.Fragments.{fragments_of};
 ghost use Rattle.stamp_order.specs.declared.Stamp.{Stamp};
 ghost use Rattle.protocol.specs.Instance.{setting};
 ghost use Rattle.protocol.specs.Setting.{verifier_of};
 ghost use Rattle.protocol.specs.Lines.{version_of, flipped};
 
-use cross_sum::{Bytes, CrossSum, Shares};
-use ida_lanes::Code;
+use cross_sum::{Bytes, Shares};
+use frag_check::{Summed, code_of, summed_block};
 use lists::{Copied, NoMemory};
 use quorum_rules::Config;
 use stamp_order::Stamp;
 use std::alloc::Global;
 use wire_forms::Version;
 
-/// The cluster's code.
-fn code_of(config: &Config) -> Code
-    ensures code { result ≡ record { n = config.now.n; m = config.now.m } }
-    ensures shape { IsShape config.now.n config.now.m }
-{
-    match Code::new(config.n(), config.m()) {
-        Some(code) => code,
-        None => unreachable!(),
-    }
-}
-
 /// The fragments of a block.
 pub fn fragments(alloc: Global, config: &Config, value: &Bytes) -> Result<Shares, NoMemory>
-    ensures all { IfOk result (λ shares. shares ≡ fragments_of config.now.n config.now.m value.now) }
+    ensures all { IfOk result (λ shares.
+        shares ≡ fragments_of config.now.n config.now.m value.now) }
     ensures count { IfOk result (λ shares. length shares ≡ config.now.n) }
 {
     code_of(config).encode(alloc, value)
@@ -43,10 +33,16 @@ pub fn version(
     value: &Bytes,
 ) -> Result<Version, NoMemory>
     requires { node < config.now.n }
-    ensures { IfOk result (λ v. v ≡ version_of (setting config.now) (record { time = time; client = client; verifier = verifier_of (setting config.now) value.now }) value.now node) }
+    ensures { IfOk result (λ v.
+        v ≡ version_of (setting config.now)
+        (record {
+          time = time;
+          client = client;
+          verifier = verifier_of (setting config.now)
+              value.now;
+        }) value.now node) }
 {
-    let shares = fragments(alloc, config, value)?;
-    let sum = CrossSum::of_fragments(alloc, shares.as_slice())?;
+    let Summed { shares, sum } = summed_block(alloc, &code_of(config), value)?;
     let stamp = Stamp {
         time,
         client,

@@ -17,14 +17,16 @@ use text_lines::{fields, number_u32};
 
 /// The configuration of this edition that a cluster line spells.
 pub fn read_cluster(alloc: Global, edition: Edition, line: &[u8]) -> Result<Config, LineRefusal>
-    ensures { Gives (IsSpelled edition (fields_of line.now)) (cluster_cause edition (fields_of line.now)) result }
+    ensures { Gives (IsSpelled edition (fields_of line.now))
+        (cluster_cause edition (fields_of line.now)) result }
 {
     let fields = fields(alloc, line)?;
     config_in(edition, fields.as_slice())
 }
 
 fn config_in(edition: Edition, fields: &[&[u8]]) -> Result<Config, LineRefusal>
-    ensures { Gives (IsSpelled edition (texts fields.now)) (cluster_cause edition (texts fields.now)) result }
+    ensures { Gives (IsSpelled edition (texts fields.now))
+        (cluster_cause edition (texts fields.now)) result }
 {
     let Some((word, fields)) = fields.split_first() else {
         return Err(LineRefusal::Cause(Cause::WrongCount));
@@ -45,7 +47,8 @@ fn read_numbers(fields: &[&[u8]], numbers: &mut [u32]) -> Result<(), Cause>
     requires { length numbers.old ≡ length fields.now }
     ensures ok { OnOk result (list_any is_no_u32 (texts fields.now) ≡ false) }
     ensures numbers { OnOk result (numbers.new ≡ map u32_of (texts fields.now)) }
-    ensures err { IfErr result (λ cause. (cause ≡ Cause.BadNumber) × (list_any is_no_u32 (texts fields.now) ≡ true)) }
+    ensures err { IfErr result (λ cause.
+        (cause ≡ Cause.BadNumber) × (list_any is_no_u32 (texts fields.now) ≡ true)) }
 {
     for (i, field) in fields.iter().enumerate() {
         numbers[i] = number_u32(field).ok_or(Cause::BadNumber)?;
@@ -54,7 +57,8 @@ fn read_numbers(fields: &[&[u8]], numbers: &mut [u32]) -> Result<(), Cause>
 }
 
 fn config_of(edition: Edition, numbers: &[u32; 7]) -> Result<Config, LineRefusal>
-    ensures { let c = numbers_at edition numbers.now in Gives (λ config. (config ≡ c) × IsValid config) (config_cause c) result }
+    ensures { let c = numbers_at edition numbers.now in Gives (λ config.
+        (config ≡ c) × IsValid config) (config_cause c) result }
 {
     let [n, t, b, qc, m, size, blocks] = *numbers;
     match Config::of(edition, n, t, b, qc, m, size, blocks) {

@@ -27,7 +27,8 @@ pub fn has_empty(fields: &[&[u8]]) -> bool
 
 /// The value of `len` bytes that a field spells. `BadValue` where it spells none.
 pub fn value_of_len(alloc: Global, field: &[u8], len: usize) -> Result<Bytes, LineRefusal>
-    ensures { Gives (λ v. (value_text v ≡ field.now) × (length v ≡ len) × IsBytes v) (first_of ((has_other_length len (value_of field.now), Cause.BadValue) ∷ [])) result }
+    ensures { Gives (λ v. (value_text v ≡ field.now) × (length v ≡ len) × IsBytes v)
+        (first_of ((has_other_length len (value_of field.now), Cause.BadValue) ∷ [])) result }
 {
     let value = value(alloc, field)?.ok_or(Cause::BadValue)?;
     if value.len() != len {

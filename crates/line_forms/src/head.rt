@@ -15,11 +15,13 @@ use text_lines::Text;
 /// The configuration that the two head lines of a script spell, and the place after them.
 pub fn read_head(alloc: Global, text: &[u8]) -> Result<(Config, usize), ScriptRefusal>
     // What is read is spelled so, and these lines have no cause, whatever may follow them.
-    ensures head { IfOk result (λ head. (body : Body) → ReadsTo (script body) text.now (head_lines head.0) (drop head.1 text.now)) }
+    ensures head { IfOk result (λ head.
+        (body : Body) → ReadsTo (script body) text.now (head_lines head.0) (drop head.1 text.now)) }
     ensures within { IfOk result (λ head. head.1 ≤ length text.now) }
     ensures valid { IfOk result (λ head. IsValid head.0) }
     // A refusal is the first line that has a cause, whatever may follow the head lines.
-    ensures fault { IfErr result (λ refusal. (body : Body) → IsRefusal (script body) text.now refusal) }
+    ensures fault { IfErr result (λ refusal.
+        (body : Body) → IsRefusal (script body) text.now refusal) }
 {
     let (first, rest) = needed_line(text, 1, Cause::Empty)?;
     let Some(edition) = edition_in(first) else {

@@ -12,7 +12,8 @@ use text_lines::cut;
 pub fn needed_line(text: &[u8], number: u64, missing: Cause) -> Result<(&[u8], &[u8]), ScriptFault>
     ensures parts { IfOk result (λ found. parts_of text.now ≡ found.0.now ∷ parts_of found.1.now) }
     ensures shorter { IfOk result (λ found. length found.1.now < length text.now) }
-    ensures fault { IfErr result (λ e. e ≡ record { line = number; cause = ended missing text.now }) }
+    ensures fault { IfErr result (λ e.
+        e ≡ record { line = number; cause = ended missing text.now }) }
     ensures ends { IfErr result (λ _. parts_of text.now ≡ text.now ∷ []) }
 {
     match cut(text, b'\n') {

@@ -11,8 +11,8 @@ use Rattle.std.proofs.lemmas.List.FromFn.{length-range_with_len, length-map-rang
 use Rattle.plan_text.proofs.Standing.{fewer_different}
 use Rattle.text_lines.specs.Fields.{IsBytes}
 use Rattle.quorum_rules.specs.Limits.{Numbers, IsValid}
-use Rattle.event_lines.specs.Lines.{IsClient, IsNode, IsBlock, IsValue}
-use Rattle.wire_forms.specs.Liars.{Liars}
+use Rattle.event_lines.specs.Lines.{IsNode, IsBlock, IsValue}
+use Rattle.wire_forms.specs.Liars.{Liars, IsClientNumber}
 use Rattle.wire_forms.specs.declared.rule.Rule.TheVariants.{Bad}
 use Rattle.wire_forms.specs.declared.op.Op.{Op}
 use Rattle.wire_forms.specs.declared.op.Op.TheVariants.{Read, Write}
@@ -48,8 +48,8 @@ each_rule b = (node 4 (omega arith), ((client 1 (omega arith) (omega arith), nod
     node : (i : ℕ) → i < 5 → IsNode cluster i
     node i below = record { typed = omega arith; there = below }
 
-    client : (c : ℕ) → 1 ≤ c → c ≤ 16 → IsClient c
-    client c some few = record { first = some; last = omega arith }
+    client : (c : ℕ) → 1 ≤ c → c ≤ 16 → IsClientNumber c
+    client c some few = (some, omega arith)
 
     by : (b : Bool) → AllByRecursion (IsFault cluster) (if b then Hold 2 2 3 ∷ [] else [])
     by true = ((client 2 (omega arith) (omega arith), node 2 (omega arith), omega arith), tt)
@@ -101,7 +101,7 @@ module _ (clients : ℕ) (some : 1 ≤ clients) (few : clients ≤ 16) where
   client_within j = let below : j % clients < clients = mod-lt j (omega arith) in (omega arith, omega arith)
 
   job_fits : (j word : ℕ) → IsJob cluster (job_of clients j word)
-  job_fits j word = let within = client_within j in (record { first = within.0; last = omega arith }, op_fits j word)
+  job_fits j word = let within = client_within j in ((within.0, omega arith), op_fits j word)
 
   module _ (word : ℕ → ℕ) where
     abbrev jobs : List ℕ → List Job

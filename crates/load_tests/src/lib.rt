@@ -1,4 +1,4 @@
-//! Plans that numbers make. Tests alone.
+//! Plans that numbers make, and the line of a run. Tests alone.
 //!
 //! What is expected comes from another program, which draws its words by the code that the generator's authors published, and
 //! was tried on the words that they give for state 42 and stream 54.
@@ -8,3 +8,5 @@
 mod lines;
 #[cfg(test)]
 mod plans;
+#[cfg(test)]
+mod soaks;

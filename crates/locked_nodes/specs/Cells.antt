@@ -1,5 +1,5 @@
 -- What contracts see of a cell, and what each cell keeps.
-use Rattle.std.specs.Prelude.{◌≡◌, ℕ, ◌+◌, ◌<◌, ◌≤◌, ◌%◌, ◌||◌, Bool, true, false, List, [], ◌∷◌, ◌++◌, length, map, take, drop, All, Option}
+use Rattle.std.specs.Prelude.{◌≡◌, ℕ, ◌+◌, ◌<◌, ◌≤◌, ◌%◌, ◌||◌, Bool, true, false, List, [], ◌∷◌, ◌++◌, length, map, take, drop, All, Option, None, Some}
 use Rattle.quorum_rules.specs.Limits.{Numbers}
 use Rattle.protocol.specs.Messages.{Message, Body}
 use Rattle.wire_forms.specs.declared.message.Body.TheVariants.{Ask as Asks, Answer as Answers}
@@ -117,6 +117,11 @@ told_as n (Nothing why) = ToldSilence n why
 abbrev pub number_of : Told → ℕ
 number_of (ToldReply n reply) = n
 number_of (ToldSilence n why) = n
+
+-- the reply that is told, if there is one
+abbrev pub reply_told : Told → Option Message
+reply_told (ToldReply n reply) = Some reply
+reply_told (ToldSilence n why) = None
 
 abbrev pub entry : ℕ → NodeAct → NodeEntry
 entry n act = record { number = n; act = act }

@@ -1,5 +1,6 @@
 //! What a cell answers.
 ghost use Rattle.std.specs.Prelude.{◌≡◌};
+ghost use Rattle.locked_nodes.specs.Cells.{number_of, reply_told};
 ghost use Rattle.locked_nodes.specs.declared.answers.CellRefusal.TheVariants as refusals;
 
 use journals::Silence;
@@ -8,10 +9,38 @@ use std::alloc::AllocError;
 use wire_forms::Message;
 
 /// What the caller of a node hears, with the number of the node's entry.
-#[derive(Drop)]
 pub enum Told {
     Answered { number: u64, reply: Message },
     Silent { number: u64, why: Silence },
+}
+
+// By hand, since a derived drop is proved anew wherever one is let go.
+impl Drop for Told {
+    fn drop(self) {
+        match self {
+            Told::Answered {
+                number: _number,
+                reply: _reply,
+            } => {}
+            Told::Silent {
+                number: _number,
+                why: _why,
+            } => {}
+        }
+    }
+}
+
+impl Told {
+    /// The number of the node's entry, and the reply, if there is one.
+    pub fn into_reply(self) -> (u64, Option<Message>)
+        ensures number { result.0 ≡ number_of self }
+        ensures reply { result.1 ≡ reply_told self }
+    {
+        match self {
+            Told::Answered { number, reply } => (number, Some(reply)),
+            Told::Silent { number, why: _ } => (number, None),
+        }
+    }
 }
 
 /// What became of the oldest ask that is held back, with the number of the node's entry.

@@ -81,7 +81,8 @@ impl NodeCell {
         requires number { number < config.now.n }
         requires shard { shard < shards }
         requires unused { pass.drawn ≡ [] }
-        ensures { IfOk result (λ cell. cell ≡ new_cell config.now number shard shards nature crash_after pass) }
+        ensures { IfOk result (λ cell.
+            cell ≡ new_cell config.now number shard shards nature crash_after pass) }
     {
         let state = State::new(alloc, config, number, crash_after)?;
         let terms = Terms {
@@ -155,10 +156,16 @@ impl NodeCell {
         requires whole { HoldsWhole self.old.charter way }
         requires clock { self.old.charter.pass.clock ≡ clock.now }
         requires caller { caller.old.clock ≡ clock.now }
-        ensures cell { IfOk result (λ told. self.new ≡ with_entry self.old (number_of told) (act (state_of self.old) self.old.charter.nature way ask.now)) }
-        ensures told { IfOk result (λ told. told ≡ told_as (number_of told) (answer_of (act (state_of self.old) self.old.charter.nature way ask.now))) }
+        ensures cell { IfOk result (λ told.
+            self.new
+            ≡ with_entry self.old (number_of told)
+            (act (state_of self.old) self.old.charter.nature way ask.now)) }
+        ensures told { IfOk result (λ told.
+            told ≡ told_as (number_of told)
+            (answer_of (act (state_of self.old) self.old.charter.nature way ask.now))) }
         ensures later { IfOk result (λ told. caller.old.seen ≤ number_of told) }
-        ensures caller { IfOk result (λ told. caller.new ≡ with_seen caller.old (number_of told + 1)) }
+        ensures caller { IfOk result (λ told.
+            caller.new ≡ with_seen caller.old (number_of told + 1)) }
         ensures full { (result ≡ Err CellRefusal.ClockFull) ↔ (left_of self.old.pass ≡ 0) }
         ensures err { OnErr result ((self.new ≡ self.old) × (caller.new ≡ caller.old)) }
     {
@@ -181,10 +188,16 @@ impl NodeCell {
         requires whole { HoldsWhole self.old.charter way }
         requires clock { self.old.charter.pass.clock ≡ clock.now }
         requires caller { caller.old.clock ≡ clock.now }
-        ensures cell { IfOk result (λ told. self.new ≡ with_entry self.old (number_of told) (act (state_of self.old) self.old.charter.nature way ask.now)) }
-        ensures told { IfOk result (λ told. told ≡ told_as (number_of told) (answer_of (act (state_of self.old) self.old.charter.nature way ask.now))) }
+        ensures cell { IfOk result (λ told.
+            self.new
+            ≡ with_entry self.old (number_of told)
+            (act (state_of self.old) self.old.charter.nature way ask.now)) }
+        ensures told { IfOk result (λ told.
+            told ≡ told_as (number_of told)
+            (answer_of (act (state_of self.old) self.old.charter.nature way ask.now))) }
         ensures later { IfOk result (λ told. caller.old.seen ≤ number_of told) }
-        ensures caller { IfOk result (λ told. caller.new ≡ with_sight caller.old (number_of told + 1)) }
+        ensures caller { IfOk result (λ told.
+            caller.new ≡ with_sight caller.old (number_of told + 1)) }
         ensures full { (result ≡ Err CellRefusal.ClockFull) ↔ (left_of self.old.pass ≡ 0) }
         ensures err { OnErr result ((self.new ≡ self.old) × (caller.new ≡ caller.old)) }
     {
@@ -206,10 +219,15 @@ impl NodeCell {
     pub fn late(&mut self, clock: &Clock, caller: &mut Pass) -> Result<Late, CellRefusal>
         requires clock { self.old.charter.pass.clock ≡ clock.now }
         requires caller { caller.old.clock ≡ clock.now }
-        ensures delivered { (n : ℕ) → result ≡ Ok (Late.Delivered n) → CameLate self.old caller.old n self.new caller.new × (loses (state_of self.old) self.old.charter.nature ≡ false) }
-        ensures lost { (n : ℕ) → result ≡ Ok (Late.Lost n) → CameLate self.old caller.old n self.new caller.new × (loses (state_of self.old) self.old.charter.nature ≡ true) }
+        ensures delivered { (n : ℕ) → result ≡ Ok (Late.Delivered n) →
+            CameLate self.old caller.old n self.new caller.new
+            × (loses (state_of self.old) self.old.charter.nature ≡ false) }
+        ensures lost { (n : ℕ) → result ≡ Ok (Late.Lost n) →
+            CameLate self.old caller.old n self.new caller.new
+            × (loses (state_of self.old) self.old.charter.nature ≡ true) }
         ensures none { (result ≡ Ok Late.NoMail) ↔ HasNoLateMail self.old }
-        ensures full { (result ≡ Err CellRefusal.ClockFull) ↔ ((HasNoLateMail self.old → ⊥) × (left_of self.old.pass ≡ 0)) }
+        ensures full { (result ≡ Err CellRefusal.ClockFull)
+            ↔ ((HasNoLateMail self.old → ⊥) × (left_of self.old.pass ≡ 0)) }
         ensures same { result ≡ Ok Late.NoMail → (self.new ≡ self.old) × (caller.new ≡ caller.old) }
         ensures err { OnErr result ((self.new ≡ self.old) × (caller.new ≡ caller.old)) }
     {
@@ -222,10 +240,15 @@ impl NodeCell {
     /// Lets the node meet the oldest ask that is held back, as `late` does, with no caller.
     pub fn bring_late(&mut self, clock: &Clock) -> Result<Late, CellRefusal>
         requires clock { self.old.charter.pass.clock ≡ clock.now }
-        ensures delivered { (n : ℕ) → result ≡ Ok (Late.Delivered n) → BroughtLate self.old n self.new × (loses (state_of self.old) self.old.charter.nature ≡ false) }
-        ensures lost { (n : ℕ) → result ≡ Ok (Late.Lost n) → BroughtLate self.old n self.new × (loses (state_of self.old) self.old.charter.nature ≡ true) }
+        ensures delivered { (n : ℕ) → result ≡ Ok (Late.Delivered n) →
+            BroughtLate self.old n self.new
+            × (loses (state_of self.old) self.old.charter.nature ≡ false) }
+        ensures lost { (n : ℕ) → result ≡ Ok (Late.Lost n) →
+            BroughtLate self.old n self.new
+            × (loses (state_of self.old) self.old.charter.nature ≡ true) }
         ensures none { (result ≡ Ok Late.NoMail) ↔ HasNoLateMail self.old }
-        ensures full { (result ≡ Err CellRefusal.ClockFull) ↔ ((HasNoLateMail self.old → ⊥) × (left_of self.old.pass ≡ 0)) }
+        ensures full { (result ≡ Err CellRefusal.ClockFull)
+            ↔ ((HasNoLateMail self.old → ⊥) × (left_of self.old.pass ≡ 0)) }
         ensures same { result ≡ Ok Late.NoMail → self.new ≡ self.old }
         ensures err { OnErr result (self.new ≡ self.old) }
     {
@@ -237,10 +260,15 @@ impl NodeCell {
     fn meet_late(&mut self, clock: &Clock, caller: &mut Note) -> Result<Late, CellRefusal>
         requires clock { self.old.charter.pass.clock ≡ clock.now }
         requires caller { caller.old.clock ≡ clock.now }
-        ensures delivered { (n : ℕ) → result ≡ Ok (Late.Delivered n) → BroughtLate self.old n self.new × SawLate caller.old n caller.new × (loses (state_of self.old) self.old.charter.nature ≡ false) }
-        ensures lost { (n : ℕ) → result ≡ Ok (Late.Lost n) → BroughtLate self.old n self.new × SawLate caller.old n caller.new × (loses (state_of self.old) self.old.charter.nature ≡ true) }
+        ensures delivered { (n : ℕ) → result ≡ Ok (Late.Delivered n) →
+            BroughtLate self.old n self.new × SawLate caller.old n caller.new
+            × (loses (state_of self.old) self.old.charter.nature ≡ false) }
+        ensures lost { (n : ℕ) → result ≡ Ok (Late.Lost n) →
+            BroughtLate self.old n self.new × SawLate caller.old n caller.new
+            × (loses (state_of self.old) self.old.charter.nature ≡ true) }
         ensures none { (result ≡ Ok Late.NoMail) ↔ HasNoLateMail self.old }
-        ensures full { (result ≡ Err CellRefusal.ClockFull) ↔ ((HasNoLateMail self.old → ⊥) × (left_of self.old.pass ≡ 0)) }
+        ensures full { (result ≡ Err CellRefusal.ClockFull)
+            ↔ ((HasNoLateMail self.old → ⊥) × (left_of self.old.pass ≡ 0)) }
         ensures clock { caller.new.clock ≡ caller.old.clock }
         ensures same { result ≡ Ok Late.NoMail → (self.new ≡ self.old) × (caller.new ≡ caller.old) }
         ensures err { OnErr result ((self.new ≡ self.old) × (caller.new ≡ caller.old)) }
@@ -272,14 +300,21 @@ impl NodeCell {
         block: u32,
         stamp: &Stamp,
     ) -> Result<Pruning, CellRefusal>
-        requires block { (block < self.old.charter.config.blocks) × (block % self.old.charter.shards ≡ self.old.charter.shard) }
+        requires block { (block < self.old.charter.config.blocks)
+            × (block % self.old.charter.shards ≡ self.old.charter.shard) }
         requires may { self.old.charter.prunes ≡ true }
         requires clock { self.old.charter.pass.clock ≡ clock.now }
         requires caller { caller.old.clock ≡ clock.now }
-        ensures pruned { (n : ℕ) → result ≡ Ok (Pruning.Pruned n) → (self.new ≡ with_entry self.old n (NodeAct.Pruned block stamp.now)) × (caller.old.seen ≤ n) × (caller.new ≡ with_seen caller.old (n + 1)) }
-        ensures skipped { (result ≡ Ok Pruning.Skipped) ↔ (can_prune (state_of self.old) self.old.charter.nature ≡ false) }
-        ensures full { (result ≡ Err CellRefusal.ClockFull) ↔ ((can_prune (state_of self.old) self.old.charter.nature ≡ true) × (left_of self.old.pass ≡ 0)) }
-        ensures same { result ≡ Ok Pruning.Skipped → (self.new ≡ self.old) × (caller.new ≡ caller.old) }
+        ensures pruned { (n : ℕ) → result ≡ Ok (Pruning.Pruned n) →
+            (self.new ≡ with_entry self.old n (NodeAct.Pruned block stamp.now))
+            × (caller.old.seen ≤ n) × (caller.new ≡ with_seen caller.old (n + 1)) }
+        ensures skipped { (result ≡ Ok Pruning.Skipped)
+            ↔ (can_prune (state_of self.old) self.old.charter.nature ≡ false) }
+        ensures full { (result ≡ Err CellRefusal.ClockFull)
+            ↔ ((can_prune (state_of self.old) self.old.charter.nature ≡ true)
+            × (left_of self.old.pass ≡ 0)) }
+        ensures same { result ≡ Ok Pruning.Skipped →
+            (self.new ≡ self.old) × (caller.new ≡ caller.old) }
         ensures err { OnErr result ((self.new ≡ self.old) × (caller.new ≡ caller.old)) }
     {
         if !self.state.can_prune(self.terms.nature()) {

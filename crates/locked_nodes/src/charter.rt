@@ -11,7 +11,6 @@ use std::marker::Model;
 use std::snapshot::Snapshot;
 
 /// What is fixed about a cell while it lies in one vault. It is for proofs alone: no value of it is made.
-#[derive(Drop)]
 pub struct Charter {
     pub config: Config,
     /// The node's number.
@@ -33,14 +32,12 @@ pub struct Charter {
 
 /// What a cell's list has: first its charter, and then the entries of its journal. It is for proofs alone: no value of it is
 /// made.
-#[derive(Drop)]
 pub enum Item {
     Head(Charter),
     Entry(NodeEntry),
 }
 
 /// A cell's charter, of which the pass is kept in proofs alone.
-#[derive(Drop)]
 pub(crate) struct Terms {
     pub(crate) config: Config,
     pub(crate) number: u8,
@@ -51,6 +48,23 @@ pub(crate) struct Terms {
     pub(crate) pass: Snapshot<Pass>,
     pub(crate) base: u64,
     pub(crate) prunes: bool,
+}
+
+// By hand, since a derived drop is proved anew wherever one is let go.
+impl Drop for Terms {
+    fn drop(self) {
+        let Terms {
+            config: _config,
+            number: _number,
+            shard: _shard,
+            shards: _shards,
+            nature: _nature,
+            crash_after: _crash_after,
+            pass: _pass,
+            base: _base,
+            prunes: _prunes,
+        } = self;
+    }
 }
 
 impl Model for Terms {

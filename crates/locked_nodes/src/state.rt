@@ -19,7 +19,6 @@ use wire_forms::{Ask, Body, First, Message, Reply, Rule};
 
 /// A node, the asks that are held back, oldest first, how many asks it still serves before it crashes, if it is to crash, and
 /// whether it has.
-#[derive(Drop)]
 pub(crate) struct State {
     alloc: Global,
     /// What a liar tells.
@@ -28,6 +27,20 @@ pub(crate) struct State {
     late: VecDeque<Message>,
     crash_after: Option<u64>,
     crashed: bool,
+}
+
+// By hand, since a derived drop is proved anew wherever one is let go.
+impl Drop for State {
+    fn drop(self) {
+        let State {
+            alloc: _alloc,
+            first: _first,
+            node: _node,
+            late: _late,
+            crash_after: _crash_after,
+            crashed: _crashed,
+        } = self;
+    }
 }
 
 impl Model for State {
@@ -135,7 +148,8 @@ impl State {
         requires node { ask.now.node ≡ self.old.node.number }
         ensures act { IfOk result (λ r. r.0 ≡ act self.old nature Way.Call ask.now) }
         ensures answer { IfOk result (λ r. r.1 ≡ answer_of (act self.old nature Way.Call ask.now)) }
-        ensures ok { OnOk result (self.new ≡ after self.old (act self.old nature Way.Call ask.now)) }
+        ensures ok { OnOk result
+            (self.new ≡ after self.old (act self.old nature Way.Call ask.now)) }
         ensures err { OnErr result (self.new ≡ self.old) }
     {
         if self.crashed {
@@ -163,8 +177,10 @@ impl State {
         requires node { ask.now.node ≡ self.old.node.number }
         requires more { is_spent self.old.crash_after ≡ false }
         ensures act { IfOk result (λ r. r.0 ≡ answers self.old Nature.Honest ask.now) }
-        ensures answer { IfOk result (λ r. r.1 ≡ answer_of (answers self.old Nature.Honest ask.now)) }
-        ensures ok { OnOk result (self.new ≡ after self.old (answers self.old Nature.Honest ask.now)) }
+        ensures answer { IfOk result (λ r.
+            r.1 ≡ answer_of (answers self.old Nature.Honest ask.now)) }
+        ensures ok { OnOk result
+            (self.new ≡ after self.old (answers self.old Nature.Honest ask.now)) }
         ensures err { OnErr result (self.new ≡ self.old) }
     {
         let Body::Ask(asked) = &ask.body else {
@@ -184,8 +200,10 @@ impl State {
         requires ask { IsAsk ask.now.body }
         requires node { ask.now.node ≡ self.now.node.number }
         ensures act { IfOk result (λ r. r.0 ≡ answers self.now (Nature.Lying rule) ask.now) }
-        ensures answer { IfOk result (λ r. r.1 ≡ answer_of (answers self.now (Nature.Lying rule) ask.now)) }
-        ensures same { IfOk result (λ r. after self.now (answers self.now (Nature.Lying rule) ask.now) ≡ self.now) }
+        ensures answer { IfOk result (λ r.
+            r.1 ≡ answer_of (answers self.now (Nature.Lying rule) ask.now)) }
+        ensures same { IfOk result (λ r.
+            after self.now (answers self.now (Nature.Lying rule) ask.now) ≡ self.now) }
     {
         let config = self.node.config();
         let Some(reply) = false_answer(self.alloc, config, &self.first, rule, ask)? else {
@@ -200,8 +218,10 @@ impl State {
     pub(crate) fn act_late(&mut self, nature: Nature) -> Result<NodeAct, NoMemory>
         requires asks { All (λ m. IsAsk m.body) self.old.late }
         requires some { self.old.late ≡ [] → ⊥ }
-        ensures act { (ask : AnyMessage) (rest : List AnyMessage) → self.old.late ≡ ask ∷ rest → IfOk result (λ act. act ≡ late_act self.old nature ask) }
-        ensures ok { (ask : AnyMessage) (rest : List AnyMessage) → self.old.late ≡ ask ∷ rest → OnOk result (self.new ≡ after self.old (late_act self.old nature ask)) }
+        ensures act { (ask : AnyMessage) (rest : List AnyMessage) → self.old.late ≡ ask ∷ rest →
+            IfOk result (λ act. act ≡ late_act self.old nature ask) }
+        ensures ok { (ask : AnyMessage) (rest : List AnyMessage) → self.old.late ≡ ask ∷ rest →
+            OnOk result (self.new ≡ after self.old (late_act self.old nature ask)) }
         ensures err { OnErr result (self.new ≡ self.old) }
     {
         if self.crashed {
@@ -236,8 +256,10 @@ impl State {
         requires asks { All (λ m. IsAsk m.body) self.old.late }
         requires some { self.old.late ≡ [] → ⊥ }
         requires more { is_spent self.old.crash_after ≡ false }
-        ensures act { (ask : AnyMessage) (rest : List AnyMessage) → self.old.late ≡ ask ∷ rest → IfOk result (λ act. act ≡ handles self.old Nature.Honest ask) }
-        ensures ok { (ask : AnyMessage) (rest : List AnyMessage) → self.old.late ≡ ask ∷ rest → OnOk result (self.new ≡ after self.old (handles self.old Nature.Honest ask)) }
+        ensures act { (ask : AnyMessage) (rest : List AnyMessage) → self.old.late ≡ ask ∷ rest →
+            IfOk result (λ act. act ≡ handles self.old Nature.Honest ask) }
+        ensures ok { (ask : AnyMessage) (rest : List AnyMessage) → self.old.late ≡ ask ∷ rest →
+            OnOk result (self.new ≡ after self.old (handles self.old Nature.Honest ask)) }
         ensures err { OnErr result (self.new ≡ self.old) }
     {
         let reply = match self.late.front() {
@@ -263,7 +285,8 @@ impl State {
 fn reply_twice(node: &mut Node, ask: &Ask) -> Result<(Reply, Reply), NoMemory>
     ensures noted { IfOk result (λ r. r.0 ≡ reply_of node.old ask.now) }
     ensures said { IfOk result (λ r. r.1 ≡ reply_of node.old ask.now) }
-    ensures ok { OnOk result (node.new ≡ with_versions node.old ask.now.block (after_of node.old ask.now)) }
+    ensures ok { OnOk result
+        (node.new ≡ with_versions node.old ask.now.block (after_of node.old ask.now)) }
     ensures err { OnErr result (node.new ≡ node.old) }
 {
     let Prepared { reply, added } = node.prepare(ask)?;
@@ -275,7 +298,8 @@ fn reply_twice(node: &mut Node, ask: &Ask) -> Result<(Reply, Reply), NoMemory>
 // The node's reply to an ask that it then has handled.
 fn handled(node: &mut Node, ask: &Message) -> Result<Reply, NoMemory>
     requires { IsAsk ask.now.body }
-    ensures reply { IfOk result (λ reply. with_reply ask.now reply ≡ true_answer node.old ask.now ask.now.body) }
+    ensures reply { IfOk result (λ reply.
+        with_reply ask.now reply ≡ true_answer node.old ask.now ask.now.body) }
     ensures ok { OnOk result (node.new ≡ served node.old ask.now.body) }
     ensures err { OnErr result (node.new ≡ node.old) }
 {

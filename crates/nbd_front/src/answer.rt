@@ -31,9 +31,12 @@ pub(crate) fn answer<S: Source>(
     requires order { IsInOrder device.old }
     requires steps { device.old.started + most_steps < 2 ^ 32 - 1 }
     requires times { IsWrittenUpTo (2 ^ 63) device.old }
-    ensures answered { IfOk result (λ reply. HasAnswered request.now device.old device.new (S.left source.old) (S.left source.new) reply.items) }
-    ensures stopped { IfErr result (λ end. HasStopped request.now place (S.left source.old) (S.left source.new) end) }
-    ensures fault { IsErrOf result SessionEnd.ReadFault → Rose S.last (S.faults source.old) (S.faults source.new) }
+    ensures answered { IfOk result (λ reply. HasAnswered request.now device.old device.new
+        (S.left source.old) (S.left source.new) reply.items) }
+    ensures stopped { IfErr result
+        (λ end. HasStopped request.now place (S.left source.old) (S.left source.new) end) }
+    ensures fault { IsErrOf result SessionEnd.ReadFault
+        → Rose S.last (S.faults source.old) (S.faults source.new) }
     ensures calm { result ≢ Err SessionEnd.ReadFault → S.faults source.new ≡ S.faults source.old }
 {
     let size = u64::from(device.config().size()) * u64::from(device.config().blocks());
@@ -55,7 +58,8 @@ fn push_range(
     requires error { error ≡ error_of (length (array_of device.old.held)) request.now }
     requires order { IsInOrder device.old }
     requires steps { device.old.started + 4096 < 2 ^ 32 - 1 }
-    ensures sent { OnOk result (reply.new.items ≡ reply.old.items ++ sent_of (array_of device.old.held) request.now) }
+    ensures sent { OnOk result (reply.new.items ≡ reply.old.items ++ sent_of
+        (array_of device.old.held) request.now) }
     ensures read { OnOk result (HasRead 4096 device.old device.new) }
 {
     if error == 0 && request.kind == READ {
@@ -79,9 +83,12 @@ fn take_data<S: Source>(
     requires order { IsInOrder device.old }
     requires steps { device.old.started + 8192 < 2 ^ 32 - 1 }
     requires times { IsWrittenUpTo (2 ^ 63) device.old }
-    ensures taken { OnOk result (HasTakenData request.now device.old device.new (S.left source.old) (S.left source.new)) }
-    ensures stopped { IfErr result (λ end. HasStopped request.now place (S.left source.old) (S.left source.new) end) }
-    ensures fault { IsErrOf result SessionEnd.ReadFault → Rose S.last (S.faults source.old) (S.faults source.new) }
+    ensures taken { OnOk result (HasTakenData request.now device.old device.new (S.left source.old)
+        (S.left source.new)) }
+    ensures stopped { IfErr result
+        (λ end. HasStopped request.now place (S.left source.old) (S.left source.new) end) }
+    ensures fault { IsErrOf result SessionEnd.ReadFault
+        → Rose S.last (S.faults source.old) (S.faults source.new) }
     ensures calm { result ≢ Err SessionEnd.ReadFault → S.faults source.new ≡ S.faults source.old }
 {
     if error == 0 && request.kind == WRITE {

@@ -46,7 +46,8 @@ pub(crate) fn read_span(
     requires order { IsInOrder device.old }
     requires within { IsWithin span device.old.config }
     requires steps { device.old.started + 4096 < 2 ^ 32 - 1 }
-    ensures text { OnOk result (text.new.items ≡ text.old.items ++ slice_range (array_of device.old.held) span.start span.end) }
+    ensures text { OnOk result (text.new.items ≡ text.old.items ++ slice_range
+        (array_of device.old.held) span.start span.end) }
     ensures read { OnOk result (HasRead 4096 device.old device.new) }
 {
     let size = device.config().size() as usize;
@@ -71,7 +72,8 @@ pub(crate) fn write_span(
     requires within { start + length bytes.now ≤ device.old.config.size * device.old.config.blocks }
     requires steps { device.old.started + 8192 < 2 ^ 32 - 1 }
     requires times { IsWrittenUpTo (2 ^ 63) device.old }
-    ensures { OnOk result (HasWritten 8192 (merged (array_of device.old.held) start bytes.now) device.old device.new) }
+    ensures { OnOk result (HasWritten 8192
+        (merged (array_of device.old.held) start bytes.now) device.old device.new) }
 {
     let size = device.config().size() as usize;
     let end = start + bytes.len();
@@ -99,7 +101,8 @@ fn merged_block(
     requires block { block < device.old.config.blocks }
     requires within { at + length piece.now ≤ device.old.config.size }
     requires steps { device.old.started < 2 ^ 32 - 1 }
-    ensures value { IfOk result (λ value. value ≡ merged (held_at device.old.config device.old.held block).value at piece.now) }
+    ensures value { IfOk result (λ value.
+        value ≡ merged (held_at device.old.config device.old.held block).value at piece.now) }
     ensures block { IfOk result (λ value. IsBlock (setting device.old.config) value) }
     ensures read { OnOk result (HasRead 1 device.old device.new) }
 {

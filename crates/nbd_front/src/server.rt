@@ -35,7 +35,12 @@ impl Model for Server {
 
     ghost Value = { SeenServer };
 
-    ghost view = { λ s. record { device = s.device; served = s.served; place = s.place; whole = s.whole } };
+    ghost view = { λ s. record {
+      device = s.device;
+      served = s.served;
+      place = s.place;
+      whole = s.whole;
+    } };
 
     ghost invariant = { λ s. IsWhole s.device s.served s.place s.whole };
 }
@@ -45,7 +50,8 @@ impl Server {
     pub fn new(alloc: Global, config: &Config) -> Result<Server, NoMemory>
         ensures fresh { IfOk result (λ s. (s.served ≡ 0) × (s.place ≡ 0) × (s.whole ≡ true)) }
         ensures config { IfOk result (λ s. s.device.config ≡ config.now) }
-        ensures zeros { IfOk result (λ s. bytes_of s ≡ replicate (config.now.size * config.now.blocks) 0) }
+        ensures zeros { IfOk result (λ s. bytes_of s
+            ≡ replicate (config.now.size * config.now.blocks) 0) }
     {
         Ok(Server {
             device: NodeDevice::new(alloc, config)?,
@@ -62,7 +68,8 @@ impl Server {
         requires block { block < self.now.device.config.blocks }
         // it is the version of the block's bytes, at a time that is no more than the number of requests
         ensures { IfOk result (λ v. (h : Held)
-            × (h.value ≡ slice_range (bytes_of self.now) (block * self.now.device.config.size) ((block + 1) * self.now.device.config.size))
+            × (h.value ≡ slice_range (bytes_of self.now) (block * self.now.device.config.size)
+            ((block + 1) * self.now.device.config.size))
             × (h.time ≤ self.now.served)
             × (v ≡ version_of self.now.device.config node h)) }
     {
@@ -71,9 +78,11 @@ impl Server {
 
     /// Writes and flushes the greeting. It takes no memory.
     pub fn greet<K: Sink>(&self, sink: &mut K) -> Result<(), SessionEnd>
-        ensures whole { OnOk result (Adds (K.taken sink.old) (K.taken sink.new) (greeting (self.now.device.config.size * self.now.device.config.blocks))) }
+        ensures whole { OnOk result (Adds (K.taken sink.old) (K.taken sink.new)
+            (greeting (self.now.device.config.size * self.now.device.config.blocks))) }
         ensures flushed { OnOk result (AllFlushed (K.taken sink.new) (K.flushed sink.new)) }
-        ensures prefix { TakesPrefix (K.taken sink.old) (K.taken sink.new) (greeting (self.now.device.config.size * self.now.device.config.blocks)) }
+        ensures prefix { TakesPrefix (K.taken sink.old) (K.taken sink.new)
+            (greeting (self.now.device.config.size * self.now.device.config.blocks)) }
         ensures end { IfErr result (λ end. end ≡ SessionEnd.WriteFault) }
         ensures cause { OnErr result (Rose K.last (K.faults sink.old) (K.faults sink.new)) }
         ensures calm { OnOk result (K.faults sink.new ≡ K.faults sink.old) }
@@ -91,13 +100,20 @@ impl Server {
         sink: &mut K,
     ) -> Result<Served, SessionEnd>
         requires { self.old.whole ≡ true }
-        ensures step { HasStepped self.old self.new (S.left source.old) (S.left source.new) (K.taken sink.old) (K.taken sink.new) result }
-        ensures flushed { result ≡ Ok Served.Next → AllFlushed (K.taken sink.new) (K.flushed sink.new) }
-        ensures unwritten { result ≢ Ok Served.Next → result ≢ Err SessionEnd.WriteFault → sink.new ≡ sink.old }
-        ensures read_fault { IsErrOf result SessionEnd.ReadFault → Rose S.last (S.faults source.old) (S.faults source.new) }
-        ensures write_fault { IsErrOf result SessionEnd.WriteFault → Rose K.last (K.faults sink.old) (K.faults sink.new) }
-        ensures calm_source { result ≢ Err SessionEnd.ReadFault → S.faults source.new ≡ S.faults source.old }
-        ensures calm_sink { result ≢ Err SessionEnd.WriteFault → K.faults sink.new ≡ K.faults sink.old }
+        ensures step { HasStepped self.old self.new (S.left source.old) (S.left source.new)
+            (K.taken sink.old) (K.taken sink.new) result }
+        ensures flushed { result ≡ Ok Served.Next
+            → AllFlushed (K.taken sink.new) (K.flushed sink.new) }
+        ensures unwritten { result ≢ Ok Served.Next → result ≢ Err SessionEnd.WriteFault
+            → sink.new ≡ sink.old }
+        ensures read_fault { IsErrOf result SessionEnd.ReadFault
+            → Rose S.last (S.faults source.old) (S.faults source.new) }
+        ensures write_fault { IsErrOf result SessionEnd.WriteFault
+            → Rose K.last (K.faults sink.old) (K.faults sink.new) }
+        ensures calm_source { result ≢ Err SessionEnd.ReadFault
+            → S.faults source.new ≡ S.faults source.old }
+        ensures calm_sink { result ≢ Err SessionEnd.WriteFault
+            → K.faults sink.new ≡ K.faults sink.old }
     {
         self.whole = false;
         let turn = answer_next(alloc, &mut self.device, source, self.served, self.place)?;
@@ -120,17 +136,25 @@ impl Server {
         sink: &mut K,
     ) -> Result<(), SessionEnd>
         requires { self.old.whole ≡ true }
-        ensures done { OnOk result (IsSession [] (bytes_of self.old) self.old.served self.old.place (Ok Served.Over)
+        ensures done { OnOk result (IsSession [] (bytes_of self.old) self.old.served self.old.place
+            (Ok Served.Over)
             (S.left source.old) (S.left source.new) (K.taken sink.old) (K.taken sink.new)) }
-        ensures ended { IfErr result (λ end. IsSession [] (bytes_of self.old) self.old.served self.old.place (Err end)
+        ensures ended { IfErr result
+            (λ end. IsSession [] (bytes_of self.old) self.old.served self.old.place (Err end)
             (S.left source.old) (S.left source.new) (K.taken sink.old) (K.taken sink.new)) }
         ensures whole { OnOk result (self.new.whole ≡ true) }
-        ensures flushed { result ≢ Err SessionEnd.WriteFault → AllFlushed (K.taken sink.old) (K.flushed sink.old) → AllFlushed (K.taken sink.new) (K.flushed sink.new) }
+        ensures flushed { result ≢ Err SessionEnd.WriteFault
+            → AllFlushed (K.taken sink.old) (K.flushed sink.old)
+            → AllFlushed (K.taken sink.new) (K.flushed sink.new) }
         // faults
-        ensures read_fault { IsErrOf result SessionEnd.ReadFault → Rose S.last (S.faults source.old) (S.faults source.new) }
-        ensures write_fault { IsErrOf result SessionEnd.WriteFault → Rose K.last (K.faults sink.old) (K.faults sink.new) }
-        ensures calm_source { result ≢ Err SessionEnd.ReadFault → S.faults source.new ≡ S.faults source.old }
-        ensures calm_sink { result ≢ Err SessionEnd.WriteFault → K.faults sink.new ≡ K.faults sink.old }
+        ensures read_fault { IsErrOf result SessionEnd.ReadFault
+            → Rose S.last (S.faults source.old) (S.faults source.new) }
+        ensures write_fault { IsErrOf result SessionEnd.WriteFault
+            → Rose K.last (K.faults sink.old) (K.faults sink.new) }
+        ensures calm_source { result ≢ Err SessionEnd.ReadFault
+            → S.faults source.new ≡ S.faults source.old }
+        ensures calm_sink { result ≢ Err SessionEnd.WriteFault
+            → K.faults sink.new ≡ K.faults sink.old }
         // whole requests that meet no fault are served to their end, where there is memory
         ensures complete { IsWholeInput self.old.served (S.left source.old)
             → (Rose S.last (S.faults source.old) (S.faults source.new) → ⊥)

@@ -19,13 +19,19 @@ pub fn serve<S: Source, K: Sink>(
     sink: &mut K,
 ) -> Result<(), SessionEnd>
     ensures done { OnOk result (let size = config.now.size * config.now.blocks in
-        IsSession (greeting size) (replicate size 0) 0 0 (Ok Served.Over) (S.left source.old) (S.left source.new) (K.taken sink.old) (K.taken sink.new)) }
+        IsSession (greeting size) (replicate size 0) 0 0 (Ok Served.Over) (S.left source.old)
+        (S.left source.new) (K.taken sink.old) (K.taken sink.new)) }
     ensures ended { IfErr result (λ end. let size = config.now.size * config.now.blocks in
-        IsSession (greeting size) (replicate size 0) 0 0 (Err end) (S.left source.old) (S.left source.new) (K.taken sink.old) (K.taken sink.new)) }
-    ensures flushed { result ≢ Err SessionEnd.WriteFault → result ≢ Err SessionEnd.NoMemory → AllFlushed (K.taken sink.new) (K.flushed sink.new) }
-    ensures read_fault { IsErrOf result SessionEnd.ReadFault → Rose S.last (S.faults source.old) (S.faults source.new) }
-    ensures write_fault { IsErrOf result SessionEnd.WriteFault → Rose K.last (K.faults sink.old) (K.faults sink.new) }
-    ensures calm_source { result ≢ Err SessionEnd.ReadFault → S.faults source.new ≡ S.faults source.old }
+        IsSession (greeting size) (replicate size 0) 0 0 (Err end) (S.left source.old)
+        (S.left source.new) (K.taken sink.old) (K.taken sink.new)) }
+    ensures flushed { result ≢ Err SessionEnd.WriteFault → result ≢ Err SessionEnd.NoMemory
+        → AllFlushed (K.taken sink.new) (K.flushed sink.new) }
+    ensures read_fault { IsErrOf result SessionEnd.ReadFault
+        → Rose S.last (S.faults source.old) (S.faults source.new) }
+    ensures write_fault { IsErrOf result SessionEnd.WriteFault
+        → Rose K.last (K.faults sink.old) (K.faults sink.new) }
+    ensures calm_source { result ≢ Err SessionEnd.ReadFault
+        → S.faults source.new ≡ S.faults source.old }
     ensures calm_sink { result ≢ Err SessionEnd.WriteFault → K.faults sink.new ≡ K.faults sink.old }
     // whole requests that meet no fault are served to their end, where there is memory
     ensures complete { IsWholeInput 0 (S.left source.old)

@@ -42,8 +42,10 @@ pub(crate) fn answer_next<S: Source>(
     place: u64,
 ) -> Result<Option<Turn>, SessionEnd>
     requires { IsServer device.old served place }
-    ensures turned { HasTurned served place device.old device.new (S.left source.old) (S.left source.new) result }
-    ensures fault { IsErrOf result SessionEnd.ReadFault → Rose S.last (S.faults source.old) (S.faults source.new) }
+    ensures turned { HasTurned served place device.old device.new (S.left source.old)
+        (S.left source.new) result }
+    ensures fault { IsErrOf result SessionEnd.ReadFault
+        → Rose S.last (S.faults source.old) (S.faults source.new) }
     ensures calm { result ≢ Err SessionEnd.ReadFault → S.faults source.new ≡ S.faults source.old }
 {
     let Some(request) = next_request(alloc, source, served, place)? else {
@@ -69,10 +71,14 @@ fn next_request<S: Source>(
     place: u64,
 ) -> Result<Option<Request>, SessionEnd>
     requires { served ≤ most_requests }
-    ensures some { IfOk result (λ found. IfSome found (λ r. HasCome r served (S.left source.old) (S.left source.new))) }
-    ensures none { result ≡ Ok None → Consumes (S.left source.old) (S.left source.new) [] × IsAtEnd (S.left source.new) }
-    ensures end { IfErr result (λ end. HasNotCome end served place (S.left source.old) (S.left source.new)) }
-    ensures fault { IsErrOf result SessionEnd.ReadFault → Rose S.last (S.faults source.old) (S.faults source.new) }
+    ensures some { IfOk result (λ found.
+        IfSome found (λ r. HasCome r served (S.left source.old) (S.left source.new))) }
+    ensures none { result ≡ Ok None → Consumes (S.left source.old) (S.left source.new) []
+        × IsAtEnd (S.left source.new) }
+    ensures end { IfErr result
+        (λ end. HasNotCome end served place (S.left source.old) (S.left source.new)) }
+    ensures fault { IsErrOf result SessionEnd.ReadFault
+        → Rose S.last (S.faults source.old) (S.faults source.new) }
     ensures calm { result ≢ Err SessionEnd.ReadFault → S.faults source.new ≡ S.faults source.old }
 {
     if served == MOST {
@@ -89,9 +95,11 @@ fn next_request<S: Source>(
 
 /// Whether the input ends after the last request that a session may have.
 fn past_the_last<S: Source>(source: &mut S) -> Result<(), SessionEnd>
-    ensures ended { OnOk result (Consumes (S.left source.old) (S.left source.new) [] × IsAtEnd (S.left source.new)) }
+    ensures ended { OnOk result (Consumes (S.left source.old) (S.left source.new) []
+        × IsAtEnd (S.left source.new)) }
     ensures end { IfErr result (λ end. IsPastTheLast end (S.left source.old) (S.left source.new)) }
-    ensures fault { IsErrOf result SessionEnd.ReadFault → Rose S.last (S.faults source.old) (S.faults source.new) }
+    ensures fault { IsErrOf result SessionEnd.ReadFault
+        → Rose S.last (S.faults source.old) (S.faults source.new) }
     ensures calm { result ≢ Err SessionEnd.ReadFault → S.faults source.new ≡ S.faults source.old }
 {
     let mut room = [0u8; 1];

@@ -27,10 +27,14 @@ pub enum Arrival {
 
 /// Reads a request, its data aside.
 pub fn read_request<S: Source>(alloc: Global, source: &mut S) -> Result<Arrival, TakeRefusal>
-    ensures arrival { IfOk result (λ arrival. HasArrived (S.left source.old) (S.left source.new) arrival) }
-    ensures fault { IsErrOf result TakeRefusal.ReadFault → Rose S.last (S.faults source.old) (S.faults source.new) }
-    ensures begun { IsErrOf result TakeRefusal.ReadFault → HasBegun (S.left source.old) (S.left source.new) }
-    ensures most { IsErrOf result TakeRefusal.NoMemory → GaveAtMost head_len (S.left source.old) (S.left source.new) }
+    ensures arrival { IfOk result (λ arrival.
+        HasArrived (S.left source.old) (S.left source.new) arrival) }
+    ensures fault { IsErrOf result TakeRefusal.ReadFault
+        → Rose S.last (S.faults source.old) (S.faults source.new) }
+    ensures begun { IsErrOf result TakeRefusal.ReadFault
+        → HasBegun (S.left source.old) (S.left source.new) }
+    ensures most { IsErrOf result TakeRefusal.NoMemory
+        → GaveAtMost head_len (S.left source.old) (S.left source.new) }
     ensures calm { result ≢ Err TakeRefusal.ReadFault → S.faults source.new ≡ S.faults source.old }
     ensures later { S.faults source.old ≤ S.faults source.new }
 {

@@ -35,10 +35,14 @@ pub fn take_bytes<S: Source>(
     source: &mut S,
     len: u32,
 ) -> Result<Vec<u8>, TakeRefusal>
-    ensures bytes { IfOk result (λ taken. GaveUpTo len (S.left source.old) (S.left source.new) taken.items) }
-    ensures fault { IsErrOf result TakeRefusal.ReadFault → Rose S.last (S.faults source.old) (S.faults source.new) }
-    ensures fewer { IsErrOf result TakeRefusal.ReadFault → GaveFewer len (S.left source.old) (S.left source.new) }
-    ensures most { IsErrOf result TakeRefusal.NoMemory → GaveAtMost len (S.left source.old) (S.left source.new) }
+    ensures bytes { IfOk result (λ taken.
+        GaveUpTo len (S.left source.old) (S.left source.new) taken.items) }
+    ensures fault { IsErrOf result TakeRefusal.ReadFault
+        → Rose S.last (S.faults source.old) (S.faults source.new) }
+    ensures fewer { IsErrOf result TakeRefusal.ReadFault
+        → GaveFewer len (S.left source.old) (S.left source.new) }
+    ensures most { IsErrOf result TakeRefusal.NoMemory
+        → GaveAtMost len (S.left source.old) (S.left source.new) }
     ensures calm { result ≢ Err TakeRefusal.ReadFault → S.faults source.new ≡ S.faults source.old }
     ensures later { S.faults source.old ≤ S.faults source.new }
 {
@@ -58,7 +62,9 @@ pub fn take_bytes<S: Source>(
 
 /// Reads so many bytes and drops them. None of the input is left where there are fewer: then it answers false.
 pub fn drop_bytes<S: Source>(source: &mut S, len: u32) -> Result<bool, Failed>
-    ensures bytes { IfOk result (λ all. (bytes : List ℕ) × GaveUpTo len (S.left source.old) (S.left source.new) bytes × (IsTrue all ↔ (length bytes ≡ len))) }
+    ensures bytes { IfOk result (λ all.
+        (bytes : List ℕ) × GaveUpTo len (S.left source.old) (S.left source.new) bytes
+        × (IsTrue all ↔ (length bytes ≡ len))) }
     ensures cause { OnErr result (Rose S.last (S.faults source.old) (S.faults source.new)) }
     ensures fewer { OnErr result (GaveFewer len (S.left source.old) (S.left source.new)) }
     ensures calm { OnOk result (S.faults source.new ≡ S.faults source.old) }

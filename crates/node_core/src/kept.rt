@@ -100,7 +100,8 @@ impl Kept {
     /// Drops the versions below the greatest one up to the stamp.
     pub(crate) fn prune(&mut self, stamp: &Stamp)
         ensures later { (v : Version) → Contains self.old v → 1 ≤ v.stamp.time }
-        ensures kept { self.new ≡ filter (λ v. carries v.stamp (greatest_in (AtMost stamp.now) self.old) || before stamp.now v.stamp) self.old }
+        ensures kept { self.new ≡ filter (λ v. carries v.stamp
+            (greatest_in (AtMost stamp.now) self.old) || before stamp.now v.stamp) self.old }
     {
         match self.greatest_in(&Bound::AtMost(*stamp)) {
             Some(greatest) => {

@@ -7,6 +7,3 @@ pub mod prepared;
 
 pub use node::{Node, Stamps};
 pub use prepared::Prepared;
-
-#[cfg(test)]
-mod tests;

@@ -68,7 +68,8 @@ impl Node {
     /// Answers an ask, and keeps the version that it accepts, if any.
     pub fn handle(&mut self, ask: &Ask) -> Result<Reply, NoMemory>
         ensures reply { IfOk result (λ reply. reply ≡ reply_of self.old ask.now) }
-        ensures ok { OnOk result (self.new ≡ with_versions self.old ask.now.block (after_of self.old ask.now)) }
+        ensures ok { OnOk result
+            (self.new ≡ with_versions self.old ask.now.block (after_of self.old ask.now)) }
         ensures err { OnErr result (self.new ≡ self.old) }
     {
         let Prepared { reply, added } = self.prepare(ask)?;
@@ -105,7 +106,8 @@ impl Node {
     /// Adds what was prepared for the ask. It is the last step that takes memory.
     pub fn commit(&mut self, ask: &Ask, added: Option<Version>) -> Result<(), NoMemory>
         requires { added ≡ accepts_of self.old ask.now }
-        ensures ok { OnOk result (self.new ≡ with_versions self.old ask.now.block (after_of self.old ask.now)) }
+        ensures ok { OnOk result
+            (self.new ≡ with_versions self.old ask.now.block (after_of self.old ask.now)) }
         ensures err { OnErr result (self.new ≡ self.old) }
     {
         let Some(version) = added else {
@@ -172,7 +174,8 @@ impl Node {
     /// greater stamps.
     pub fn prune(&mut self, block: u32, stamp: &Stamp)
         requires { block < self.old.config.blocks }
-        ensures { self.new ≡ with_versions self.old block (pruned (setting self.old.config) stamp.now (versions_in self.old block)) }
+        ensures { self.new ≡ with_versions self.old block
+            (pruned (setting self.old.config) stamp.now (versions_in self.old block)) }
     {
         self.blocks[block as usize].prune(stamp);
     }
@@ -204,7 +207,8 @@ impl Node {
     /// The answer to a read.
     fn found(&self, block: u32, bound: &Bound) -> Result<Reply, NoMemory>
         requires { block < self.now.config.blocks }
-        ensures { IfOk result (λ reply. reply ≡ found (greatest_in bound.now (versions_in self.now block))) }
+        ensures { IfOk result
+            (λ reply. reply ≡ found (greatest_in bound.now (versions_in self.now block))) }
     {
         match self.blocks[block as usize].greatest_in(bound) {
             Some(version) => Ok(Reply::Found(version.copy()?)),
@@ -216,8 +220,11 @@ impl Node {
     /// The answer to a write, and what is added by it.
     fn weigh(&self, block: u32, version: &Version) -> Result<Prepared, NoMemory>
         requires { block < self.now.config.blocks }
-        ensures reply { IfOk result (λ p. p.reply ≡ acknowledged (refusal (setting self.now.config) self.now.number version.now)) }
-        ensures added { IfOk result (λ p. p.added ≡ added (refusal (setting self.now.config) self.now.number version.now) (versions_in self.now block) version.now) }
+        ensures reply { IfOk result (λ p. p.reply ≡ acknowledged
+            (refusal (setting self.now.config) self.now.number version.now)) }
+        ensures added { IfOk result (λ p. p.added ≡ added
+            (refusal (setting self.now.config) self.now.number version.now)
+            (versions_in self.now block) version.now) }
     {
         match self.refusal(version) {
             Some(reason) => Ok(answers(Reply::Refused(reason))),

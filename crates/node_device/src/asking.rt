@@ -15,7 +15,8 @@ pub(crate) fn ask(
     mail: &Mail,
 ) -> Result<Heard, NoMemory>
     requires { (t : SeenTask) × IsAsking nodes.old.items client.old t mail.now }
-    ensures { IfOk result (λ heard. (t : SeenTask) → client.old.seen.task ≡ Some t → HasAsked nodes.old.items nodes.new.items client.old client.new t heard) }
+    ensures { IfOk result (λ heard. (t : SeenTask) → client.old.seen.task ≡ Some t
+        → HasAsked nodes.old.items nodes.new.items client.old client.new t heard) }
 {
     for message in mail.as_slice() {
         match meet(nodes, client, message)? {
@@ -31,7 +32,9 @@ fn meet(nodes: &mut Vec<Node>, client: &mut Client, message: &Message) -> Result
     requires asks { IsAsk message.now.body }
     requires there { message.now.node < length nodes.old.items }
     requires phase { phase_of client.old.seen.task < 2 ^ 64 - 1 }
-    ensures { IfOk result (λ heard. HasMet nodes.old.items nodes.new.items client.old client.new message.now heard message.now.body) }
+    ensures { IfOk result (λ heard.
+        HasMet nodes.old.items nodes.new.items client.old client.new message.now heard
+        message.now.body) }
 {
     let Body::Ask(ask) = &message.body else {
         unreachable!()

@@ -37,7 +37,13 @@ impl Model for NodeDevice {
 
     ghost Value = { SeenDevice };
 
-    ghost view = { λ d. record { config = d.config; held = held_of d.config d.nodes.items; life = d.client.seen.life; started = d.client.seen.started; whole = d.whole } };
+    ghost view = { λ d. record {
+      config = d.config;
+      held = held_of d.config d.nodes.items;
+      life = d.client.seen.life;
+      started = d.client.seen.started;
+      whole = d.whole;
+    } };
 
     ghost invariant = { λ d. IsDevice d.config d.nodes.items d.client d.whole };
 }
@@ -45,7 +51,14 @@ impl Model for NodeDevice {
 impl NodeDevice {
     /// A device whose blocks were never written.
     pub fn new(alloc: Global, config: &Config) -> Result<NodeDevice, NoMemory>
-        ensures { IfOk result (λ d. d ≡ record { config = config.now; held = replicate config.now.blocks (unwritten config.now); life = 0; started = 0; whole = true }) }
+        ensures { IfOk result (λ d.
+            d ≡ record {
+              config = config.now;
+              held = replicate config.now.blocks (unwritten config.now);
+              life = 0;
+              started = 0;
+              whole = true;
+            }) }
     {
         let mut nodes = Vec::new(alloc);
         for number in 0..config.n() as u8 {
@@ -71,7 +84,8 @@ impl NodeDevice {
         requires whole { self.old.whole ≡ true }
         requires block { block < self.old.config.blocks }
         requires fresh { self.old.started < 2 ^ 32 - 1 }
-        ensures value { IfOk result (λ value. value ≡ (held_at self.old.config self.old.held block).value) }
+        ensures value { IfOk result (λ value.
+            value ≡ (held_at self.old.config self.old.held block).value) }
         ensures ok { OnOk result (self.new ≡ record self.old { started = self.old.started + 1 }) }
         ensures err { OnErr result (self.new.whole ≡ false) }
     {
@@ -88,7 +102,11 @@ impl NodeDevice {
         requires value { IsBlock (setting self.old.config) value }
         requires fresh { self.old.started < 2 ^ 32 - 1 }
         requires time { (held_at self.old.config self.old.held block).time < 2 ^ 64 - 1 }
-        ensures ok { OnOk result (self.new ≡ record self.old { held = slice_set self.old.held block (rewritten (held_at self.old.config self.old.held block) value); started = self.old.started + 1 }) }
+        ensures ok { OnOk result (self.new ≡ record self.old {
+          held = slice_set self.old.held block
+              (rewritten (held_at self.old.config self.old.held block) value);
+          started = self.old.started + 1;
+        }) }
         ensures err { OnErr result (self.new.whole ≡ false) }
     {
         self.whole = false;
@@ -111,7 +129,8 @@ impl NodeDevice {
         requires whole { self.now.whole ≡ true }
         requires node { node < wait_of self.now.config }
         requires block { block < self.now.config.blocks }
-        ensures { IfOk result (λ v. v ≡ version_of self.now.config node (held_at self.now.config self.now.held block)) }
+        ensures { IfOk result (λ v. v ≡ version_of self.now.config node
+            (held_at self.now.config self.now.held block)) }
     {
         let all = Ask {
             block,
@@ -129,8 +148,10 @@ fn read(nodes: &mut Vec<Node>, client: &mut Client, block: u32) -> Result<Bytes,
     requires ready { IsReady client.old.config nodes.old.items client.old }
     requires block { block < client.old.config.blocks }
     requires fresh { client.old.seen.started < 2 ^ 32 - 1 }
-    ensures value { IfOk result (λ value. value ≡ (held_at client.old.config (held_of client.old.config nodes.old.items) block).value) }
-    ensures ok { OnOk result (HasDone client.old client.new nodes.new.items (held_of client.old.config nodes.old.items)) }
+    ensures value { IfOk result (λ value. value
+        ≡ (held_at client.old.config (held_of client.old.config nodes.old.items) block).value) }
+    ensures ok { OnOk result (HasDone client.old client.new nodes.new.items
+        (held_of client.old.config nodes.old.items)) }
 {
     let mail = client.start(&Op::Read { block })?;
     let Heard::Ended(outcome) = ask(nodes, client, &mail)? else {
@@ -154,8 +175,11 @@ fn write(
     requires block { block < client.old.config.blocks }
     requires value { IsBlock (setting client.old.config) value }
     requires fresh { client.old.seen.started < 2 ^ 32 - 1 }
-    requires time { (held_at client.old.config (held_of client.old.config nodes.old.items) block).time < 2 ^ 64 - 1 }
-    ensures ok { OnOk result (let held = held_of client.old.config nodes.old.items in HasDone client.old client.new nodes.new.items (slice_set held block (rewritten (held_at client.old.config held block) value))) }
+    requires time { let held = held_of client.old.config nodes.old.items in
+        (held_at client.old.config held block).time < 2 ^ 64 - 1 }
+    ensures ok { OnOk result (let held = held_of client.old.config nodes.old.items in
+        HasDone client.old client.new nodes.new.items
+        (slice_set held block (rewritten (held_at client.old.config held block) value))) }
 {
     let mail = client.start(&Op::Write { block, value })?;
     let Heard::Send(mail) = ask(nodes, client, &mail)? else {

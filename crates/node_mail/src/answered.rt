@@ -20,13 +20,24 @@ pub struct ClientPlace {
 }
 
 /// A node's answer on its way to a client: what the node's cell told or refused, and the ask itself, with the way that it went.
-#[derive(Drop)]
 pub struct Answered {
     pub way: Way,
     pub ask: Message,
     pub told: Result<Told, CellRefusal>,
     /// What the client's pass has seen, and the number of what was told.
     pub note: Note,
+}
+
+// By hand, since a derived drop is proved anew wherever one is let go.
+impl Drop for Answered {
+    fn drop(self) {
+        let Answered {
+            way: _way,
+            ask: _ask,
+            told: _told,
+            note: _note,
+        } = self;
+    }
 }
 
 impl Mail for Answered {
@@ -41,5 +52,19 @@ impl Answered {
         ensures { IsTrue result ↔ ((self.now.way ≡ way) × (self.now.ask ≡ ask.now)) }
     {
         self.way == way && same(&self.ask, ask)
+    }
+
+    /// What was told or refused, and the note that has seen it.
+    pub fn into_told(self) -> (Result<Told, CellRefusal>, Note)
+        ensures told { result.0 ≡ self.told }
+        ensures note { result.1 ≡ self.note }
+    {
+        let Answered {
+            way: _way,
+            ask: _ask,
+            told,
+            note,
+        } = self;
+        (told, note)
     }
 }

@@ -24,7 +24,7 @@ use Rattle.event_clock.specs.Passes.{ClockId, Sight}
 use Rattle.journals.specs.declared.desk.Way.{Way}
 use Rattle.journals.specs.declared.desk.DeskAct.TheVariants.{Call}
 use Rattle.journals.specs.Acts.{act, late_act, answer_of}
-use Rattle.client_desks.specs.Desks.{reply_told}
+use Rattle.locked_nodes.specs.Cells.{reply_told}
 use Rattle.client_desks.proofs.Desking.{act_side, late_side, told_reply}
 use Rattle.node_mail.specs.declared.asked.Asked.{Asked}
 use Rattle.node_mail.specs.declared.answered.Answered.{Answered}

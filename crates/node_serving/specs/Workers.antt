@@ -14,7 +14,7 @@ use Rattle.journals.specs.Steps.{side}
 use Rattle.locked_nodes.specs.declared.answers.Told.{Told}
 use Rattle.locked_nodes.specs.Cells.{CellView, number_of}
 use Rattle.locked_nodes.specs.Slots.{slot_of}
-use Rattle.client_desks.specs.Desks.{reply_told}
+use Rattle.locked_nodes.specs.Cells.{reply_told}
 use Rattle.protocol.specs.Messages.{Message}
 use Rattle.node_mail.specs.declared.asked.Asked.{Asked}
 use Rattle.node_mail.specs.declared.asked.NodePlace.{NodePlace}

@@ -20,13 +20,24 @@ use std::sync::Wait;
 
 /// A node's cell, the inbox of asks to it, and the right to put answers into each client's inbox, by the clients' seats. Contracts
 /// see these, and the answers that were put.
-#[derive(Drop)]
 pub struct Worker {
     cell: NodeCell,
     asks: Taker<Asked>,
     answers: Vec<Putter<Answered>>,
     /// What is left of the putters, by the seats too.
     sents: Vec<Sent<Answered>>,
+}
+
+// By hand, since a derived drop is proved anew wherever one is let go.
+impl Drop for Worker {
+    fn drop(self) {
+        let Worker {
+            cell: _cell,
+            asks: _asks,
+            answers: _answers,
+            sents: _sents,
+        } = self;
+    }
 }
 
 impl Model for Worker {
@@ -48,7 +59,8 @@ impl Worker {
         asks: Taker<Asked>,
         answers: Vec<Putter<Answered>>,
     ) -> Result<Worker, NoMemory>
-        ensures { IfOk result (λ w. w ≡ record { cell = cell; asks = asks; answers = answers.items; sents = [] }) }
+        ensures { IfOk result (λ w.
+            w ≡ record { cell = cell; asks = asks; answers = answers.items; sents = [] }) }
     {
         let mut sents = Vec::new(alloc);
         sents.reserve(answers.len())?;
@@ -118,7 +130,8 @@ impl Worker {
 // Lets the node meet an ask. A refusal is an answer too.
 fn answer_to(cell: &mut NodeCell, clock: &Clock, asked: Asked) -> Answered
     requires clock { cell.old.charter.pass.clock ≡ clock.now }
-    requires fits { (place : NodePlace) × IsAskAt place asked × (place.clock.value ≡ clock.now) × (place.slot ≡ slot_of cell.old.charter) }
+    requires fits { (place : NodePlace) × IsAskAt place asked × (place.clock.value ≡ clock.now)
+        × (place.slot ≡ slot_of cell.old.charter) }
     ensures clock { result.note.clock ≡ clock.now }
     ensures to { (result.way ≡ asked.way) × (result.ask ≡ asked.ask) }
     ensures acted { IfOk result.told (λ told. cell.new ≡ with_entry cell.old (number_of told)

@@ -6,4 +6,5 @@ mod Pairing
 mod Phasing
 mod Locking
 mod Staying
+mod Ending
 mod Sending

@@ -70,6 +70,10 @@ module _ (cells : List CellView) where
     answered = λ d e there has. side_again d.id e (pairs.answered d e there has);
   }
 
+-- what may begin with these cells and seats may begin with the same ones
+pub may_as : {T : Type 0} (ready : T → List Slot → DeskView → Type 0) (of : ClockId) (cells : List CellView) (seats : List (Seat T)) (now : List CellView) (are : List (Seat T)) → now ≡ cells → are ≡ seats → MayPhase ready of cells seats → MayPhase ready of now are
+may_as {T = T} ready of cells seats now are is same may = subst (λ (l : List (Seat T)). MayPhase ready of now l) (sym same) (subst (λ (l : List CellView). MayPhase ready of l seats) (sym is) may)
+
 module _ {T : Type 0} (ready : T → List Slot → DeskView → Type 0) (done : T → DeskView → T → DeskView → Type 0) (of : ClockId) (cells : List CellView) (seats : List (Seat T)) where
   pub may_again : (now : List CellView) (are : List (Seat T)) → now ≡ map again cells → are ≡ seats → All (λ (c : CellView). c.pass.clock ≡ c.charter.pass.clock) cells → MayPhase ready of cells seats → MayPhase ready of now are
   may_again now are is same own may =

@@ -17,7 +17,8 @@ use Rattle.journals.specs.Steps.{side, IsOwn}
 use Rattle.locked_nodes.specs.declared.answers.CellRefusal.{CellRefusal}
 use Rattle.locked_nodes.specs.declared.answers.Told.{Told}
 use Rattle.locked_nodes.specs.Cells.{CellView, rechartered, number_of}
-use Rattle.client_desks.specs.Desks.{DeskView, desk_entry, reply_told}
+use Rattle.client_desks.specs.Desks.{DeskView, desk_entry}
+use Rattle.locked_nodes.specs.Cells.{reply_told}
 use Rattle.client_desks.specs.Later.{IsLater}
 use Rattle.crews.specs.Crews.{Beside}
 use Rattle.node_mail.specs.declared.answered.Answered.{Answered}

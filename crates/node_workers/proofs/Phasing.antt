@@ -25,27 +25,13 @@ use Rattle.node_serving.specs.Workers.{Line, WorkerView, CanServe, IsLineTo, IsS
 use Rattle.phase_threads.specs.declared.duty.Seat.{Seat}
 use Rattle.run_journals.specs.Standing.{AreCells, IsCellOf, IsDeskAt, PairsStand, HasWorked}
 use Rattle.node_workers.specs.Hands.{AreSpread}
-use Rattle.node_workers.specs.Opened.{IsAnswerBox, IsWorkerOf, IsClientOf}
+use Rattle.node_workers.specs.Opened.{IsAnswerBox, IsWorkerOf, IsClientOf, ids_of, Opened}
 use Rattle.node_workers.specs.Posts.{IsReady, HasDone, HasAll, HasTakenAll, seat_of}
 use Rattle.node_workers.specs.Closed.{IsOfMail, HasAllOf}
 use Rattle.node_workers.proofs.Pairing.{IsServed, IsHeard, pairs_stand}
 
 abbrev pub desks_of : {T : Type 0} → List (Seat T) → List DeskView
 desks_of seats = map (λ s. s.desk) seats
-
-abbrev pub ids_of : {T : Type 0} → List (Seat T) → List ℕ
-ids_of seats = map (λ s. s.desk.id) seats
-
--- all that is opened
-pub record Opened {T : Type 0} (config : Numbers) (of : ClockId) (cells : List CellView) (seats : List (Seat T)) (boxes : List (Taking Answered ClientPlace)) (rows : List (List Line)) (hands : List (List (Putting Asked NodePlace))) (workers : List WorkerView) (clients : List (KeysView × T)) (floor : FloorView) : Type 0 where
-  pub answers : Beside (IsAnswerBox of (length cells)) seats boxes
-  pub lines : AreSpread (length cells) boxes rows
-  pub nodes : Beside (IsWorkerOf of (ids_of seats) rows) cells workers
-  pub asks : AreSpread (length (ids_of seats)) (map (λ w. w.asks) workers) hands
-  pub seated : Beside (IsClientOf boxes hands) seats clients
-  pub is : floor ≡ record { clock = of; slots = slots_of cells; vaults = []; answers = boxes }
-  pub are : AreCells config of cells
-  pub desks : All (λ s. IsDeskAt config of s.desk) seats
 
 abbrev pub mail_floor : ClockId → List (Taking Answered ClientPlace) → List Slot → FloorView
 mail_floor of boxes slots = record { clock = of; slots = slots; vaults = []; answers = boxes }

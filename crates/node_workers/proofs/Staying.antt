@@ -17,15 +17,26 @@ use Rattle.node_mail.specs.declared.answered.ClientPlace.{ClientPlace}
 use Rattle.desk_keys.specs.declared.mail.ByMail.{ByMail}
 use Rattle.desk_keys.specs.Keys.{KeysView, FloorView}
 use Rattle.node_serving.specs.Workers.{Line, WorkerView}
+use Rattle.locked_nodes.specs.declared.slot.Slot.{Slot}
+use Rattle.client_desks.specs.Desks.{DeskView}
 use Rattle.phase_threads.specs.declared.duty.Seat.{Seat}
-use Rattle.node_workers.specs.Opened.{IsWorkerOf, IsClientOf}
-use Rattle.node_workers.specs.Posts.{seat_of}
-use Rattle.node_workers.proofs.Phasing.{Opened, ids_of}
-use Rattle.node_workers.proofs.Locking.{beside_map, map_id, again}
+use Rattle.phase_threads.specs.declared.phase.Left.{Left}
+use Rattle.phase_threads.specs.Phases.{MayPhase, HasPhased}
+use Rattle.node_workers.specs.Opened.{IsWorkerOf, IsClientOf, ids_of, Opened, ArePosts}
+use Rattle.node_workers.specs.declared.crew.Post.{Post}
+use Rattle.node_workers.specs.Posts.{seat_of, nodes_in, clients_in, cells_at, seats_at}
+use Rattle.node_workers.proofs.Locking.{beside_map, map_id, again, may_again, phased_again}
 
 pub ok_also : {T E : Type 0} (P Q : T → Type 0) (r : Result T E) → ((x : T) → P x → Q x) → IfOk r P → IfOk r Q
 ok_also P Q (Ok x) f has = f x has
 ok_also P Q (Err e) f has = has
+
+-- what a phase left of these cells and seats it left of the same ones
+pub phased_as : {T E : Type 0} (done : T → DeskView → T → DeskView → Type 0) (of : ClockId) (cells : List CellView) (seats : List (Seat T)) (now : List CellView) (are : List (Seat T)) → now ≡ cells → are ≡ seats → (r : Result (ClockId × Left T) E)
+    → IfOk r (λ p. HasPhased done of now are p.0 p.1) → IfOk r (λ p. HasPhased done of cells seats p.0 p.1)
+phased_as {T = T} done of cells seats now are is same r has =
+    ok_also (λ (p : ClockId × Left T). HasPhased done of now are p.0 p.1) (λ (p : ClockId × Left T). HasPhased done of cells seats p.0 p.1) r
+    (λ p phased. subst (λ (l : List (Seat T)). HasPhased done of cells l p.0 p.1) same (subst (λ (l : List CellView). HasPhased done of l are p.0 p.1) is phased)) has
 
 module _ {T : Type 0} (config : Numbers) (of : ClockId) (cells : List CellView) (seats : List (Seat T)) (boxes : List (Taking Answered ClientPlace)) (rows : List (List Line)) (hands : List (List (Putting Asked NodePlace))) (workers : List WorkerView) (clients : List (KeysView × T)) (floor : FloorView)
     (o : Opened config of cells seats boxes rows hands workers clients floor) where
@@ -51,3 +62,27 @@ module _ {T : Type 0} (config : Numbers) (of : ClockId) (cells : List CellView) 
 
   pub cells_own : All (λ (c : CellView). c.pass.clock ≡ c.charter.pass.clock) cells
   cells_own = all_from (λ (c : CellView). c.pass.clock ≡ c.charter.pass.clock) cells (λ k c at. (right_of (IsWorkerOf of (ids_of seats) rows) cells workers k c o.nodes at).2.own)
+
+  -- the phase may be done by locks, and what it then leaves it leaves of the cells and seats as they came
+  pub may_by_locks : (ready : T → List Slot → DeskView → Type 0) (done : T → DeskView → T → DeskView → Type 0) → MayPhase ready of cells seats → MayPhase ready of (map (λ (w : WorkerView). w.cell) workers) (map seat_of clients)
+  may_by_locks ready done may = may_again ready done of cells seats (map (λ (w : WorkerView). w.cell) workers) (map seat_of clients) cells_stay seats_stay cells_own may
+
+  pub phased_by_locks : {E : Type 0} (ready : T → List Slot → DeskView → Type 0) (done : T → DeskView → T → DeskView → Type 0) (r : Result (ClockId × Left T) E) → IfOk r (λ p. HasPhased done of (map (λ (w : WorkerView). w.cell) workers) (map seat_of clients) p.0 p.1) → IfOk r (λ p. HasPhased done of cells seats p.0 p.1)
+  phased_by_locks ready done r has =
+      ok_also (λ (p : ClockId × Left T). HasPhased done of (map (λ (w : WorkerView). w.cell) workers) (map seat_of clients) p.0 p.1) (λ (p : ClockId × Left T). HasPhased done of cells seats p.0 p.1) r
+      (λ p phased. phased_again ready done of cells seats (map (λ (w : WorkerView). w.cell) workers) (map seat_of clients) p.0 p.1 cells_stay seats_stay phased) has
+
+-- the same of posts that came back as they were, with the clock
+module _ {T : Type 0} (of : ClockId) (cells : List CellView) (seats : List (Seat T)) (floor : FloorView) (posts : List (Post T)) (h : ArePosts of cells seats floor posts) (same : List (Post T)) (nobody : same ≡ posts) where
+  pub ways_back : All (λ (x : KeysView × T). IsSome x.0.mail) (clients_in same)
+  ways_back = subst (λ (l : List (Post T)). All (λ x. IsSome x.0.mail) (clients_in l)) (sym nobody) (all_by_mail h.config of cells seats h.boxes h.rows h.hands (nodes_in posts) (clients_in posts) floor h.opened)
+
+  pub may_back : (ready : T → List Slot → DeskView → Type 0) (done : T → DeskView → T → DeskView → Type 0) (clock : ClockId) → clock ≡ of → MayPhase ready of cells seats → MayPhase ready clock (cells_at same) (seats_at same)
+  may_back ready done clock ticks may =
+      subst (λ (k : ClockId). MayPhase ready k (cells_at same) (seats_at same)) (sym ticks) (subst (λ (l : List (Post T)). MayPhase ready of (cells_at l) (seats_at l)) (sym nobody)
+      (may_by_locks h.config of cells seats h.boxes h.rows h.hands (nodes_in posts) (clients_in posts) floor h.opened ready done may))
+
+  pub phased_back : {E : Type 0} (ready : T → List Slot → DeskView → Type 0) (done : T → DeskView → T → DeskView → Type 0) (clock : ClockId) → clock ≡ of → (r : Result (ClockId × Left T) E) → IfOk r (λ p. HasPhased done clock (cells_at same) (seats_at same) p.0 p.1) → IfOk r (λ p. HasPhased done of cells seats p.0 p.1)
+  phased_back {E = E} ready done clock ticks r has =
+      phased_by_locks h.config of cells seats h.boxes h.rows h.hands (nodes_in posts) (clients_in posts) floor h.opened ready done r
+      (subst (λ (l : List (Post T)). IfOk r (λ p. HasPhased done of (cells_at l) (seats_at l) p.0 p.1)) nobody (subst (λ (k : ClockId). IfOk r (λ p. HasPhased done k (cells_at same) (seats_at same) p.0 p.1)) ticks has))

@@ -1,19 +1,25 @@
 -- Inboxes for cells and clients, and the posts that threads begin with.
-use Rattle.std.specs.Prelude.{◌≡◌, ℕ, false, List, [], slice_get}
+use Rattle.std.specs.Prelude.{◌≡◌, ℕ, false, List, [], length, map, All, slice_get}
 use Rattle.std.specs.declared.option.Option.TheVariants.{None, Some}
+use Rattle.quorum_rules.specs.Limits.{Numbers}
+use Rattle.crews.specs.Crews.{Beside}
 use Rattle.inboxes.specs.Sides.{Putting, Taking}
 use Rattle.event_clock.specs.Passes.{ClockId}
 use Rattle.locked_nodes.specs.Cells.{CellView, rechartered}
 use Rattle.locked_nodes.specs.declared.slot.Slot.{Slot}
-use Rattle.locked_nodes.specs.Slots.{slot_of}
+use Rattle.locked_nodes.specs.Slots.{slot_of, slots_of}
 use Rattle.node_mail.specs.declared.asked.Asked.{Asked}
 use Rattle.node_mail.specs.declared.asked.NodePlace.{NodePlace}
 use Rattle.node_mail.specs.declared.answered.Answered.{Answered}
 use Rattle.node_mail.specs.declared.answered.ClientPlace.{ClientPlace}
 use Rattle.desk_keys.specs.declared.mail.ByMail.{ByMail}
-use Rattle.desk_keys.specs.Keys.{KeysView}
+use Rattle.desk_keys.specs.Keys.{KeysView, FloorView}
 use Rattle.node_serving.specs.Workers.{Line, WorkerView}
+use Rattle.run_journals.specs.Standing.{AreCells, IsDeskAt}
 use Rattle.phase_threads.specs.declared.duty.Seat.{Seat}
+use Rattle.node_workers.specs.declared.crew.Post.{Post}
+use Rattle.node_workers.specs.Hands.{AreSpread}
+use Rattle.node_workers.specs.Posts.{nodes_in, clients_in}
 
 -- the inbox of a seat's client, which has so many senders and gave nothing yet
 pub record IsAnswerBox {T : Type 0} (of : ClockId) (senders i : ℕ) (seat : Seat T) (box : Taking Answered ClientPlace) : Type 0 where
@@ -46,3 +52,25 @@ pub record IsClientOf {T : Type 0} (boxes : List (Taking Answered ClientPlace)) 
   pub seat : mail.seat ≡ i
   pub asks : slice_get putters i ≡ Some mail.asks.items
   pub answers : slice_get boxes i ≡ Some mail.answers
+
+abbrev pub ids_of : {T : Type 0} → List (Seat T) → List ℕ
+ids_of seats = map (λ s. s.desk.id) seats
+
+-- all that is opened
+pub record Opened {T : Type 0} (config : Numbers) (of : ClockId) (cells : List CellView) (seats : List (Seat T)) (boxes : List (Taking Answered ClientPlace)) (rows : List (List Line)) (hands : List (List (Putting Asked NodePlace))) (workers : List WorkerView) (clients : List (KeysView × T)) (floor : FloorView) : Type 0 where
+  pub answers : Beside (IsAnswerBox of (length cells)) seats boxes
+  pub lines : AreSpread (length cells) boxes rows
+  pub nodes : Beside (IsWorkerOf of (ids_of seats) rows) cells workers
+  pub asks : AreSpread (length (ids_of seats)) (map (λ w. w.asks) workers) hands
+  pub seated : Beside (IsClientOf boxes hands) seats clients
+  pub is : floor ≡ record { clock = of; slots = slots_of cells; vaults = []; answers = boxes }
+  pub are : AreCells config of cells
+  pub desks : All (λ s. IsDeskAt config of s.desk) seats
+
+-- posts by mail of these cells and seats, before their threads start, with the floor that they share
+pub record ArePosts {T : Type 0} (of : ClockId) (cells : List CellView) (seats : List (Seat T)) (floor : FloorView) (posts : List (Post T)) : Type 0 where
+  pub config : Numbers
+  pub boxes : List (Taking Answered ClientPlace)
+  pub rows : List (List Line)
+  pub hands : List (List (Putting Asked NodePlace))
+  pub opened : Opened config of cells seats boxes rows hands (nodes_in posts) (clients_in posts) floor

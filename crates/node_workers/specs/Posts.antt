@@ -1,7 +1,8 @@
 -- What threads have in hand, by mail, and what they do.
-use Rattle.std.specs.Prelude.{◌≡◌, ◌<◌, List, [], ◌∷◌, Option, IsSome, All, slice_get}
+use Rattle.std.specs.Prelude.{◌≡◌, ◌<◌, List, [], ◌∷◌, Option, IsSome, All, map, slice_get}
 use Rattle.std.specs.declared.option.Option.TheVariants.{None, Some}
 use Rattle.locked_nodes.specs.declared.slot.Slot.{Slot}
+use Rattle.locked_nodes.specs.Cells.{CellView}
 use Rattle.inboxes.specs.Sides.{Taking, took, IsDone}
 use Rattle.client_desks.specs.Desks.{DeskView}
 use Rattle.client_desks.specs.Later.{IsLater}
@@ -30,6 +31,13 @@ module _ {T : Type 0} where
   -- a client's desk with its duty
   abbrev pub seat_of : KeysView × T → Seat T
   seat_of x = record { desk = x.0.desk; duty = x.1 }
+
+  -- the cells and the seats among posts
+  abbrev pub cells_at : List (Post T) → List CellView
+  cells_at posts = map (λ w. w.cell) (nodes_in posts)
+
+  abbrev pub seats_at : List (Post T) → List (Seat T)
+  seats_at posts = map seat_of (clients_in posts)
 
 -- the client's answers came from where its seat's taker took at first, and all were taken, up to the last word of each node
 pub record HasAll (of : FloorView) (mail : ByMail) : Type 0 where

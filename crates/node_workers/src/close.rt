@@ -33,9 +33,14 @@ pub fn part<T: Duty>(alloc: Global, posts: Vec<Post<T>>) -> Result<Parted<T>, No
     ensures cells { IfOk result (λ r. r.cells.items ≡ map (λ w. w.cell) (nodes_in posts.items)) }
     ensures rows { IfOk result (λ r. r.rows.items ≡ map (λ w. w.sents) (nodes_in posts.items)) }
     ensures seats { IfOk result (λ r. r.seats.items ≡ map seat_of (clients_in posts.items)) }
-    ensures mails { IfOk result (λ r. map (λ m. Some m) r.mails.items ≡ map (λ x. x.0.mail) (clients_in posts.items)) }
-    ensures refused { IfOk result (λ r. r.refused ≡ None → All (λ x. x.0.refused ≡ None) (clients_in posts.items)) }
-    ensures agree { IfOk result (λ r. All (λ x. x.0.refused ≡ None → (m : MailView) → x.0.mail ≡ Some m → AgreeByMail x.0.desk m) (clients_in posts.items)) }
+    ensures mails { IfOk result (λ r.
+        map (λ m. Some m) r.mails.items ≡ map (λ x. x.0.mail) (clients_in posts.items)) }
+    ensures refused { IfOk result (λ r.
+        r.refused ≡ None → All (λ x. x.0.refused ≡ None) (clients_in posts.items)) }
+    ensures agree { IfOk result (λ r.
+        All (λ x.
+        x.0.refused ≡ None → (m : MailView) → x.0.mail ≡ Some m →
+        AgreeByMail x.0.desk m) (clients_in posts.items)) }
 {
     let mut cells = Vec::new(alloc);
     let mut rows = Vec::new(alloc);

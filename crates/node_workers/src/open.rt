@@ -1,17 +1,19 @@
 //! Inboxes for nodes and clients, and the posts of their threads, before these start.
-ghost use Rattle.std.specs.Prelude.{◌≡◌, ◌≤◌, [], length, map, IfOk};
+ghost use Rattle.std.specs.Prelude.{◌≡◌, ◌≤◌, [], length, map, All, IfOk};
 ghost use Rattle.crews.specs.Crews.{Beside};
+ghost use Rattle.quorum_rules.specs.Limits.{Numbers};
+ghost use Rattle.run_journals.specs.Standing.{AreCells, IsDeskAt};
 ghost use Rattle.node_workers.specs.Hands.{AreSpread, AreNewPutters};
 ghost use Rattle.node_workers.specs.Posts.{nodes_in, clients_in};
-ghost use Rattle.node_workers.specs.Opened.{IsAskBox, IsAnswerBox, IsWorkerOf, IsClientOf};
+ghost use Rattle.node_workers.specs.Opened.{IsAskBox, IsAnswerBox, IsWorkerOf, IsClientOf, ArePosts};
 
 use crate::crew::Post;
 use crate::hands::{Hands, deal, empty_hands};
-use desk_keys::{ByMail, Keys};
+use desk_keys::{ByMail, Floor, Keys};
 use event_clock::Clock;
 use inboxes::{Inbox, Putter, Putters, Taker};
 use lists::{ItemList, NoMemory};
-use locked_nodes::{NodeCell, Slot};
+use locked_nodes::{NodeCell, Slot, slots_in};
 use node_mail::{Answered, Asked, ClientPlace, NodePlace};
 use node_serving::Worker;
 use phase_threads::{Duty, Seat};
@@ -22,8 +24,32 @@ use std::sync::Wait;
 // How many items an inbox holds at a time.
 const ROOM: u32 = 16;
 
-/// The clients' numbers, by their seats.
-pub fn clients_of<T: Drop>(alloc: Global, seats: &[Seat<T>]) -> Result<ItemList<u32>, NoMemory>
+/// The posts of a phase by mail, before their threads start, with the floor that they share.
+pub fn open_posts<R: Wait, T: Duty>(
+    rt: &R,
+    alloc: Global,
+    clock: Clock,
+    cells: Vec<NodeCell>,
+    seats: Vec<Seat<T>>,
+) -> Result<(Floor, Vec<Post<T>>), NoMemory>
+    requires cells { (1 ≤ length cells.items) × (length cells.items ≤ 65536) }
+    requires seats { (1 ≤ length seats.items) × (length seats.items ≤ 65536) }
+    requires cluster { (config : Numbers) × AreCells config clock cells.items
+        × All (λ s. IsDeskAt config clock s.desk) seats.items }
+    ensures { IfOk result (λ r. ArePosts clock cells.items seats.items r.0 r.1.items) }
+{
+    let nodes = cells.len() as u32;
+    let slots = slots_in(alloc, cells.as_slice())?;
+    let clients = clients_of(alloc, seats.as_slice())?;
+    let (boxes, lines) = open_answers(rt, alloc, &clock, nodes, seats.as_slice())?;
+    let floor = Floor::by_mail(alloc, clock, slots, &boxes);
+    let (posts, putters) = open_nodes(rt, alloc, floor.clock(), cells, &clients, lines)?;
+    let posts = open_clients(alloc, posts, seats, boxes, putters)?;
+    Ok((floor, posts))
+}
+
+// The clients' numbers, by their seats.
+fn clients_of<T: Drop>(alloc: Global, seats: &[Seat<T>]) -> Result<ItemList<u32>, NoMemory>
     ensures { IfOk result (λ ids. ids ≡ map (λ s. s.desk.id) seats.now) }
 {
     let mut ids = ItemList::new(alloc);
@@ -33,9 +59,9 @@ pub fn clients_of<T: Drop>(alloc: Global, seats: &[Seat<T>]) -> Result<ItemList<
     Ok(ids)
 }
 
-/// An inbox for the answers to each client, which so many nodes have putters into: the takers by seat, and the putters in a hand
-/// for each node.
-pub fn open_answers<R: Wait, T: Drop>(
+// An inbox for the answers to each client, which so many nodes have putters into: the takers by seat, and the putters in a hand
+// for each node.
+fn open_answers<R: Wait, T: Drop>(
     rt: &R,
     alloc: Global,
     clock: &Clock,
@@ -75,9 +101,9 @@ fn open_answer<R: Wait, T: Drop>(
     Inbox::open::<Answered, R>(rt, alloc, ROOM, nodes, &place)
 }
 
-/// A worker for each cell, with an inbox for asks and a line to each client, in the cells' order; and the putters into these
-/// inboxes in a hand for each client.
-pub fn open_nodes<R: Wait, T: Duty>(
+// A worker for each cell, with an inbox for asks and a line to each client, in the cells' order; and the putters into these
+// inboxes in a hand for each client.
+fn open_nodes<R: Wait, T: Duty>(
     rt: &R,
     alloc: Global,
     clock: &Clock,
@@ -87,9 +113,11 @@ pub fn open_nodes<R: Wait, T: Duty>(
 ) -> Result<(Vec<Post<T>>, Hands<Putter<Asked>>), NoMemory>
     requires count { (1 ≤ length clients.now) × (length clients.now ≤ 65536) }
     requires lines { length lines.items ≡ length cells.items }
-    ensures nodes { IfOk result (λ r. Beside (IsWorkerOf clock.now clients.now lines.items) cells.items (nodes_in r.0.items)) }
+    ensures nodes { IfOk result (λ r.
+        Beside (IsWorkerOf clock.now clients.now lines.items) cells.items (nodes_in r.0.items)) }
     ensures clients { IfOk result (λ r. clients_in r.0.items ≡ []) }
-    ensures putters { IfOk result (λ r. AreSpread (length clients.now) (map (λ w. w.asks) (nodes_in r.0.items)) r.1.items) }
+    ensures putters { IfOk result (λ r.
+        AreSpread (length clients.now) (map (λ w. w.asks) (nodes_in r.0.items)) r.1.items) }
 {
     let mut posts = Vec::new(alloc);
     let mut putters = empty_hands(alloc, clients.len() as u32)?;
@@ -126,8 +154,8 @@ fn open_asks<R: Wait>(
     Inbox::open::<Asked, R>(rt, alloc, ROOM, clients.len() as u32, &place)
 }
 
-/// Adds the posts of clients: each desk with its inbox, a putter into each node's, and its duty, in the seats' order.
-pub fn open_clients<T: Duty>(
+// Adds the posts of clients: each desk with its inbox, a putter into each node's, and its duty, in the seats' order.
+fn open_clients<T: Duty>(
     alloc: Global,
     mut posts: Vec<Post<T>>,
     seats: Vec<Seat<T>>,
@@ -139,7 +167,8 @@ pub fn open_clients<T: Duty>(
     requires putters { length putters.items ≡ length seats.items }
     requires count { length seats.items ≤ 65536 }
     ensures nodes { IfOk result (λ r. nodes_in r.items ≡ nodes_in posts.items) }
-    ensures clients { IfOk result (λ r. Beside (IsClientOf boxes putters.items) seats.items (clients_in r.items)) }
+    ensures clients { IfOk result (λ r.
+        Beside (IsClientOf boxes putters.items) seats.items (clients_in r.items)) }
 {
     let mut takers = boxes.into_vec();
     takers.reverse();

@@ -1,16 +1,16 @@
 //! One phase of a run by mail.
-ghost use Rattle.std.specs.Prelude.{IfOk};
+ghost use Rattle.std.specs.Prelude.{All, IfOk, IsSome};
 ghost use Rattle.phase_threads.specs.Phases.{MayPhase, HasPhased};
+ghost use Rattle.node_workers.specs.Posts.{clients_in, cells_at, seats_at};
 ghost use Rattle.node_workers.specs.Ended.{MayClose, HasClosed};
 
 use crate::close::{Parted, are_seated, part, settle_all};
 use crate::crew::Post;
-use crate::open::{clients_of, open_answers, open_clients, open_nodes};
+use crate::open::open_posts;
 use crews::{Gate, Started, each_at_once};
-use desk_keys::Floor;
 use event_clock::Clock;
 use lists::NoMemory;
-use locked_nodes::{CellRefusal, NodeCell, slots_in};
+use locked_nodes::{CellRefusal, NodeCell};
 use phase_threads::{Duty, Left, Seat, run_phase};
 use std::alloc::Global;
 use std::sync::Wait;
@@ -39,22 +39,30 @@ pub fn run_mail_phase<R: Threads + Wait + Sync, G: Gate + Sync, T: Duty + Send>(
     if cells.is_empty() || cells.len() > MOST {
         return run_phase(rt, alloc, gate, clock, cells, seats);
     }
-    let nodes = cells.len() as u32;
-    let slots = slots_in(alloc, cells.as_slice())?;
-    let clients = clients_of(alloc, seats.as_slice())?;
-    let (boxes, lines) = open_answers(rt, alloc, &clock, nodes, seats.as_slice())?;
-    let floor = Floor::by_mail(alloc, clock, slots, &boxes);
-    let (posts, putters) = open_nodes(rt, alloc, floor.clock(), cells, &clients, lines)?;
-    let posts = open_clients(alloc, posts, seats, boxes, putters)?;
+    let (floor, posts) = open_posts(rt, alloc, clock, cells, seats)?;
     let started = each_at_once(rt, alloc, gate, &floor, posts)?;
     let (clock, _vaults) = floor.into_parts();
     match started {
         Started::Whole(posts) => Ok((clock, close(alloc, posts)?)),
-        Started::Nobody(posts) => {
-            let Parted { cells, seats, .. } = part(alloc, posts)?;
-            run_phase(rt, alloc, gate, clock, cells, seats)
-        }
+        Started::Nobody(posts) => run_by_locks(rt, alloc, gate, clock, posts),
     }
+}
+
+// Does by locks what posts are there for at which nobody worked.
+fn run_by_locks<R: Threads + Wait + Sync, G: Gate + Sync, T: Duty + Send>(
+    rt: &R,
+    alloc: Global,
+    gate: &G,
+    clock: Clock,
+    posts: Vec<Post<T>>,
+) -> Result<(Clock, Left<T>), NoMemory>
+    requires ways { All (λ x. IsSome x.0.mail) (clients_in posts.items) }
+    requires may { MayPhase T.ready clock (cells_at posts.items) (seats_at posts.items) }
+    ensures { IfOk result (λ r.
+        HasPhased T.done clock (cells_at posts.items) (seats_at posts.items) r.0 r.1) }
+{
+    let Parted { cells, seats, .. } = part(alloc, posts)?;
+    run_phase(rt, alloc, gate, clock, cells, seats)
 }
 
 // What posts leave whose threads have all worked.

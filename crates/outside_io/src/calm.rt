@@ -53,7 +53,8 @@ impl Source for CalmSource {
         ensures bound { ReadsAtMost result room.new }
         ensures bytes { ReadConsumes (Some self.old.left) (Some self.new.left) result room.new }
         ensures cause { HasCause None 0 0 result }
-        ensures count { result ≡ Ok (min (min (length self.old.left) (length room.new)) self.old.most) }
+        ensures count { result
+            ≡ Ok (min (min (length self.old.left) (length room.new)) self.old.most) }
         ensures same { self.new.most ≡ self.old.most }
     {
         let count = give(self.bytes.tail(self.at), self.most, room);
@@ -92,7 +93,12 @@ impl Model for CalmSink {
 
     ghost Value = { Keeping };
 
-    ghost view = { λ s. record { kept = take s.used s.room.items; room = length s.room.items - s.used; whole = s.whole; flushed = s.flushed } };
+    ghost view = { λ s. record {
+      kept = take s.used s.room.items;
+      room = length s.room.items - s.used;
+      whole = s.whole;
+      flushed = s.flushed;
+    } };
 
     ghost invariant = { λ s. s.used ≤ length s.room.items };
 }
@@ -100,7 +106,8 @@ impl Model for CalmSink {
 impl CalmSink {
     /// An empty room for so many bytes, whose memory is taken here.
     pub fn new(alloc: Global, room: usize) -> Result<CalmSink, NoMemory>
-        ensures { IfOk result (λ s. s ≡ record { kept = []; room = room; whole = true; flushed = 0 }) }
+        ensures { IfOk result (λ s.
+            s ≡ record { kept = []; room = room; whole = true; flushed = 0 }) }
     {
         Ok(CalmSink {
             room: vec![in alloc; 0; room]?,
@@ -121,7 +128,8 @@ impl CalmSink {
     fn keep(&mut self, piece: &[u8])
         ensures kept { self.new.kept ≡ self.old.kept ++ take self.old.room piece.now }
         ensures room { self.new.room ≡ self.old.room - length piece.now }
-        ensures whole { self.new.whole ≡ (self.old.whole && nat_le (length piece.now) self.old.room) }
+        ensures whole { self.new.whole
+            ≡ (self.old.whole && nat_le (length piece.now) self.old.room) }
         ensures flushed { self.new.flushed ≡ self.old.flushed }
     {
         let count = piece.len().min(self.room.len() - self.used);
@@ -151,14 +159,16 @@ impl Sink for CalmSink {
     fn write(&mut self, piece: &[u8]) -> Result<usize, Failed>
         ensures bound { IfOk result (λ count. count ≤ length piece.now) }
         ensures some { 0 < length piece.now → IfOk result (λ count. 0 < count) }
-        ensures bytes { IfOk result (λ count. Adds (told self.old) (told self.new) (take count piece.now)) }
+        ensures bytes { IfOk result (λ count. Adds (told self.old) (told self.new)
+            (take count piece.now)) }
         ensures nothing { OnErr result (told self.new ≡ told self.old) }
         ensures unflushed { self.new.flushed ≡ self.old.flushed }
         ensures cause { HasCause None 0 0 result }
         ensures all { result ≡ Ok (length piece.now) }
         ensures kept { self.new.kept ≡ self.old.kept ++ take self.old.room piece.now }
         ensures room { self.new.room ≡ self.old.room - length piece.now }
-        ensures whole { self.new.whole ≡ (self.old.whole && nat_le (length piece.now) self.old.room) }
+        ensures whole { self.new.whole
+            ≡ (self.old.whole && nat_le (length piece.now) self.old.room) }
     {
         self.keep(piece);
         Ok(piece.len())

@@ -32,7 +32,13 @@ impl Model for MemorySource {
 
     ghost Value = { FailingGiving };
 
-    ghost view = { λ s. record { left = drop s.at s.bytes; most = s.most; fails = s.fails; calls = s.calls; faults = s.faults } };
+    ghost view = { λ s. record {
+      left = drop s.at s.bytes;
+      most = s.most;
+      fails = s.fails;
+      calls = s.calls;
+      faults = s.faults;
+    } };
 
     ghost invariant = { λ s. (s.at ≤ length s.bytes) × (1 ≤ s.most) };
 }
@@ -41,7 +47,13 @@ impl MemorySource {
     /// A source of these bytes, which gives at most `most` at a time, and fails at the listed calls.
     pub fn new(bytes: Bytes, most: usize, fails: Calls) -> MemorySource
         requires { 1 ≤ most }
-        ensures { result ≡ record { left = bytes; most = most; fails = fails; calls = 0; faults = 0 } }
+        ensures { result ≡ record {
+          left = bytes;
+          most = most;
+          fails = fails;
+          calls = 0;
+          faults = 0;
+        } }
     {
         MemorySource {
             bytes,
@@ -66,7 +78,8 @@ impl Source for MemorySource {
         ensures bytes { ReadConsumes (Some self.old.left) (Some self.new.left) result room.new }
         ensures cause { HasCause (Some (2 ^ 64 - 1)) self.old.faults self.new.faults result }
         ensures exact { IsErr result ↔ Contains self.old.fails self.old.calls }
-        ensures count { IfOk result (λ k. k ≡ min (min (length self.old.left) (length room.new)) self.old.most) }
+        ensures count { IfOk result (λ k.
+            k ≡ min (min (length self.old.left) (length room.new)) self.old.most) }
         ensures calls { self.new.calls ≡ one_more self.old.calls }
         ensures faults { OnErr result (self.new.faults ≡ one_more self.old.faults) }
         ensures fails { self.new.fails ≡ self.old.fails }
@@ -101,7 +114,14 @@ impl Model for MemorySink {
 
     ghost Value = { FailingTaking };
 
-    ghost view = { λ s. record { taken = s.bytes.items; flushed = s.flushed; most = s.most; fails = s.fails; calls = s.calls; faults = s.faults } };
+    ghost view = { λ s. record {
+      taken = s.bytes.items;
+      flushed = s.flushed;
+      most = s.most;
+      fails = s.fails;
+      calls = s.calls;
+      faults = s.faults;
+    } };
 
     ghost invariant = { λ s. 1 ≤ s.most };
 }
@@ -110,7 +130,14 @@ impl MemorySink {
     /// An empty sink, which takes at most `most` bytes of a piece, and fails at the listed calls and where it finds no memory.
     pub fn new(alloc: Global, most: usize, fails: Calls) -> MemorySink
         requires { 1 ≤ most }
-        ensures { result ≡ record { taken = []; flushed = 0; most = most; fails = fails; calls = 0; faults = 0 } }
+        ensures { result ≡ record {
+          taken = [];
+          flushed = 0;
+          most = most;
+          fails = fails;
+          calls = 0;
+          faults = 0;
+        } }
     {
         MemorySink {
             bytes: Vec::new(alloc),
@@ -162,7 +189,8 @@ impl Sink for MemorySink {
     fn write(&mut self, piece: &[u8]) -> Result<usize, Failed>
         ensures bound { IfOk result (λ count. count ≤ length piece.now) }
         ensures some { 0 < length piece.now → IfOk result (λ count. 0 < count) }
-        ensures bytes { IfOk result (λ count. self.new.taken ≡ self.old.taken ++ take count piece.now) }
+        ensures bytes { IfOk result (λ count.
+            self.new.taken ≡ self.old.taken ++ take count piece.now) }
         ensures nothing { OnErr result (Some self.new.taken ≡ Some self.old.taken) }
         ensures unflushed { self.new.flushed ≡ self.old.flushed }
         ensures cause { HasCause (Some (2 ^ 64 - 1)) self.old.faults self.new.faults result }

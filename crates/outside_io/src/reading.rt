@@ -61,9 +61,12 @@ pub fn read_all<S: Source>(alloc: Global, source: &mut S) -> Result<Bytes, ReadR
     ensures ended { OnOk result (IsAtEnd (S.left source.new)) }
     ensures short { IfOk result (λ input. length input ≤ LIMIT) }
     // a fault comes only where the count rose, and before the limit was passed
-    ensures fault { IsErrOf result ReadRefusal.ReadFault → Rose S.last (S.faults source.old) (S.faults source.new) }
-    ensures first { IsErrOf result ReadRefusal.ReadFault → GaveAtMost LIMIT (S.left source.old) (S.left source.new) }
-    ensures long { IsErrOf result ReadRefusal.TooLong → GaveExactly (LIMIT + 1) (S.left source.old) (S.left source.new) }
+    ensures fault { IsErrOf result ReadRefusal.ReadFault
+        → Rose S.last (S.faults source.old) (S.faults source.new) }
+    ensures first { IsErrOf result ReadRefusal.ReadFault
+        → GaveAtMost LIMIT (S.left source.old) (S.left source.new) }
+    ensures long { IsErrOf result ReadRefusal.TooLong
+        → GaveExactly (LIMIT + 1) (S.left source.old) (S.left source.new) }
     ensures most { GaveAtMost (LIMIT + 1) (S.left source.old) (S.left source.new) }
     ensures calm { result ≢ Err ReadRefusal.ReadFault → S.faults source.new ≡ S.faults source.old }
     ensures later { S.faults source.old ≤ S.faults source.new }

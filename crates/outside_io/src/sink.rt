@@ -23,7 +23,8 @@ pub trait Sink {
     fn write(&mut self, piece: &[u8]) -> Result<usize, Failed>
         ensures bound { IfOk result (λ count. count ≤ length piece.now) }
         ensures some { 0 < length piece.now → IfOk result (λ count. 0 < count) }
-        ensures bytes { IfOk result (λ count. Adds (taken self.old) (taken self.new) (take count piece.now)) }
+        ensures bytes { IfOk result (λ count. Adds (taken self.old) (taken self.new)
+            (take count piece.now)) }
         ensures nothing { OnErr result (taken self.new ≡ taken self.old) }
         ensures unflushed { flushed self.new ≡ flushed self.old }
         ensures cause { HasCause last (faults self.old) (faults self.new) result };

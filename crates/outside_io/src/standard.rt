@@ -96,7 +96,8 @@ impl<W: Write> Sink for StdSink<W> {
         ensures bound { IfOk result (λ count. count ≤ length piece.now) }
         ensures some { 0 < length piece.now → IfOk result (λ count. 0 < count) }
         ensures cause { HasCause (Some (2 ^ 64 - 1)) self.old.faults self.new.faults result }
-        ensures written { WriteAppends (W.contents self.old.inner) (W.contents self.new.inner) result piece.now }
+        ensures written { WriteAppends (W.contents self.old.inner)
+            (W.contents self.new.inner) result piece.now }
     {
         for _ in 0..u64::MAX {
             match self.inner.write(piece) {

@@ -3,13 +3,13 @@ use Rattle.std.proofs.Common.{◌≡◌, ℕ, List, refl, sym, subst, ◌∙◌}
 use Rattle.std.specs.Prelude.{Option}
 use Rattle.std.specs.declared.option.Option.TheVariants.{None, Some}
 use Rattle.protocol.specs.History.{NoClash}
-use Rattle.history_book.specs.declared.entry.Entry.{Entry}
+use Rattle.history_entries.specs.declared.entry.Entry.{Entry}
 use Rattle.history_book.specs.declared.judging.Flaw.{Flaw}
-use Rattle.history_book.specs.Books.{Book}
+use Rattle.history_entries.specs.Books.{Book}
 use Rattle.history_book.specs.Judging.{IsLegal, IsInTime}
-use Rattle.history_book.proofs.PrintedReports.{one_report}
-use Rattle.pasis_shell.specs.Replays.{cluster_of, Replays}
-use Rattle.pasis_shell.specs.Verdicts.{IsVerdict, Judges}
+use Rattle.history_texts.proofs.PrintedReports.{one_report}
+use Rattle.command_texts.specs.Replays.{cluster_of, Replays}
+use Rattle.command_texts.specs.Verdicts.{IsVerdict, Judges}
 
 no_flaw : (entries : List Entry) (flaw : Option Flaw) → IsLegal entries × IsInTime entries → IsVerdict entries flaw → flaw ≡ None
 no_flaw entries None plain verdict = refl

@@ -10,12 +10,12 @@ use Rattle.plan_text.specs.Plans.{Spells, plan_script}
 use Rattle.client_threads.specs.Ran.{HasFullPass}
 use Rattle.client_threads.specs.declared.run.RunRefusal.{RunRefusal}
 use Rattle.client_threads.specs.declared.run.RunRefusal.TheVariants as runs
-use Rattle.pasis_shell.specs.declared.words.Serving.{Serving}
-use Rattle.pasis_shell.specs.declared.words.Command.TheVariants.{Run, Trace, Soak}
-use Rattle.pasis_shell.specs.Statuses.{refusal_of_run}
-use Rattle.pasis_shell.specs.PlanRuns.{IsPlan}
-use Rattle.pasis_shell.specs.declared.text.Refusal.{Refusal}
-use Rattle.pasis_shell.specs.Texts.{Refuses}
+use Rattle.command_words.specs.declared.words.Serving.{Serving}
+use Rattle.command_words.specs.declared.words.Command.TheVariants.{Run, Trace, Soak}
+use Rattle.call_statuses.specs.Statuses.{refusal_of_run}
+use Rattle.command_texts.specs.PlanRuns.{IsPlan}
+use Rattle.call_statuses.specs.declared.refusal.Refusal.{Refusal}
+use Rattle.command_texts.specs.Texts.{Refuses}
 
 -- the plan that was read is the input's
 abbrev pub is_plan : (input text : List ℕ) (plan : Plan) → text ≡ input → Fits plan → Spells text plan → IsFaultless plan_script text → IsPlan input

@@ -14,7 +14,7 @@ use Rattle.protocol.specs.Instance.{setting_of}
 use Rattle.protocol.specs.World.{World, start_world}
 use Rattle.protocol.specs.Lines.{Line, StepFault, Run}
 use Rattle.protocol.specs.History.{NoClash}
-use Rattle.history_book.specs.Tellings.{Tells}
+use Rattle.history_making.specs.Tellings.{Tells}
 use Rattle.history_book.specs.Judging.{IsLegal, IsInTime}
 use Rattle.run_reports.specs.Registers.{AreRegisters}
 use Rattle.script_run.specs.Performing.{CommandQueues, LeadsTo, start_queues, after_line}
@@ -26,7 +26,7 @@ use Rattle.plan_followed.specs.Laws.{OfPlans}
 use Rattle.told_scripts.specs.Declared.{HasScriptLiars}
 use Rattle.plan_reports.specs.Runs.{Reports}
 use Rattle.plan_reports.specs.Traces.{TracesPlan}
-use Rattle.pasis_shell.specs.Replays.{cluster_of, Replays}
+use Rattle.command_texts.specs.Replays.{cluster_of, Replays}
 
 module _ (s : Setting) (c : Numbers) where
   -- lines that are a run take place one after the other

@@ -1,6 +1,5 @@
 -- Which inputs are refused for want of memory alone.
-use Rattle.std.proofs.Common.{◌≡◌, ℕ, ◌+◌, ◌-◌, List, [], ◌∷◌, ◌++◌, true, false, refl, sym, ap, subst, inl, inr}
-use Rattle.std.specs.Prelude.{◌==◌, ⊤}
+use Rattle.std.proofs.Common.{◌≡◌, ℕ, ◌+◌, ◌-◌, List, [], ◌∷◌, ◌++◌, refl, sym, subst, inl, inr}
 use Rattle.std.specs.declared.option.Option.TheVariants.{None, Some}
 use Rattle.quorum_rules.specs.Limits.{Numbers}
 use Rattle.wire_forms.specs.Liars.{Liars}
@@ -14,22 +13,22 @@ use Rattle.script_text.specs.Sum.{IsSum, sum_text, sum_script}
 use Rattle.script_text.proofs.ReplayLaws.{replay_accepted, one_replay}
 use Rattle.script_text.proofs.SumLaws.{sum_accepted}
 use Rattle.script_run.specs.Performing.{CommandQueues, Performs, LeadsTo, StopsAt, cause_of, after_line, start_queues}
-use Rattle.history_book.specs.Books.{Book}
-use Rattle.history_book.specs.Reports.{report_text}
-use Rattle.history_book.specs.ReportTexts.{IsReport, report}
-use Rattle.history_book.proofs.PrintedReports.{report_accepted}
+use Rattle.history_entries.specs.Books.{Book}
+use Rattle.history_texts.specs.Reports.{report_text}
+use Rattle.history_texts.specs.ReportTexts.{IsReport, report}
+use Rattle.history_texts.proofs.PrintedReports.{report_accepted}
 use Rattle.plan_words.specs.declared.plan.Plan.{Plan}
 use Rattle.plan_words.specs.Plans.{Fits}
 use Rattle.plan_text.specs.Plans.{Spells as PlanSpells, plan_script}
 use Rattle.plan_text.proofs.PlanLaws.{plan_accepted}
-use Rattle.pasis_shell.specs.Words.{words_of}
-use Rattle.pasis_shell.specs.Replays.{cluster_of, Stops}
-use Rattle.pasis_shell.specs.Texts.{HasFault, IsAccepted, RunsIt, Refuses}
-use Rattle.pasis_shell.specs.declared.words.Command.{Command}
-use Rattle.pasis_shell.specs.declared.words.Serving.{Serving}
-use Rattle.pasis_shell.specs.declared.words.Command.TheVariants.{Replay, Run, Trace, Check, Sum, Soak}
-use Rattle.pasis_shell.specs.declared.text.Refusal.{Refusal}
-use Rattle.pasis_shell.specs.declared.text.Refusal.TheVariants.{NoMemory, BadScript, ClockFull}
+use Rattle.command_words.specs.Words.{words_of}
+use Rattle.command_texts.specs.Replays.{cluster_of, Stops}
+use Rattle.command_texts.specs.Texts.{HasFault, IsAccepted, RunsIt, Refuses}
+use Rattle.command_words.proofs.Alone.{replay_alone, check_alone, sum_alone}
+use Rattle.command_words.specs.declared.words.Command.{Command}
+use Rattle.command_words.specs.declared.words.Command.TheVariants.{Replay, Check, Sum}
+use Rattle.call_statuses.specs.declared.refusal.Refusal.{Refusal}
+use Rattle.call_statuses.specs.declared.refusal.Refusal.TheVariants.{NoMemory, BadScript, ClockFull}
 
 -- ---- one command
 
@@ -41,78 +40,6 @@ only_memory command input alone faultless (ClockFull drawn) h = absurd (alone h.
 -- a command that has its words alone, runs no threads, and finds no fault of the input
 accepts : (mine : Command) (input : List ℕ) → ((command : Command) → words_of mine ≡ words_of command → mine ≡ command) → (RunsIt mine input → ⊥) → ((fault : ScriptFault) → HasFault mine input fault → ⊥) → IsAccepted (words_of mine) input
 accepts mine input alone quiet faultless = λ command e refusal h. only_memory mine input quiet faultless refusal (subst (λ (k : Command). Refuses k input refusal) (sym (alone command e)) h)
-
--- the first two letters of the first word tell a command
-tells : List (List ℕ) → ℕ
-tells ((a ∷ b ∷ letters) ∷ words) = a + b
-tells _ = 0
-
-apart : true ≡ false → ⊥
-apart e = cc
-
-pub replay_alone : (command : Command) → words_of Replay ≡ words_of command → Replay ≡ command
-unfolding tells
-replay_alone Replay e = refl
-replay_alone (Run s) e = absurd (apart (ap (λ (ws : List (List ℕ)). tells ws == 215) e))
-replay_alone (Trace s) e = absurd (apart (ap (λ (ws : List (List ℕ)). tells ws == 215) e))
-replay_alone Check e = absurd (apart (ap (λ (ws : List (List ℕ)). tells ws == 215) e))
-replay_alone Sum e = absurd (apart (ap (λ (ws : List (List ℕ)). tells ws == 215) e))
-replay_alone (Soak n) e = absurd (apart (ap (λ (ws : List (List ℕ)). tells ws == 215) e))
-
-pub check_alone : (command : Command) → words_of Check ≡ words_of command → Check ≡ command
-unfolding tells
-check_alone Replay e = absurd (apart (ap (λ (ws : List (List ℕ)). tells ws == 203) e))
-check_alone (Run s) e = absurd (apart (ap (λ (ws : List (List ℕ)). tells ws == 203) e))
-check_alone (Trace s) e = absurd (apart (ap (λ (ws : List (List ℕ)). tells ws == 203) e))
-check_alone Check e = refl
-check_alone Sum e = absurd (apart (ap (λ (ws : List (List ℕ)). tells ws == 203) e))
-check_alone (Soak n) e = absurd (apart (ap (λ (ws : List (List ℕ)). tells ws == 203) e))
-
-pub sum_alone : (command : Command) → words_of Sum ≡ words_of command → Sum ≡ command
-unfolding tells
-sum_alone Replay e = absurd (apart (ap (λ (ws : List (List ℕ)). tells ws == 232) e))
-sum_alone (Run s) e = absurd (apart (ap (λ (ws : List (List ℕ)). tells ws == 232) e))
-sum_alone (Trace s) e = absurd (apart (ap (λ (ws : List (List ℕ)). tells ws == 232) e))
-sum_alone Check e = absurd (apart (ap (λ (ws : List (List ℕ)). tells ws == 232) e))
-sum_alone Sum e = refl
-sum_alone (Soak n) e = absurd (apart (ap (λ (ws : List (List ℕ)). tells ws == 232) e))
-
--- a command that runs a plan
-abbrev pub RunsPlan : Command → Type 0
-RunsPlan Replay = ⊥
-RunsPlan (Run s) = ⊤
-RunsPlan (Trace s) = ⊤
-RunsPlan Check = ⊥
-RunsPlan Sum = ⊥
-RunsPlan (Soak n) = ⊥
-
-pub run_alone : (command : Command) (s : Serving) → words_of (Run s) ≡ words_of command → RunsPlan command
-unfolding tells
-run_alone Replay s e = absurd (apart (ap (λ (ws : List (List ℕ)). tells ws == 231) e))
-run_alone (Run r) s e = tt
-run_alone (Trace r) s e = tt
-run_alone Check s e = absurd (apart (ap (λ (ws : List (List ℕ)). tells ws == 231) e))
-run_alone Sum s e = absurd (apart (ap (λ (ws : List (List ℕ)). tells ws == 231) e))
-run_alone (Soak n) s e = absurd (apart (ap (λ (ws : List (List ℕ)). tells ws == 231) e))
-
-pub trace_alone : (command : Command) (s : Serving) → words_of (Trace s) ≡ words_of command → RunsPlan command
-unfolding tells
-trace_alone Replay s e = absurd (apart (ap (λ (ws : List (List ℕ)). tells ws == 230) e))
-trace_alone (Run r) s e = tt
-trace_alone (Trace r) s e = tt
-trace_alone Check s e = absurd (apart (ap (λ (ws : List (List ℕ)). tells ws == 230) e))
-trace_alone Sum s e = absurd (apart (ap (λ (ws : List (List ℕ)). tells ws == 230) e))
-trace_alone (Soak n) s e = absurd (apart (ap (λ (ws : List (List ℕ)). tells ws == 230) e))
-
--- those of `soak` are those of one with some number
-pub soak_alone : (command : Command) (n : ℕ) → words_of (Soak n) ≡ words_of command → (number : ℕ) × (command ≡ Soak number)
-unfolding tells
-soak_alone Replay n e = absurd (apart (ap (λ (ws : List (List ℕ)). tells ws == 226) e))
-soak_alone (Run s) n e = absurd (apart (ap (λ (ws : List (List ℕ)). tells ws == 226) e))
-soak_alone (Trace s) n e = absurd (apart (ap (λ (ws : List (List ℕ)). tells ws == 226) e))
-soak_alone Check n e = absurd (apart (ap (λ (ws : List (List ℕ)). tells ws == 226) e))
-soak_alone Sum n e = absurd (apart (ap (λ (ws : List (List ℕ)). tells ws == 226) e))
-soak_alone (Soak m) n e = (m, refl)
 
 -- ---- no fault
 

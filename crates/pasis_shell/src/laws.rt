@@ -8,33 +8,37 @@ ghost use Rattle.script_text.specs.Replays.{IsReplay, Spells, event_limit, repla
 ghost use Rattle.plan_reports.specs.Traces.{TracesPlan};
 ghost use Rattle.script_text.specs.Sum.{IsSum, sum_text};
 ghost use Rattle.script_run.specs.Performing.{CommandQueues, Performs};
-ghost use Rattle.history_book.specs.Books.{Book};
-ghost use Rattle.history_book.specs.Reports.{report_text};
-ghost use Rattle.history_book.specs.ReportTexts.{IsReport};
+ghost use Rattle.history_entries.specs.Books.{Book};
+ghost use Rattle.history_texts.specs.Reports.{report_text};
+ghost use Rattle.history_texts.specs.ReportTexts.{IsReport};
 ghost use Rattle.history_book.specs.declared.judging.Flaw.{Flaw};
 ghost use Rattle.protocol.specs.History.{NoClash};
-ghost use Rattle.pasis_shell.specs.Replays.{cluster_of, Replays};
-ghost use Rattle.pasis_shell.specs.Verdicts.{Judges};
+ghost use Rattle.command_texts.specs.Replays.{cluster_of, Replays};
+ghost use Rattle.command_texts.specs.Verdicts.{Judges};
 ghost use Rattle.line_forms.specs.declared.refusal.ScriptFault.{ScriptFault};
 ghost use Rattle.journals.specs.declared.whole.Journals.{Journals};
 ghost use Rattle.plan_words.specs.declared.plan.Plan.{Plan};
 ghost use Rattle.plan_words.specs.Plans.{Fits};
 ghost use Rattle.plan_text.specs.Plans.{Spells as SpellsPlan};
-ghost use Rattle.pasis_shell.specs.Texts.{HasFault, IsAccepted};
-ghost use Rattle.pasis_shell.specs.Words.{words_of};
-ghost use Rattle.pasis_shell.specs.declared.words.Serving.{Serving as Servings};
+ghost use Rattle.command_texts.specs.Texts.{HasFault, IsAccepted};
+ghost use Rattle.command_words.specs.Words.{words_of};
+ghost use Rattle.command_words.specs.declared.words.Serving.{Serving as Servings};
 
-use crate::words::Command;
+use command_words::Command;
 
 /// What well-formed inputs are accepted, so that the program answers them unless the outside fails or memory is wanting: a
 /// script whose lines can take place one after the other, a configuration with a value of its blocks' length, and the report of
 /// a history.
 pub fn well_formed_inputs_are_accepted()
-    ensures replays { (input : List ℕ) (c : Numbers) (liars : Liars) (lines : List ReplayLine) (queues : CommandQueues)
-        → IsReplay c liars lines → Spells input c liars lines → Performs (cluster_of c liars) c lines queues
+    ensures replays { (input : List ℕ) (c : Numbers) (liars : Liars)
+        (lines : List ReplayLine) (queues : CommandQueues)
+        → IsReplay c liars lines → Spells input c liars lines
+        → Performs (cluster_of c liars) c lines queues
         → IsAccepted (words_of Command.Replay) input }
-    ensures sums { (c : Numbers) (v : List ℕ) → IsSum c v → IsAccepted (words_of Command.Sum) (sum_text c v) }
-    ensures reports { (book : Book) → IsReport book → IsAccepted (words_of Command.Check) (report_text book) }
+    ensures sums { (c : Numbers) (v : List ℕ) → IsSum c v
+        → IsAccepted (words_of Command.Sum) (sum_text c v) }
+    ensures reports { (book : Book) → IsReport book
+        → IsAccepted (words_of Command.Check) (report_text book) }
 {}
 
 /// A text that spells a plan that can be run is no bad script for `run` and `trace`.
@@ -48,13 +52,15 @@ pub fn plans_are_no_bad_scripts()
 /// What `replay` writes is a report that `check` finds legal, where no two different strings that were seen share a digest.
 pub fn replays_are_legal()
     ensures { (input text verdict : List ℕ) (flaw : Option Flaw) → (r : Replays input text)
-        → NoClash (cluster_of r.config r.liars) r.queues.world → Judges text verdict flaw → flaw ≡ None }
+        → NoClash (cluster_of r.config r.liars) r.queues.world → Judges text verdict flaw
+        → flaw ≡ None }
 {}
 
 /// The script that a trace shows is one that `replay` takes, and it writes the trace's report, where there are no more lines than a
 /// script may have.
 pub fn traces_replay()
-    ensures { (plan : Plan) (journals : Journals) (text : List ℕ) → (t : TracesPlan plan journals text)
+    ensures { (plan : Plan) (journals : Journals) (text : List ℕ)
+        → (t : TracesPlan plan journals text)
         → length t.run.made.lines ≤ event_limit plan.config
         → Replays (replay_text plan.config plan.liars (map Plain t.run.made.lines)) t.report }
 {

@@ -2,18 +2,13 @@
 //! replies.
 #![tactic(auto)]
 
-mod check;
 pub mod laws;
-mod nbd;
 mod planned;
-mod replay;
-pub mod status;
-pub mod text;
+mod session;
 pub mod top;
-pub mod words;
 
+pub use call_statuses::{Refusal, Status};
 pub use client_threads::{Edge, Gate, OpenGate};
-pub use status::Status;
-pub use text::{Answer, Refusal};
+pub use command_texts::Answer;
+pub use command_words::{Command, Serving};
 pub use top::{alone, pasis};
-pub use words::{Command, Serving};

@@ -4,13 +4,13 @@ ghost use Rattle.event_clock.specs.Passes.{Tally};
 ghost use Rattle.plan_words.specs.Plans.{Fits};
 ghost use Rattle.plan_followed.specs.Followed.{AreOfPlan};
 ghost use Rattle.client_threads.specs.Ran.{HasFullPass};
-ghost use Rattle.pasis_shell.specs.PlanRuns.{Soaks};
-ghost use Rattle.pasis_shell.specs.Texts.{Writes, Refuses};
-ghost use Rattle.pasis_shell.specs.Statuses.{refusal_of_run};
+ghost use Rattle.command_texts.specs.PlanRuns.{Soaks};
+ghost use Rattle.command_texts.specs.Texts.{Writes, Refuses};
 
-use crate::text::{Answer, Refusal, text_of};
-use crate::words::{Command, Serving};
+use call_statuses::Refusal;
 use client_threads::{Gate, Ran, RunRefusal, run_plan};
+use command_texts::{Answer, text_of};
+use command_words::{Command, Serving};
 use cross_sum::Bytes;
 use load_reports::{load_of, load_text};
 use node_workers::run_workers;
@@ -20,17 +20,6 @@ use plan_words::Plan;
 use std::alloc::Global;
 use std::sync::Wait;
 use std::thread::Threads;
-
-impl From<RunRefusal> for Refusal {
-    ghost from_gives = { λ r e. e ≡ refusal_of_run r };
-
-    fn from(refusal: RunRefusal) -> Refusal {
-        match refusal {
-            RunRefusal::NoMemory => Refusal::NoMemory,
-            RunRefusal::ClockFull(drawn) => Refusal::ClockFull(drawn),
-        }
-    }
-}
 
 // Runs the plan, whose nodes serve so.
 fn run_served<R: Threads + Wait + Sync, G: Gate + Sync>(
@@ -58,7 +47,8 @@ fn run_of<R: Threads + Wait + Sync, G: Gate + Sync>(
     input: &Bytes,
     gate: &G,
 ) -> Result<Answer, Refusal>
-    ensures text { IfOk result (λ answer. Writes (Command.Run serving) input.now answer.text answer.flaw) }
+    ensures text { IfOk result (λ answer.
+        Writes (Command.Run serving) input.now answer.text answer.flaw) }
     ensures refused { IfErr result (λ refusal. Refuses (Command.Run serving) input.now refusal) }
 {
     let plan = read_plan(alloc, input.as_slice())?;
@@ -75,7 +65,8 @@ fn trace_of<R: Threads + Wait + Sync, G: Gate + Sync>(
     input: &Bytes,
     gate: &G,
 ) -> Result<Answer, Refusal>
-    ensures text { IfOk result (λ answer. Writes (Command.Trace serving) input.now answer.text answer.flaw) }
+    ensures text { IfOk result (λ answer.
+        Writes (Command.Trace serving) input.now answer.text answer.flaw) }
     ensures refused { IfErr result (λ refusal. Refuses (Command.Trace serving) input.now refusal) }
 {
     let plan = read_plan(alloc, input.as_slice())?;
@@ -92,7 +83,8 @@ fn soak_of<R: Threads + Wait + Sync, G: Gate + Sync>(
     gate: &G,
 ) -> Result<Answer, Refusal>
     ensures text { IfOk result (λ answer. Soaks number answer.text × (answer.flaw ≡ None)) }
-    ensures refused { (input : List ℕ) → IfErr result (λ refusal. Refuses (Command.Soak number) input refusal) }
+    ensures refused { (input : List ℕ)
+        → IfErr result (λ refusal. Refuses (Command.Soak number) input refusal) }
 {
     let load = load_of(alloc, number)?;
     let ran = run_plan(rt, alloc, &load, gate)?;

@@ -9,6 +9,7 @@ use Rattle.receipt_lock.specs.contracts.vault.Vault as vault
 use Rattle.receipt_lock.specs.declared.Kept as kept
 use Rattle.stamp_order.specs.contracts.Stamp as stamp
 use Rattle.wire_forms.specs.contracts.message.Message as message
+use Rattle.operation_core.specs.contracts.operation.Operation as operation
 use Rattle.write_core.specs.contracts.writer.Writer as writer
 use Rattle.read_core.specs.contracts.reader.Reader as reader
 use Rattle.client_core.specs.contracts.client.Client as client
@@ -33,11 +34,14 @@ use Rattle.phase_threads.specs.contracts.crew.Post as post
 pub clock_sync : IsSync clock.the_row
 clock_sync = search all depth 60 fits 50000
 
+pub operation_send : IsSend operation.the_row
+operation_send = search (all, bytes_send, sum_send) depth 60 fits 50000
+
 pub writer_send : IsSend writer.the_row
-writer_send = search (all, bytes_send, sum_send) depth 60 fits 50000
+writer_send = search (all, operation_send) depth 40
 
 pub reader_send : IsSend reader.the_row
-reader_send = search (all, bytes_send, sum_send) depth 60 fits 50000
+reader_send = search (all, operation_send) depth 40
 
 pub client_send : IsSend client.the_row
 client_send = search (all, writer_send, reader_send) depth 40

@@ -26,9 +26,12 @@ pub fn part<T: Duty>(alloc: Global, posts: Vec<Post<T>>) -> Result<Parted<T>, No
     requires chits { All (λ p. p.keys.mail ≡ None) posts.items }
     ensures seats { IfOk result (λ r. Beside IsSeatOf posts.items r.seats.items) }
     ensures hands { IfOk result (λ r. Beside IsHandOf posts.items r.hands.items) }
-    ensures refused { IfOk result (λ r. r.refused ≡ None → All (λ p. p.keys.refused ≡ None) posts.items) }
-    ensures rest { IfOk result (λ r. All (λ p. All (λ c. c.holds ≡ None) p.keys.chits) posts.items) }
-    ensures agree { IfOk result (λ r. All (λ p. p.keys.refused ≡ None → Agree p.keys.desk p.keys.chits) posts.items) }
+    ensures refused { IfOk result (λ r.
+        r.refused ≡ None → All (λ p. p.keys.refused ≡ None) posts.items) }
+    ensures rest { IfOk result (λ r.
+        All (λ p. All (λ c. c.holds ≡ None) p.keys.chits) posts.items) }
+    ensures agree { IfOk result (λ r.
+        All (λ p. p.keys.refused ≡ None → Agree p.keys.desk p.keys.chits) posts.items) }
 {
     let mut seats = Vec::new(alloc);
     let mut hands = Vec::new(alloc);
@@ -54,7 +57,8 @@ pub fn close_row(
     vaults: Vec<Vault<NodeCell>>,
     mut hands: Vec<Hand>,
 ) -> Result<Vec<NodeCell>, NoMemory>
-    requires own { All (λ h. map (λ c. c.vault) (reverse h) ≡ map (λ v. v.id) vaults.items) hands.items }
+    requires own { All (λ h.
+        map (λ c. c.vault) (reverse h) ≡ map (λ v. v.id) vaults.items) hands.items }
     requires rest { All (λ h. All (λ c. c.holds ≡ None) (reverse h)) hands.items }
     requires all { All (λ v. v.chits ≡ length hands.items) vaults.items }
     ensures { IfOk result (λ cells. Beside (IsClosed hands.items) vaults.items cells.items) }

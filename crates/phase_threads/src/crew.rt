@@ -43,7 +43,9 @@ pub fn work_all<R: Threads + Wait + Sync, G: Gate + Sync, T: Duty + Send>(
     requires ready { All (λ p. T.ready p.duty floor.now.slots p.keys.desk) posts.items }
     ensures fit { All (λ p. Fit p.keys floor.now) result.items }
     ensures later { Beside (λ i p q. IsLater p.keys.desk q.keys.desk) posts.items result.items }
-    ensures done { Beside (λ i p q. q.keys.refused ≡ None → T.done p.duty p.keys.desk q.duty q.keys.desk) posts.items result.items }
+    ensures done { Beside (λ i p q.
+        q.keys.refused ≡ None →
+        T.done p.duty p.keys.desk q.duty q.keys.desk) posts.items result.items }
 {
     each(rt, gate, floor, posts.as_mut_slice());
     posts

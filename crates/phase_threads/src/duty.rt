@@ -29,7 +29,8 @@ pub trait Duty: Drop {
         requires ready { ready self.old floor.now.slots keys.old.desk }
         ensures fit { Fit keys.new floor.now }
         ensures later { IsLater keys.old.desk keys.new.desk }
-        ensures done { keys.new.refused ≡ None → done self.old keys.old.desk self.new keys.new.desk };
+        ensures done { keys.new.refused ≡ None →
+            done self.old keys.old.desk self.new keys.new.desk };
 }
 
 /// A desk, and what its thread is to do.

@@ -25,7 +25,8 @@ pub fn open_row(
 ) -> Result<(Vec<Vault<NodeCell>>, ItemList<Hand>), NoMemory>
     requires count { (1 ≤ count) × (count ≤ 65536) }
     ensures vaults { IfOk result (λ r. Beside (IsVaultOf count) cells.items r.0.items) }
-    ensures hands { IfOk result (λ r. (length r.1 ≡ count) × All (λ h. h ≡ new_hand r.0.items) r.1) }
+    ensures hands { IfOk result (λ r.
+        (length r.1 ≡ count) × All (λ h. h ≡ new_hand r.0.items) r.1) }
 {
     let mut vaults = Vec::new(alloc);
     let mut hands = empty_hands(alloc, count)?;
@@ -70,7 +71,9 @@ fn deal(
 ) -> Result<ItemList<Hand>, NoMemory>
     requires count { length hands ≡ length chits }
     ensures count { IfOk result (λ dealt. length dealt ≡ length hands) }
-    ensures each { IfOk result (λ dealt. (old : List (ChitOf Item)) (chit : ChitOf Item) → All (λ h. h ≡ old) hands → All (λ c. c ≡ chit) chits → All (λ h. h ≡ old ++ chit ∷ []) dealt) }
+    ensures each { IfOk result (λ dealt.
+        (old : List (ChitOf Item)) (chit : ChitOf Item) → All (λ h. h ≡ old) hands →
+        All (λ c. c ≡ chit) chits → All (λ h. h ≡ old ++ chit ∷ []) dealt) }
 {
     let mut dealt = ItemList::new(alloc);
     while let Some(mut hand) = hands.pop() {
@@ -92,7 +95,9 @@ pub fn open_posts<T: Duty>(
     requires enough { length hands ≡ length seats.items }
     requires rest { All (λ h. All (λ c. c.holds ≡ None) h) hands }
     requires agree { All (λ s. All (λ h. Agree s.desk h) hands) seats.items }
-    ensures { IfOk result (λ posts. (hand : List (ChitOf Item)) → All (λ h. h ≡ hand) hands → Beside (IsPostOf hand) seats.items posts.items) }
+    ensures { IfOk result (λ posts.
+        (hand : List (ChitOf Item)) → All (λ h. h ≡ hand) hands →
+        Beside (IsPostOf hand) seats.items posts.items) }
 {
     let mut posts = Vec::new(alloc);
     for seat in seats {

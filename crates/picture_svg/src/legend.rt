@@ -69,16 +69,20 @@ fn is_ask(arrow: &Arrow) -> bool {
     matches!(arrow.from, Actor::Client(_))
 }
 
+fn has_arrived(arrow: &Arrow) -> bool {
+    matches!(arrow.fate, Fate::Arrived)
+}
+
 /// Whether a picture has what the item explains.
 fn is_in(picture: &Picture, item: Item) -> bool {
     let arrows = &picture.arrows;
     match item {
-        Item::Ask => arrows.iter().any(|a| a.fate == Fate::Arrived && is_ask(a)),
-        Item::Answer => arrows.iter().any(|a| a.fate == Fate::Arrived && !is_ask(a)),
+        Item::Ask => arrows.iter().any(|a| has_arrived(a) && is_ask(a)),
+        Item::Answer => arrows.iter().any(|a| has_arrived(a) && !is_ask(a)),
         Item::Lie => arrows.iter().any(|a| a.is_lie),
-        Item::Stale => arrows.iter().any(|a| a.fate == Fate::Stale),
-        Item::Lost => arrows.iter().any(|a| a.fate == Fate::Lost),
-        Item::NeverGiven => arrows.iter().any(|a| a.fate == Fate::NeverGiven),
+        Item::Stale => arrows.iter().any(|a| matches!(a.fate, Fate::Stale)),
+        Item::Lost => arrows.iter().any(|a| matches!(a.fate, Fate::Lost)),
+        Item::NeverGiven => arrows.iter().any(|a| matches!(a.fate, Fate::NeverGiven)),
         Item::Phase(work) => picture.stretches.iter().any(|s| s.work == work),
         Item::Unended => picture.stretches.iter().any(|s| s.is_open),
         Item::Sign(sign) => picture.marks.iter().any(|m| m.sign == sign),

@@ -29,7 +29,6 @@ pub struct Lifeline {
 }
 
 /// What a client's operation does or gives at a place, in one or two lines.
-#[derive(Drop)]
 pub struct Label {
     pub client: u32,
     pub first: String,
@@ -37,8 +36,18 @@ pub struct Label {
     pub second: String,
 }
 
+// By hand, as those of a row and of a picture, since a derived drop is proved anew wherever one is let go.
+impl Drop for Label {
+    fn drop(self) {
+        let Label {
+            client: _client,
+            first: _first,
+            second: _second,
+        } = self;
+    }
+}
+
 /// A place of the run. Places count from 1, rows from 0.
-#[derive(Drop)]
 pub struct Row {
     /// The line of the script.
     pub line: String,
@@ -48,8 +57,18 @@ pub struct Row {
     pub note: String,
 }
 
+impl Drop for Row {
+    fn drop(self) {
+        let Row {
+            line: _line,
+            label: _label,
+            note: _note,
+        } = self;
+    }
+}
+
 /// What became of a message.
-#[derive(Clone, Copy, PartialEq, Eq)]
+#[derive(Clone, Copy)]
 pub enum Fate {
     /// It was given or heard.
     Arrived,
@@ -122,7 +141,6 @@ pub struct Mark {
 }
 
 /// A picture of a run.
-#[derive(Drop)]
 pub struct Picture {
     /// What the numbers of the cluster mean, a line each.
     pub caption: Vec<String>,
@@ -134,6 +152,20 @@ pub struct Picture {
     pub marks: Vec<Mark>,
     /// The lines of the run's report.
     pub report: Vec<String>,
+}
+
+impl Drop for Picture {
+    fn drop(self) {
+        let Picture {
+            caption: _caption,
+            lifelines: _lifelines,
+            rows: _rows,
+            arrows: _arrows,
+            stretches: _stretches,
+            marks: _marks,
+            report: _report,
+        } = self;
+    }
 }
 
 impl Picture {

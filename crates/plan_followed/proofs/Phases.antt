@@ -6,7 +6,7 @@ use Rattle.std.proofs.lemmas.Bool.Decides.{nat_tests, eqb_tells}
 use Rattle.std.proofs.lemmas.List.Elements.{Contains-append_cases}
 use Rattle.stamp_order.specs.declared.Stamp.{Stamp}
 use Rattle.quorum_rules.specs.Limits.{Numbers}
-use Rattle.wire_forms.specs.Liars.{has_number}
+use Rattle.wire_forms.specs.Liars.{has_number, IsClientNumber}
 use Rattle.protocol.specs.Instance.{IsCluster}
 use Rattle.protocol.proofs.Lists.{Contains-map, Contains-map_cases, filter_has}
 use Rattle.plan_words.specs.declared.fault.Fault.{Fault}
@@ -32,7 +32,7 @@ use Rattle.plan_followed.specs.Clients.{IsDone, ClientFollows}
 use Rattle.plan_followed.specs.Nodes.{Pruning, act_of, nodes_within}
 use Rattle.plan_followed.specs.Followed.{FollowsAs, Follows, AreOfPlan}
 use Rattle.plan_followed.specs.Laws.{OfPlans, HasCluster, PlansPhase, PlansRun}
-use Rattle.plan_followed.proofs.Plans.{IsNumber, liar_there}
+use Rattle.plan_followed.proofs.Plans.{liar_there}
 
 -- ---- who has a desk is a client
 
@@ -48,30 +48,30 @@ named_cases {X} h P Q to (x ∷ xs) a k there = at (h x) refl there (named_cases
       | inr r ↦ rest r
     ]
 
-some_same : (a b : ℕ) → ◌≡◌ {A = Option ℕ} (Some a) (Some b) → IsNumber a → IsNumber b
-some_same a b e h = let same : a ≡ b = cc in subst IsNumber same h
+some_same : (a b : ℕ) → ◌≡◌ {A = Option ℕ} (Some a) (Some b) → IsClientNumber a → IsClientNumber b
+some_same a b e h = let same : a ≡ b = cc in subst IsClientNumber same h
 
-troubled_there : (c : Numbers) (rule : Fault) (k : ℕ) → IsFault c rule → troubled_client rule ≡ Some k → IsNumber k
+troubled_there : (c : Numbers) (rule : Fault) (k : ℕ) → IsFault c rule → troubled_client rule ≡ Some k → IsClientNumber k
 troubled_there c (LiarNode node rule) k h e = absurd (cc)
 troubled_there c (LiarSound client block time value count) k h e = absurd (cc)
 troubled_there c (LiarMix client block time value other count) k h e = absurd (cc)
 troubled_there c (LiarFlood client block time value other count) k h e = absurd (cc)
 troubled_there c (CrashNode node count) k h e = absurd (cc)
-troubled_there c (CrashClient client count) k h e = some_same client k e (h.0.first, h.0.last)
-troubled_there c (Drop client node count) k h e = some_same client k e (h.0.first, h.0.last)
-troubled_there c (Hold client node count) k h e = some_same client k e (h.0.first, h.0.last)
+troubled_there c (CrashClient client count) k h e = some_same client k e h.0
+troubled_there c (Drop client node count) k h e = some_same client k e h.0
+troubled_there c (Hold client node count) k h e = some_same client k e h.0
 
-worker_there : (c : Numbers) (job : Job) (k : ℕ) → IsJob c job → job_client job ≡ Some k → IsNumber k
-worker_there c (Block client op) k h e = some_same client k e (h.0.first, h.0.last)
-worker_there c (Device client op) k h e = some_same client k e (h.0.first, h.0.last)
+worker_there : (c : Numbers) (job : Job) (k : ℕ) → IsJob c job → job_client job ≡ Some k → IsClientNumber k
+worker_there c (Block client op) k h e = some_same client k e h.0
+worker_there c (Device client op) k h e = some_same client k e h.0
 worker_there c PhaseEnd k h e = absurd (cc)
 
-named_there : (plan : Plan) → Fits plan → (k : ℕ) → Contains (lying_clients plan.rules ++ asking_clients plan.rules plan.work) k → IsNumber k
+named_there : (plan : Plan) → Fits plan → (k : ℕ) → Contains (lying_clients plan.rules ++ asking_clients plan.rules plan.work) k → IsClientNumber k
 named_there plan h k there = elim (Contains-append_cases (lying_clients plan.rules) (asking_clients plan.rules plan.work) k there) [
-  | inl lies ↦ named_cases lying_client IsNumber (IsFault plan.config) (liar_there plan.config) plan.rules h.fitting.each_rule k lies
+  | inl lies ↦ named_cases lying_client IsClientNumber (IsFault plan.config) (liar_there plan.config) plan.rules h.fitting.each_rule k lies
   | inr asks ↦ elim (Contains-append_cases (filter_map troubled_client plan.rules) (filter_map job_client plan.work) k asks) [
-    | inl troubled ↦ named_cases troubled_client IsNumber (IsFault plan.config) (troubled_there plan.config) plan.rules h.fitting.each_rule k troubled
-    | inr works ↦ named_cases job_client IsNumber (IsJob plan.config) (worker_there plan.config) plan.work h.fitting.each_job k works
+    | inl troubled ↦ named_cases troubled_client IsClientNumber (IsFault plan.config) (troubled_there plan.config) plan.rules h.fitting.each_rule k troubled
+    | inr works ↦ named_cases job_client IsClientNumber (IsJob plan.config) (worker_there plan.config) plan.work h.fitting.each_job k works
   ]
 ]
 
@@ -88,7 +88,7 @@ desk_of (d ∷ ds) c e there = elim (eqb_tells d.client c) [
 ]
 
 clients_there : (plan : Plan) (j : Journals) (drawn : ℕ) → AreOfPlan plan j drawn → AreClients j
-clients_there plan j drawn h c e there = let q = desk_of j.desks c e there in subst IsNumber q.2 (named_there plan h.fits q.0.client (h.follows.are_for.named q.0 q.1))
+clients_there plan j drawn h c e there = let q = desk_of j.desks c e there in subst IsClientNumber q.2 (named_there plan h.fits q.0.client (h.follows.are_for.named q.0 q.1))
 
 -- who has a node's entry is a node
 node_there : (journals : List (List NodeEntry)) (i : ℕ) (e : NodeEntry) → Contains (slice_index_or journals i []) e → i < length journals

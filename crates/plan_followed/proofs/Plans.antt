@@ -10,7 +10,7 @@ use Rattle.std.proofs.lemmas.List.Elements.{All-from_recursion}
 use Rattle.std.proofs.lemmas.Map.Views.{All-insert_key}
 use Rattle.std.proofs.lemmas.Map.Keys.{IsDistinct-head, IsDistinct-tail}
 use Rattle.quorum_rules.specs.Limits.{Numbers}
-use Rattle.wire_forms.specs.Liars.{has_number}
+use Rattle.wire_forms.specs.Liars.{has_number, IsClientNumber}
 use Rattle.protocol.specs.Count.{count}
 use Rattle.protocol.proofs.Counting.{count_named}
 use Rattle.plan_words.specs.declared.fault.Fault.{Fault}
@@ -172,17 +172,14 @@ node_there c (CrashClient client count) i h e = absurd (cc)
 node_there c (Drop client node count) i h e = absurd (cc)
 node_there c (Hold client node count) i h e = absurd (cc)
 
-abbrev pub IsNumber : ℕ → Type 0
-IsNumber k = (1 ≤ k) × (k ≤ 1000)
+some_same : (a b : ℕ) → ◌≡◌ {A = Option ℕ} (Some a) (Some b) → IsClientNumber a → IsClientNumber b
+some_same a b e h = let same : a ≡ b = cc in subst IsClientNumber same h
 
-some_same : (a b : ℕ) → ◌≡◌ {A = Option ℕ} (Some a) (Some b) → IsNumber a → IsNumber b
-some_same a b e h = let same : a ≡ b = cc in subst IsNumber same h
-
-pub liar_there : (c : Numbers) (rule : Fault) (k : ℕ) → IsFault c rule → lying_client rule ≡ Some k → IsNumber k
+pub liar_there : (c : Numbers) (rule : Fault) (k : ℕ) → IsFault c rule → lying_client rule ≡ Some k → IsClientNumber k
 liar_there c (LiarNode node rule) k h e = absurd (cc)
-liar_there c (LiarSound client block time value count) k h e = some_same client k e (h.0.first, h.0.last)
-liar_there c (LiarMix client block time value other count) k h e = some_same client k e (h.0.first, h.0.last)
-liar_there c (LiarFlood client block time value other count) k h e = some_same client k e (h.0.first, h.0.last)
+liar_there c (LiarSound client block time value count) k h e = some_same client k e h.0
+liar_there c (LiarMix client block time value other count) k h e = some_same client k e h.0
+liar_there c (LiarFlood client block time value other count) k h e = some_same client k e h.0
 liar_there c (CrashNode node count) k h e = absurd (cc)
 liar_there c (CrashClient client count) k h e = absurd (cc)
 liar_there c (Drop client node count) k h e = absurd (cc)
@@ -200,8 +197,8 @@ has_liars plan h = record {
   nodes = subst (λ l. All (λ i. i < plan.config.n) l.nodes) (sym h.liars)
       (all_all (λ i. i < plan.config.n) (lying_nodes plan.rules) [] (all_named lying_node (IsFault plan.config) (λ i. i < plan.config.n) (node_there plan.config) plan.rules h.fitting.each_rule) (All-from_recursion (λ i. i < plan.config.n) [] tt));
   few = few_lie plan h;
-  clients = subst (λ l. All IsNumber l.clients) (sym h.liars)
-      (all_all IsNumber (lying_clients plan.rules) [] (all_named lying_client (IsFault plan.config) IsNumber (liar_there plan.config) plan.rules h.fitting.each_rule) (All-from_recursion IsNumber [] tt));
+  clients = subst (λ l. All IsClientNumber l.clients) (sym h.liars)
+      (all_all IsClientNumber (lying_clients plan.rules) [] (all_named lying_client (IsFault plan.config) IsClientNumber (liar_there plan.config) plan.rules h.fitting.each_rule) (All-from_recursion IsClientNumber [] tt));
 }
 
 pub has_cluster : OfPlans HasCluster

@@ -1,6 +1,6 @@
 -- What holds of plans, and of journals that follow them.
 use Rattle.std.specs.Prelude.{ℕ, ◌<◌, ◌≤◌, List, [], ◌∷◌, ◌++◌, length, All}
-use Rattle.wire_forms.specs.Liars.{has_number}
+use Rattle.wire_forms.specs.Liars.{has_number, AreLiars}
 use Rattle.protocol.specs.Instance.{IsCluster}
 use Rattle.plan_words.specs.declared.plan.Plan.{Plan}
 use Rattle.plan_words.specs.Plans.{Fits}
@@ -22,10 +22,8 @@ abbrev pub HasConduct : Plan → Type 0
 HasConduct plan = IsConduct (has_number plan.liars.nodes) (conduct_of plan.rules)
 
 -- the lying nodes are nodes, at most b of them, and the lying clients are numbered from 1 to 1000
-pub record HasLiars (plan : Plan) : Type 0 where
-  pub nodes : All (λ i. i < plan.config.n) plan.liars.nodes
-  pub few : length plan.liars.nodes ≤ plan.config.b
-  pub clients : All (λ k. (1 ≤ k) × (k ≤ 1000)) plan.liars.clients
+abbrev pub HasLiars : Plan → Type 0
+HasLiars plan = AreLiars plan.config plan.liars
 
 -- the cluster is valid, and few of its nodes lie
 abbrev pub HasCluster : Plan → Type 0

@@ -5,14 +5,13 @@ use Rattle.std.specs.declared.option.Option.TheVariants.{None, Some}
 use Rattle.std.specs.List.{Contains, AllByRecursion}
 use Rattle.std.proofs.lemmas.List.{length-replicate}
 use Rattle.quorum_rules.specs.Limits.{Numbers}
-use Rattle.wire_forms.specs.Liars.{Liars, has_number}
+use Rattle.wire_forms.specs.Liars.{Liars, has_number, IsClientNumber}
 use Rattle.wire_forms.specs.Texts.{HasLimits}
 use Rattle.wire_forms.specs.declared.op.Op.TheVariants.{Read as ReadOp, Write as WriteOp}
 use Rattle.wire_forms.specs.declared.Body.{Body}
 use Rattle.wire_forms.specs.declared.Body.TheVariants.{Ask as Asks, Answer as Answers}
 use Rattle.run_words.specs.declared.line.Line.{Line}
 use Rattle.run_words.specs.declared.line.Line.TheVariants.{Call as Calls, Lost, Tell, Poke}
-use Rattle.event_lines.specs.Lines.{IsClient}
 use Rattle.event_lines.specs.Messages.{is_answer}
 use Rattle.protocol.specs.Messages.{Message, Reply}
 use Rattle.protocol.specs.Setting.{IsValid}
@@ -81,18 +80,18 @@ module _ (valid : InEachCluster IsValid) (fits : AllFit) (plan : Plan) (j : Jour
       let edition = edition_small j.config.edition in
       share_few j.config.m j.config.size of.cluster.config.shares.0 (omega (arith, size, edition))
 
-  client_at : (k : ℕ) (e : DeskEntry) → Contains (at_desk j k) e → IsClient k
-  client_at k e there = let p = of.follow.clients k e there in record { first = p.0; last = p.1 }
+  client_at : (k : ℕ) (e : DeskEntry) → Contains (at_desk j k) e → IsClientNumber k
+  client_at k e there = of.follow.clients k e there
 
-  caller : (i n : ℕ) (act : NodeAct) → Contains (at_node j i) (record { number = n; act = act }) → (k : ℕ) (d : DeskAct) → side act ≡ Some (k, d) → IsClient k
+  caller : (i n : ℕ) (act : NodeAct) → Contains (at_node j i) (record { number = n; act = act }) → (k : ℕ) (d : DeskAct) → side act ≡ Some (k, d) → IsClientNumber k
   caller i n act there k d is = client_at k (record { number = n; act = d }) (of.pairs.called i k (record { number = n; act = act }) d there is)
 
   node_low : (i : ℕ) (x : NodeEntry) → Contains (at_node j i) x → i < j.config.n
   node_low i x there = let l = node_there j.nodes i x there in let e = of.kept.count in omega (arith, l, e)
 
-  late_client : (i n : ℕ) (ask : Message) → Contains (at_node j i) (record { number = n; act = LateLost ask }) → IsClient ask.client
+  late_client : (i n : ℕ) (ask : Message) → Contains (at_node j i) (record { number = n; act = LateLost ask }) → IsClientNumber ask.client
   late_client i n ask there =
-      late_lost IsClient ((conduct_of plan.rules).nature i) (at_node j i) (new_state j.config i ((conduct_of plan.rules).crash_after i)) (of.kept.nodes i).goes
+      late_lost IsClientNumber ((conduct_of plan.rules).nature i) (at_node j i) (new_state j.config i ((conduct_of plan.rules).crash_after i)) (of.kept.nodes i).goes
       (λ x k. caller i x.number x.act k) (λ m k. absurd (Contains-none m k)) n ask there
 
   asks_short : (i n : ℕ) (ask reply : Message) → has_number j.liars.clients ask.client ≡ true → Contains (at_node j i) (record { number = n; act = Answered ask reply }) → IsShortAsk ask

@@ -54,7 +54,8 @@ fn tops_of(alloc: Global, blocks: u32, given: &[BlockStamp]) -> Result<Vec<Optio
 /// Raises the stamps of the blocks that have one.
 fn raise(tops: &mut [Option<Stamp>], given: &[BlockStamp])
     requires { All (λ x. x.block < length tops.old) given.now }
-    ensures { (fresh reads : List BlockStamp) → AreTops fresh reads tops.old → AreTops fresh (reads ++ given.now) tops.new }
+    ensures { (fresh reads : List BlockStamp) → AreTops fresh reads tops.old
+        → AreTops fresh (reads ++ given.now) tops.new }
 {
     for read in given {
         let block = read.block as usize;
@@ -87,50 +88,5 @@ fn greater(top: Option<Stamp>, stamp: &Stamp) -> Stamp
     match top {
         Some(top) => { if stamp.cmp(&top).is_le() { top } else { *stamp } }
         None => *stamp,
-    }
-}
-
-#[cfg(test)]
-mod tests {
-    use super::*;
-    use std::test::Fail;
-
-    fn read(block: u32, time: u64) -> BlockStamp
-        ensures { result.block ≡ block }
-    {
-        let stamp = Stamp {
-            time,
-            client: 1,
-            verifier: [7; 32],
-        };
-        BlockStamp { block, stamp }
-    }
-
-    #[test]
-    fn blocks_of_the_phase_are_pruned_by_their_greatest_stamps(
-        rt: HostRuntime,
-    ) -> Result<(), Fail> {
-        let given = [
-            read(5, 9),
-            read(2, 8),
-            read(0, 6),
-            read(5, 3),
-            read(0, 7),
-            read(3, 1),
-            read(3, 4),
-        ];
-        let pruned = prunings(rt.alloc(), 6, &given, 3)?;
-        assert_eq!(rt;
-            pruned.as_slice(),
-            [read(0, 7), read(3, 4), read(5, 9)].as_slice()
-        );
-        Ok(())
-    }
-
-    #[test]
-    fn nothing_is_pruned_where_nothing_was_read(rt: HostRuntime) -> Result<(), Fail> {
-        let pruned = prunings(rt.alloc(), 6, &[read(5, 9)], 1)?;
-        assert!(rt; pruned.is_empty());
-        Ok(())
     }
 }

@@ -4,10 +4,10 @@ use Rattle.std.specs.Prelude.{codes}
 use Rattle.std.specs.List.{AllByRecursion}
 use Rattle.text_lines.specs.Lines.{text_of_lines}
 use Rattle.quorum_rules.specs.Limits.{Numbers}
-use Rattle.wire_forms.specs.Liars.{Liars}
+use Rattle.wire_forms.specs.Liars.{Liars, AreLiars}
 use Rattle.protocol.specs.Setting.{Setting}
 use Rattle.protocol.specs.Lines.{Line}
-use Rattle.world_steps.specs.Worlds.{WorldView, AreLiars, world_in}
+use Rattle.world_steps.specs.Worlds.{WorldView, world_in}
 use Rattle.journals.specs.declared.whole.Journals.{Journals}
 use Rattle.journals.specs.Journals.{setting_for, IsMerge}
 use Rattle.merge_trace.specs.Traces.{placed, AreOfSomeRun}
@@ -16,7 +16,7 @@ use Rattle.plan_followed.specs.Asked.{conduct_of}
 use Rattle.plan_followed.specs.Laws.{OfPlans, HasLiars, PlansRun}
 use Rattle.event_lines.specs.Lines.{IsEventLine}
 use Rattle.event_lines.specs.declared.line.ReplayLine.TheVariants.{Plain}
-use Rattle.script_text.specs.Replays.{AreLiars as ScriptLiars, replay_text}
+use Rattle.script_text.specs.Replays.{AreAscendingLiars, replay_text}
 use Rattle.plan_histories.specs.Shown.{HistoriesAreComplete}
 use Rattle.plan_histories.specs.Told.{IsTold, LinesAreTold}
 use Rattle.told_scripts.specs.Declared.{HasScriptLiars}
@@ -28,9 +28,7 @@ use Rattle.plan_reports.specs.Runs.{Reports, ReportsWorld, AreOfPlanRun, IsPlanR
 pub plan_liars : OfPlans HasLiars → (plan : Plan) (j : Journals) → AreOfPlanRun plan j → AreLiars j.config j.liars
 plan_liars law plan j of =
     let h = of.1 in
-    let has = law plan h.fits in
-    let liars : AreLiars plan.config plan.liars = record { nodes = has.nodes; few = has.few; clients = has.clients } in
-    subst (λ (l : Liars). AreLiars j.config l) (sym h.follows.are_for.liars) (subst (λ (c : Numbers). AreLiars c plan.liars) (sym h.follows.are_for.config) liars)
+    subst (λ (l : Liars). AreLiars j.config l) (sym h.follows.are_for.liars) (subst (λ (c : Numbers). AreLiars c plan.liars) (sym h.follows.are_for.config) (law plan h.fits))
 
 pub plan_run : PlansRun → (plan : Plan) (j : Journals) → AreOfPlanRun plan j → AreOfSomeRun j
 plan_run law plan j of = (conduct_of plan.rules, law plan j of.0 of.1)
@@ -57,10 +55,10 @@ pub told_lines : LinesAreTold → (plan : Plan) (j : Journals) → AreOfPlanRun 
 told_lines law plan j of lines merged = unplaced (IsTold plan.config) 0 lines (law plan j of.0 (placed 0 lines) of.1 merged)
 
 -- the liars and the lines of the journals are those of the plan
-pub journals_declare : OfPlans HasScriptLiars → (plan : Plan) (j : Journals) → AreOfPlanRun plan j → ScriptLiars j.config j.liars
+pub journals_declare : OfPlans HasScriptLiars → (plan : Plan) (j : Journals) → AreOfPlanRun plan j → AreAscendingLiars j.config j.liars
 journals_declare law plan j of =
     let h = of.1 in
-    subst (λ (l : Liars). ScriptLiars j.config l) (sym h.follows.are_for.liars) (subst (λ (c : Numbers). ScriptLiars c plan.liars) (sym h.follows.are_for.config) (law plan h.fits))
+    subst (λ (l : Liars). AreAscendingLiars j.config l) (sym h.follows.are_for.liars) (subst (λ (c : Numbers). AreAscendingLiars c plan.liars) (sym h.follows.are_for.config) (law plan h.fits))
 
 pub journals_told : (plan : Plan) (j : Journals) → AreOfPlanRun plan j → (lines : List Line) → AllByRecursion (IsTold plan.config) lines → AllByRecursion (IsTold j.config) lines
 journals_told plan j of lines h = subst (λ (c : Numbers). AllByRecursion (IsTold c) lines) (sym of.1.follows.are_for.config) h

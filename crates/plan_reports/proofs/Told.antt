@@ -9,8 +9,8 @@ use Rattle.protocol.specs.World.{World, Record, start_world}
 use Rattle.protocol.specs.Lines.{Line, IsRun}
 use Rattle.protocol.proofs.Cluster.{cluster_valid}
 use Rattle.protocol.proofs.Firsts.{first_stamp_is}
-use Rattle.history_book.specs.Books.{Book}
-use Rattle.history_book.specs.Reports.{report_text}
+use Rattle.history_entries.specs.Books.{Book}
+use Rattle.history_texts.specs.Reports.{report_text}
 use Rattle.run_reports.specs.Histories.{AreOfRun, TellsHistory}
 use Rattle.journals.specs.Steps.{Step, Conduct}
 use Rattle.journals.specs.Merging.{Merged, next_world, line_of}

@@ -5,7 +5,8 @@ ghost use Rattle.plan_followed.specs.Followed.{AreOfPlan};
 ghost use Rattle.plan_reports.specs.Runs.{RunsPlan, TellsPlan};
 
 use cross_sum::Bytes;
-use history_book::{History, print};
+use history_entries::History;
+use history_texts::print;
 use journal_records::records_of;
 use journals::Journals;
 use lists::NoMemory;

@@ -9,7 +9,7 @@ ghost use Rattle.plan_reports.specs.Traces.{TracesPlan};
 
 use crate::report::MOST_LINES;
 use cross_sum::Bytes;
-use history_book::print;
+use history_texts::print;
 use journals::Journals;
 use lists::NoMemory;
 use merge_trace::{MergedRun, merge_run};
@@ -46,7 +46,8 @@ fn report_of(alloc: Global, world: &World) -> Result<Bytes, NoMemory>
 
 /// A script, the line `report` and a report, as one text.
 fn joined(alloc: Global, script: &Bytes, report: &Bytes) -> Result<Bytes, NoMemory>
-    ensures { IfOk result (λ text. text ≡ script.now ++ text_of_lines (codes "report" ∷ []) ++ report.now) }
+    ensures { IfOk result (λ text.
+        text ≡ script.now ++ text_of_lines (codes "report" ∷ []) ++ report.now) }
 {
     let mut text = Text::new(alloc);
     text.add(script.as_slice())?;

@@ -93,7 +93,9 @@ fn add_sound(
 ) -> Result<(), NoMemory>
     requires size { length value.now ≡ config.now.size }
     requires count { count ≤ config.now.n }
-    ensures { OnOk result (mail.new ≡ mail.old ++ map (λ i. sound_asked (setting config.now) client i block time value.now) (range_with_len 0 count)) }
+    ensures { OnOk result (mail.new ≡ mail.old
+        ++ map (λ i. sound_asked (setting config.now) client i block time value.now)
+        (range_with_len 0 count)) }
 {
     let few = count <= u64::from(config.n());
     prove!(few);
@@ -118,7 +120,9 @@ fn add_mixed(
     requires size { length value.now ≡ config.now.size }
     requires other_size { length other.now ≡ config.now.size }
     requires count { count ≤ config.now.n }
-    ensures { OnOk result (mail.new ≡ mail.old ++ map (λ i. mix_asked (setting config.now) client i block time value.now other.now) (range_with_len 0 count)) }
+    ensures { OnOk result (mail.new ≡ mail.old
+        ++ map (λ i. mix_asked (setting config.now) client i block time value.now other.now)
+        (range_with_len 0 count)) }
 {
     let few = count <= u64::from(config.n());
     prove!(few);

@@ -22,7 +22,8 @@ pub fn clients_of(alloc: Global, plan: &Plan) -> Result<BTreeSet<u32>, NoMemory>
 }
 
 fn add_lying(named: &mut BTreeSet<u32>, rules: &[Fault]) -> Result<(), NoMemory>
-    ensures { OnOk result (named.new.keys ≡ fold (insert_key nat_cmp) named.old.keys (filter_map lying_client rules.now)) }
+    ensures { OnOk result (named.new.keys
+        ≡ fold (insert_key nat_cmp) named.old.keys (filter_map lying_client rules.now)) }
 {
     for rule in rules {
         if let Some(client) = rule.lying_client() {
@@ -33,7 +34,8 @@ fn add_lying(named: &mut BTreeSet<u32>, rules: &[Fault]) -> Result<(), NoMemory>
 }
 
 fn add_troubled(named: &mut BTreeSet<u32>, rules: &[Fault]) -> Result<(), NoMemory>
-    ensures { OnOk result (named.new.keys ≡ fold (insert_key nat_cmp) named.old.keys (filter_map troubled_client rules.now)) }
+    ensures { OnOk result (named.new.keys
+        ≡ fold (insert_key nat_cmp) named.old.keys (filter_map troubled_client rules.now)) }
 {
     for rule in rules {
         if let Some(client) = rule.troubled_client() {
@@ -44,7 +46,8 @@ fn add_troubled(named: &mut BTreeSet<u32>, rules: &[Fault]) -> Result<(), NoMemo
 }
 
 fn add_working(named: &mut BTreeSet<u32>, work: &[Job]) -> Result<(), NoMemory>
-    ensures { OnOk result (named.new.keys ≡ fold (insert_key nat_cmp) named.old.keys (filter_map job_client work.now)) }
+    ensures { OnOk result (named.new.keys
+        ≡ fold (insert_key nat_cmp) named.old.keys (filter_map job_client work.now)) }
 {
     for job in work {
         if let Some(client) = job.client() {

@@ -45,7 +45,8 @@ pub enum Task {
 /// What the plan asks of each client that it names, by ascending client.
 pub fn tasks_of(alloc: Global, plan: &Plan) -> Result<ItemList<Task>, NoMemory>
     requires { Fits plan.now }
-    ensures clients { IfOk result (λ tasks. map client_of tasks ≡ ascending (clients plan.now.rules plan.now.work)) }
+    ensures clients { IfOk result (λ tasks.
+        map client_of tasks ≡ ascending (clients plan.now.rules plan.now.work)) }
     ensures each { IfOk result (λ tasks. All (IsTaskOf plan.now) tasks) }
 {
     let mut tasks = ItemList::new(alloc);

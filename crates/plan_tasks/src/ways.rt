@@ -20,7 +20,8 @@ pub fn ways_of(
 ) -> Result<ItemList<Ways>, NoMemory>
     requires drops { IsDistinct pair_eq (dropped_pairs rules.now) }
     requires holds { IsDistinct pair_eq (held_pairs rules.now) }
-    ensures { IfOk result (λ ways. ways ≡ map (ways_asked rules.now client) (range_with_len 0 config.now.n)) }
+    ensures { IfOk result (λ ways.
+        ways ≡ map (ways_asked rules.now client) (range_with_len 0 config.now.n)) }
 {
     let mut ways = ItemList::new(alloc);
     for node in 0..config.n() {

@@ -21,11 +21,11 @@ use Rattle.plan_words.specs.declared.fault.Fault.{Fault}
 use Rattle.plan_words.specs.declared.job.Job.{Job}
 use Rattle.plan_words.specs.declared.plan.Plan.{Plan}
 use Rattle.plan_words.specs.Named.{lying_node, lying_client, ascending, liars_of}
-use Rattle.plan_text.specs.declared.line.PlanLine.{PlanLine}
-use Rattle.plan_text.specs.declared.line.PlanLine.TheVariants.{Rule, Work}
+use Rattle.plan_lines.specs.declared.line.PlanLine.{PlanLine}
+use Rattle.plan_lines.specs.declared.line.PlanLine.TheVariants.{Rule, Work}
 use Rattle.plan_text.specs.declared.seen.Seen.{Seen}
-use Rattle.plan_text.specs.Forms.{line_cause}
-use Rattle.plan_text.specs.Lines.{IsPlanLine, line_text}
+use Rattle.plan_lines.specs.Forms.{line_cause}
+use Rattle.plan_lines.specs.Lines.{IsPlanLine, line_text}
 use Rattle.plan_text.specs.Marks.{Marks, line_marks}
 use Rattle.plan_text.specs.Plans.{marks_of, later_cause, plan_cause, plan_lines, plan_script, rule_of, job_of, rules_in, work_in, Spells}
 use Rattle.plan_text.specs.Reading.{IsSeen, AreFine, BodyRead, next_cause, seen_cause, with_number, with_liar}

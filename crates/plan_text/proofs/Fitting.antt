@@ -12,10 +12,10 @@ use Rattle.plan_words.specs.declared.job.Job.{Job}
 use Rattle.plan_words.specs.declared.plan.Plan.{Plan}
 use Rattle.plan_words.specs.Named.{lying_node, faulty_node, lying_client, crashing_client, troubled_client, job_client, dropped_pair, held_pair, pair_eq, lying_clients, asking_clients, clients, is_flood, is_phase}
 use Rattle.plan_words.specs.Plans.{IsFault, IsJob, device_fault, step_count, step_limit, AreFitting, Fits}
-use Rattle.plan_text.specs.declared.line.PlanLine.{PlanLine}
-use Rattle.plan_text.specs.declared.line.PlanLine.TheVariants.{Rule, Work}
+use Rattle.plan_lines.specs.declared.line.PlanLine.{PlanLine}
+use Rattle.plan_lines.specs.declared.line.PlanLine.TheVariants.{Rule, Work}
 use Rattle.plan_text.specs.declared.seen.Seen.{Seen}
-use Rattle.plan_text.specs.Lines.{IsPlanLine}
+use Rattle.plan_lines.specs.Lines.{IsPlanLine}
 use Rattle.plan_text.specs.Marks.{line_marks}
 use Rattle.plan_text.specs.Plans.{client_of, rules_in, work_in}
 use Rattle.plan_text.specs.Reading.{HasAll, IsSeen, AreFine, BodyRead}

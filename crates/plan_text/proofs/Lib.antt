@@ -1,13 +1,8 @@
-pub mod FormCauses
-pub mod Words
-pub mod Texts
 pub mod Sets
 pub mod Marked
 pub mod Causes
 pub mod Steps
 pub mod Bodies
 pub mod Fitting
-pub mod Accepted
-pub mod Unique
 pub mod Standing
 pub mod PlanLaws

@@ -11,25 +11,26 @@ use Rattle.text_lines.proofs.Numbers.{number_of-decimal}
 use Rattle.text_lines.proofs.Values.{value_of-text}
 use Rattle.wire_forms.specs.declared.op.Op.TheVariants as ops
 use Rattle.wire_forms.specs.declared.device.DeviceOp.TheVariants as commands
-use Rattle.event_lines.specs.Lines.{IsClient, IsNode}
+use Rattle.wire_forms.specs.Liars.{IsClientNumber}
+use Rattle.event_lines.specs.Lines.{IsNode}
 use Rattle.plan_words.specs.declared.fault.Fault.{Fault}
 use Rattle.plan_words.specs.declared.fault.Fault.TheVariants.{LiarNode, LiarSound, LiarMix, LiarFlood, CrashNode, CrashClient, Drop, Hold}
 use Rattle.plan_words.specs.declared.job.Job.{Job}
 use Rattle.plan_words.specs.declared.job.Job.TheVariants.{Block, Device, Phase}
 use Rattle.plan_words.specs.Plans.{IsFault, IsJob}
-use Rattle.plan_text.specs.declared.line.PlanLine.{PlanLine}
-use Rattle.plan_text.specs.declared.line.PlanLine.TheVariants.{Rule, Work}
-use Rattle.plan_text.specs.Lines.{IsPlanLine, line_fields, line_text}
+use Rattle.plan_lines.specs.declared.line.PlanLine.{PlanLine}
+use Rattle.plan_lines.specs.declared.line.PlanLine.TheVariants.{Rule, Work}
+use Rattle.plan_lines.specs.Lines.{IsPlanLine, line_fields, line_text}
 use Rattle.plan_text.specs.Marks.{Marks, marks_in, line_marks, rule_marks, job_marks}
 use Rattle.plan_text.specs.Plans.{marks_of, rules_in, work_in}
-use Rattle.plan_text.proofs.Texts.{fields_back}
+use Rattle.plan_lines.proofs.Texts.{fields_back}
 
 -- ---- the marks of a line's text
 
 back : (n : ℕ) → n < 2 ^ 64 → unwrap_or (number_of (2 ^ 64) (decimal n)) 0 ≡ n
 back n lt = rw (number_of-decimal (2 ^ 64) n (lit≤ tt) lt) refl
 
-client_back : (n : ℕ) → IsClient n → unwrap_or (number_of (2 ^ 64) (decimal n)) 0 ≡ n
+client_back : (n : ℕ) → IsClientNumber n → unwrap_or (number_of (2 ^ 64) (decimal n)) 0 ≡ n
 client_back n h = back n (omega arith)
 
 node_back : (c : Numbers) (n : ℕ) → IsNode c n → unwrap_or (number_of (2 ^ 64) (decimal n)) 0 ≡ n

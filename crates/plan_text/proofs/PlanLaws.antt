@@ -19,20 +19,20 @@ use Rattle.plan_words.specs.declared.job.Job.{Job}
 use Rattle.plan_words.specs.declared.plan.Plan.{Plan}
 use Rattle.plan_words.specs.Named.{lying_node, faulty_node, crashing_client, dropped_pair, held_pair, pair_eq, clients, is_flood, is_phase, liars_of}
 use Rattle.plan_words.specs.Plans.{IsFault, IsJob, device_fault, step_count, step_limit, AreFitting, Fits}
-use Rattle.plan_text.specs.declared.line.PlanLine.{PlanLine}
-use Rattle.plan_text.specs.declared.line.PlanLine.TheVariants.{Rule, Work}
-use Rattle.plan_text.specs.Forms.{line_cause}
-use Rattle.plan_text.specs.Lines.{IsPlanLine, line_text}
+use Rattle.plan_lines.specs.declared.line.PlanLine.{PlanLine}
+use Rattle.plan_lines.specs.declared.line.PlanLine.TheVariants.{Rule, Work}
+use Rattle.plan_lines.specs.Forms.{line_cause}
+use Rattle.plan_lines.specs.Lines.{IsPlanLine, line_text}
 use Rattle.plan_text.specs.Marks.{line_marks}
 use Rattle.plan_text.specs.Plans.{client_of, marks_of, later_cause, plan_cause, plan_body, plan_lines, plan_script, plan_text, rules_in, work_in, Spells}
 use Rattle.plan_text.specs.Reading.{AreFine}
-use Rattle.plan_text.proofs.Accepted.{line_fine}
+use Rattle.plan_lines.proofs.Accepted.{line_fine}
 use Rattle.plan_text.proofs.Fitting.{lying_is, asking_is, clients_are}
 use Rattle.plan_text.proofs.Marked.{marks_back, all_marks_back, named_by_rules, counted_by_rules, counted_by_work}
 use Rattle.plan_text.proofs.Standing.{fewer_different, none_standing}
 use Rattle.plan_text.proofs.Steps.{push_each}
-use Rattle.plan_text.proofs.Texts.{fields_back, one_line}
-use Rattle.plan_text.proofs.Unique.{one_plan_line}
+use Rattle.plan_lines.proofs.Texts.{fields_back, one_line}
+use Rattle.plan_lines.proofs.Unique.{one_plan_line}
 
 small : (c : Numbers) → IsValid c → c.n < 2 ^ 64
 small c v = let top = v.nodes.1 in omega arith

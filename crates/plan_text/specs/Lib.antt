@@ -1,5 +1,3 @@
-pub mod Lines
-pub mod Forms
 pub mod Marks
 pub mod Plans
 pub mod Sets

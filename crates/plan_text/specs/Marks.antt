@@ -1,10 +1,9 @@
 -- What a line of a plan names and counts, as far as other lines may stand against it.
-use Rattle.std.specs.Prelude.{ℕ, Bool, true, false, ◌&&◌, List, [], ◌∷◌, codes, unwrap_or, Option, Some, None, if◌then◌else◌}
+use Rattle.std.specs.Prelude.{ℕ, Bool, true, false, ◌&&◌, List, [], ◌∷◌, codes, Option, Some, None, if◌then◌else◌}
 use Rattle.std.specs.List.{list_any}
 use Rattle.std.specs.Option.{option_or, option_and_then}
 use Rattle.std.specs.Str.{bytes_eq}
 use Rattle.quorum_rules.specs.Limits.{Numbers}
-use Rattle.text_lines.specs.Fields.{value_of}
 use Rattle.wire_forms.specs.declared.device.DeviceOp.{DeviceOp}
 use Rattle.wire_forms.specs.declared.device.DeviceOp.TheVariants.{Get, Put}
 use Rattle.block_device.specs.Ranges.{fault_of}
@@ -13,9 +12,9 @@ use Rattle.plan_words.specs.declared.job.Job.{Job}
 use Rattle.plan_words.specs.Named.{lying_node, faulty_node, lying_client, crashing_client, troubled_client, job_client, dropped_pair, held_pair, is_flood, is_phase}
 use Rattle.plan_words.specs.Plans.{step_count, steps_unless, device_fault}
 pub use Rattle.plan_text.specs.declared.marks.Marks.{Marks}
-use Rattle.plan_text.specs.declared.line.PlanLine.{PlanLine}
-use Rattle.plan_text.specs.declared.line.PlanLine.TheVariants.{Rule, Work}
-use Rattle.plan_text.specs.Forms.{field_at, number_at}
+use Rattle.plan_lines.specs.declared.line.PlanLine.{PlanLine}
+use Rattle.plan_lines.specs.declared.line.PlanLine.TheVariants.{Rule, Work}
+use Rattle.plan_lines.specs.Forms.{field_at, number_at, value_at}
 
 -- ---- the marks of rules and jobs
 
@@ -68,9 +67,6 @@ number_after words place fields = if begins words fields then Some (number_at pl
 -- the two numbers of a line that begins so
 abbrev pub pair_after : List (List ℕ) → List (List ℕ) → Option (ℕ × ℕ)
 pair_after words fields = if begins words fields then Some (number_at 1 fields, number_at 2 fields) else None
-
-abbrev pub value_at : ℕ → List (List ℕ) → List ℕ
-value_at place fields = unwrap_or (value_of (field_at place fields)) []
 
 -- the words of lines whose first field after the word is a client that makes asks
 abbrev pub client_words : List (List ℕ)

@@ -7,7 +7,9 @@ ghost use Rattle.plan_text.specs.Plans.{Spells, plan_script, plan_text};
 
 /// A text that spells a plan that fits has no fault, and spells no other. Each plan has such a text.
 pub fn plans_are_spelled()
-    ensures accepted { (text : List ℕ) (p : Plan) → Fits p → Spells text p → IsFaultless plan_script text }
-    ensures one { (text : List ℕ) (p q : Plan) → Fits p → Fits q → Spells text p → Spells text q → p ≡ q }
+    ensures accepted { (text : List ℕ) (p : Plan) → Fits p → Spells text p
+        → IsFaultless plan_script text }
+    ensures one { (text : List ℕ) (p q : Plan) → Fits p → Fits q → Spells text p → Spells text q
+        → p ≡ q }
     ensures text { (p : Plan) → Spells (plan_text p) p }
 {}

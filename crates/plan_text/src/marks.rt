@@ -1,9 +1,9 @@
 ghost use Rattle.std.specs.Prelude.{◌≡◌};
 ghost use Rattle.plan_words.specs.Plans.{device_fault, step_count};
 
-use crate::line::PlanLine;
 use block_device::{range_fault, step_count};
 use line_forms::DeviceFault;
+use plan_lines::PlanLine;
 use plan_words::{Fault, Job};
 use quorum_rules::Config;
 

@@ -5,17 +5,16 @@ ghost use Rattle.line_forms.specs.Heads.{head_lines};
 ghost use Rattle.line_forms.specs.Tables.{Gives};
 ghost use Rattle.line_forms.specs.Texts.{IsFaultless, IsRefusal, ReadsTo};
 ghost use Rattle.plan_words.specs.Plans.{Fits};
-ghost use Rattle.plan_text.specs.Lines.{IsPlanLine, line_text};
+ghost use Rattle.plan_lines.specs.Lines.{IsPlanLine, line_text};
 ghost use Rattle.plan_text.specs.Marks.{line_marks};
 ghost use Rattle.plan_text.specs.Plans.{Spells, plan_script, rules_in, work_in};
 ghost use Rattle.plan_text.specs.Reading.{next_cause, seen_cause, with_liar};
 
-use crate::line::PlanLine;
 use crate::marks::Marks;
-use crate::reading::read_line;
 use crate::seen::{Seen, note, refuse};
 use line_forms::{Cause, LineRefusal, ScriptRefusal, read_head, refused};
 use lists::{ItemList, NoMemory};
+use plan_lines::{PlanLine, read_line};
 use plan_words::Plan;
 use quorum_rules::Config;
 use std::alloc::Global;
@@ -87,7 +86,9 @@ fn next_line(
     line: &[u8],
 ) -> Result<PlanLine, LineRefusal>
     requires { IsValid config.now }
-    ensures { Gives (λ l. IsPlanLine config.now l × (line_text l ≡ line.now) × (seen_cause config.now seen.now (line_marks config.now l) ≡ None)) (next_cause config.now seen.now line.now) result }
+    ensures { Gives (λ l. IsPlanLine config.now l × (line_text l ≡ line.now)
+        × (seen_cause config.now seen.now (line_marks config.now l) ≡ None))
+        (next_cause config.now seen.now line.now) result }
 {
     let read = read_line(alloc, config, line)?;
     refuse(seen, config, &Marks::of(config, &read))?;

@@ -27,7 +27,6 @@ const MOST_PHASES: u64 = 64;
 const MOST_STEPS: u64 = 4000;
 
 /// What the lines so far name and count.
-#[derive(Drop)]
 pub struct Seen {
     pub faulty: BTreeSet<u8>,
     pub crashing: BTreeSet<u32>,
@@ -41,6 +40,26 @@ pub struct Seen {
     pub floods: u64,
     pub phases: u64,
     pub steps: u64,
+}
+
+// By hand, since a derived drop is proved anew wherever this is let go.
+impl Drop for Seen {
+    fn drop(self) {
+        let Seen {
+            faulty: _faulty,
+            crashing: _crashing,
+            dropped: _dropped,
+            held: _held,
+            lying: _lying,
+            asking: _asking,
+            clients: _clients,
+            lying_nodes: _lying_nodes,
+            faulty_nodes: _faulty_nodes,
+            floods: _floods,
+            phases: _phases,
+            steps: _steps,
+        } = self;
+    }
 }
 
 impl Seen {
@@ -165,17 +184,27 @@ pub fn note(seen: &mut Seen, marks: &Marks) -> Result<(), NoMemory>
     requires nodes { (seen.old.lying_nodes < 1000) × (seen.old.faulty_nodes < 1000) }
     requires lines { (seen.old.floods < 1000) × (seen.old.phases < 1000) }
     requires steps { seen.old.steps + marks.now.steps < 2 ^ 64 }
-    ensures faulty { OnOk result (IsAdded nat_cmp seen.old.faulty seen.new.faulty marks.now.faulty_node) }
-    ensures crashing { OnOk result (IsAdded nat_cmp seen.old.crashing seen.new.crashing marks.now.crashing_client) }
-    ensures dropped { OnOk result (IsAdded pair_cmp seen.old.dropped seen.new.dropped marks.now.dropped) }
+    ensures faulty { OnOk result (IsAdded nat_cmp seen.old.faulty seen.new.faulty
+        marks.now.faulty_node) }
+    ensures crashing { OnOk result (IsAdded nat_cmp seen.old.crashing seen.new.crashing
+        marks.now.crashing_client) }
+    ensures dropped { OnOk result (IsAdded pair_cmp seen.old.dropped seen.new.dropped
+        marks.now.dropped) }
     ensures held { OnOk result (IsAdded pair_cmp seen.old.held seen.new.held marks.now.held) }
-    ensures lying { OnOk result (IsAdded nat_cmp seen.old.lying seen.new.lying marks.now.lying_client) }
-    ensures asking { OnOk result (IsAdded nat_cmp seen.old.asking seen.new.asking marks.now.asking_client) }
-    ensures clients { OnOk result (IsAdded nat_cmp seen.old.clients seen.new.clients (client_of marks.now)) }
-    ensures lying_nodes { OnOk result (seen.new.lying_nodes ≡ seen.old.lying_nodes + (if is_some marks.now.lying_node then 1 else 0)) }
-    ensures faulty_nodes { OnOk result (seen.new.faulty_nodes ≡ seen.old.faulty_nodes + (if is_some marks.now.faulty_node then 1 else 0)) }
-    ensures floods { OnOk result (seen.new.floods ≡ seen.old.floods + (if marks.now.is_flood then 1 else 0)) }
-    ensures phases { OnOk result (seen.new.phases ≡ seen.old.phases + (if marks.now.is_phase then 1 else 0)) }
+    ensures lying { OnOk result (IsAdded nat_cmp seen.old.lying seen.new.lying
+        marks.now.lying_client) }
+    ensures asking { OnOk result (IsAdded nat_cmp seen.old.asking seen.new.asking
+        marks.now.asking_client) }
+    ensures clients { OnOk result (IsAdded nat_cmp seen.old.clients seen.new.clients
+        (client_of marks.now)) }
+    ensures lying_nodes { OnOk result (seen.new.lying_nodes
+        ≡ seen.old.lying_nodes + (if is_some marks.now.lying_node then 1 else 0)) }
+    ensures faulty_nodes { OnOk result (seen.new.faulty_nodes
+        ≡ seen.old.faulty_nodes + (if is_some marks.now.faulty_node then 1 else 0)) }
+    ensures floods { OnOk result (seen.new.floods
+        ≡ seen.old.floods + (if marks.now.is_flood then 1 else 0)) }
+    ensures phases { OnOk result (seen.new.phases
+        ≡ seen.old.phases + (if marks.now.is_phase then 1 else 0)) }
     ensures steps { OnOk result (seen.new.steps ≡ seen.old.steps + marks.now.steps) }
 {
     add(&mut seen.faulty, marks.faulty_node)?;

@@ -9,7 +9,8 @@ use Rattle.wire_forms.specs.declared.op.Op.TheVariants.{Read, Write}
 use Rattle.wire_forms.specs.declared.device.DeviceOp.{DeviceOp}
 use Rattle.wire_forms.specs.declared.device.DeviceOp.TheVariants.{Get, Put}
 use Rattle.line_forms.specs.declared.cause.DeviceFault.{DeviceFault}
-use Rattle.event_lines.specs.Lines.{IsClient, IsNode, IsBlock, IsValue}
+use Rattle.wire_forms.specs.Liars.{IsClientNumber}
+use Rattle.event_lines.specs.Lines.{IsNode, IsBlock, IsValue}
 use Rattle.block_device.specs.Ranges.{fault_of}
 use Rattle.block_device.specs.Steps.{steps_of}
 use Rattle.plan_words.specs.declared.fault.Fault.{Fault}
@@ -23,13 +24,13 @@ use Rattle.plan_words.specs.Named.{lying_nodes, faulty_nodes, lying_clients, cra
 
 abbrev pub IsFault : Numbers → Fault → Type 0
 IsFault c (LiarNode node rule) = IsNode c node
-IsFault c (LiarSound client block time value count) = IsClient client × IsBlock c block × (time < 2 ^ 64) × IsValue c value × (count ≤ c.n)
-IsFault c (LiarMix client block time value other count) = IsClient client × IsBlock c block × (time < 2 ^ 64) × IsValue c value × IsValue c other × (count ≤ c.n)
-IsFault c (LiarFlood client block time value other count) = IsClient client × IsBlock c block × (time < 2 ^ 64) × IsValue c value × IsValue c other × (count ≤ 250) × (count ≤ time)
+IsFault c (LiarSound client block time value count) = IsClientNumber client × IsBlock c block × (time < 2 ^ 64) × IsValue c value × (count ≤ c.n)
+IsFault c (LiarMix client block time value other count) = IsClientNumber client × IsBlock c block × (time < 2 ^ 64) × IsValue c value × IsValue c other × (count ≤ c.n)
+IsFault c (LiarFlood client block time value other count) = IsClientNumber client × IsBlock c block × (time < 2 ^ 64) × IsValue c value × IsValue c other × (count ≤ 250) × (count ≤ time)
 IsFault c (CrashNode node count) = IsNode c node × (count ≤ 1000)
-IsFault c (CrashClient client count) = IsClient client × (count ≤ 1000)
-IsFault c (Drop client node count) = IsClient client × IsNode c node × (count ≤ 1000)
-IsFault c (Hold client node count) = IsClient client × IsNode c node × (count ≤ 1000)
+IsFault c (CrashClient client count) = IsClientNumber client × (count ≤ 1000)
+IsFault c (Drop client node count) = IsClientNumber client × IsNode c node × (count ≤ 1000)
+IsFault c (Hold client node count) = IsClientNumber client × IsNode c node × (count ≤ 1000)
 
 abbrev pub IsOp : Numbers → Op → Type 0
 IsOp c (Read block) = IsBlock c block
@@ -41,8 +42,8 @@ IsCommand (Get offset length) = (offset < 2 ^ 64) × (length < 2 ^ 64)
 IsCommand (Put offset bytes) = (offset < 2 ^ 64) × IsBytes bytes
 
 abbrev pub IsJob : Numbers → Job → Type 0
-IsJob c (Block client op) = IsClient client × IsOp c op
-IsJob c (Device client op) = IsClient client × IsCommand op
+IsJob c (Block client op) = IsClientNumber client × IsOp c op
+IsJob c (Device client op) = IsClientNumber client × IsCommand op
 IsJob c Phase = Unit {0}
 
 -- why the device refuses a job's command, if it does

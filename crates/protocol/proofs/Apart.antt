@@ -6,9 +6,9 @@ use Rattle.std.proofs.lemmas.List.Elements.{Contains-append_cases}
 use Rattle.protocol.specs.Messages.{Reply, Body, Message}
 use Rattle.wire_forms.specs.declared.Body.TheVariants.{Ask as Asks, Answer as Answers}
 use Rattle.protocol.specs.Setting.{Setting}
-use Rattle.protocol.specs.Operations.{Task, Decision, begun, counted, decide, answered}
+use Rattle.protocol.specs.Operations.{is_counted, Task, Decision, begun, counted, decide, answered}
 use Rattle.protocol.specs.Operations.Decision.{GoesOn, Ends}
-use Rattle.protocol.specs.World.{World, Record, Event, Allowed, happens, moved, decided, advanced, heard, heard_by, counts, only_place, open_record, closed_record, with_record, under_way, last_op, greatest_given}
+use Rattle.protocol.specs.World.{World, Record, Event, Allowed, happens, moved, decided, advanced, heard, heard_by, only_place, open_record, closed_record, with_record, under_way, last_op, greatest_given}
 use Rattle.protocol.specs.World.Event.{Start, Resend, Give, Hear, CrashNode, CrashClient, Lie, Prune, Back}
 use Rattle.protocol.proofs.Lists.{Contains-one}
 use Rattle.protocol.proofs.Replacing.{with_cases}
@@ -96,7 +96,7 @@ module _ (s : Setting) (w : World) (safe : IsSafe s w) (origins : HasOrigins s w
 
   heard_apart : (c : ℕ) (m : Message) (o : Option Task) → w.client_crashed c ≡ false → w.task c ≡ o → (reply : Reply) → Fine (heard_by s w place c o m reply)
   heard_apart c m None up e reply = apart
-  heard_apart c m (Some task) up e reply = counted_apart c task (busy_as up e) m reply (counts s w place task m reply)
+  heard_apart c m (Some task) up e reply = counted_apart c task (busy_as up e) m reply (is_counted s task m.node m.tag reply)
     where
       busy_as : w.client_crashed c ≡ false → w.task c ≡ Some task → under_way w c ≡ Some task
       busy_as e f = rw (e, f) refl
@@ -109,7 +109,7 @@ module _ (s : Setting) (w : World) (safe : IsSafe s w) (origins : HasOrigins s w
   happens_apart (Start c block work) h = pushed_apart w.records apart place early (open_record c (begun (last_op w c + 1) block work place)) refl refl
   happens_apart (Resend c) h = rw (resent_records s w place c (w.task c)) apart
   happens_apart (Give i m) h = rw (given_records s w place i m m.body) apart
-  happens_apart (Hear c m) h = hear_apart c m h.3 m.body
+  happens_apart (Hear c m) h = hear_apart c m h.up m.body
   happens_apart (CrashNode i) h = apart
   happens_apart (CrashClient c) h = apart
   happens_apart (Lie m) h = apart

@@ -160,18 +160,18 @@ module _ (s : Setting) (L : Pruning → Type 0) where
     begins c block work h = record {
       versions = refl;
       accepted = refl;
-      tasks = λ d z e. elim (starting.task_cases s w safe place h.0 c block work h.1 h.2 h.3 h.4 h.5 h.6 h.7 d z e) [
-        | inl q ↦ (let a : z.start ≡ place = ap (λ (x : Task). x.start) q.1 in let l = h.0 in inr (omega (arith, a, l)))
+      tasks = λ d z e. elim (starting.task_cases s w safe place h.later c block work h.client h.correct h.up h.idle h.fresh h.inside h.fits d z e) [
+        | inl q ↦ (let a : z.start ≡ place = ap (λ (x : Task). x.start) q.1 in let l = h.later in inr (omega (arith, a, l)))
         | inr q ↦ inl (z, q.1, refl, refl)
       ];
-      place = (let l = h.0 in omega (arith, l));
+      place = (let l = h.later in omega (arith, l));
     }
 
     pub happens_logged : IsLogged w → (e : Event) → PrunesNothing e → Allowed s w place e → IsLogged (happens s w place e)
     happens_logged logged (Start c block work) none h = calm_logged w (happens s w place (Start c block work)) (begins c block work h) logged
-    happens_logged logged (Resends c) none h = calm_logged w (happens s w place (Resends c)) (resends h.0 c (w.task c)) logged
-    happens_logged logged (Gives i m) none h = gives h.0 logged i h.1 h.2 m h.4 h.5
-    happens_logged logged (Hears c m) none h = calm_logged w (happens s w place (Hears c m)) (hears h.0 c m h.4 h.3 h.5) logged
+    happens_logged logged (Resends c) none h = calm_logged w (happens s w place (Resends c)) (resends h.later c (w.task c)) logged
+    happens_logged logged (Gives i m) none h = gives h.later logged i h.node h.honest m h.sent h.asks
+    happens_logged logged (Hears c m) none h = calm_logged w (happens s w place (Hears c m)) (hears h.later c m h.sent h.up h.answers) logged
     happens_logged logged (NodeCrashes i) none h = calm_logged w (happens s w place (NodeCrashes i)) (fewer_calm w (happens s w place (NodeCrashes i)) refl refl h.0 (λ d z e. e)) logged
     happens_logged logged (ClientCrashes c) none h =
         calm_logged w (happens s w place (ClientCrashes c)) (fewer_calm w (happens s w place (ClientCrashes c)) refl refl h.0 (sending.crash_fewer s w safe place h.0 c)) logged
@@ -339,10 +339,10 @@ module _ (s : Setting) (good : IsValid s) where
     prune_taken : (i block : ℕ) → FitsLine s (Prune i block) → fault s w (Prune i block) ≡ None → IsTaken L w place (Prune i block)
     prune_taken i block fits fine =
         let h = (allowed s good w safe place later (Prune i block) fits (no_fault s w (Prune i block) fine)).0 in
-        let now = pruned_logged s L w safe logged place (omega (arith, later)) i block h.4 h.5 h.6 in
+        let now = pruned_logged s L w safe logged place (omega (arith, later)) i block h.quiet h.stamp h.given in
         record {
-          logged = subst (λ (o : Option Stamp). IsLogged s (λ p. L p ⊎ (pruning_by i block place o ≡ Some p)) (only_place s (pruned_at s w place i block o) place)) (sym h.6) now;
-          made = subst (λ (o : Option Stamp). AreHosted s (length w.pool) (IsFresh s L w) (only_place s (pruned_at s w place i block o) place)) (sym h.6) (none_new s L good w place _ refl);
+          logged = subst (λ (o : Option Stamp). IsLogged s (λ p. L p ⊎ (pruning_by i block place o ≡ Some p)) (only_place s (pruned_at s w place i block o) place)) (sym h.given) now;
+          made = subst (λ (o : Option Stamp). AreHosted s (length w.pool) (IsFresh s L w) (only_place s (pruned_at s w place i block o) place)) (sym h.given) (none_new s L good w place _ refl);
         }
 
     plain_taken : (line : Line) → FitsLine s line → fault s w line ≡ None → pruning_of w place line ≡ None → PruneNothing (events s w line) → IsTaken L w place line

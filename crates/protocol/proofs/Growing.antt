@@ -8,9 +8,9 @@ use Rattle.protocol.specs.Messages.{Reply, Body, Message}
 use Rattle.protocol.specs.Count.{one_more}
 use Rattle.protocol.specs.Setting.{Setting}
 use Rattle.protocol.specs.Nodes.{accepts}
-use Rattle.protocol.specs.Operations.{Task, Decision, counted, decide, answered}
+use Rattle.protocol.specs.Operations.{is_counted, Task, Decision, counted, decide, answered}
 use Rattle.protocol.specs.Operations.Decision.{GoesOn, Ends}
-use Rattle.protocol.specs.World.{World, Event, happens, all_happen, moved, decided, advanced, heard, heard_by, counts, given, resent_by, pruned_at, only_place, open_record, greatest_given, accepted_at}
+use Rattle.protocol.specs.World.{World, Event, happens, all_happen, moved, decided, advanced, heard, heard_by, given, resent_by, pruned_at, only_place, open_record, greatest_given, accepted_at}
 use Rattle.protocol.specs.World.Event.{Start, Resend, Give, Hear, CrashNode, CrashClient, Lie, Prune, Back}
 use Rattle.protocol.specs.Lines.{Line, Run, events, plays}
 use Rattle.protocol.specs.Facts.{Extends, HasAccepted}
@@ -65,7 +65,7 @@ module _ (s : Setting) (w : World) (place : ℕ) where
 
   heard_by_more : (c : ℕ) (o : Option Task) (m : Message) (reply : Reply) → Adds w place (heard_by s w place c o m reply)
   heard_by_more c None m reply = same
-  heard_by_more c (Some task) m reply = counted_more c task m reply (counts s w place task m reply)
+  heard_by_more c (Some task) m reply = counted_more c task m reply (is_counted s task m.node m.tag reply)
 
   heard_more : (c : ℕ) (m : Message) (body : Body) → Adds w place (heard s w place c m body)
   heard_more c m (Asks ask) = same

@@ -7,9 +7,9 @@ use Rattle.protocol.specs.Count.{update}
 use Rattle.protocol.specs.Messages.{Reply, Body, Message}
 use Rattle.wire_forms.specs.declared.Body.TheVariants.{Ask as Asks, Answer as Answers}
 use Rattle.protocol.specs.Setting.{Setting, IsValid}
-use Rattle.protocol.specs.Operations.{Task, Stage, Outcome, Decision, is_of_kind, answered, decide, goes_on, mail, counted}
+use Rattle.protocol.specs.Operations.{is_counted, Task, Stage, Outcome, Decision, is_of_kind, answered, decide, goes_on, mail, counted}
 use Rattle.protocol.specs.Operations.Decision.{GoesOn, Ends}
-use Rattle.protocol.specs.World.{World, IsAnswerTo, only_place, moved, decided, advanced, heard, heard_by, counts, open_record, closed_record, under_way}
+use Rattle.protocol.specs.World.{World, IsAnswerTo, only_place, moved, decided, advanced, heard, heard_by, open_record, closed_record, under_way}
 use Rattle.protocol.proofs.Invariant.{IsSafe}
 use Rattle.protocol.proofs.Sending.{is_under_way}
 use Rattle.protocol.proofs.Runs.{task_hears}
@@ -41,7 +41,7 @@ module _ (s : Setting) (good : IsValid s) (w : World) (safe : IsSafe s w) (place
       at true e = counting task answers busy sent
       at false e = decided_case task answers busy sent (grind (arith, nat_tests)) (decide s c (filled task answers) task.stage) refl
 
-  counted_case : (task : Task) → under_way w c ≡ Some task → (m : Message) → Contains w.pool m → m.client ≡ c → (reply : Reply) → m.body ≡ Answers reply → (b : Bool) → counts s w place task m reply ≡ b
+  counted_case : (task : Task) → under_way w c ≡ Some task → (m : Message) → Contains w.pool m → m.client ≡ c → (reply : Reply) → m.body ≡ Answers reply → (b : Bool) → is_counted s task m.node m.tag reply ≡ b
       → P (cond b (advanced s w place c (counted task m.node reply)) (only_place s w place))
   counted_case task busy m there of_c reply body false e = same
   counted_case task busy m there of_c reply body true e =
@@ -49,7 +49,7 @@ module _ (s : Setting) (good : IsValid s) (w : World) (safe : IsSafe s w) (place
 
   task_case : (m : Message) → Contains w.pool m → m.client ≡ c → w.client_crashed c ≡ false → (reply : Reply) → m.body ≡ Answers reply → (o : Option Task) → w.task c ≡ o → P (heard_by s w place c o m reply)
   task_case m there of_c up reply body None e = same
-  task_case m there of_c up reply body (Some task) e = counted_case task (is_under_way s w safe place later c task up e) m there of_c reply body (counts s w place task m reply) refl
+  task_case m there of_c up reply body (Some task) e = counted_case task (is_under_way s w safe place later c task up e) m there of_c reply body (is_counted s task m.node m.tag reply) refl
 
   pub heard_case : (m : Message) → Contains w.pool m → w.client_crashed c ≡ false → IsAnswerTo s c m → P (heard s w place c m m.body)
   heard_case m there up h = by m.body refl

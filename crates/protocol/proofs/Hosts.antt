@@ -184,13 +184,13 @@ module _ (s : Setting) (from : ℕ) (P : ℕ → Ask → Reply → Type 0) where
 
     pub happens_hosted : (place : ℕ) (e : Event) → Allowed s w place e → AreHosted (happens s w place e)
     happens_hosted place (Start c block work) h = mailed _ c (Rattle.protocol.specs.Operations.begun (Rattle.protocol.specs.World.last_op w c + 1) block work place) refl refl
-    happens_hosted place (Resend c) h = resends place h.0 c h.4 h.5
-    happens_hosted place (Give i m) h = gives place h.0 i h.1 h.2 m h.4 h.5
-    happens_hosted place (Hear c m) h = hears place h.0 c m h.4 h.3 h.5
+    happens_hosted place (Resend c) h = resends place h.later c h.task h.busy
+    happens_hosted place (Give i m) h = gives place h.later i h.node h.honest m h.sent h.asks
+    happens_hosted place (Hear c m) h = hears place h.later c m h.sent h.up h.answers
     happens_hosted place (CrashNode i) h = unsaid w hosted _ refl refl
     happens_hosted place (CrashClient c) h = unsaid w hosted _ refl refl
     happens_hosted place (Lie m) h = grown w hosted _ (m ∷ []) refl (λ i block stamp a. a) (not_lie m m.body refl h.3)
-    happens_hosted place (Prune i block) h = prunes place h.0 i block h.5 h.6
+    happens_hosted place (Prune i block) h = prunes place h.later i block h.stamp h.given
     happens_hosted place (Back c) h = unsaid w hosted _ refl refl
 
   pub start_hosted : AreHosted (start_world s)

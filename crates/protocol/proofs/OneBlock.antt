@@ -116,13 +116,13 @@ module _ (s : Setting) where
 
     happens_of : (place : ℕ) (e : Event) → Allowed s w place e → HasBlocks (happens s w place e).pool
     happens_of place (Start c of work) h = started place c of work
-    happens_of place (Resend c) h = resends place h.0 c h.4 h.3 h.5
+    happens_of place (Resend c) h = resends place h.later c h.task h.up h.busy
     happens_of place (Give i m) h = gives place i m m.body
-    happens_of place (Hear c m) h = hears place h.0 c m h.4 h.3 h.5
+    happens_of place (Hear c m) h = hears place h.later c m h.sent h.up h.answers
     happens_of place (CrashNode i) h = same
     happens_of place (CrashClient c) h = same
     happens_of place (Lie m) h = grown _ (m ∷ []) refl (not_lie m m.body refl h.3)
-    happens_of place (Prune i at) h = prunes place h.0 i at (greatest_given at w.records)
+    happens_of place (Prune i at) h = prunes place h.later i at (greatest_given at w.records)
     happens_of place (Back c) h = same
 
   pub happens_blocks : IsValid s → (w : World) → IsSafe s w → HasBlocks w.pool → (place : ℕ) (e : Event) → Allowed s w place e → HasBlocks (happens s w place e).pool

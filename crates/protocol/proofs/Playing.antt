@@ -14,7 +14,7 @@ use Rattle.protocol.proofs.Forming.{IsFormedWhere, false_formed, sum_formed, all
 use Rattle.run_words.specs.declared.line.StepFault.TheVariants.{NoSuchMessage, WrongReceiver, Busy, Crashed, Idle, NotQuiet, NoRead, Worn, NotCrashed}
 use Rattle.protocol.specs.Operations.{Task}
 use Rattle.protocol.specs.World.{World, AllAllowed, IsClient, IsQuiet, IsAskTo, IsAnswerTo, IsOfLiar, under_way, greatest_given}
-use Rattle.protocol.specs.Lines.{Line, some_of, sender, takes_part, lies, named, is_ask_to, is_answer_to, misgiven, misheard, does_something, is_at, is_missing, all_faults, called, falsely_told, given_at, heard_at, events, is_actor, is_liar, has_crashed, is_idle, is_busy_at, meets, fault, FitsLine, Names, Rule, false_reply, answer_with, told, mixed, mixed_sum}
+use Rattle.protocol.specs.Lines.{Line, some_of, sender, roles, is_ask_to, is_answer_to, misgiven, misheard, does_something, is_at, is_missing, all_faults, called, falsely_told, given_at, heard_at, events, is_actor, is_liar, has_crashed, is_idle, is_busy_at, meets, fault, FitsLine, Names, Rule, false_reply, answer_with, told, mixed, mixed_sum}
 use Rattle.run_words.specs.declared.line.Line.TheVariants.{Write, Read, Resend, Call, Give, Hear, Lost, CrashNode, CrashClient, Lie, Tell, Poke, False, Sound, Mix, Prune, Back, Restart}
 use Rattle.protocol.specs.Lines.Actor.{Node, Client}
 use Rattle.protocol.proofs.Counting.{both_true}
@@ -47,14 +47,14 @@ none_above x h k = grind (arith, nat_tests)
 
 -- what isn't met by a line
 pub record NoFault (s : Setting) (w : World) (line : Line) : Type 0 where
-  pub actors : AllByRecursion (λ a. not (is_actor s w a) ≡ false) (takes_part line ++ named line)
+  pub actors : AllByRecursion (λ a. not (is_actor s w a) ≡ false) ((roles line).takes_part ++ (roles line).named)
   pub message : meets s w line NoSuchMessage ≡ false
   pub receiver : meets s w line WrongReceiver ≡ false
   pub free : meets s w line Busy ≡ false
   pub up : meets s w line Crashed ≡ false
-  pub liars : AllByRecursion (λ a. not (is_liar s w a) ≡ false) (lies line)
+  pub liars : AllByRecursion (λ a. not (is_liar s w a) ≡ false) (roles line).lies
   pub working : meets s w line Idle ≡ false
-  pub upright : AllByRecursion (λ a. is_liar s w a ≡ false) (takes_part line)
+  pub upright : AllByRecursion (λ a. is_liar s w a ≡ false) (roles line).takes_part
   pub quiet : meets s w line NotQuiet ≡ false
   pub read : meets s w line NoRead ≡ false
   pub fresh : meets s w line Worn ≡ false
@@ -64,14 +64,14 @@ pub no_fault : (s : Setting) (w : World) (line : Line) → fault s w line ≡ No
 no_fault s w line h =
     let a = find_none (meets s w line) all_faults h in
     record {
-      actors = some_none (λ a. not (is_actor s w a)) (takes_part line ++ named line) a.0;
+      actors = some_none (λ a. not (is_actor s w a)) ((roles line).takes_part ++ (roles line).named) a.0;
       message = a.1.0;
       receiver = a.1.1.0;
       free = a.1.1.1.0;
       up = a.1.1.1.1.0;
-      liars = some_none (λ a. not (is_liar s w a)) (lies line) a.1.1.1.1.1.0;
+      liars = some_none (λ a. not (is_liar s w a)) (roles line).lies a.1.1.1.1.1.0;
       working = a.1.1.1.1.1.1.0;
-      upright = some_none (is_liar s w) (takes_part line) a.1.1.1.1.1.1.1.0;
+      upright = some_none (is_liar s w) (roles line).takes_part a.1.1.1.1.1.1.1.0;
       quiet = a.1.1.1.1.1.1.1.1.0;
       read = a.1.1.1.1.1.1.1.1.1.0;
       fresh = a.1.1.1.1.1.1.1.1.1.1.0;
@@ -137,17 +137,17 @@ module _ (s : Setting) (good : IsValid s) (w : World) (safe : IsSafe s w) (place
 
   given_number : (i : ℕ) (o : Option Message) → ((m : Message) → o ≡ Some m → Contains w.pool m) → i < s.n → s.lying_node i ≡ false → w.node_crashed i ≡ false → misgiven i o ≡ false → AllAllowed s w place (given_at s w i o)
   given_number i None there l h k e = tt
-  given_number i (Some m) there l h k e = ((soon, l, h, k, there m refl, ask_is i m e), tt)
+  given_number i (Some m) there l h k e = (record { later = soon; node = l; honest = h; up = k; sent = there m refl; asks = ask_is i m e }, tt)
 
   heard_number : (c : ℕ) (o : Option Message) → ((m : Message) → o ≡ Some m → Contains w.pool m) → IsClient s c → s.lying_client c ≡ false → w.client_crashed c ≡ false → misheard c o ≡ false → AllAllowed s w place (heard_at s w c o)
   heard_number c None there l h k e = tt
-  heard_number c (Some m) there l h k e = ((soon, l, h, k, there m refl, answer_is c m e), tt)
+  heard_number c (Some m) there l h k e = (record { later = soon; client = l; correct = h; up = k; sent = there m refl; answers = answer_is c m e }, tt)
 
   call_allowed : (c i : ℕ) → IsClient s c → i < s.n → s.lying_client c ≡ false → s.lying_node i ≡ false → w.client_crashed c ≡ false → w.node_crashed i ≡ false → (task : Task) → w.task c ≡ Some task → AllAllowed s w place (called s w c i (Some task))
   call_allowed c i number l h k up running task busy =
       let t = safe.tasks c task (is_under_way s w safe place soon c task up busy) in (
-        (soon, l, k, running, t.mailed i l, (refl, Rattle.protocol.specs.Operations.ask_of s task i, refl)),
-        ((omega arith, number, h, up, Contains-push w.pool _, (refl, Rattle.protocol.specs.Nodes.reply s i (w.versions i task.block) (Rattle.protocol.specs.Operations.ask_of s task i), refl)), tt),
+        record { later = soon; node = l; honest = k; up = running; sent = t.mailed i l; asks = (refl, Rattle.protocol.specs.Operations.ask_of s task i, refl) },
+        (record { later = omega arith; client = number; correct = h; up = up; sent = Contains-push w.pool _; answers = (refl, Rattle.protocol.specs.Nodes.reply s i (w.versions i task.block) (Rattle.protocol.specs.Operations.ask_of s task i), refl) }, tt),
       )
 
   mixed_formed : (value other : List ℕ) → IsBlock s value → IsBlock s other → (i : ℕ) → IsBytes (mixed s value other i)
@@ -162,7 +162,7 @@ module _ (s : Setting) (good : IsValid s) (w : World) (safe : IsSafe s w) (place
 
   told_allowed : (reply : Option Reply) → IsFormedWhere reply → (c i : ℕ) → IsClient s c → i < s.n → s.lying_client c ≡ false → s.lying_node i ≡ true → w.client_crashed c ≡ false → (task : Task) → AllAllowed s w place (told s w c (answer_with s c i task reply))
   told_allowed None f c i number l h k up task = tt
-  told_allowed (Some reply) f c i number l h k up task = ((soon, l, number, k, f), ((omega arith, number, h, up, Contains-push w.pool _, (refl, reply, refl)), tt))
+  told_allowed (Some reply) f c i number l h k up task = ((soon, l, number, k, f), (record { later = omega arith; client = number; correct = h; up = up; sent = Contains-push w.pool _; answers = (refl, reply, refl) }, tt))
 
   false_allowed : (rule : Rule) (c i : ℕ) → IsClient s c → i < s.n → s.lying_client c ≡ false → s.lying_node i ≡ true → w.client_crashed c ≡ false → (task : Task) → AllAllowed s w place (falsely_told s w rule c i (Some task))
   false_allowed rule c i number l h k up task =
@@ -175,13 +175,13 @@ module _ (s : Setting) (good : IsValid s) (w : World) (safe : IsSafe s w) (place
   pub allowed : (line : Line) → FitsLine s line → NoFault s w line → AllAllowed s w place (events s w line)
   allowed (Write c block value) fits fine =
       let a = fine.actors.0 in
-      ((later, client_is c a, fine.upright.0, (some_none (has_crashed s w) (Client c ∷ []) fine.up).0, idle_task (w.task c) fine.free, few (w.started c) fine.fresh, fits.0, fits.1), tt)
+      (record { later = later; client = client_is c a; correct = fine.upright.0; up = (some_none (has_crashed s w) (Client c ∷ []) fine.up).0; idle = idle_task (w.task c) fine.free; fresh = few (w.started c) fine.fresh; inside = fits.0; fits = fits.1 }, tt)
   allowed (Read c block) fits fine =
-      ((later, client_is c (fine.actors.0), fine.upright.0, (some_none (has_crashed s w) (Client c ∷ []) fine.up).0, idle_task (w.task c) fine.free, few (w.started c) fine.fresh, fits, tt), tt)
+      (record { later = later; client = client_is c (fine.actors.0); correct = fine.upright.0; up = (some_none (has_crashed s w) (Client c ∷ []) fine.up).0; idle = idle_task (w.task c) fine.free; fresh = few (w.started c) fine.fresh; inside = fits; fits = tt }, tt)
   allowed (Resend c) fits fine =
       let h = fine.upright.0 in
       let t = task_is c h fine.working in
-      ((soon, client_is c (fine.actors.0), h, (some_none (has_crashed s w) (Client c ∷ []) fine.up).0, t.0, t.1), tt)
+      (record { later = soon; client = client_is c (fine.actors.0); correct = h; up = (some_none (has_crashed s w) (Client c ∷ []) fine.up).0; task = t.0; busy = t.1 }, tt)
   allowed (Call c i) fits fine =
       let ups = some_none (has_crashed s w) (Client c ∷ Node i ∷ []) fine.up in
       let h = fine.upright.0 in
@@ -200,12 +200,12 @@ module _ (s : Setting) (good : IsValid s) (w : World) (safe : IsSafe s w) (place
   allowed (Tell m) fits fine =
       let a = fine.actors.1 in (
         (soon, node_is m.node (a.0), client_is m.client (a.1.0), of_liar m m.body (fine.liars.0), fits),
-        ((omega arith, client_is m.client (fine.actors.0), fine.upright.0, (some_none (has_crashed s w) (Client m.client ∷ []) fine.up).0, Contains-push w.pool m, answer_is m.client m fine.receiver), tt),
+        (record { later = omega arith; client = client_is m.client (fine.actors.0); correct = fine.upright.0; up = (some_none (has_crashed s w) (Client m.client ∷ []) fine.up).0; sent = Contains-push w.pool m; answers = answer_is m.client m fine.receiver }, tt),
       )
   allowed (Poke m) fits fine =
       let a = fine.actors.1 in (
         (soon, node_is m.node (a.0), client_is m.client (a.1.0), of_liar m m.body (fine.liars.0), fits),
-        ((omega arith, node_is m.node (fine.actors.0), fine.upright.0, (some_none (has_crashed s w) (Node m.node ∷ []) fine.up).0, Contains-push w.pool m, ask_is m.node m fine.receiver), tt),
+        (record { later = omega arith; node = node_is m.node (fine.actors.0); honest = fine.upright.0; up = (some_none (has_crashed s w) (Node m.node ∷ []) fine.up).0; sent = Contains-push w.pool m; asks = ask_is m.node m fine.receiver }, tt),
       )
   allowed (False c i rule) fits fine =
       let h = fine.upright.0 in
@@ -214,16 +214,16 @@ module _ (s : Setting) (good : IsValid s) (w : World) (safe : IsSafe s w) (place
   allowed (Sound c i block time value) fits fine =
       let l = node_is i (fine.actors.0) in (
         (soon, l, client_is c (fine.actors.1.1.0), not_false _ (fine.liars.0), (sum_formed s good value fits, good.bytes-fragment value i fits)),
-        ((omega arith, l, fine.upright.0, (some_none (has_crashed s w) (Node i ∷ []) fine.up).0, Contains-push w.pool _, (refl, _, refl)), tt),
+        (record { later = omega arith; node = l; honest = fine.upright.0; up = (some_none (has_crashed s w) (Node i ∷ []) fine.up).0; sent = Contains-push w.pool _; asks = (refl, _, refl) }, tt),
       )
   allowed (Mix c i block time value other) fits fine =
       let l = node_is i (fine.actors.0) in (
         (soon, l, client_is c (fine.actors.1.1.0), not_false _ (fine.liars.0), (digests_formed value other, mixed_formed value other fits.0 fits.1 i)),
-        ((omega arith, l, fine.upright.0, (some_none (has_crashed s w) (Node i ∷ []) fine.up).0, Contains-push w.pool _, (refl, _, refl)), tt),
+        (record { later = omega arith; node = l; honest = fine.upright.0; up = (some_none (has_crashed s w) (Node i ∷ []) fine.up).0; sent = Contains-push w.pool _; asks = (refl, _, refl) }, tt),
       )
   allowed (Prune i block) fits fine =
       let r = read_is (greatest_given block w.records) fine.read in
-      ((soon, node_is i (fine.actors.0), fine.upright.0, (some_none (has_crashed s w) (Node i ∷ []) fine.up).0, quiet_is block fine.quiet, r.0, r.1), tt)
+      (record { later = soon; node = node_is i (fine.actors.0); honest = fine.upright.0; up = (some_none (has_crashed s w) (Node i ∷ []) fine.up).0; quiet = quiet_is block fine.quiet; stamp = r.0; given = r.1 }, tt)
   allowed (Back c) fits fine =
       ((soon, client_is c (fine.actors.0), fine.upright.0, not_false _ fine.down, few (w.life c) fine.fresh), tt)
   allowed (Restart i) fits fine = tt

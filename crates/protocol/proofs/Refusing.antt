@@ -92,17 +92,17 @@ module _ (s : Setting) (w : World) where
   fine_given i k l m e place h =
       let a : AllAllowed s w place (given_at s w i (Some m)) = rw e at h in
       let x = a.0 in
-      let r : misgiven i (slice_get w.pool k) ≡ false = rw e (ask_ok i m x.5) in
+      let r : misgiven i (slice_get w.pool k) ≡ false = rw e (ask_ok i m x.asks) in
       all_none (meets s w (Give i k)) all_faults
-      (or_false _ _ (node_ok i x.1) refl, (there_ok k l, (r, (refl, (or_false _ _ x.3 refl, (refl, (refl, (or_false _ _ x.2 refl, (refl, (refl, (refl, (refl, tt))))))))))))
+      (or_false _ _ (node_ok i x.node) refl, (there_ok k l, (r, (refl, (or_false _ _ x.up refl, (refl, (refl, (or_false _ _ x.honest refl, (refl, (refl, (refl, (refl, tt))))))))))))
 
   fine_heard : (c k : ℕ) → k < length w.pool → (m : Message) → slice_get w.pool k ≡ Some m → (place : ℕ) → AllAllowed s w place (heard_at s w c (slice_get w.pool k)) → fault s w (Hear c k) ≡ None
   fine_heard c k l m e place h =
       let a : AllAllowed s w place (heard_at s w c (Some m)) = rw e at h in
       let x = a.0 in
-      let r : misheard c (slice_get w.pool k) ≡ false = rw e (answer_ok c m x.5) in
+      let r : misheard c (slice_get w.pool k) ≡ false = rw e (answer_ok c m x.answers) in
       all_none (meets s w (Hear c k)) all_faults
-      (or_false _ _ (client_ok c x.1) refl, (there_ok k l, (r, (refl, (or_false _ _ x.3 refl, (refl, (refl, (or_false _ _ x.2 refl, (refl, (refl, (refl, (refl, tt))))))))))))
+      (or_false _ _ (client_ok c x.client) refl, (there_ok k l, (r, (refl, (or_false _ _ x.up refl, (refl, (refl, (or_false _ _ x.correct refl, (refl, (refl, (refl, (refl, tt))))))))))))
 
   fine_call : (c i : ℕ) (task : Task) → w.task c ≡ Some task → (place : ℕ) → AllAllowed s w place (called s w c i (w.task c)) → fault s w (Call c i) ≡ None
   fine_call c i task e place h =
@@ -110,13 +110,13 @@ module _ (s : Setting) (w : World) where
       let g = a.0 in
       let x = a.1.0 in
       all_none (meets s w (Call c i)) all_faults
-      (or_false _ _ (client_ok c x.1) (or_false _ _ (node_ok i g.1) refl), (refl, (refl, (refl, (or_false _ _ x.3 (or_false _ _ g.3 refl), (refl, (idle_ok c task e, (or_false _ _ x.2 (or_false _ _ g.2 refl), (refl, (refl, (refl, (refl, tt))))))))))))
+      (or_false _ _ (client_ok c x.client) (or_false _ _ (node_ok i g.node) refl), (refl, (refl, (refl, (or_false _ _ x.up (or_false _ _ g.up refl), (refl, (idle_ok c task e, (or_false _ _ x.correct (or_false _ _ g.honest refl), (refl, (refl, (refl, (refl, tt))))))))))))
 
   -- who tells and who hears a false answer, where there is one
   told_by : (c i : ℕ) (task : Task) (reply : Option Reply) → reply ≢ None → (place : ℕ) → AllAllowed s w place (told s w c (answer_with s c i task reply))
       → IsClient s c × (i < s.n) × (s.lying_node i ≡ true) × (s.lying_client c ≡ false) × (w.client_crashed c ≡ false)
   told_by c i task None some place h = absurd (some refl)
-  told_by c i task (Some reply) some place h = let g = h.0 in let x = h.1.0 in (x.1, g.1, g.3, x.2, x.3)
+  told_by c i task (Some reply) some place h = let g = h.0 in let x = h.1.0 in (x.client, g.1, g.3, x.correct, x.up)
 
   speaks : (rule : Rule) (i : ℕ) (request : Request) → rule ≢ Silent → false_reply s rule i request ≢ None
   speaks Silent i request h = absurd (h refl)
@@ -146,15 +146,15 @@ module _ (s : Setting) (w : World) where
   playable place (Write c block value) fits h =
       let x = h.1.0 in
       all_none (meets s w (Write c block value)) all_faults
-      (or_false _ _ (client_ok c x.1) refl, (refl, (refl, (free_ok c x.4, (or_false _ _ x.3 refl, (refl, (refl, (or_false _ _ x.2 refl, (refl, (refl, (few_ok (w.started c) x.5, (refl, tt))))))))))))
+      (or_false _ _ (client_ok c x.client) refl, (refl, (refl, (free_ok c x.idle, (or_false _ _ x.up refl, (refl, (refl, (or_false _ _ x.correct refl, (refl, (refl, (few_ok (w.started c) x.fresh, (refl, tt))))))))))))
   playable place (Read c block) fits h =
       let x = h.1.0 in
       all_none (meets s w (Read c block)) all_faults
-      (or_false _ _ (client_ok c x.1) refl, (refl, (refl, (free_ok c x.4, (or_false _ _ x.3 refl, (refl, (refl, (or_false _ _ x.2 refl, (refl, (refl, (few_ok (w.started c) x.5, (refl, tt))))))))))))
+      (or_false _ _ (client_ok c x.client) refl, (refl, (refl, (free_ok c x.idle, (or_false _ _ x.up refl, (refl, (refl, (or_false _ _ x.correct refl, (refl, (refl, (few_ok (w.started c) x.fresh, (refl, tt))))))))))))
   playable place (Resend c) fits h =
       let x = h.1.0 in
       all_none (meets s w (Resend c)) all_faults
-      (or_false _ _ (client_ok c x.1) refl, (refl, (refl, (refl, (or_false _ _ x.3 refl, (refl, (idle_ok c x.4 x.5, (or_false _ _ x.2 refl, (refl, (refl, (refl, (refl, tt))))))))))))
+      (or_false _ _ (client_ok c x.client) refl, (refl, (refl, (refl, (or_false _ _ x.up refl, (refl, (idle_ok c x.task x.busy, (or_false _ _ x.correct refl, (refl, (refl, (refl, (refl, tt))))))))))))
   playable place (Call c i) fits h = fine_call c i h.0.0 h.0.1 place h.1
   playable place (Give i k) fits h = let m = message_at k h.0 in fine_given i k h.0 m.0 m.1 place h.1
   playable place (Hear c k) fits h = let m = message_at k h.0 in fine_heard c k h.0 m.0 m.1 place h.1
@@ -175,27 +175,27 @@ module _ (s : Setting) (w : World) where
       let x = h.1.0 in
       let y = h.1.1.0 in
       all_none (meets s w (Tell m)) all_faults
-      (or_false _ _ (client_ok m.client y.1) (or_false _ _ (node_ok m.node x.1) (or_false _ _ (client_ok m.client x.2) refl)), (refl, (answer_ok m.client m y.5, (refl, (or_false _ _ y.3 refl, (or_false _ _ (liar_ok m m.body x.3) refl, (refl, (or_false _ _ y.2 refl, (refl, (refl, (refl, (refl, tt))))))))))))
+      (or_false _ _ (client_ok m.client y.client) (or_false _ _ (node_ok m.node x.1) (or_false _ _ (client_ok m.client x.2) refl)), (refl, (answer_ok m.client m y.answers, (refl, (or_false _ _ y.up refl, (or_false _ _ (liar_ok m m.body x.3) refl, (refl, (or_false _ _ y.correct refl, (refl, (refl, (refl, (refl, tt))))))))))))
   playable place (Poke m) fits h =
       let x = h.1.0 in
       let y = h.1.1.0 in
       all_none (meets s w (Poke m)) all_faults
-      (or_false _ _ (node_ok m.node y.1) (or_false _ _ (node_ok m.node x.1) (or_false _ _ (client_ok m.client x.2) refl)), (refl, (ask_ok m.node m y.5, (refl, (or_false _ _ y.3 refl, (or_false _ _ (liar_ok m m.body x.3) refl, (refl, (or_false _ _ y.2 refl, (refl, (refl, (refl, (refl, tt))))))))))))
+      (or_false _ _ (node_ok m.node y.node) (or_false _ _ (node_ok m.node x.1) (or_false _ _ (client_ok m.client x.2) refl)), (refl, (ask_ok m.node m y.asks, (refl, (or_false _ _ y.up refl, (or_false _ _ (liar_ok m m.body x.3) refl, (refl, (or_false _ _ y.honest refl, (refl, (refl, (refl, (refl, tt))))))))))))
   playable place (False c i rule) fits h = fine_false c i rule fits h.0.0 h.0.1 place h.1
   playable place (Sound c i block time value) fits h =
       let x = h.1.0 in
       let y = h.1.1.0 in
       all_none (meets s w (Sound c i block time value)) all_faults
-      (or_false _ _ (node_ok i y.1) (or_false _ _ (node_ok i x.1) (or_false _ _ (client_ok c x.2) refl)), (refl, (refl, (refl, (or_false _ _ y.3 refl, (or_false _ _ (liar_client c x.3) refl, (refl, (or_false _ _ y.2 refl, (refl, (refl, (refl, (refl, tt))))))))))))
+      (or_false _ _ (node_ok i y.node) (or_false _ _ (node_ok i x.1) (or_false _ _ (client_ok c x.2) refl)), (refl, (refl, (refl, (or_false _ _ y.up refl, (or_false _ _ (liar_client c x.3) refl, (refl, (or_false _ _ y.honest refl, (refl, (refl, (refl, (refl, tt))))))))))))
   playable place (Mix c i block time value other) fits h =
       let x = h.1.0 in
       let y = h.1.1.0 in
       all_none (meets s w (Mix c i block time value other)) all_faults
-      (or_false _ _ (node_ok i y.1) (or_false _ _ (node_ok i x.1) (or_false _ _ (client_ok c x.2) refl)), (refl, (refl, (refl, (or_false _ _ y.3 refl, (or_false _ _ (liar_client c x.3) refl, (refl, (or_false _ _ y.2 refl, (refl, (refl, (refl, (refl, tt))))))))))))
+      (or_false _ _ (node_ok i y.node) (or_false _ _ (node_ok i x.1) (or_false _ _ (client_ok c x.2) refl)), (refl, (refl, (refl, (or_false _ _ y.up refl, (or_false _ _ (liar_client c x.3) refl, (refl, (or_false _ _ y.honest refl, (refl, (refl, (refl, (refl, tt))))))))))))
   playable place (Prune i block) fits h =
       let x = h.1.0 in
       all_none (meets s w (Prune i block)) all_faults
-      (or_false _ _ (node_ok i x.1) refl, (refl, (refl, (refl, (or_false _ _ x.3 refl, (refl, (refl, (or_false _ _ x.2 refl, (quiet_ok block x.4, (read_ok block x.5 x.6, (refl, (refl, tt))))))))))))
+      (or_false _ _ (node_ok i x.node) refl, (refl, (refl, (refl, (or_false _ _ x.up refl, (refl, (refl, (or_false _ _ x.honest refl, (quiet_ok block x.quiet, (read_ok block x.stamp x.given, (refl, (refl, tt))))))))))))
   playable place (Back c) fits h =
       let x = h.1.0 in
       let up : not (w.client_crashed c) ≡ false = rw (x.3) refl in

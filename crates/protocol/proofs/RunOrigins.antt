@@ -7,8 +7,8 @@ use Rattle.stamp_order.specs.declared.Stamp.{Stamp}
 use Rattle.protocol.specs.Messages.{IsFormedBody, Reply, Body, Message}
 use Rattle.wire_forms.specs.declared.Body.TheVariants.{Ask as Asks, Answer as Answers}
 use Rattle.protocol.specs.Setting.{Setting, IsValid}
-use Rattle.protocol.specs.Operations.{Task, counted, mail}
-use Rattle.protocol.specs.World.{World, Event, happens, Allowed, IsAskTo, IsAnswerTo, start_world, given, heard, heard_by, counts, advanced, only_place, pruned_at, resent_by, sent, greatest_given, under_way}
+use Rattle.protocol.specs.Operations.{is_counted, Task, counted, mail}
+use Rattle.protocol.specs.World.{World, Event, happens, Allowed, IsAskTo, IsAnswerTo, start_world, given, heard, heard_by, advanced, only_place, pruned_at, resent_by, sent, greatest_given, under_way}
 use Rattle.protocol.specs.World.Event.{Start, Resend, Give, Hear, CrashNode, CrashClient, Lie, Prune, Back}
 use Rattle.protocol.specs.History.{HasRead}
 use Rattle.protocol.proofs.Lists.{Contains-none}
@@ -32,7 +32,7 @@ module _ (s : Setting) (good : IsValid s) (w : World) (safe : IsSafe s w) (origi
   give_origins : (i : ℕ) → i < s.n → s.lying_node i ≡ false → (m : Message) → Contains w.pool m → IsAskTo s i m → HasOrigins s (given s w place i m m.body)
   give_origins i l h m there asks = rw asks.2 (given_origins s w safe origins place later i l h m there asks.0 asks.1 asks.2)
 
-  hear_count : (c : ℕ) (task : Task) → under_way w c ≡ Some task → (m : Message) → Contains w.pool m → m.client ≡ c → (reply : Reply) → m.body ≡ Answers reply → (b : Bool) → counts s w place task m reply ≡ b
+  hear_count : (c : ℕ) (task : Task) → under_way w c ≡ Some task → (m : Message) → Contains w.pool m → m.client ≡ c → (reply : Reply) → m.body ≡ Answers reply → (b : Bool) → is_counted s task m.node m.tag reply ≡ b
       → HasOrigins s (cond b (advanced s w place c (counted task m.node reply)) (only_place s w place))
   hear_count c task busy m there of_c reply body false e = only_origins
   hear_count c task busy m there of_c reply body true e =
@@ -40,7 +40,7 @@ module _ (s : Setting) (good : IsValid s) (w : World) (safe : IsSafe s w) (origi
 
   hear_task : (c : ℕ) (m : Message) → Contains w.pool m → m.client ≡ c → (reply : Reply) → m.body ≡ Answers reply → (o : Option Task) → w.client_crashed c ≡ false → w.task c ≡ o → HasOrigins s (heard_by s w place c o m reply)
   hear_task c m there of_c reply body None up e = only_origins
-  hear_task c m there of_c reply body (Some task) up e = hear_count c task (is_under_way s w safe place later c task up e) m there of_c reply body (counts s w place task m reply) refl
+  hear_task c m there of_c reply body (Some task) up e = hear_count c task (is_under_way s w safe place later c task up e) m there of_c reply body (is_counted s task m.node m.tag reply) refl
 
   hear_origins : (c : ℕ) (m : Message) → Contains w.pool m → w.client_crashed c ≡ false → IsAnswerTo s c m → HasOrigins s (heard s w place c m m.body)
   hear_origins c m there up h = by m.body refl
@@ -56,14 +56,14 @@ module _ (s : Setting) (good : IsValid s) (w : World) (safe : IsSafe s w) (origi
       less_origins s w safe origins place later w.pool versions w.task w.life w.started w.node_crashed w.client_crashed (place_less s w safe place later versions w.node_crashed)
 
 pub happens_origins : (s : Setting) → IsValid s → (w : World) → IsSafe s w → HasOrigins s w → (place : ℕ) (e : Event) → Allowed s w place e → HasOrigins s (happens s w place e)
-happens_origins s good w safe o place (Start c block work) h = started_origins s w safe o place h.0 c block work h.1 h.2 h.3 h.4 h.5 h.6 h.7
-happens_origins s good w safe o place (Resend c) h = resend_origins s good w safe o place h.0 c h.4 h.3 h.5
-happens_origins s good w safe o place (Give i m) h = give_origins s good w safe o place h.0 i h.1 h.2 m h.4 h.5
-happens_origins s good w safe o place (Hear c m) h = hear_origins s good w safe o place h.0 c m h.4 h.3 h.5
+happens_origins s good w safe o place (Start c block work) h = started_origins s w safe o place h.later c block work h.client h.correct h.up h.idle h.fresh h.inside h.fits
+happens_origins s good w safe o place (Resend c) h = resend_origins s good w safe o place h.later c h.task h.up h.busy
+happens_origins s good w safe o place (Give i m) h = give_origins s good w safe o place h.later i h.node h.honest m h.sent h.asks
+happens_origins s good w safe o place (Hear c m) h = hear_origins s good w safe o place h.later c m h.sent h.up h.answers
 happens_origins s good w safe o place (CrashNode i) h = less_origins s w safe o place h.0 w.pool w.versions w.task w.life w.started (update w.node_crashed i true) w.client_crashed (place_less s w safe place h.0 w.versions (update w.node_crashed i true))
 happens_origins s good w safe o place (CrashClient c) h = less_origins s w safe o place h.0 w.pool w.versions w.task w.life w.started w.node_crashed (update w.client_crashed c true) (crash_less s w safe place h.0 c)
 happens_origins s good w safe o place (Lie m) h = more_origins s good w safe o place h.0 (m ∷ []) (lie_may s w safe place h.0 m h.3) (lie_formed s w safe place h.0 m h.4)
-happens_origins s good w safe o place (Prune i block) h = prune_origins s good w safe o place h.0 i block (greatest_given block w.records)
+happens_origins s good w safe o place (Prune i block) h = prune_origins s good w safe o place h.later i block (greatest_given block w.records)
 happens_origins s good w safe o place (Back c) h =
     less_origins s w safe o place h.0 w.pool w.versions (update w.task c None) (update w.life c (w.life c + 1)) (update w.started c 0) w.node_crashed (update w.client_crashed c false) (back_less s w safe place h.0 c)
 

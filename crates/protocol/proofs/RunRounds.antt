@@ -260,7 +260,7 @@ module _ (s : Setting) (good : IsValid s) (w : World) (safe : IsSafe s w) (round
   happens_rounds (Start c block work) h = started_rounds c block work
   happens_rounds (Resend c) h = resent_rounds c (w.task c)
   happens_rounds (Give i m) h = given_rounds i m m.body
-  happens_rounds (Hear c m) h = heard_rounds s good w safe rounds place h.0 c m h.4 h.3 h.5
+  happens_rounds (Hear c m) h = heard_rounds s good w safe rounds place h.later c m h.sent h.up h.answers
   happens_rounds (CrashNode i) h = kept_rounds (happens s w place (CrashNode i)) refl refl (λ c task e. e)
   happens_rounds (CrashClient c) h = kept_rounds (happens s w place (CrashClient c)) refl refl (λ c task e. e)
   happens_rounds (Lie m) h = kept_rounds (happens s w place (Lie m)) refl refl (λ c task e. e)

@@ -215,7 +215,7 @@ module _ (s : Setting) (good : IsValid s) (w : World) (safe : IsSafe s w) (origi
   happens_writes (Start c block work) h = λ b stamp k. record { write = k.write; there = Contains-append_left w.records _ k.write k.there; of_block = k.of_block; value = k.value; writes = k.writes; chose = k.chose }
   happens_writes (Resend c) h = resent_writes c (w.task c)
   happens_writes (Give i m) h = given_writes i m m.body
-  happens_writes (Hear c m) h = heard_writes s good w safe origins place h.0 c m h.4 h.3 h.5
+  happens_writes (Hear c m) h = heard_writes s good w safe origins place h.later c m h.sent h.up h.answers
   happens_writes (CrashNode i) h = λ b stamp k. k
   happens_writes (CrashClient c) h = λ b stamp k. k
   happens_writes (Lie m) h = λ b stamp k. k
@@ -266,7 +266,7 @@ module _ (s : Setting) (good : IsValid s) (w : World) (safe : IsSafe s w) (origi
     happens_low (Start c block work) h = started_low c block work
     happens_low (Resend c) h = resent_low c (w.task c)
     happens_low (Give i m) h = given_low i m m.body
-    happens_low (Hear c m) h = heard_low s good w safe origins place h.0 c low m h.4 h.3 h.5
+    happens_low (Hear c m) h = heard_low s good w safe origins place h.later c low m h.sent h.up h.answers
     happens_low (CrashNode i) h = record { chosen = low.chosen; spent = low.spent }
     happens_low (CrashClient c) h = record { chosen = low.chosen; spent = low.spent }
     happens_low (Lie m) h = more_low (happens s w place (Lie m)) (m ∷ []) refl refl

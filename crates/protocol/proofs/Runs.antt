@@ -10,8 +10,8 @@ use Rattle.protocol.specs.Messages.{flat, Version, Reply, Body, Message}
 use Rattle.wire_forms.specs.declared.Body.TheVariants.{Ask as Asks, Answer as Answers}
 use Rattle.protocol.specs.Setting.{Setting, IsValid, zeros, first_stamp, same, digest_at}
 use Rattle.protocol.specs.Nodes.{first_version}
-use Rattle.protocol.specs.Operations.{Task, Stage, is_of_kind, is_whole, counted}
-use Rattle.protocol.specs.World.{World, Event, happens, all_happen, AllAllowed, Allowed, IsAskTo, IsAnswerTo, IsQuiet, start_world, given, heard, heard_by, counts, advanced, only_place, pruned_at, greatest_given, under_way}
+use Rattle.protocol.specs.Operations.{is_counted, Task, Stage, is_of_kind, is_whole, counted}
+use Rattle.protocol.specs.World.{World, Event, happens, all_happen, AllAllowed, Allowed, IsAskTo, IsAnswerTo, IsQuiet, start_world, given, heard, heard_by, advanced, only_place, pruned_at, greatest_given, under_way}
 use Rattle.protocol.specs.World.Event.{Start, Resend, Give, Hear, CrashNode, CrashClient, Lie, Prune, Back}
 use Rattle.protocol.proofs.Counting.{update-cases, both_true}
 use Rattle.protocol.proofs.Lists.{Contains-one, Contains-none, Contains-head}
@@ -68,7 +68,7 @@ module _ (s : Setting) (good : IsValid s) (w : World) (safe : IsSafe s w) (place
   kind_as stage a r e h = rw e at h
 
   -- what a task has counted with one more answer was sent
-  pub task_hears : (c : ℕ) (task : Task) → under_way w c ≡ Some task → (m : Message) → Contains w.pool m → m.client ≡ c → (reply : Reply) → m.body ≡ Answers reply → counts s w place task m reply ≡ true
+  pub task_hears : (c : ℕ) (task : Task) → under_way w c ≡ Some task → (m : Message) → Contains w.pool m → m.client ≡ c → (reply : Reply) → m.body ≡ Answers reply → is_counted s task m.node m.tag reply ≡ true
       → (i : ℕ) (r : Reply) → update task.answers m.node (Some reply) i ≡ Some r
       → Contains w.pool (record { client = c; node = i; tag = record { op = task.op; phase = task.phase }; body = Answers r }) × (is_of_kind task.stage r ≡ true)
   task_hears c task busy m there of_c reply body e i r f =
@@ -84,7 +84,7 @@ module _ (s : Setting) (good : IsValid s) (w : World) (safe : IsSafe s w) (place
         | inr k ↦ (safe.tasks c task busy).heard i r (sym k.1 ∙ f)
       ]
 
-  counted_heard : (c : ℕ) (task : Task) → under_way w c ≡ Some task → (m : Message) → Contains w.pool m → m.client ≡ c → (reply : Reply) → m.body ≡ Answers reply → (b : Bool) → counts s w place task m reply ≡ b
+  counted_heard : (c : ℕ) (task : Task) → under_way w c ≡ Some task → (m : Message) → Contains w.pool m → m.client ≡ c → (reply : Reply) → m.body ≡ Answers reply → (b : Bool) → is_counted s task m.node m.tag reply ≡ b
       → IsSafe s (cond b (advanced s w place c (counted task m.node reply)) (only_place s w place))
   counted_heard c task busy m there of_c reply body false e = only_safe s w safe place later
   counted_heard c task busy m there of_c reply body true e =
@@ -92,7 +92,7 @@ module _ (s : Setting) (good : IsValid s) (w : World) (safe : IsSafe s w) (place
 
   heard_task : (c : ℕ) (m : Message) → Contains w.pool m → m.client ≡ c → (reply : Reply) → m.body ≡ Answers reply → (o : Option Task) → w.client_crashed c ≡ false → w.task c ≡ o → IsSafe s (heard_by s w place c o m reply)
   heard_task c m there of_c reply body None up e = only_safe s w safe place later
-  heard_task c m there of_c reply body (Some task) up e = counted_heard c task (is_under_way s w safe place later c task up e) m there of_c reply body (counts s w place task m reply) refl
+  heard_task c m there of_c reply body (Some task) up e = counted_heard c task (is_under_way s w safe place later c task up e) m there of_c reply body (is_counted s task m.node m.tag reply) refl
 
   pub heard_safe : (c : ℕ) (m : Message) → Contains w.pool m → w.client_crashed c ≡ false → IsAnswerTo s c m → IsSafe s (heard s w place c m m.body)
   heard_safe c m there up h = by m.body refl
@@ -105,14 +105,14 @@ module _ (s : Setting) (good : IsValid s) (w : World) (safe : IsSafe s w) (place
   prune_safe i block quiet stamp by = rw by (pruned_safe s w safe place later i block quiet stamp by)
 
 pub happens_safe : (s : Setting) → IsValid s → (w : World) → IsSafe s w → (place : ℕ) (e : Event) → Allowed s w place e → IsSafe s (happens s w place e)
-happens_safe s good w safe place (Start c block work) h = started_safe s w safe place h.0 c block work h.1 h.2 h.3 h.4 h.5 h.6 h.7
-happens_safe s good w safe place (Resend c) h = resend_safe s w safe place h.0 good c h.4 h.3 h.5
-happens_safe s good w safe place (Give i m) h = given_safe s good w safe place h.0 i h.1 h.2 m h.4 h.5
-happens_safe s good w safe place (Hear c m) h = heard_safe s good w safe place h.0 c m h.4 h.3 h.5
+happens_safe s good w safe place (Start c block work) h = started_safe s w safe place h.later c block work h.client h.correct h.up h.idle h.fresh h.inside h.fits
+happens_safe s good w safe place (Resend c) h = resend_safe s w safe place h.later good c h.task h.up h.busy
+happens_safe s good w safe place (Give i m) h = given_safe s good w safe place h.later i h.node h.honest m h.sent h.asks
+happens_safe s good w safe place (Hear c m) h = heard_safe s good w safe place h.later c m h.sent h.up h.answers
 happens_safe s good w safe place (CrashNode i) h = crash_node_safe s w safe place h.0 i
 happens_safe s good w safe place (CrashClient c) h = crash_client_safe s w safe place h.0 c
 happens_safe s good w safe place (Lie m) h = lie_safe s w safe place h.0 m h.3 h.4
-happens_safe s good w safe place (Prune i block) h = prune_safe s good w safe place h.0 i block h.4 h.5 h.6
+happens_safe s good w safe place (Prune i block) h = prune_safe s good w safe place h.later i block h.quiet h.stamp h.given
 happens_safe s good w safe place (Back c) h = back_safe s w safe place h.0 c
 
 pub all_safe : (s : Setting) → IsValid s → (place : ℕ) (es : List Event) (w : World) → IsSafe s w → AllAllowed s w place es → IsSafe s (all_happen s w place es)

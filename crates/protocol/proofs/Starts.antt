@@ -64,10 +64,10 @@ module _ (s : Setting) (good : IsValid s) (w : World) (safe : IsSafe s w) (up : 
       (λ task answers busy sent. replaced _) (λ task answers busy sent enough stage e. replaced _) (λ task answers busy sent enough outcome e. replaced _) m there alive h
 
   pub happens_in_order : (e : Event) → Allowed s w place e → InOrder (happens s w place e)
-  happens_in_order (Start c block work) h = begins (open_record c (Rattle.protocol.specs.Operations.begun (Rattle.protocol.specs.World.last_op w c + 1) block work place)) h.0 refl
+  happens_in_order (Start c block work) h = begins (open_record c (Rattle.protocol.specs.Operations.begun (Rattle.protocol.specs.World.last_op w c + 1) block work place)) h.later refl
   happens_in_order (Resend c) h = rw (resent_records s w place c (w.task c)) up
   happens_in_order (Give i m) h = rw (given_records s w place i m m.body) up
-  happens_in_order (Hear c m) h = hears h.0 c m h.4 h.3 h.5
+  happens_in_order (Hear c m) h = hears h.later c m h.sent h.up h.answers
   happens_in_order (CrashNode i) h = up
   happens_in_order (CrashClient c) h = up
   happens_in_order (Lie m) h = up

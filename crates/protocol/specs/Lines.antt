@@ -41,46 +41,43 @@ abbrev pub sender : Body → Message → Actor
 sender (Asks ask) m = Client m.client
 sender (Answers reply) m = Node m.node
 
--- who takes part in a line, its lies aside
-abbrev pub takes_part : Line → List Actor
-takes_part (Write c block value) = Client c ∷ []
-takes_part (Read c block) = Client c ∷ []
-takes_part (Resend c) = Client c ∷ []
-takes_part (Call c i) = Client c ∷ Node i ∷ []
-takes_part (Give i k) = Node i ∷ []
-takes_part (Hear c k) = Client c ∷ []
-takes_part (Lost c i) = []
-takes_part (CrashNode i) = Node i ∷ []
-takes_part (CrashClient c) = Client c ∷ []
-takes_part (Lie m) = []
-takes_part (Tell m) = Client m.client ∷ []
-takes_part (Poke m) = Node m.node ∷ []
-takes_part (False c i rule) = Client c ∷ []
-takes_part (Sound c i block time value) = Node i ∷ []
-takes_part (Mix c i block time value other) = Node i ∷ []
-takes_part (Prune i block) = Node i ∷ []
-takes_part (Back c) = Client c ∷ []
-takes_part (Restart i) = Node i ∷ []
+-- the parts that nodes and clients have in a line
+pub record Roles : Type 0 where
+  -- who takes part in it, its lies aside
+  pub takes_part : List Actor
+  -- who tells its lie
+  pub lies : List Actor
+  -- the node and the client of the lie's message
+  pub named : List Actor
 
--- who tells a line's lie
-abbrev pub lies : Line → List Actor
-lies (Lie m) = sender m.body m ∷ []
-lies (Tell m) = sender m.body m ∷ []
-lies (Poke m) = sender m.body m ∷ []
-lies (False c i rule) = Node i ∷ []
-lies (Sound c i block time value) = Client c ∷ []
-lies (Mix c i block time value other) = Client c ∷ []
-lies _ = []
+-- these take part, and nobody lies
+abbrev pub honest : List Actor → Roles
+honest actors = record { takes_part = actors; lies = []; named = [] }
 
--- the node and the client of the lie's message
-abbrev pub named : Line → List Actor
-named (Lie m) = Node m.node ∷ Client m.client ∷ []
-named (Tell m) = Node m.node ∷ Client m.client ∷ []
-named (Poke m) = Node m.node ∷ Client m.client ∷ []
-named (False c i rule) = Node i ∷ Client c ∷ []
-named (Sound c i block time value) = Node i ∷ Client c ∷ []
-named (Mix c i block time value other) = Node i ∷ Client c ∷ []
-named _ = []
+-- these take part, and this one's lie goes between this node and this client
+abbrev pub lie_of : Actor → ℕ → ℕ → List Actor → Roles
+lie_of liar i c actors = record { takes_part = actors; lies = liar ∷ []; named = Node i ∷ Client c ∷ [] }
+
+-- the parts in each line
+abbrev pub roles : Line → Roles
+roles (Write c block value) = honest (Client c ∷ [])
+roles (Read c block) = honest (Client c ∷ [])
+roles (Resend c) = honest (Client c ∷ [])
+roles (Call c i) = honest (Client c ∷ Node i ∷ [])
+roles (Give i k) = honest (Node i ∷ [])
+roles (Hear c k) = honest (Client c ∷ [])
+roles (Lost c i) = honest []
+roles (CrashNode i) = honest (Node i ∷ [])
+roles (CrashClient c) = honest (Client c ∷ [])
+roles (Lie m) = lie_of (sender m.body m) m.node m.client []
+roles (Tell m) = lie_of (sender m.body m) m.node m.client (Client m.client ∷ [])
+roles (Poke m) = lie_of (sender m.body m) m.node m.client (Node m.node ∷ [])
+roles (False c i rule) = lie_of (Node i) i c (Client c ∷ [])
+roles (Sound c i block time value) = lie_of (Client c) i c (Node i ∷ [])
+roles (Mix c i block time value other) = lie_of (Client c) i c (Node i ∷ [])
+roles (Prune i block) = honest (Node i ∷ [])
+roles (Back c) = honest (Client c ∷ [])
+roles (Restart i) = honest (Node i ∷ [])
 
 -- an ask to node i
 abbrev pub is_ask_to : ℕ → Body → Message → Bool
@@ -274,7 +271,7 @@ module _ (s : Setting) where
     -- someone who takes part has crashed
     abbrev pub crashed : Line → Bool
     crashed (Back c) = false
-    crashed line = some_of has_crashed (takes_part line)
+    crashed line = some_of has_crashed (roles line).takes_part
 
     -- the client has nothing to ask
     abbrev pub idle : Line → Bool
@@ -307,14 +304,14 @@ module _ (s : Setting) where
 
     -- the line meets the fault
     abbrev pub meets : Line → StepFault → Bool
-    meets line NoSuchActor = some_of (λ a. not (is_actor a)) (takes_part line ++ named line)
+    meets line NoSuchActor = some_of (λ a. not (is_actor a)) ((roles line).takes_part ++ (roles line).named)
     meets line NoSuchMessage = no_such_message line
     meets line WrongReceiver = wrong_receiver line
     meets line Busy = busy line
     meets line Crashed = crashed line
-    meets line NotALiar = some_of (λ a. not (is_liar a)) (lies line)
+    meets line NotALiar = some_of (λ a. not (is_liar a)) (roles line).lies
     meets line Idle = idle line
-    meets line IsALiar = some_of is_liar (takes_part line)
+    meets line IsALiar = some_of is_liar (roles line).takes_part
     meets line NotQuiet = not_quiet line
     meets line NoRead = no_read line
     meets line Worn = worn line

@@ -7,7 +7,7 @@ use Rattle.stamp_order.specs.declared.Bound.{Bound}
 use Rattle.stamp_order.specs.Stamps.{has, up_to, same_stamp}
 use Rattle.protocol.specs.Reach.{highest}
 use Rattle.stamp_order.specs.declared.Bound.TheVariants.{All as Every, AtMost, Below}
-use Rattle.protocol.specs.Messages.{flat, Version, Ask, Request, Reply, Message}
+use Rattle.protocol.specs.Messages.{flat, Version, Ask, Request, Reply, Tag, Message}
 use Rattle.wire_forms.specs.declared.Request.TheVariants.{Time, Read, Write}
 use Rattle.wire_forms.specs.declared.Reply.TheVariants.{TimeIs, Found, Nothing, Ack}
 use Rattle.wire_forms.specs.declared.Body.TheVariants.{Ask as Asks}
@@ -218,6 +218,15 @@ module _ (s : Setting) where
   decide client task Times = decide_time client (value_of task.work) (drawn_from task.answers)
   decide client task (Versions bound) = decide_pivot task.answers bound task.rounds (pivot task.answers bound)
   decide client task (Storing stamp value) = Ends (stored task.work task.rounds stamp value)
+
+  -- node's answer with this tag is one that the present phase counts: it is the node's first to this phase, of the kind that was asked for
+  abbrev pub is_counted : Task → ℕ → Tag → Reply → Bool
+  is_counted task node tag reply =
+      (tag.op == task.op) && (tag.phase == task.phase) && nat_lt node s.n && is_of_kind task.stage reply && not (is_answered (task.answers node))
+
+  -- fewer answers are counted than a phase waits for
+  abbrev pub awaits_more : Task → Bool
+  awaits_more task = nat_lt (answered task.answers) (s.n - s.t)
 
   -- what the present phase asks of node i
   abbrev pub request_of : Stage → ℕ → Request

@@ -10,7 +10,7 @@ use Rattle.run_words.specs.declared.record.Accepted.{Accepted as ToldAccepted}
 use Rattle.quorum_rules.specs.Limits.{Numbers}
 use Rattle.protocol.specs.Setting.{Setting}
 use Rattle.protocol.specs.Nodes.{first_version}
-use Rattle.protocol.specs.Operations.{Task, Work, Stage, Outcome, Decision, first_work, rounds_after, is_of_kind, is_answered, answered, outstanding, decide}
+use Rattle.protocol.specs.Operations.{Task, Work, Stage, Outcome, Decision, first_work, rounds_after, is_answered, is_counted as task_counts, awaits_more, outstanding, decide}
 use Rattle.protocol.specs.Operations.Work.{Reads, Writes}
 use Rattle.protocol.specs.Operations.Decision.{GoesOn, Ends}
 use Rattle.protocol.specs.World.{World, Record, Accepted, chosen_stamp}
@@ -85,8 +85,7 @@ module _ (s : Setting) where
 
   -- the answer is one that the present phase counts
   abbrev pub is_counted : SeenTask → ℕ → Tag → Reply → Bool
-  is_counted t node tag reply =
-      (tag.op == t.op) && (tag.phase == t.phase) && nat_lt node s.n && is_of_kind t.stage reply && not (is_answered (answers_of t node))
+  is_counted t node tag reply = task_counts s (task_at 0 t) node tag reply
 
   -- what a decision at a phase's end does
   abbrev pub by_decision : SeenTask → Decision → Hearing
@@ -96,7 +95,7 @@ module _ (s : Setting) where
   -- an answer was counted, and the phase ends when n-t answers are
   abbrev pub after_counting : ℕ → SeenTask → Hearing
   after_counting client t =
-      if nat_lt (answered s (λ i. answers_of t i)) (s.n - s.t) then Counted t
+      if awaits_more s (task_at 0 t) then Counted t
       else by_decision t (decide s client (task_at 0 t) t.stage)
 
   -- what node's answer with this tag does to the client's operation
@@ -113,7 +112,7 @@ module _ (s : Setting) where
   abbrev pub ends_phase : Option SeenTask → ℕ → Tag → Reply → Bool
   ends_phase None node tag reply = false
   ends_phase (Some t) node tag reply =
-      is_counted t node tag reply && not (nat_lt (answered s (λ i. answers_of (seen_counted t node reply) i)) (s.n - s.t))
+      is_counted t node tag reply && not (awaits_more s (task_at 0 (seen_counted t node reply)))
 
   -- what it does to the operation
   abbrev pub hears : ℕ → Option SeenTask → ℕ → Tag → Reply → Hearing

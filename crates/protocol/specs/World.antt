@@ -7,9 +7,10 @@ use Rattle.stamp_order.specs.declared.Stamp.{Stamp}
 use Rattle.stamp_order.specs.Stamps.{up_to}
 use Rattle.protocol.specs.Messages.{IsFormedBody, Version, Ask, Reply, Body, Message}
 use Rattle.wire_forms.specs.declared.Body.TheVariants.{Ask as Asks, Answer as Answers}
+use Rattle.wire_forms.specs.Liars.{IsClientNumber}
 use Rattle.protocol.specs.Setting.{Setting, IsBlock}
 use Rattle.protocol.specs.Nodes.{first_version, reply, accepts, after, pruned}
-use Rattle.protocol.specs.Operations.{Task, Work, Stage, Outcome, Decision, decide, mail, goes_on, begun, counted, is_of_kind, is_answered, answered}
+use Rattle.protocol.specs.Operations.{Task, Work, Stage, Outcome, Decision, decide, mail, goes_on, begun, counted, is_counted, awaits_more}
 use Rattle.protocol.specs.Operations.Work.{Reads, Writes}
 use Rattle.protocol.specs.Operations.Stage.{Storing}
 use Rattle.run_words.specs.declared.outcome.Outcome.TheVariants.{Wrote, Spent, Gave, Outvoted}
@@ -194,18 +195,13 @@ module _ (s : Setting) where
     -- the answer was counted, and the phase ends when n-t answers are
     abbrev pub advanced : ℕ → Task → World
     advanced c task =
-        if nat_lt (answered s task.answers) (s.n - s.t) then moved c (Some task) [] (open_record c task)
+        if awaits_more s task then moved c (Some task) [] (open_record c task)
         else decided c task (decide s c task task.stage)
-
-    -- the answer is one that the client's present phase counts
-    abbrev pub counts : Task → Message → Reply → Bool
-    counts task m given =
-        (m.tag.op == task.op) && (m.tag.phase == task.phase) && nat_lt m.node s.n && is_of_kind task.stage given && not (is_answered (task.answers m.node))
 
     -- a client hears an answer, which changes nothing if it isn't counted
     abbrev pub heard_by : ℕ → Option Task → Message → Reply → World
     heard_by c None m given = only_place
-    heard_by c (Some task) m given = if counts task m given then advanced c (counted task m.node given) else only_place
+    heard_by c (Some task) m given = if is_counted s task m.node m.tag given then advanced c (counted task m.node given) else only_place
 
     -- a client hears a message
     abbrev pub heard : ℕ → Message → Body → World
@@ -267,26 +263,72 @@ module _ (s : Setting) where
   IsOfLiar (Asks ask) m = s.lying_client m.client ≡ true
   IsOfLiar (Answers given) m = s.lying_node m.node ≡ true
 
-  -- clients are numbered from 1 to 1000
+  -- there is such a client
   abbrev pub IsClient : ℕ → Type 0
-  IsClient c = (1 ≤ c) × (c ≤ 1000)
+  IsClient c = IsClientNumber c
 
   -- no operation on the block is under way
   abbrev pub IsQuiet : World → ℕ → Type 0
   IsQuiet w block = (c : ℕ) (task : Task) → under_way w c ≡ Some task → task.block ≡ block → ⊥
 
+  -- a correct client that hasn't crashed and does nothing may start an operation on a block of the cluster
+  pub record MayStart (w : World) (place c block : ℕ) (work : Work) : Type 0 where
+    pub later : w.place < place
+    pub client : IsClient c
+    pub correct : s.lying_client c ≡ false
+    pub up : w.client_crashed c ≡ false
+    pub idle : w.task c ≡ None
+    pub fresh : w.started c < 2 ^ 32 - 1
+    pub inside : block < s.blocks
+    pub fits : Fits work
+
+  -- a correct client that hasn't crashed may send again what it asks
+  pub record MayResend (w : World) (place c : ℕ) : Type 0 where
+    pub later : w.place ≤ place
+    pub client : IsClient c
+    pub correct : s.lying_client c ≡ false
+    pub up : w.client_crashed c ≡ false
+    pub task : Task
+    pub busy : w.task c ≡ Some task
+
+  -- an honest node that hasn't crashed may be given an ask to it that was sent
+  pub record MayGive (w : World) (place i : ℕ) (m : Message) : Type 0 where
+    pub later : w.place ≤ place
+    pub node : i < s.n
+    pub honest : s.lying_node i ≡ false
+    pub up : w.node_crashed i ≡ false
+    pub sent : Contains w.pool m
+    pub asks : IsAskTo i m
+
+  -- a correct client that hasn't crashed may hear an answer to it that was sent
+  pub record MayHear (w : World) (place c : ℕ) (m : Message) : Type 0 where
+    pub later : w.place ≤ place
+    pub client : IsClient c
+    pub correct : s.lying_client c ≡ false
+    pub up : w.client_crashed c ≡ false
+    pub sent : Contains w.pool m
+    pub answers : IsAnswerTo c m
+
+  -- an honest node that hasn't crashed may prune a block on which nobody works and of which a read gave a stamp
+  pub record MayPrune (w : World) (place i block : ℕ) : Type 0 where
+    pub later : w.place ≤ place
+    pub node : i < s.n
+    pub honest : s.lying_node i ≡ false
+    pub up : w.node_crashed i ≡ false
+    pub quiet : IsQuiet w block
+    pub stamp : Stamp
+    pub given : greatest_given block w.records ≡ Some stamp
+
   -- an event that isn't refused
   abbrev pub Allowed : World → ℕ → Event → Type 0
-  Allowed w place (Start c block work) =
-      (w.place < place) × IsClient c × (s.lying_client c ≡ false) × (w.client_crashed c ≡ false) × (w.task c ≡ None) × (w.started c < 2 ^ 32 - 1) × (block < s.blocks) × Fits work
-  Allowed w place (Resend c) = (w.place ≤ place) × IsClient c × (s.lying_client c ≡ false) × (w.client_crashed c ≡ false) × (task : Task) × (w.task c ≡ Some task)
-  Allowed w place (Give i m) = (w.place ≤ place) × (i < s.n) × (s.lying_node i ≡ false) × (w.node_crashed i ≡ false) × Contains w.pool m × IsAskTo i m
-  Allowed w place (Hear c m) = (w.place ≤ place) × IsClient c × (s.lying_client c ≡ false) × (w.client_crashed c ≡ false) × Contains w.pool m × IsAnswerTo c m
+  Allowed w place (Start c block work) = MayStart w place c block work
+  Allowed w place (Resend c) = MayResend w place c
+  Allowed w place (Give i m) = MayGive w place i m
+  Allowed w place (Hear c m) = MayHear w place c m
   Allowed w place (CrashNode i) = (w.place ≤ place) × (i < s.n) × (s.lying_node i ≡ false) × (w.node_crashed i ≡ false)
   Allowed w place (CrashClient c) = (w.place ≤ place) × IsClient c × (s.lying_client c ≡ false) × (w.client_crashed c ≡ false)
   Allowed w place (Lie m) = (w.place ≤ place) × (m.node < s.n) × IsClient m.client × IsOfLiar m.body m × IsFormedBody m.body
-  Allowed w place (Prune i block) =
-      (w.place ≤ place) × (i < s.n) × (s.lying_node i ≡ false) × (w.node_crashed i ≡ false) × IsQuiet w block × (stamp : Stamp) × (greatest_given block w.records ≡ Some stamp)
+  Allowed w place (Prune i block) = MayPrune w place i block
   Allowed w place (Back c) = (w.place ≤ place) × IsClient c × (s.lying_client c ≡ false) × (w.client_crashed c ≡ true) × (w.life c < 2 ^ 32 - 1)
 
   -- the world after these events, one after the other

@@ -28,9 +28,9 @@ use Rattle.protocol.proofs.Rounds.{whole_facts, valid_was}
 use Rattle.protocol.proofs.Cluster.{are_parts, cluster_valid}
 use Rattle.candidate_class.specs.Stamps.{stamp_at, is_stamp}
 use Rattle.candidate_class.proofs.Nodes.{is_stamp-stamp_of}
-use Rattle.read_core.specs.Rounds.{answer_at}
+use Rattle.operation_core.specs.Counting.{answer_at}
 use Rattle.read_core.specs.Candidates.{found_in, carrier, shown_parts, CarryWhole}
-use Rattle.read_core.proofs.Counts.{count_none}
+use Rattle.operation_core.proofs.Counts.{count_none}
 
 -- an answer carries the stamp if it's valid with it
 carried : (s : Setting) (bound : Bound) (p : Stamp) (i : ℕ) (o : Option Reply) → only_if (is_stamp p (stamp_of (valid s i bound o))) (numbered i (found_in o)) ≡ only_if (carries p (valid s i bound o)) (numbered i (valid s i bound o))

@@ -1,5 +1,5 @@
 -- What a round comes to is what the definitions decide.
-use Rattle.std.proofs.Common.{◌≡◌, ℕ, ◌<◌, ◌≤◌, true, false, ◌&&◌, not, List, length, map, take, replicate, Option, refl, sym, ◌∙◌, ap}
+use Rattle.std.proofs.Common.{◌≡◌, ℕ, ◌<◌, ◌≤◌, true, false, ◌&&◌, not, List, length, map, take, replicate, Option, sym, ◌∙◌, ap}
 use Rattle.std.specs.declared.option.Option.TheVariants.{None, Some}
 use Rattle.quorum_rules.specs.Limits.{Numbers, complete_of, repairable_of}
 use Rattle.stamp_order.specs.declared.Stamp.{Stamp}
@@ -8,11 +8,10 @@ use Rattle.stamp_order.specs.declared.Bound.TheVariants.{AtMost, Below}
 use Rattle.stamp_order.specs.Stamps.{up_to, same_stamp}
 use Rattle.cross_sum.specs.declared.part.Part.{Part}
 use Rattle.cross_sum.specs.Parts.{numbers, strings}
-use Rattle.gf_field.specs.Fragments.{AreParts, string_len, decoded}
+use Rattle.gf_field.specs.Fragments.{AreParts, string_len, decoded, fragments_of}
 use Rattle.block_rows.specs.Sums.{sum_of}
 use Rattle.run_words.specs.declared.outcome.How.TheVariants.{Plain}
 use Rattle.wire_forms.specs.declared.message.Reply.{Reply}
-use Rattle.wire_forms.proofs.Firsts.{map-replicate}
 use Rattle.protocol.specs.Count.{count, collect, kept_where}
 use Rattle.protocol.specs.Reach.{highest}
 use Rattle.protocol.specs.Setting.{first_stamp}
@@ -20,11 +19,11 @@ use Rattle.protocol.specs.Instance.{setting}
 use Rattle.protocol.specs.Operations.{is_answered, is_there, pivot, support, decide_pivot, part_of, sum_of_first, chosen, candidate}
 use Rattle.protocol.specs.Operations.Stage.{Versions}
 use Rattle.candidate_class.specs.Stamps.{stamp_at, is_stamp}
-use Rattle.read_core.specs.Rounds.{answer_at, new_round, IsRound}
-use Rattle.read_core.specs.Repairs.{ack_of, new_repair}
+use Rattle.operation_core.specs.declared.stage.Stage.TheVariants.{Versions as Asking, Storing}
+use Rattle.operation_core.specs.Counting.{answer_at}
+use Rattle.read_core.specs.Rounds.{IsRound}
 use Rattle.read_core.specs.Candidates.{carrier, shown_parts, CarryWhole}
-use Rattle.read_core.specs.Ends.{decision_of, IsNewNext, IsEnd}
-use Rattle.read_core.specs.declared.stage.Stage.TheVariants.{Asking, Storing}
+use Rattle.read_core.specs.Ends.{decision_of, IsNextIn, IsEnd}
 use Rattle.read_core.specs.declared.phase_end.PhaseEnd.{PhaseEnd}
 use Rattle.read_core.specs.declared.phase_end.PhaseEnd.TheVariants.{Outvoted, Gives, GoesOn}
 use Rattle.read_core.proofs.Deciding.{too_few, first_is_given, little_is_lower, poison_is_below, complete_is_given, repairable_is_stored}
@@ -32,13 +31,13 @@ use Rattle.read_core.proofs.Choosing.{support_is, sum_is, sum_length, decoded_is
 
 -- a round's end by its decision
 ended : (c : Numbers) (bound : Bound) (answers : List (Option Reply)) (end : PhaseEnd)
-    → ((rounds : ℕ) → decision_of rounds end ≡ decide_pivot (setting c) (answer_at answers) bound rounds (pivot (setting c) (answer_at answers) bound)) → IsNewNext c end → IsEnd c (Versions bound) answers end
+    → ((rounds : ℕ) → decision_of rounds end ≡ decide_pivot (setting c) (answer_at answers) bound rounds (pivot (setting c) (answer_at answers) bound)) → IsNextIn c end → IsEnd c (Versions bound) answers end
 ended c bound answers end decides new = record {
   decides = λ client task reads same. decides task.rounds ∙ ap (λ (f : ℕ → Option Reply). decide_pivot (setting c) f bound task.rounds (pivot (setting c) f bound)) (sym same);
   next = new;
 }
 
-module _ (c : Numbers) (first : Stamp) (bound : Bound) (answers : List (Option Reply)) (stamps : List (Option Stamp)) (heard : ℕ) (h : IsRound c first bound answers stamps heard) where
+module _ (c : Numbers) (first : Stamp) (bound : Bound) (answers : List (Option Reply)) (stamps : List (Option Stamp)) (h : IsRound c first bound answers stamps) where
   pivot_is : highest up_to (length stamps) (stamp_at stamps) (repairable_of c) ≡ pivot (setting c) (answer_at answers) bound
   pivot_is =
       ap (λ k. highest up_to k (stamp_at stamps) (repairable_of c)) h.stamp_places
@@ -73,9 +72,9 @@ module _ (c : Numbers) (first : Stamp) (bound : Bound) (answers : List (Option R
     is_later e = sym (ap (same_stamp p) h.begins) ∙ e
 
     module _ (later : same_stamp p (first_stamp (setting c)) ≡ false) where
-      pub is_little : support (setting c) (answer_at answers) bound p < repairable_of c → IsEnd c (Versions bound) answers (GoesOn (Asking (new_round c (AtMost p))))
+      pub is_little : support (setting c) (answer_at answers) bound p < repairable_of c → IsEnd c (Versions bound) answers (GoesOn (Asking (AtMost p)))
       is_little l =
-          ended c bound answers (GoesOn (Asking (new_round c (AtMost p)))) (λ rounds. little_is_lower (setting c) (answer_at answers) bound rounds p is later l) (record { config = refl; answers = refl })
+          ended c bound answers (GoesOn (Asking (AtMost p))) (λ rounds. little_is_lower (setting c) (answer_at answers) bound rounds p is later l) (record { fits = tt; reads = tt })
 
       module _ (enough : repairable_of c ≤ support (setting c) (answer_at answers) bound p)
           (parts : List Part) (shown : shown_parts parts ≡ map part_of (take c.m (collect (length answers) (carrier answers stamps p))))
@@ -96,10 +95,10 @@ module _ (c : Numbers) (first : Stamp) (bound : Bound) (answers : List (Option R
         candidate_is : decoded c.m c.size (numbers parts) (strings parts) ≡ candidate (setting c) (answer_at answers) bound p
         candidate_is = decoded_is c h.valid bound answers stamps h.stamps_are p enough parts shown_all
 
-        pub is_poison : (sum_of c.n c.m (decoded c.m c.size (numbers parts) (strings parts)) ≡ sum → ⊥) → IsEnd c (Versions bound) answers (GoesOn (Asking (new_round c (Below p))))
+        pub is_poison : (sum_of c.n c.m (decoded c.m c.size (numbers parts) (strings parts)) ≡ sum → ⊥) → IsEnd c (Versions bound) answers (GoesOn (Asking (Below p)))
         is_poison apart =
-            ended c bound answers (GoesOn (Asking (new_round c (Below p)))) (λ rounds. poison_is_below (setting c) (answer_at answers) bound rounds p is later enough (λ e. apart (ap (sum_of c.n c.m) candidate_is ∙ e ∙ sym sum_of_chosen)))
-            (record { config = refl; answers = refl })
+            ended c bound answers (GoesOn (Asking (Below p))) (λ rounds. poison_is_below (setting c) (answer_at answers) bound rounds p is later enough (λ e. apart (ap (sum_of c.n c.m) candidate_is ∙ e ∙ sym sum_of_chosen)))
+            (record { fits = tt; reads = tt })
 
         module _ (block : List ℕ) (decodes : block ≡ decoded c.m c.size (numbers parts) (strings parts)) (sound : sum_of c.n c.m block ≡ sum) where
           block_is : block ≡ candidate (setting c) (answer_at answers) bound p
@@ -112,7 +111,7 @@ module _ (c : Numbers) (first : Stamp) (bound : Bound) (answers : List (Option R
           is_complete l =
               ended c bound answers (Gives p block Plain) (λ rounds. ap (λ xs. decision_of rounds (Gives p xs Plain)) block_is ∙ complete_is_given (setting c) (answer_at answers) bound rounds p is later enough agrees l) tt
 
-          pub is_repairable : support (setting c) (answer_at answers) bound p < complete_of c → IsEnd c (Versions bound) answers (GoesOn (Storing (new_repair c p block)))
-          is_repairable l =
-              ended c bound answers (GoesOn (Storing (new_repair c p block))) (λ rounds. ap (λ xs. decision_of rounds (GoesOn (Storing (new_repair c p xs)))) block_is ∙ repairable_is_stored (setting c) (answer_at answers) bound rounds p is later enough agrees l)
-              (record { config = refl; answers = map-replicate ack_of c.n false })
+          pub is_repairable : (shares : List (List ℕ)) → shares ≡ fragments_of c.n c.m block → support (setting c) (answer_at answers) bound p < complete_of c → IsEnd c (Versions bound) answers (GoesOn (Storing (record { stamp = p; value = block; shares = shares; sum = sum })))
+          is_repairable shares fragments l =
+              ended c bound answers (GoesOn (Storing (record { stamp = p; value = block; shares = shares; sum = sum }))) (λ rounds. ap (λ xs. decision_of rounds (GoesOn (Storing (record { stamp = p; value = xs; shares = shares; sum = sum })))) block_is ∙ repairable_is_stored (setting c) (answer_at answers) bound rounds p is later enough agrees l)
+              (record { fits = record { shares = fragments; sum = sym sound }; reads = tt })

@@ -11,7 +11,7 @@ use Rattle.protocol.specs.Operations.{only_if, numbered, part_of, sum_of_first}
 use Rattle.stamp_order.specs.declared.Stamp.{Stamp}
 use Rattle.wire_forms.specs.declared.message.Reply.{Reply}
 use Rattle.candidate_class.specs.Stamps.{stamp_at, is_stamp}
-use Rattle.read_core.specs.Rounds.{answer_at}
+use Rattle.operation_core.specs.Counting.{answer_at}
 use Rattle.read_core.specs.Candidates.{found_in, carrier, shown_parts}
 use Rattle.read_core.proofs.Counts.{collect-next}
 

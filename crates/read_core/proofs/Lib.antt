@@ -1,12 +1,8 @@
-pub mod Results
 pub mod Counts
 pub mod Gathering
-pub mod Answering
-pub mod Acking
-pub mod Counted
-pub mod Begins
 pub mod Deciding
 pub mod Choosing
 pub mod Ending
+pub mod Valid
 pub mod Hearing
 pub mod Outvoting

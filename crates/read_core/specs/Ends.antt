@@ -1,17 +1,19 @@
--- What an answer does to a phase, and what a phase comes to.
-use Rattle.std.specs.Prelude.{◌≡◌, ℕ, ◌<◌, ◌≤◌, List, Option}
-use Rattle.std.specs.declared.option.Option.TheVariants.{None, Some}
-use Rattle.quorum_rules.specs.Limits.{Numbers, wait_of}
+-- What a phase comes to.
+use Rattle.std.specs.Prelude.{◌≡◌, ℕ, List, Option}
+use Rattle.quorum_rules.specs.Limits.{Numbers}
 use Rattle.wire_forms.specs.declared.message.Reply.{Reply}
 use Rattle.run_words.specs.declared.outcome.Outcome.TheVariants.{Gave, Outvoted as OutvotedBy}
 use Rattle.protocol.specs.Instance.{setting}
-use Rattle.protocol.specs.Operations.{Task, Decision, answered, decide, Stage as ModelStage}
+use Rattle.protocol.specs.Operations.{Task, Decision, decide, Stage as ModelStage}
 use Rattle.protocol.specs.Operations.Work.{Reads}
+use Rattle.protocol.specs.Operations.Stage.{Times, Versions}
 use Rattle.protocol.specs.Operations.Decision.{Ends, GoesOn as GoesOnBy}
-use Rattle.read_core.specs.Rounds.{answer_at, with_reply}
-use Rattle.read_core.specs.Stages.{stage_of, IsNew}
+use Rattle.operation_core.specs.declared.stage.Stage.{Stage}
+use Rattle.operation_core.specs.Stages.{stage_of, FitsStage}
+use Rattle.operation_core.specs.Counting.{answer_at}
 use Rattle.read_core.specs.declared.phase_end.PhaseEnd.{PhaseEnd}
 use Rattle.read_core.specs.declared.phase_end.PhaseEnd.TheVariants.{Outvoted, Gives, GoesOn}
+use Rattle.read_core.specs.declared.round.Round.{Round}
 
 -- the decision that it is, in a read of so many rounds
 abbrev pub decision_of : ℕ → PhaseEnd → Decision
@@ -19,17 +21,25 @@ decision_of rounds (Outvoted nodes) = Ends (OutvotedBy nodes)
 decision_of rounds (Gives stamp value how) = Ends (Gave stamp value how rounds)
 decision_of rounds (GoesOn stage) = GoesOnBy (stage_of stage)
 
--- a next stage is new
-abbrev pub IsNewNext : Numbers → PhaseEnd → Type 0
-IsNewNext c (GoesOn stage) = IsNew c stage
-IsNewNext c _ = Unit {0}
+-- a read asks for no times
+abbrev pub IsReadStage : ModelStage → Type 0
+IsReadStage Times = ⊥
+IsReadStage _ = Unit {0}
+
+-- a next stage is one of a read, and what it stores is encoded
+pub record IsNext (c : Numbers) (stage : Stage) : Type 0 where
+  pub fits : FitsStage c stage
+  pub reads : IsReadStage (stage_of stage)
+
+abbrev pub IsNextIn : Numbers → PhaseEnd → Type 0
+IsNextIn c (GoesOn stage) = IsNext c stage
+IsNextIn c _ = Unit {0}
 
 -- it is what each read in this stage, with these answers, decides
 pub record IsEnd (c : Numbers) (stage : ModelStage) (answers : List (Option Reply)) (end : PhaseEnd) : Type 0 where
   pub decides : (client : ℕ) (task : Task) → task.work ≡ Reads → task.answers ≡ answer_at answers → decision_of task.rounds end ≡ decide (setting c) client task stage
-  pub next : IsNewNext c end
+  pub next : IsNextIn c end
 
--- the answer is counted and the phase goes on; or the phase comes to an end by it, and the answers stay as they were
-abbrev pub IsHeard : Numbers → ModelStage → List (Option Reply) → List (Option Reply) → ℕ → Reply → Option PhaseEnd → Type 0
-IsHeard c stage old new node reply None = (new ≡ with_reply old node reply) × (answered (setting c) (answer_at new) < wait_of c)
-IsHeard c stage old new node reply (Some end) = (new ≡ old) × (wait_of c ≤ answered (setting c) (answer_at (with_reply old node reply))) × IsEnd c stage (with_reply old node reply) end
+-- it is what the round comes to
+abbrev pub IsEndOf : Round → PhaseEnd → Type 0
+IsEndOf r end = IsEnd r.config.now (Versions r.bound) r.answers.now end

@@ -1,18 +1,15 @@
 ghost use Rattle.std.specs.Prelude.{◌≡◌, ◌≢◌, ◌≤◌, ◌&&◌, not, map, take, length, IfOk, IfSome, IfNone, option_copied};
 ghost use Rattle.std.specs.List.{AllByRecursion};
-ghost use Rattle.gf_field.specs.Fragments.{AreParts, string_len, decoded, fragments_of};
-ghost use Rattle.cross_sum.specs.Parts.{numbers, strings};
+ghost use Rattle.gf_field.specs.Fragments.{fragments_of};
 ghost use Rattle.block_rows.specs.Sums.{sum_of};
-ghost use Rattle.protocol.specs.Count.{collect, kept_where};
 ghost use Rattle.protocol.specs.Operations.{is_answered, is_there, sum_of_first, part_of, only_if};
-ghost use Rattle.candidate_class.specs.Stamps.{stamp_at, is_stamp};
-ghost use Rattle.read_core.specs.Rounds.{answer_at};
+ghost use Rattle.candidate_class.specs.Stamps.{is_stamp};
 ghost use Rattle.frag_check.specs.Known.{HasItsDigest};
-ghost use Rattle.read_core.specs.Candidates.{found_in, carrier, shown_parts, CarryWhole};
+ghost use Rattle.read_core.specs.Candidates.{found_in, carriers_in, invalid_in, ArePartsIn, decoded_in, shown_parts, CarryWhole};
 
 use candidate_class::is_stamp;
 use cross_sum::{CrossSum, Part};
-use frag_check::{Checked, Code, checked_block};
+use frag_check::{Checked, checked_block, code_of};
 use lists::{Copied, NoMemory};
 use quorum_rules::Config;
 use run_words::Nodes;
@@ -28,7 +25,7 @@ pub(crate) fn invalid_nodes(
 ) -> Result<Nodes, NoMemory>
     requires places { length stamps.now ≡ length answers.now }
     requires few { length answers.now ≤ 16 }
-    ensures { IfOk result (λ nodes. nodes ≡ collect (length answers.now) (λ i. kept_where (is_answered (answer_at answers.now i) && not (is_there (stamp_at stamps.now i))) i)) }
+    ensures { IfOk result (λ nodes. nodes ≡ invalid_in answers.now stamps.now) }
 {
     let mut nodes = Nodes::new(alloc);
     for (i, answer) in answers.iter().enumerate() {
@@ -59,7 +56,8 @@ pub(crate) fn parts_of(
 ) -> Result<Vec<Part>, NoMemory>
     requires places { length stamps.now ≡ length answers.now }
     requires few { length answers.now ≤ 16 }
-    ensures { IfOk result (λ parts. shown_parts parts.items ≡ map part_of (take m (collect (length answers.now) (carrier answers.now stamps.now stamp.now)))) }
+    ensures { IfOk result (λ parts. shown_parts parts.items
+        ≡ map part_of (take m (carriers_in answers.now stamps.now stamp.now))) }
 {
     let mut parts = Vec::new(alloc);
     for (i, answer) in answers.iter().enumerate() {
@@ -83,7 +81,8 @@ pub(crate) fn least_sum(
     stamp: &Stamp,
 ) -> Result<CrossSum, NoMemory>
     requires places { length stamps.now ≡ length answers.now }
-    ensures { IfOk result (λ sum. sum ≡ sum_of_first (collect (length answers.now) (carrier answers.now stamps.now stamp.now))) }
+    ensures { IfOk result (λ sum. sum
+        ≡ sum_of_first (carriers_in answers.now stamps.now stamp.now)) }
 {
     for (i, answer) in answers.iter().enumerate() {
         if let Some(version) = carried(answer, &stamps[i], stamp) {
@@ -143,14 +142,17 @@ pub(crate) fn checked(
     parts: &[Part],
     known: &[Part],
 ) -> Result<Option<Checked>, NoMemory>
-    requires parts { AreParts config.now.n config.now.m (string_len config.now.m config.now.size) (numbers parts.now) (strings parts.now) }
+    requires parts { ArePartsIn config.now parts.now }
     requires digests { length sum.now ≡ config.now.n }
     requires known { AllByRecursion (HasItsDigest sum.now) known.now }
-    ensures block { IfOk result (λ found. IfSome found (λ c. c.block ≡ decoded config.now.m config.now.size (numbers parts.now) (strings parts.now))) }
-    ensures shares { IfOk result (λ found. IfSome found (λ c. c.shares ≡ fragments_of config.now.n config.now.m c.block)) }
-    ensures sound { IfOk result (λ found. IfSome found (λ c. sum_of config.now.n config.now.m c.block ≡ sum.now)) }
+    ensures block { IfOk result (λ found. IfSome found
+        (λ c. c.block ≡ decoded_in config.now parts.now)) }
+    ensures shares { IfOk result (λ found. IfSome found
+        (λ c. c.shares ≡ fragments_of config.now.n config.now.m c.block)) }
+    ensures sound { IfOk result (λ found. IfSome found
+        (λ c. sum_of config.now.n config.now.m c.block ≡ sum.now)) }
     ensures poisonous { IfOk result (λ found. IfNone found
-        (sum_of config.now.n config.now.m (decoded config.now.m config.now.size (numbers parts.now) (strings parts.now)) ≢ sum.now)) }
+        (sum_of config.now.n config.now.m (decoded_in config.now parts.now) ≢ sum.now)) }
 {
     checked_block(
         alloc,
@@ -160,27 +162,4 @@ pub(crate) fn checked(
         parts,
         known,
     )
-}
-
-fn code_of(config: &Config) -> Code
-    ensures { result ≡ record { n = config.now.n; m = config.now.m } }
-{
-    Code::new(config.n(), config.m()).unwrap()
-}
-
-/// A copy of each reply.
-pub(crate) fn replies_copy(
-    alloc: Global,
-    replies: &[Option<Reply>],
-) -> Result<Vec<Option<Reply>>, NoMemory>
-    ensures { IfOk result (λ copy. copy.items ≡ replies.now) }
-{
-    let mut copies = Vec::new(alloc);
-    for reply in replies {
-        match reply {
-            Some(reply) => copies.push(Some(reply.copy()?))?,
-            None => copies.push(None)?,
-        }
-    }
-    Ok(copies)
 }

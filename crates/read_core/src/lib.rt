@@ -2,13 +2,10 @@
 #![tactic(auto)]
 
 mod candidate;
-mod mailing;
 mod phase_end;
 mod reader;
 mod reading;
-mod repair;
 mod round;
-mod stage;
 
 pub use reader::Reader;
 pub use reading::Reading;

@@ -1,5 +1,5 @@
-use crate::stage::Stage;
 use cross_sum::Bytes;
+use operation_core::Stage;
 use run_words::{How, Nodes};
 use stamp_order::Stamp;
 

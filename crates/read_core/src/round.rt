@@ -1,196 +1,126 @@
-ghost use Rattle.std.specs.Prelude.{◌≡◌, ◌↔◌, ◌<◌, ◌≤◌, ◌&&◌, nat_lt, not, true, IsTrue, IfOk, OnErr, None, slice_set};
+ghost use Rattle.std.specs.Prelude.{◌≡◌, ◌↔◌, ◌≤◌, ℕ, IsTrue, IfOk, length};
 ghost use Rattle.quorum_rules.specs.Limits.{IsValid, complete_of, repairable_of};
-ghost use Rattle.wire_forms.specs.Firsts.{first_of};
+ghost use Rattle.protocol.specs.Setting.{first_stamp};
 ghost use Rattle.protocol.specs.Instance.{setting};
-ghost use Rattle.protocol.specs.Operations.{is_answered, support};
+ghost use Rattle.protocol.specs.Operations.{stamps};
 ghost use Rattle.protocol.specs.Operations.Stage.{Versions};
-ghost use Rattle.read_core.specs.Rounds.{answer_at, with_reply, new_round, HasPivot};
-ghost use Rattle.read_core.specs.Stages.{counts_in, is_full};
-ghost use Rattle.wire_forms.specs.declared.message.Reply.{Reply as Replies};
-ghost use Rattle.read_core.specs.Ends.{IsHeard, IsEnd};
+ghost use Rattle.candidate_class.specs.Stamps.{stamp_at};
+ghost use Rattle.operation_core.specs.Counting.{answer_at};
+ghost use Rattle.read_core.specs.Rounds.{FitsRound, HasPivot, support_in};
+ghost use Rattle.read_core.specs.Ends.{IsEnd, IsEndOf};
 
-use crate::candidate::{checked, invalid_nodes, known_parts, least_sum, parts_of, replies_copy};
+use crate::candidate::{checked, invalid_nodes, known_parts, least_sum, parts_of};
 use crate::phase_end::PhaseEnd;
-use crate::repair::Repair;
-use crate::stage::Stage;
 use candidate_class::{Class, class_of, pivot_of, support_of, valid_stamp};
 use cross_sum::Bytes;
 use frag_check::Checked;
-use lists::{Copied, NoMemory};
+use lists::NoMemory;
+use operation_core::{Stage, Storing};
 use quorum_rules::Config;
 use run_words::How;
 use stamp_order::{Bound, Stamp};
 use std::alloc::Global;
-use std::marker::Model;
 use wire_forms::Reply;
 
-/// A round of asking for versions in a bound. Contracts see which answers were counted.
-#[derive(Drop)]
-pub(crate) struct Round {
-    config: Config,
-    first: Stamp,
-    bound: Bound,
-    /// For each node its answer, if it was counted.
-    answers: Vec<Option<Reply>>,
+/// A round of asking for versions in a bound, and what it has heard.
+#[derive(Clone, Copy)]
+pub(crate) struct Round<'a> {
+    pub(crate) config: &'a Config,
+    /// The stamp of the cluster's first version.
+    pub(crate) first: &'a Stamp,
+    pub(crate) bound: Bound,
+    /// For each node its answer, if one was counted.
+    pub(crate) answers: &'a [Option<Reply>],
     /// For each node the stamp of its answer, if the answer is valid.
-    stamps: Vec<Option<Stamp>>,
-    heard: u32,
+    pub(crate) stamps: &'a [Option<Stamp>],
 }
 
-impl Model for Round {
-    ghost use Rattle.read_core.specs.Rounds.{SeenRound, IsRound};
-
-    ghost Value = { SeenRound };
-
-    ghost view = { λ r. record { config = r.config; bound = r.bound; answers = r.answers.items } };
-
-    ghost invariant = { λ r. IsRound r.config r.first r.bound r.answers.items r.stamps.items r.heard };
+/// What a round comes to by the answers that it has heard. `first` is the first stamp of the configuration.
+pub(crate) fn end_of_round(
+    alloc: Global,
+    config: &Config,
+    first: &Stamp,
+    bound: &Bound,
+    answers: &[Option<Reply>],
+) -> Result<PhaseEnd, NoMemory>
+    requires first { first.now ≡ first_stamp (setting config.now) }
+    requires places { length answers.now ≡ config.now.n }
+    ensures { IfOk result (IsEnd config.now (Versions bound.now) answers.now) }
+{
+    let n = config.n() as usize;
+    let stamps = stamps_of(config, first, bound, answers);
+    let round = Round {
+        config,
+        first,
+        bound: *bound,
+        answers,
+        stamps: &stamps[..n],
+    };
+    round.end(alloc)
 }
 
-impl Round {
-    /// A round that has heard no node.
-    pub(crate) fn new(
-        alloc: Global,
-        config: &Config,
-        first: &Stamp,
-        bound: Bound,
-    ) -> Result<Round, NoMemory>
-        requires { first.now ≡ (first_of config.now).stamp }
-        ensures round { IfOk result (λ r. r ≡ new_round config.now bound) }
-        ensures valid { IfOk result (λ _. IsValid config.now) }
-    {
-        let mut answers = Vec::new(alloc);
-        let mut stamps = Vec::new(alloc);
-        for _ in 0..config.n() {
-            answers.push(None)?;
-            stamps.push(None)?;
-        }
-        Ok(Round {
-            config: *config,
-            first: *first,
-            bound,
-            answers,
-            stamps,
-            heard: 0,
-        })
-    }
-
-    /// What the round asks for.
-    pub(crate) fn bound(&self) -> Bound
-        ensures { result ≡ self.now.bound }
-    {
-        self.bound
-    }
-
-    pub(crate) fn has_answered(&self, node: u8) -> bool
-        ensures { result ≡ is_answered (answer_at self.now.answers node) }
-    {
-        match self.answers.get(usize::from(node)) {
-            Some(answer) => answer.is_some(),
-            None => false,
+// For each node the stamp of its answer, if the answer is valid.
+fn stamps_of(
+    config: &Config,
+    first: &Stamp,
+    bound: &Bound,
+    answers: &[Option<Reply>],
+) -> [Option<Stamp>; 16]
+    requires few { config.now.n ≤ 16 }
+    requires first { first.now ≡ first_stamp (setting config.now) }
+    requires places { length answers.now ≡ config.now.n }
+    ensures places { length result ≡ 16 }
+    ensures stamps { (i : ℕ) → stamp_at result i
+        ≡ stamps (setting config.now) (answer_at answers.now) bound.now i }
+{
+    let mut stamps = [None; 16];
+    for (i, answer) in answers.iter().enumerate() {
+        if let Some(reply) = answer {
+            stamps[i] = valid_stamp(config, first, i as u8, bound, reply);
         }
     }
+    stamps
+}
 
-    /// Whether there is such a node, and it hasn't answered.
-    pub(crate) fn awaits(&self, node: u8) -> bool
-        ensures { result ≡ (nat_lt node self.now.config.n && not (is_answered (answer_at self.now.answers node))) }
-    {
-        u32::from(node) < self.config.n() && !self.has_answered(node)
-    }
-
-    /// Counts a node's answer, unless it's the last one that the round waits for.
-    pub(crate) fn hear(&mut self, node: u8, reply: &Reply) -> Result<Option<PhaseEnd>, NoMemory>
-        requires { counts_in self.old.config (Versions self.old.bound) self.old.answers node reply.now ≡ true }
-        ensures heard { IfOk result (IsHeard self.old.config (Versions self.old.bound) self.old.answers self.new.answers node reply.now) }
-        ensures same { self.new ≡ record self.old { answers = self.new.answers } }
-        ensures err { OnErr result (self.new ≡ self.old) }
-    {
-        self.count(node, reply.copy()?);
-        if self.heard < self.config.wait() {
-            return Ok(None);
-        }
-        let end = self.end();
-        // The round ends only once there is memory for what comes next.
-        self.forget(node);
-        Ok(Some(end?))
-    }
-
-    /// Whether the round waits for no other node once this one has answered.
-    pub(crate) fn is_last(&self, node: u8) -> bool
-        requires there { node < self.now.config.n }
-        requires new { answer_at self.now.answers node ≡ None }
-        ensures { (reply : Replies) → result ≡ is_full self.now.config (with_reply self.now.answers node reply) }
-    {
-        self.heard + 1 >= self.config.wait()
-    }
-
-    /// Counts a node's answer.
-    pub(crate) fn count(&mut self, node: u8, reply: Reply)
-        requires there { node < self.old.config.n }
-        requires new { answer_at self.old.answers node ≡ None }
-        ensures { self.new ≡ record self.old { answers = with_reply self.old.answers node reply } }
-    {
-        let stamp = valid_stamp(&self.config, &self.first, node, &self.bound, &reply);
-        self.stamps[usize::from(node)] = stamp;
-        self.answers[usize::from(node)] = Some(reply);
-        self.heard += 1;
-    }
-
-    fn forget(&mut self, node: u8)
-        requires there { node < self.old.config.n }
-        requires answered { is_answered (answer_at self.old.answers node) ≡ true }
-        ensures { self.new ≡ record self.old { answers = slice_set self.old.answers node None } }
-    {
-        self.stamps[usize::from(node)] = None;
-        self.answers[usize::from(node)] = None;
-        self.heard -= 1;
-    }
-
+impl<'a> Round<'a> {
     // What the round comes to by the answers that it has heard.
-    fn end(&self) -> Result<PhaseEnd, NoMemory>
-        ensures { IfOk result (IsEnd self.now.config (Versions self.now.bound) self.now.answers) }
+    fn end(&self, alloc: Global) -> Result<PhaseEnd, NoMemory>
+        requires { FitsRound self.now }
+        ensures { IfOk result (IsEndOf self.now) }
     {
-        let alloc = *self.answers.allocator();
-        let stamps = self.stamps.as_slice();
-        let Some(pivot) = pivot_of(stamps, self.config.repairable()) else {
-            let nodes = invalid_nodes(alloc, self.answers.as_slice(), stamps)?;
+        let Some(pivot) = pivot_of(self.stamps, self.config.repairable()) else {
+            let nodes = invalid_nodes(alloc, self.answers, self.stamps)?;
             return Ok(PhaseEnd::Outvoted(nodes));
         };
-        if pivot.cmp(&self.first).is_eq() {
+        if pivot.cmp(self.first).is_eq() {
             return Ok(PhaseEnd::Gives {
                 stamp: pivot,
                 value: Bytes::zeros(alloc, self.config.size() as usize)?,
                 how: How::Plain,
             });
         }
-        match class_of(&self.config, support_of(stamps, &pivot)) {
-            Class::Incomplete => self.asks(Bound::AtMost(pivot)),
-            Class::Repairable => self.judged(pivot, false),
-            Class::Complete => self.judged(pivot, true),
+        match class_of(self.config, support_of(self.stamps, &pivot)) {
+            Class::Incomplete => Ok(PhaseEnd::GoesOn(Stage::Versions(Bound::AtMost(pivot)))),
+            Class::Repairable => self.judged(alloc, pivot, false),
+            Class::Complete => self.judged(alloc, pivot, true),
         }
     }
 
     // What the round comes to where enough valid answers carry its pivot, which isn't the first stamp.
-    fn judged(&self, pivot: Stamp, is_complete: bool) -> Result<PhaseEnd, NoMemory>
+    fn judged(&self, alloc: Global, pivot: Stamp, is_complete: bool) -> Result<PhaseEnd, NoMemory>
+        requires fits { FitsRound self.now }
         requires pivot { HasPivot self.now pivot }
-        requires enough { repairable_of self.now.config ≤ support (setting self.now.config) (answer_at self.now.answers) self.now.bound pivot }
-        requires complete { IsTrue is_complete ↔ (complete_of self.now.config ≤ support (setting self.now.config) (answer_at self.now.answers) self.now.bound pivot) }
-        ensures { IfOk result (IsEnd self.now.config (Versions self.now.bound) self.now.answers) }
+        requires enough { repairable_of self.now.config.now ≤ support_in self.now pivot }
+        requires complete { IsTrue is_complete
+            ↔ (complete_of self.now.config.now ≤ support_in self.now pivot) }
+        ensures { IfOk result (IsEndOf self.now) }
     {
-        let alloc = *self.answers.allocator();
-        let answers = self.answers.as_slice();
-        let stamps = self.stamps.as_slice();
+        let (answers, stamps) = (self.answers, self.stamps);
         let parts = parts_of(alloc, answers, stamps, &pivot, self.config.m() as usize)?;
         let sum = least_sum(alloc, answers, stamps, &pivot)?;
         let known = known_parts(alloc, answers, stamps, &pivot, &sum)?;
-        match checked(
-            alloc,
-            &self.config,
-            &sum,
-            parts.as_slice(),
-            known.as_slice(),
-        )? {
-            None => self.asks(Bound::Below(pivot)),
+        match checked(alloc, self.config, &sum, parts.as_slice(), known.as_slice())? {
+            None => Ok(PhaseEnd::GoesOn(Stage::Versions(Bound::Below(pivot)))),
             Some(Checked { block, shares }) => {
                 if is_complete {
                     Ok(PhaseEnd::Gives {
@@ -199,32 +129,14 @@ impl Round {
                         how: How::Plain,
                     })
                 } else {
-                    let repair = Repair::new(alloc, &self.config, pivot, block, shares, sum)?;
-                    Ok(PhaseEnd::GoesOn(Stage::Storing(repair)))
+                    Ok(PhaseEnd::GoesOn(Stage::Storing(Storing {
+                        stamp: pivot,
+                        value: block,
+                        shares,
+                        sum,
+                    })))
                 }
             }
         }
-    }
-
-    // A further round.
-    fn asks(&self, bound: Bound) -> Result<PhaseEnd, NoMemory>
-        ensures { IfOk result (λ end. end ≡ PhaseEnd.GoesOn (Stage.Asking (new_round self.now.config bound))) }
-    {
-        let round = Round::new(*self.answers.allocator(), &self.config, &self.first, bound)?;
-        Ok(PhaseEnd::GoesOn(Stage::Asking(round)))
-    }
-}
-
-impl Copied for Round {
-    fn copy(&self) -> Result<Round, NoMemory> {
-        let alloc = *self.answers.allocator();
-        Ok(Round {
-            config: self.config,
-            first: self.first,
-            bound: self.bound,
-            answers: replies_copy(alloc, self.answers.as_slice())?,
-            stamps: Vec::from_slice(alloc, self.stamps.as_slice())?,
-            heard: self.heard,
-        })
     }
 }

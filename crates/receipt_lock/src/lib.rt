@@ -23,6 +23,3 @@ pub trait Kept: Drop {
     fn entries(&self) -> u64
         ensures { result ≡ length (list self.now) };
 }
-
-#[cfg(test)]
-mod tests;

@@ -31,9 +31,15 @@ type Holding<T> = Seat<Option<T>, View<<T as Kept>::Entry>>;
 
 /// A value that threads take out in turn and give back. Threads share the vault by reference. Contracts see which vault it
 /// is, the entries that its value had at first, and how many chits it has.
-#[derive(Drop)]
 pub struct Vault<T: Kept> {
     table: Ticker<T>,
+}
+
+// By hand, as for chits: a derived drop is proved anew wherever one is let go.
+impl<T: Kept> Drop for Vault<T> {
+    fn drop(self) {
+        let Vault { table: _table } = self;
+    }
 }
 
 impl<T: Kept> Model for Vault<T> {
@@ -54,11 +60,20 @@ impl<T: Kept> Model for Vault<T> {
 /// The right to take the value of a vault, and the receipts for what was left in it. Contracts see its vault, how often it
 /// may still take, the entries that it left, each with its place in the value's list, and, while it holds the value, the list
 /// as it was taken. The entries are kept in proofs alone.
-#[derive(Drop)]
 pub struct Chit<T: Kept> {
     seat: Holding<T>,
     left: u64,
     found: u64,
+}
+
+impl<T: Kept> Drop for Chit<T> {
+    fn drop(self) {
+        let Chit {
+            seat: _seat,
+            left: _left,
+            found: _found,
+        } = self;
+    }
 }
 
 impl<T: Kept> Model for Chit<T> {
@@ -181,7 +196,8 @@ fn hand_out<T: Kept>(
     requires own { seat.table_id ≡ table.now.shared.table_id }
     requires first { seat.me.0 ≡ fresh chits seat.me.0.begun }
     ensures all { IfOk result (λ list. length list ≡ chits) }
-    ensures each { IfOk result (λ list. AreNew (vault_id seat.table_id seat.me.0.begun) list chits) }
+    ensures each { IfOk result (λ list.
+        AreNew (vault_id seat.table_id seat.me.0.begun) list chits) }
 {
     let mut list = ItemList::new(alloc);
     for _ in 0..chits {
@@ -265,7 +281,8 @@ fn put_back<T: Kept>(table: &Ticker<T>, seat: &mut Holding<T>, value: T, added: 
     requires added { length (known_of seat.old.me.0.turn) + added ≡ length (T.list value) }
     requires small { length (T.list value) < 2 ^ 64 }
     ensures own { seat.new.table_id ≡ seat.old.table_id }
-    ensures gave { seat.new.me ≡ (with_turn (with_entries seat.old.me.0 (T.list value)) Turn.Idle, []) }
+    ensures gave { seat.new.me
+        ≡ (with_turn (with_entries seat.old.me.0 (T.list value)) Turn.Idle, []) }
 {
     let None = table.shared.exchange(seat, HOME, Some(value)) else {
         unreachable!()

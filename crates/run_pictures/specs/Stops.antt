@@ -2,7 +2,7 @@
 use Rattle.std.specs.Prelude.{⊤}
 use Rattle.run_pictures.specs.declared.status.PictureStatus.{PictureStatus}
 use Rattle.run_pictures.specs.declared.status.PictureStatus.TheVariants.{Replay, TooManyLines}
-use Rattle.pasis_shell.specs.Statuses.{CanStopBefore}
+use Rattle.call_statuses.specs.Statuses.{CanStopBefore}
 
 -- the status can come before anything was written
 abbrev pub CanStop : PictureStatus → Type 0

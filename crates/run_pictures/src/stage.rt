@@ -1,7 +1,7 @@
 //! A world in which a script's lines are played one by one.
 ghost use Rattle.std.specs.Prelude.{◌≡◌, IfOk};
+ghost use Rattle.wire_forms.specs.Liars.{AreLiars};
 ghost use Rattle.event_lines.specs.Lines.{IsEventLine};
-ghost use Rattle.world_steps.specs.Worlds.{AreLiars};
 
 use event_lines::{ReplayLine, read_event};
 use line_forms::LineRefusal;

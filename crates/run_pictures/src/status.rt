@@ -27,7 +27,7 @@ impl From<Refusal> for PictureRefusal {
 }
 
 impl From<NoMemory> for PictureRefusal {
-    ghost use Rattle.pasis_shell.specs.declared.text.Refusal.TheVariants.{NoMemory};
+    ghost use Rattle.call_statuses.specs.declared.refusal.Refusal.TheVariants.{NoMemory};
 
     ghost from_gives = { λ _ e. e ≡ refusals.Replay NoMemory };
 

@@ -1,8 +1,9 @@
 //! The lines of a script, played once more and told.
-ghost use Rattle.world_steps.specs.Worlds.{AreLiars};
+ghost use Rattle.wire_forms.specs.Liars.{AreLiars};
 
 use crate::stage::Stage;
-use history_book::{History, print};
+use history_entries::History;
+use history_texts::print;
 use lists::NoMemory;
 use picture_svg::Picture;
 use run_teller::{Run, Step, Teller, short_line, starting_text};

@@ -1,13 +1,13 @@
 //! From a script to its picture.
 ghost use Rattle.std.specs.Prelude.{◌≡◌, ◌≢◌, ◌<◌, ◌≤◌, ℕ, IfOk, IfErr, IsErrOf};
+ghost use Rattle.wire_forms.specs.Liars.{AreLiars};
 ghost use Rattle.line_forms.specs.declared.cause.Cause.{Cause};
 ghost use Rattle.outside_io.specs.Causes.{Rose};
-ghost use Rattle.pasis_shell.specs.Replays.{IsScript};
-ghost use Rattle.pasis_shell.specs.Texts.{Refuses, IsRefusedFor};
-ghost use Rattle.pasis_shell.specs.declared.text.Refusal.{Refusal as Refusals};
-ghost use Rattle.pasis_shell.specs.declared.words.Command.TheVariants.{Replay as TheReplay};
+ghost use Rattle.command_texts.specs.Replays.{IsScript};
+ghost use Rattle.command_texts.specs.Texts.{Refuses, IsRefusedFor};
+ghost use Rattle.call_statuses.specs.declared.refusal.Refusal.{Refusal as Refusals};
+ghost use Rattle.command_words.specs.declared.words.Command.TheVariants.{Replay as TheReplay};
 ghost use Rattle.run_pictures.specs.Stops.{CanStop};
-ghost use Rattle.world_steps.specs.Worlds.{AreLiars};
 
 use crate::status::{MOST_LINES, PictureRefusal, PictureStatus};
 use crate::telling::told;
@@ -45,8 +45,10 @@ fn performed(alloc: Global, input: &Bytes) -> Result<World, Refusal>
 ///
 /// A run uses its lines up, so those few are read once more.
 pub fn picture_of(alloc: Global, input: &Bytes) -> Result<Picture, PictureRefusal>
-    ensures refused { (r : Refusals) → IsErrOf result (PictureRefusal.Replay r) → Refuses TheReplay input.now r }
-    ensures too_many { (lines : ℕ) → IsErrOf result (PictureRefusal.TooManyLines lines) → MOST_LINES < lines }
+    ensures refused { (r : Refusals) → IsErrOf result (PictureRefusal.Replay r)
+        → Refuses TheReplay input.now r }
+    ensures too_many { (lines : ℕ) → IsErrOf result (PictureRefusal.TooManyLines lines)
+        → MOST_LINES < lines }
 {
     let world = performed(alloc, input)?;
     let lines = world.place() as usize;
@@ -62,8 +64,10 @@ pub fn picture_of(alloc: Global, input: &Bytes) -> Result<Picture, PictureRefusa
 fn text_of<S: Source>(alloc: Global, source: &mut S) -> Result<String, PictureStatus>
     ensures bad_script { (line : ℕ) (cause : Cause) → IsErrOf result (PictureStatus.Replay (Status.BadScript line cause))
         → IsRefusedFor TheReplay (S.left source.old) (S.left source.new) (Refusals.BadScript (record { line = line; cause = cause })) }
-    ensures too_many { (lines : ℕ) → IsErrOf result (PictureStatus.TooManyLines lines) → MOST_LINES < lines }
-    ensures read_fault { IsErrOf result (PictureStatus.Replay Status.ReadFault) → Rose S.last (S.faults source.old) (S.faults source.new) }
+    ensures too_many { (lines : ℕ) → IsErrOf result (PictureStatus.TooManyLines lines) → MOST_LINES
+        < lines }
+    ensures read_fault { IsErrOf result (PictureStatus.Replay Status.ReadFault)
+        → Rose S.last (S.faults source.old) (S.faults source.new) }
     ensures causes { IfErr result CanStop }
 {
     let input = match read_all(alloc, source) {
@@ -82,8 +86,10 @@ fn text_of<S: Source>(alloc: Global, source: &mut S) -> Result<String, PictureSt
 
 /// The text of a script's picture.
 fn drawn(alloc: Global, input: &Bytes) -> Result<String, PictureRefusal>
-    ensures refused { (r : Refusals) → IsErrOf result (PictureRefusal.Replay r) → Refuses TheReplay input.now r }
-    ensures too_many { (lines : ℕ) → IsErrOf result (PictureRefusal.TooManyLines lines) → MOST_LINES < lines }
+    ensures refused { (r : Refusals) → IsErrOf result (PictureRefusal.Replay r)
+        → Refuses TheReplay input.now r }
+    ensures too_many { (lines : ℕ) → IsErrOf result (PictureRefusal.TooManyLines lines)
+        → MOST_LINES < lines }
 {
     let picture = picture_of(alloc, input)?;
     Ok(svg_of(alloc, &picture)?)
@@ -93,10 +99,14 @@ fn drawn(alloc: Global, input: &Bytes) -> Result<String, PictureRefusal>
 pub fn draw<S: Source, K: Sink>(alloc: Global, source: &mut S, sink: &mut K) -> PictureStatus
     ensures bad_script { (line : ℕ) (cause : Cause) → result ≡ PictureStatus.Replay (Status.BadScript line cause)
         → IsRefusedFor TheReplay (S.left source.old) (S.left source.new) (Refusals.BadScript (record { line = line; cause = cause })) }
-    ensures too_many { (lines : ℕ) → result ≡ PictureStatus.TooManyLines lines → MOST_LINES < lines }
-    ensures read_fault { result ≡ PictureStatus.Replay Status.ReadFault → Rose S.last (S.faults source.old) (S.faults source.new) }
-    ensures write_fault { result ≡ PictureStatus.Replay Status.WriteFault → Rose K.last (K.faults sink.old) (K.faults sink.new) }
-    ensures unwritten { result ≢ PictureStatus.Replay Status.Done → result ≢ PictureStatus.Replay Status.WriteFault → sink.new ≡ sink.old }
+    ensures too_many { (lines : ℕ) → result ≡ PictureStatus.TooManyLines lines → MOST_LINES
+        < lines }
+    ensures read_fault { result ≡ PictureStatus.Replay Status.ReadFault
+        → Rose S.last (S.faults source.old) (S.faults source.new) }
+    ensures write_fault { result ≡ PictureStatus.Replay Status.WriteFault
+        → Rose K.last (K.faults sink.old) (K.faults sink.new) }
+    ensures unwritten { result ≢ PictureStatus.Replay Status.Done → result
+        ≢ PictureStatus.Replay Status.WriteFault → sink.new ≡ sink.old }
 {
     let text = match text_of(alloc, source) {
         Ok(text) => text,

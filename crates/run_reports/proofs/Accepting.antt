@@ -8,10 +8,10 @@ use Rattle.protocol.specs.Messages.{Reply, Body, Message}
 use Rattle.protocol.specs.Count.{one_more}
 use Rattle.protocol.specs.Setting.{Setting}
 use Rattle.protocol.specs.Nodes.{accepts}
-use Rattle.protocol.specs.Operations.{Task, Decision, decide, counted}
+use Rattle.protocol.specs.Operations.{is_counted, Task, Decision, decide, counted}
 use Rattle.protocol.specs.Operations.Decision.{GoesOn, Ends}
 use Rattle.stamp_order.specs.declared.Stamp.{Stamp}
-use Rattle.protocol.specs.World.{World, Event, Accepted, accepted_at, happens, all_happen, only_place, heard, heard_by, counts, advanced, decided, resent_by, given, pruned_at, greatest_given}
+use Rattle.protocol.specs.World.{World, Event, Accepted, accepted_at, happens, all_happen, only_place, heard, heard_by, advanced, decided, resent_by, given, pruned_at, greatest_given}
 use Rattle.protocol.specs.World.Event.{Start, Resend as Resends, Give as Gives, Hear as Hears, CrashNode as NodeCrashes, CrashClient as ClientCrashes, Lie as Lies, Prune as Prunes, Back as ComesBack}
 use Rattle.protocol.specs.Lines.{Line, Run, events, plays, called, told, falsely_told, given_at, heard_at, false_answer}
 use Rattle.run_words.specs.declared.line.Line.TheVariants.{Write, Read, Resend, Call, Give, Hear, Lost, CrashNode, CrashClient, Lie, Tell, Poke, False, Sound, Mix, Prune, Back, Restart}
@@ -42,7 +42,7 @@ module _ (s : Setting) (place : ℕ) where
     heard_by_accepts : (c : ℕ) (m : Message) (reply : Reply) (task : Option Task) → (heard_by s w place c task m reply).accepted ≡ w.accepted
     heard_by_accepts c m reply None = refl
     heard_by_accepts c m reply (Some task) =
-        either w.accepted (counts s w place task m reply) (advanced s w place c (counted task m.node reply)) (only_place s w place)
+        either w.accepted (is_counted s task m.node m.tag reply) (advanced s w place c (counted task m.node reply)) (only_place s w place)
         (either w.accepted _ _ _ refl (decided_accepts c (counted task m.node reply) (decide s c (counted task m.node reply) task.stage)))
         refl
 

@@ -16,7 +16,7 @@ use Rattle.protocol.specs.Report.{Ascend, rounds_of}
 use Rattle.protocol.proofs.Theorem.{run_keys, run_bounded, run_legal, run_in_time, run_sound}
 use Rattle.protocol.proofs.Kept.{run_in_order, run_told}
 use Rattle.protocol.proofs.Lists.{Contains-head, Contains-rest, Contains-map_cases}
-use Rattle.history_book.specs.Tellings.{AreRecords, IsHistoryOf}
+use Rattle.history_making.specs.Tellings.{AreRecords, IsHistoryOf}
 use Rattle.run_reports.specs.Registers.{AreRegisters}
 use Rattle.protocol.specs.History.{Entry}
 use Rattle.run_reports.proofs.Accepting.{accepted_few}

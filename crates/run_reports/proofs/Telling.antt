@@ -5,9 +5,9 @@ use Rattle.stamp_order.specs.declared.Stamp.{Stamp}
 use Rattle.protocol.specs.Setting.{Setting, first_stamp}
 use Rattle.protocol.specs.World.{World, Record}
 use Rattle.protocol.specs.History.{Entry}
-use Rattle.history_book.specs.Books.{Book}
-use Rattle.history_book.specs.Numbers.{HaveNumbers}
-use Rattle.history_book.specs.Tellings.{Tells, AreRecords}
+use Rattle.history_entries.specs.Books.{Book}
+use Rattle.history_entries.specs.Numbers.{HaveNumbers}
+use Rattle.history_making.specs.Tellings.{Tells, AreRecords}
 use Rattle.run_reports.specs.Histories.{AreOfRun, TellsHistory}
 use Rattle.run_reports.proofs.Records.{are_records, are_registers}
 use Rattle.run_reports.proofs.Reports.{is_report, are_plain}

@@ -1,16 +1,11 @@
 //! The history of a run's last world, and what holds of the history of every run.
 #![tactic(auto)]
 
-ghost use Rattle.std.specs.Prelude.{◌<◌, ◌^◌, ◌-◌, List, IfOk, map};
-ghost use Rattle.protocol.specs.Setting.{Setting, first_stamp};
+ghost use Rattle.std.specs.Prelude.{◌<◌, ◌^◌, ◌-◌, IfOk, map};
+ghost use Rattle.protocol.specs.Setting.{Setting};
 ghost use Rattle.protocol.specs.World.{World as AnyWorld};
 ghost use Rattle.protocol.specs.Seen.{record_of};
-ghost use Rattle.protocol.specs.History.{Entry as FullEntry, NoClash};
-ghost use Rattle.history_book.specs.Tellings.{Tells};
-ghost use Rattle.history_book.specs.ReportTexts.{IsReport};
-ghost use Rattle.history_book.specs.Judging.{IsLegal, IsInTime};
 ghost use Rattle.world_steps.specs.Worlds.{setting_in, world_in};
-ghost use Rattle.run_reports.specs.Registers.{AreRegisters};
 ghost use Rattle.run_reports.specs.Histories.{AreOfRun, TellsHistory};
 
 use history_book::History;
@@ -29,7 +24,8 @@ pub fn history_of_records(
     first: &Stamp,
 ) -> Result<History, NoMemory>
     requires { (s : Setting) × (w : AnyWorld) × AreOfRun s w (map record_of records.now) first.now }
-    ensures { (s : Setting) (w : AnyWorld) → AreOfRun s w (map record_of records.now) first.now → IfOk result (TellsHistory s w) }
+    ensures { (s : Setting) (w : AnyWorld) → AreOfRun s w (map record_of records.now) first.now
+        → IfOk result (TellsHistory s w) }
 {
     history_book::history_of(alloc, records, first)
 }
@@ -37,9 +33,7 @@ pub fn history_of_records(
 /// The history of the run that leads to a world.
 pub fn history_of(alloc: Global, world: &World) -> Result<History, NoMemory>
     requires { world.now.seen.place < 2 ^ 31 - 1 }
-    ensures registers { IfOk result (λ book. (h : List FullEntry) × Tells world.now.seen.records (first_stamp (setting_in world.now)) h book × AreRegisters (setting_in world.now) (world_in world.now) h) }
-    ensures report { IfOk result IsReport }
-    ensures plain { IfOk result (λ book. NoClash (setting_in world.now) (world_in world.now) → IsLegal book.entries × IsInTime book.entries) }
+    ensures { IfOk result (TellsHistory (setting_in world.now) (world_in world.now)) }
 {
     world.is_reached();
     history_of_records(alloc, world.records(), world.first_stamp())

@@ -201,24 +201,23 @@ impl<'a> Teller<'a> {
         bound: &Bound,
         round: u64,
     ) -> Result<Label, NoMemory> {
-        let alloc = self.run.alloc;
-        let first = format!(in alloc; "round {round}")?;
-        let second = match bound {
-            Bound::All => String::new(alloc),
-            Bound::AtMost(stamp) => {
-                let name = self.run.stamps.name_of(block, stamp)?;
-                format!(in alloc; "up to {name}")?
-            }
-            Bound::Below(stamp) => {
-                let name = self.run.stamps.name_of(block, stamp)?;
-                format!(in alloc; "below {name}")?
-            }
-        };
+        let second = self.bound_words(block, bound)?;
         Ok(Label {
             client,
-            first,
+            first: format!(in self.run.alloc; "round {round}")?,
             second,
         })
+    }
+
+    /// Which stamps of a block a read asks for.
+    fn bound_words(&self, block: u32, bound: &Bound) -> Result<String, NoMemory> {
+        let (word, stamp) = match bound {
+            Bound::All => return Ok(String::new(self.run.alloc)),
+            Bound::AtMost(stamp) => ("up to", stamp),
+            Bound::Below(stamp) => ("below", stamp),
+        };
+        let name = self.run.stamps.name_of(block, stamp)?;
+        Ok(format!(in self.run.alloc; "{word} {name}")?)
     }
 
     /// How an operation ended.
@@ -244,18 +243,22 @@ impl<'a> Teller<'a> {
     /// The stamp under which an operation ended, and whether it repaired.
     fn stamp_words(&self, record: &Record) -> Result<String, NoMemory> {
         let alloc = self.run.alloc;
-        let block = block_of(&record.op);
-        match &record.outcome {
-            Some(Outcome::Wrote(stamp)) => self.run.stamps.name_of(block, stamp),
-            Some(Outcome::Gave { stamp, how, .. }) => {
-                let name = self.run.stamps.name_of(block, stamp)?;
-                Ok(match how {
-                    How::Plain => name,
-                    How::Repaired => format!(in alloc; "{name}, repaired")?,
-                })
-            }
-            Some(Outcome::Spent) => Ok(String::from_str(alloc, "no time is left")?),
-            Some(Outcome::Outvoted(_)) | None => Ok(String::new(alloc)),
-        }
+        let (stamp, note) = match &record.outcome {
+            Some(Outcome::Wrote(stamp)) => (stamp, ""),
+            Some(Outcome::Gave { stamp, how, .. }) => (stamp, how_words(*how)),
+            Some(Outcome::Spent) => return Ok(String::from_str(alloc, "no time is left")?),
+            Some(Outcome::Outvoted(_)) | None => return Ok(String::new(alloc)),
+        };
+        let mut name = self.run.stamps.name_of(block_of(&record.op), stamp)?;
+        name.push_str(note)?;
+        Ok(name)
+    }
+}
+
+/// What is told beside the stamp that a read gave.
+fn how_words(how: How) -> &'static str {
+    match how {
+        How::Plain => "",
+        How::Repaired => ", repaired",
     }
 }

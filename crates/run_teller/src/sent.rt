@@ -140,7 +140,8 @@ impl Post {
 
     /// The arrow of an ask of this number that is made and given in a row.
     pub fn settle_call(&mut self, number: usize, row: usize) -> Option<Arrow>
-        ensures { IfSome result (λ arrow. (arrow.sent ≡ row) × (arrow.got ≡ row) × (arrow.fate ≡ fates.Arrived)) }
+        ensures { IfSome result
+            (λ arrow. (arrow.sent ≡ row) × (arrow.got ≡ row) × (arrow.fate ≡ fates.Arrived)) }
     {
         let arrow = self.settle(number, row, Fate::Arrived)?;
         Some(in_row(arrow, row))

@@ -9,6 +9,7 @@ use lists::NoMemory;
 use picture_svg::{Actor, Fate, Lifeline, Mark, Picture, Row, Sign};
 use run_words::{Line, Record};
 use std::collections::{BTreeMap, BTreeSet};
+use std::mem::replace;
 use wire_forms::{Body, Message, Reply, Tag};
 
 /// A line that took place.
@@ -37,7 +38,6 @@ impl<'s> Step<'s> {
 }
 
 /// What was told so far.
-#[derive(Drop)]
 pub struct Teller<'a> {
     pub(crate) run: Run<'a>,
     pub(crate) post: Post,
@@ -48,6 +48,20 @@ pub struct Teller<'a> {
     /// The clients that took part.
     pub(crate) clients: BTreeSet<u32>,
     pub(crate) picture: Picture,
+}
+
+// By hand, since a derived drop is proved anew wherever a teller is let go.
+impl<'a> Drop for Teller<'a> {
+    fn drop(self) {
+        let Teller {
+            run: _run,
+            post: _post,
+            phases: _phases,
+            counted: _counted,
+            clients: _clients,
+            picture: _picture,
+        } = self;
+    }
 }
 
 impl<'a> Teller<'a> {
@@ -90,13 +104,16 @@ impl<'a> Teller<'a> {
 
     /// The whole picture but for the report, when all lines are told.
     pub fn end(mut self) -> Result<Picture, NoMemory> {
+        self.finish()
+    }
+
+    /// Adds what is known only when all lines are told, and gives the picture away.
+    fn finish(&mut self) -> Result<Picture, NoMemory> {
         self.add_open_phases()?;
         self.add_under_way()?;
         self.add_lifelines()?;
-        let caption = caption_of(self.run.alloc, self.run.config)?;
-        let Teller { mut picture, .. } = self;
-        picture.caption = caption;
-        Ok(picture)
+        self.picture.caption = caption_of(self.run.alloc, self.run.config)?;
+        Ok(replace(&mut self.picture, Picture::new(self.run.alloc)))
     }
 
     /// Adds the messages that were never given or heard.

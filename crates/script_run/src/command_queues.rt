@@ -1,6 +1,6 @@
 ghost use Rattle.std.specs.Prelude.{◌≡◌, ◌≤◌, ◌<◌, ◌+◌, [], length, replicate, option_map, unwrap_or, slice_set, All, IfSome, IfNone, IfOk, OnOk, IsErrOf};
 ghost use Rattle.std.specs.declared.option.Option.TheVariants.{None, Some};
-ghost use Rattle.wire_forms.specs.Liars.{has_number};
+ghost use Rattle.wire_forms.specs.Liars.{has_number, AreLiars};
 ghost use Rattle.protocol.specs.Instance.{setting_of};
 ghost use Rattle.protocol.specs.Lines.{FitsLine, fault, plays};
 ghost use Rattle.block_device.specs.Ranges.{fault_of};
@@ -13,7 +13,7 @@ ghost use Rattle.event_lines.specs.declared.line.ReplayLine.TheVariants.{Plain};
 ghost use Rattle.line_forms.specs.declared.cause.Cause.TheVariants.{Step};
 ghost use Rattle.line_forms.specs.declared.cause.Cause.{Cause as Causes};
 ghost use Rattle.event_lines.specs.Lines.{IsEventLine};
-ghost use Rattle.world_steps.specs.Worlds.{setting_in, world_in, AreLiars};
+ghost use Rattle.world_steps.specs.Worlds.{setting_in, world_in};
 ghost use Rattle.script_run.specs.Performing.{returning, start_queues, cause_of, after_line, started_by, command_cause, next_cause, begun, stepped, latest_read};
 ghost use Rattle.script_run.specs.CommandQueues.{queues_in};
 
@@ -59,7 +59,8 @@ impl CommandQueues {
     pub fn new(alloc: Global, config: &Config, liars: &Liars) -> Result<CommandQueues, NoMemory>
         requires { AreLiars config.now liars.now }
         ensures cluster { IfOk result (λ d. d.world.config ≡ config.now) }
-        ensures liars { IfOk result (λ d. setting_in d.world ≡ setting_of config.now (has_number liars.now.nodes) (has_number liars.now.clients)) }
+        ensures liars { IfOk result (λ d. setting_in d.world ≡ setting_of config.now
+            (has_number liars.now.nodes) (has_number liars.now.clients)) }
         ensures start { IfOk result (λ d. queues_in d ≡ start_queues (setting_in d.world)) }
     {
         let world = World::new(alloc, config, liars)?;
@@ -76,11 +77,15 @@ impl CommandQueues {
     pub fn perform(&mut self, place: u64, line: ReplayLine) -> Result<(), LineRefusal>
         requires later { self.now.world.seen.place < place }
         requires line { IsEventLine self.now.world.config line }
-        ensures allowed { OnOk result (cause_of (setting_in self.old.world) self.old.world.config (queues_in self.old) line ≡ None) }
-        ensures ok { OnOk result (queues_in self.new ≡ after_line (setting_in self.old.world) self.old.world.config (queues_in self.old) place line) }
+        ensures allowed { OnOk result (cause_of (setting_in self.old.world) self.old.world.config
+            (queues_in self.old) line ≡ None) }
+        ensures ok { OnOk result (queues_in self.new ≡ after_line
+            (setting_in self.old.world) self.old.world.config (queues_in self.old) place line) }
         ensures cluster { OnOk result (self.new.world.config ≡ self.old.world.config) }
         ensures setting { OnOk result (setting_in self.new.world ≡ setting_in self.old.world) }
-        ensures cause { (c : Causes) → IsErrOf result (LineRefusal.Cause c) → cause_of (setting_in self.old.world) self.old.world.config (queues_in self.old) line ≡ Some c }
+        ensures cause { (c : Causes) → IsErrOf result (LineRefusal.Cause c)
+            → cause_of (setting_in self.old.world) self.old.world.config
+            (queues_in self.old) line ≡ Some c }
     {
         match line {
             ReplayLine::Plain(line) => self.play(place, &line),
@@ -102,11 +107,16 @@ impl CommandQueues {
     fn play(&mut self, place: u64, line: &Line) -> Result<(), LineRefusal>
         requires later { self.now.world.seen.place < place }
         requires fits { FitsLine (setting_in self.now.world) line.now }
-        ensures allowed { OnOk result (cause_of (setting_in self.old.world) self.old.world.config (queues_in self.old) (Plain line.now) ≡ None) }
-        ensures ok { OnOk result (queues_in self.new ≡ after_line (setting_in self.old.world) self.old.world.config (queues_in self.old) place (Plain line.now)) }
+        ensures allowed { OnOk result (cause_of (setting_in self.old.world) self.old.world.config
+            (queues_in self.old) (Plain line.now) ≡ None) }
+        ensures ok { OnOk result (queues_in self.new ≡ after_line
+            (setting_in self.old.world) self.old.world.config (queues_in self.old) place
+            (Plain line.now)) }
         ensures cluster { OnOk result (self.new.world.config ≡ self.old.world.config) }
         ensures setting { OnOk result (setting_in self.new.world ≡ setting_in self.old.world) }
-        ensures cause { (c : Causes) → IsErrOf result (LineRefusal.Cause c) → cause_of (setting_in self.old.world) self.old.world.config (queues_in self.old) (Plain line.now) ≡ Some c }
+        ensures cause { (c : Causes) → IsErrOf result (LineRefusal.Cause c)
+            → cause_of (setting_in self.old.world) self.old.world.config (queues_in self.old)
+            (Plain line.now) ≡ Some c }
     {
         if let Err(refusal) = play(&mut self.world, place, line) {
             return Err(refusal);
@@ -119,11 +129,16 @@ impl CommandQueues {
     fn begin(&mut self, place: u64, client: u32, op: &DeviceOp) -> Result<(), LineRefusal>
         requires later { self.now.world.seen.place < place }
         requires client { client ≤ 1000 }
-        ensures allowed { OnOk result (command_cause (fault_of self.old.world.config op.now) ((queues_in self.old).left client) ≡ None) }
-        ensures ok { OnOk result (queues_in self.new ≡ begun (setting_in self.old.world) self.old.world.config (queues_in self.old) place client op.now) }
+        ensures allowed { OnOk result (command_cause (fault_of self.old.world.config op.now)
+            ((queues_in self.old).left client) ≡ None) }
+        ensures ok { OnOk result (queues_in self.new ≡ begun
+            (setting_in self.old.world) self.old.world.config
+            (queues_in self.old) place client op.now) }
         ensures cluster { OnOk result (self.new.world.config ≡ self.old.world.config) }
         ensures setting { OnOk result (setting_in self.new.world ≡ setting_in self.old.world) }
-        ensures cause { (c : Causes) → IsErrOf result (LineRefusal.Cause c) → command_cause (fault_of self.old.world.config op.now) ((queues_in self.old).left client) ≡ Some c }
+        ensures cause { (c : Causes) → IsErrOf result (LineRefusal.Cause c)
+            → command_cause (fault_of self.old.world.config op.now)
+            ((queues_in self.old).left client) ≡ Some c }
     {
         let command = self.command(client, op)?;
         play(&mut self.world, place, &Line::Lost { client, node: 0 })?;
@@ -134,10 +149,13 @@ impl CommandQueues {
     /// The command of a client that may begin it.
     fn command(&self, client: u32, op: &DeviceOp) -> Result<Command, LineRefusal>
         requires { client ≤ 1000 }
-        ensures allowed { OnOk result (command_cause (fault_of self.now.world.config op.now) ((queues_in self.now).left client) ≡ None) }
+        ensures allowed { OnOk result (command_cause (fault_of self.now.world.config op.now)
+            ((queues_in self.now).left client) ≡ None) }
         ensures steps { IfOk result (λ steps. steps ≡ steps_of self.now.world.config op.now) }
         ensures fit { IfOk result (λ steps. All (Fits self.now.world.config) steps) }
-        ensures cause { (c : Causes) → IsErrOf result (LineRefusal.Cause c) → command_cause (fault_of self.now.world.config op.now) ((queues_in self.now).left client) ≡ Some c }
+        ensures cause { (c : Causes) → IsErrOf result (LineRefusal.Cause c)
+            → command_cause (fault_of self.now.world.config op.now)
+            ((queues_in self.now).left client) ≡ Some c }
     {
         if let Some(fault) = range_fault(&self.config, op) {
             return Err(LineRefusal::Cause(Cause::Device(fault)));
@@ -155,11 +173,15 @@ impl CommandQueues {
     fn step(&mut self, place: u64, client: u32) -> Result<(), LineRefusal>
         requires later { self.now.world.seen.place < place }
         requires client { client ≤ 1000 }
-        ensures allowed { OnOk result (next_cause (setting_in self.old.world) (queues_in self.old).world client ((queues_in self.old).left client) ≡ None) }
-        ensures ok { OnOk result (queues_in self.new ≡ stepped (setting_in self.old.world) (queues_in self.old) place client ((queues_in self.old).left client)) }
+        ensures allowed { OnOk result (next_cause (setting_in self.old.world)
+            (queues_in self.old).world client ((queues_in self.old).left client) ≡ None) }
+        ensures ok { OnOk result (queues_in self.new ≡ stepped (setting_in self.old.world)
+            (queues_in self.old) place client ((queues_in self.old).left client)) }
         ensures cluster { OnOk result (self.new.world.config ≡ self.old.world.config) }
         ensures setting { OnOk result (setting_in self.new.world ≡ setting_in self.old.world) }
-        ensures cause { (c : Causes) → IsErrOf result (LineRefusal.Cause c) → next_cause (setting_in self.old.world) (queues_in self.old).world client ((queues_in self.old).left client) ≡ Some c }
+        ensures cause { (c : Causes) → IsErrOf result (LineRefusal.Cause c)
+            → next_cause (setting_in self.old.world) (queues_in self.old).world client
+            ((queues_in self.old).left client) ≡ Some c }
     {
         let Some(step) = self.left[client as usize].next() else {
             return Err(LineRefusal::Cause(Cause::NoCommand));
@@ -171,7 +193,8 @@ impl CommandQueues {
     /// The line by which a client starts a step.
     fn line_of(&self, client: u32, step: BlockStep) -> Result<Line, NoMemory>
         requires { Fits self.now.world.config step }
-        ensures line { IfOk result (λ line. line ≡ started_by (setting_in self.now.world) (world_in self.now.world) client step) }
+        ensures line { IfOk result (λ line. line ≡ started_by (setting_in self.now.world)
+            (world_in self.now.world) client step) }
         ensures fits { IfOk result (λ line. FitsLine (setting_in self.now.world) line) }
     {
         match step {
@@ -187,7 +210,9 @@ impl CommandQueues {
     /// What the client's latest read of the block gave, or zeros where there is none, but for these bytes.
     fn merged(&self, client: u32, block: u32, at: u32, bytes: &Bytes) -> Result<Bytes, NoMemory>
         requires { at + length bytes.now ≤ self.now.world.config.size }
-        ensures value { IfOk result (λ value. value ≡ merged (unwrap_or (latest_read client block self.now.world.seen.records) (zeros (setting_in self.now.world))) at bytes.now) }
+        ensures value { IfOk result (λ value. value ≡ merged
+            (unwrap_or (latest_read client block self.now.world.seen.records)
+            (zeros (setting_in self.now.world))) at bytes.now) }
         ensures len { IfOk result (λ value. length value ≡ self.now.world.config.size) }
     {
         self.world.is_reached();
@@ -222,11 +247,14 @@ fn empty_queues(alloc: Global) -> Result<Vec<Command>, NoMemory>
 fn play(world: &mut World, place: u64, line: &Line) -> Result<(), LineRefusal>
     requires later { world.now.seen.place < place }
     requires fits { FitsLine (setting_in world.now) line.now }
-    ensures allowed { OnOk result (option_map Step (fault (setting_in world.old) (world_in world.old) line.now) ≡ None) }
-    ensures ok { OnOk result (world_in world.new ≡ plays (setting_in world.old) (world_in world.old) place line.now) }
+    ensures allowed { OnOk result
+        (option_map Step (fault (setting_in world.old) (world_in world.old) line.now) ≡ None) }
+    ensures ok { OnOk result
+        (world_in world.new ≡ plays (setting_in world.old) (world_in world.old) place line.now) }
     ensures cluster { world.new.config ≡ world.old.config }
     ensures setting { OnOk result (setting_in world.new ≡ setting_in world.old) }
-    ensures cause { (c : Causes) → IsErrOf result (LineRefusal.Cause c) → option_map Step (fault (setting_in world.old) (world_in world.old) line.now) ≡ Some c }
+    ensures cause { (c : Causes) → IsErrOf result (LineRefusal.Cause c)
+        → option_map Step (fault (setting_in world.old) (world_in world.old) line.now) ≡ Some c }
 {
     match world.play(place, line) {
         Ok(()) => Ok(()),

@@ -1,6 +1,6 @@
 ghost use Rattle.std.specs.Prelude.{◌≡◌, ◌+◌, ◌≤◌, ℕ, length, All, IfOk, IsErrOf};
 ghost use Rattle.std.specs.declared.option.Option.TheVariants.{None, Some};
-ghost use Rattle.wire_forms.specs.Liars.{has_number, IsAscending};
+ghost use Rattle.wire_forms.specs.Liars.{has_number, IsAscending, IsClientNumber};
 ghost use Rattle.protocol.specs.Instance.{setting_of};
 ghost use Rattle.line_forms.specs.declared.cause.Cause.{Cause as Causes};
 ghost use Rattle.script_text.specs.Replays.{IsReplay};
@@ -22,12 +22,17 @@ use world_steps::World;
 pub fn perform(alloc: Global, replay: Replay) -> Result<World, ScriptRefusal>
     requires { IsReplay replay.config replay.liars replay.lines }
     ensures cluster { IfOk result (λ w. w.config ≡ replay.config) }
-    ensures liars { IfOk result (λ w. setting_in w ≡ setting_of replay.config (has_number replay.liars.nodes) (has_number replay.liars.clients)) }
-    ensures run { IfOk result (λ w. (d : TheQueues) × Performs (setting_in w) w.config replay.lines d × (d.world ≡ world_in w)) }
+    ensures liars { IfOk result (λ w. setting_in w ≡ setting_of replay.config
+        (has_number replay.liars.nodes) (has_number replay.liars.clients)) }
+    ensures run { IfOk result (λ w. (d : TheQueues)
+        × Performs (setting_in w) w.config replay.lines d × (d.world ≡ world_in w)) }
     ensures placed { IfOk result (λ w. w.seen.place ≡ length replay.lines) }
     // The lines of a script are two head lines, one for each liar, and the event lines.
-    ensures stop { (line : ℕ) (cause : Causes) → IsErrOf result (ScriptRefusal.Fault (record { line = line; cause = cause }))
-        → (done : ℕ) × StopsAt (setting_of replay.config (has_number replay.liars.nodes) (has_number replay.liars.clients)) replay.config replay.lines done cause
+    ensures stop { (line : ℕ) (cause : Causes)
+        → IsErrOf result (ScriptRefusal.Fault (record { line = line; cause = cause }))
+        → (done : ℕ) × StopsAt (setting_of replay.config
+        (has_number replay.liars.nodes) (has_number replay.liars.clients))
+        replay.config replay.lines done cause
         × (line ≡ 2 + length replay.liars.nodes + length replay.liars.clients + done + 1) }
 {
     let Replay {
@@ -50,7 +55,7 @@ pub fn perform(alloc: Global, replay: Replay) -> Result<World, ScriptRefusal>
 /// How many lines of a script stand before its event lines: two head lines, and one for each liar.
 fn lines_before(liars: &Liars) -> u64
     requires nodes { length liars.now.nodes ≤ 256 }
-    requires clients { All (λ k. (1 ≤ k) × (k ≤ 1000)) liars.now.clients }
+    requires clients { All IsClientNumber liars.now.clients }
     requires ascending { IsAscending liars.now.clients }
     ensures is { result ≡ 2 + length liars.now.nodes + length liars.now.clients }
     ensures small { result ≤ 1258 }
@@ -60,7 +65,7 @@ fn lines_before(liars: &Liars) -> u64
 
 /// How many clients are declared lying.
 fn clients_of(liars: &Liars) -> u64
-    requires clients { All (λ k. (1 ≤ k) × (k ≤ 1000)) liars.now.clients }
+    requires clients { All IsClientNumber liars.now.clients }
     requires ascending { IsAscending liars.now.clients }
     ensures is { result ≡ length liars.now.clients }
     ensures small { result ≤ 1000 }

@@ -14,7 +14,7 @@ use Rattle.std.proofs.lemmas.Fmt.{decimal_injective}
 use Rattle.quorum_rules.specs.Limits.{Numbers, IsValid}
 use Rattle.text_lines.specs.Lines.{fields_of, Lacks}
 use Rattle.text_lines.proofs.Joined.{parts-joined, Lacks-append, Lacks-decimal}
-use Rattle.wire_forms.specs.Liars.{Liars, has_number}
+use Rattle.wire_forms.specs.Liars.{Liars, has_number, IsClientNumber}
 use Rattle.script_text.specs.declared.liars.Declared.{Declared}
 use Rattle.script_text.specs.declared.liars.Declared.TheVariants.{Node, Client}
 use Rattle.script_text.specs.Replays.{liar_fields, liar_line, IsDeclarable, is_same, with_declared, with_all, liars_of, is_liar_line, is_liar_node, is_event}
@@ -280,11 +280,11 @@ one_declared c ds l d a i f =
 
 -- ---- who is declared
 
-all_inside : (c : Numbers) (l : Liars) (ds : List Declared) → All (λ n. n < c.n) l.nodes → All (λ k. (1 ≤ k) × (k ≤ 1000)) l.clients → AllByRecursion (IsDeclarable c) ds
-    → All (λ n. n < c.n) (with_all l ds).nodes × All (λ k. (1 ≤ k) × (k ≤ 1000)) (with_all l ds).clients
+all_inside : (c : Numbers) (l : Liars) (ds : List Declared) → All (λ n. n < c.n) l.nodes → All IsClientNumber l.clients → AllByRecursion (IsDeclarable c) ds
+    → All (λ n. n < c.n) (with_all l ds).nodes × All IsClientNumber (with_all l ds).clients
 all_inside c l [] n k h = (n, k)
 all_inside c l (Node m ∷ ds) n k h = all_inside c (with_declared l (Node m)) ds (All-insert_key nat_cmp m (λ n. n < c.n) l.nodes n h.0) k h.1
-all_inside c l (Client m ∷ ds) n k h = all_inside c (with_declared l (Client m)) ds n (All-insert_key nat_cmp m (λ k. (1 ≤ k) × (k ≤ 1000)) l.clients k h.0) h.1
+all_inside c l (Client m ∷ ds) n k h = all_inside c (with_declared l (Client m)) ds n (All-insert_key nat_cmp m IsClientNumber l.clients k h.0) h.1
 
-pub declared_inside : (c : Numbers) (ds : List Declared) → AllByRecursion (IsDeclarable c) ds → All (λ n. n < c.n) (liars_of ds).nodes × All (λ k. (1 ≤ k) × (k ≤ 1000)) (liars_of ds).clients
+pub declared_inside : (c : Numbers) (ds : List Declared) → AllByRecursion (IsDeclarable c) ds → All (λ n. n < c.n) (liars_of ds).nodes × All IsClientNumber (liars_of ds).clients
 declared_inside c ds h = all_inside c _ ds (λ k d lt. absurd (omega arith)) (λ k d lt. absurd (omega arith)) h

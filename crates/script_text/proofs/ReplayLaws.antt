@@ -16,7 +16,7 @@ use Rattle.quorum_rules.specs.Limits.{Numbers, IsValid}
 use Rattle.text_lines.specs.Lines.{parts_of, fields_of, line_of_fields, text_of_lines, Lacks}
 use Rattle.text_lines.proofs.Numbers.{number_of-decimal}
 use Rattle.text_lines.proofs.Joined.{part_before}
-use Rattle.wire_forms.specs.Liars.{Liars, has_number}
+use Rattle.wire_forms.specs.Liars.{Liars, has_number, IsClientNumber}
 use Rattle.line_forms.specs.Heads.{head_lines, head_text, header, cluster_fields}
 use Rattle.line_forms.specs.Texts.{IsFaultless, ReadsTo}
 use Rattle.line_forms.proofs.Accepted.{head_accepted, one_head}
@@ -30,7 +30,7 @@ use Rattle.event_lines.proofs.Lines.{one_line}
 use Rattle.event_lines.proofs.Unique.{one_event}
 use Rattle.script_text.specs.declared.liars.Declared.{Declared}
 use Rattle.script_text.specs.declared.liars.Declared.TheVariants.{Node, Client}
-use Rattle.script_text.specs.Replays.{liar_line, liar_fields, liar_forms, IsDeclarable, is_same, with_declared, with_all, liars_of, declarations, event_limit, IsReplay, AreLiars, Spells, replay_lines, replay_text, replay_body, replay_script, is_liar_line}
+use Rattle.script_text.specs.Replays.{liar_line, liar_fields, liar_forms, IsDeclarable, is_same, with_declared, with_all, liars_of, declarations, event_limit, IsReplay, AreAscendingLiars, Spells, replay_lines, replay_text, replay_body, replay_script, is_liar_line}
 use Rattle.script_text.specs.Reading.{AreDeclared, AreAscending, has_declared, later_cause}
 use Rattle.script_text.proofs.Sums.{not_zero}
 use Rattle.script_text.proofs.Declarations.{push_each, IsLow, low, all_low, fields_back, liar_lacks, line_is_liar, line_says, same_itself, IsFree, none_from_free, none_declared, one_declared, once_before, have_declared, all_push, all_longer, declared_length}
@@ -130,16 +130,16 @@ has_inside : (P : ℕ → Type 0) (ks : List ℕ) (q : ℕ) → AllByRecursion P
 has_inside P [] q h there = absurd (false≢true there)
 has_inside P (k ∷ ks) q h there = elim (cases_Bool (eqb q k)) [ inl same ↦ subst P (sym (eqb-true q k same)) h.0 | inr other ↦ has_inside P ks q h.1 (rw other at there) ]
 
-there_declarable : (c : Numbers) (l : Liars) (d : Declared) → AreLiars c l → has_declared l d ≡ true → IsDeclarable c d
-there_declarable c l (Node n) a h = has_inside (λ k. k < c.n) l.nodes n (recursion_from_All (λ k. k < c.n) l.nodes a.nodes) h
-there_declarable c l (Client n) a h = has_inside (λ k. (1 ≤ k) × (k ≤ 1000)) l.clients n (recursion_from_All (λ k. (1 ≤ k) × (k ≤ 1000)) l.clients a.clients) h
+there_declarable : (c : Numbers) (l : Liars) (d : Declared) → AreAscendingLiars c l → has_declared l d ≡ true → IsDeclarable c d
+there_declarable c l (Node n) a h = has_inside (λ k. k < c.n) l.nodes n (recursion_from_All (λ k. k < c.n) l.nodes a.may_lie.nodes) h
+there_declarable c l (Client n) a h = has_inside IsClientNumber l.clients n (recursion_from_All IsClientNumber l.clients a.may_lie.clients) h
 
-each_declarable : (c : Numbers) (all ds : List Declared) → AreLiars c (liars_of all) → AllByRecursion (λ d. list_any (λ x. is_same x d) all ≡ true) ds → AllByRecursion (IsDeclarable c) ds
+each_declarable : (c : Numbers) (all ds : List Declared) → AreAscendingLiars c (liars_of all) → AllByRecursion (λ d. list_any (λ x. is_same x d) all ≡ true) ds → AllByRecursion (IsDeclarable c) ds
 each_declarable c all [] a h = tt
 each_declarable c all (d ∷ ds) a h = (there_declarable c (liars_of all) d a (have_declared all d ∙ h.0), each_declarable c all ds a h.1)
 
 pub spelled_declarable : (text : List ℕ) (c : Numbers) (l : Liars) (es : List ReplayLine) (s : Spells text c l es) → IsReplay c l es → AllByRecursion (IsDeclarable c) s.declared
-spelled_declarable text c l es s r = each_declarable c s.declared s.declared (subst (AreLiars c) (sym s.all) r.lying) (each_there s.declared s.declared (λ d h. h))
+spelled_declarable text c l es s r = each_declarable c s.declared s.declared (subst (AreAscendingLiars c) (sym s.all) r.lying) (each_there s.declared s.declared (λ d h. h))
 
 pub spelled_reads : (text : List ℕ) (c : Numbers) (l : Liars) (es : List ReplayLine) (s : Spells text c l es) → IsReplay c l es → ReadsTo replay_script text (replay_lines c s.declared es) []
 spelled_reads text c l es s r =
@@ -150,7 +150,7 @@ spelled_reads text c l es s r =
     ∙ sym (flat_map-append (λ l. l ++ 10 ∷ []) (head_lines c) (body_lines s.declared es)) ∙ sym s.spelled in
     let head = subst (λ (t : List ℕ). ReadsTo replay_script t (head_lines c) (liars ++ (events ++ []))) whole (head_accepted replay_body c (liars ++ (events ++ [])) r.valid) in
     let declarable = spelled_declarable text c l es s r in
-    let few : length (liars_of s.declared).nodes ≤ c.b = subst (λ (k : Liars). length k.nodes ≤ c.b) (sym s.all) r.lying.few in
+    let few : length (liars_of s.declared).nodes ≤ c.b = subst (λ (k : Liars). length k.nodes ≤ c.b) (sym s.all) r.lying.may_lie.few in
     let declared = liars_accepted text c [] s.declared s.declared (events ++ []) refl s.once few declarable (none_declared c r.valid) head in
     let lines : head_lines c ++ map liar_line s.declared ≡ replay_lines c s.declared [] = ap (λ (ls : List (List ℕ)). head_lines c ++ ls) (sym (append-nil (map liar_line s.declared))) in
     events_accepted text c s.declared [] es es [] r.valid declarable refl r.limited tt r.events (subst (λ (ls : List (List ℕ)). ReadsTo replay_script text ls (events ++ [])) lines declared)

@@ -21,7 +21,7 @@ use Rattle.event_lines.specs.Lines.{event_text, IsEventLine}
 use Rattle.event_lines.specs.declared.line.ReplayLine.{ReplayLine}
 use Rattle.script_text.specs.declared.liars.Declared.{Declared}
 use Rattle.script_text.specs.declared.liars.Front.{Front}
-use Rattle.script_text.specs.Replays.{liar_line, event_limit, AreLiars, IsReplay, Spells, replay_cause, replay_lines, replay_script, with_declared, IsDeclarable, is_liar_line}
+use Rattle.script_text.specs.Replays.{liar_line, event_limit, AreAscendingLiars, IsReplay, Spells, replay_cause, replay_lines, replay_script, with_declared, IsDeclarable, is_liar_line}
 use Rattle.script_text.specs.Reading.{AreDeclared, AreAscending, LiarsRead, FrontRead, EventsRead, again_cause, later_cause}
 use Rattle.script_text.proofs.Declarations.{push_each, none_declared, one_declared, free_from_none, declared_inside}
 use Rattle.script_text.proofs.Causes.{later_here}
@@ -204,10 +204,12 @@ replay_read text c l es rest number h =
     let inside = declared_inside c h.declared h.are.declarable in
     record {
       valid = h.are.valid;
-      lying = subst (AreLiars c) h.are.all (record {
-        nodes = inside.0;
-        few = subst (λ (k : Liars). length k.nodes ≤ c.b) (sym h.are.all) h.are.few;
-        clients = inside.1;
+      lying = subst (AreAscendingLiars c) h.are.all (record {
+        may_lie = record {
+          nodes = inside.0;
+          few = subst (λ (k : Liars). length k.nodes ≤ c.b) (sym h.are.all) h.are.few;
+          clients = inside.1;
+        };
         ascending = subst AreAscending (sym h.are.all) h.ascending;
       });
       events = h.events;

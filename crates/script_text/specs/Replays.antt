@@ -6,7 +6,7 @@ use Rattle.std.specs.Ordering.{nat_cmp}
 use Rattle.std.specs.BTreeSet.{insert_key}
 use Rattle.quorum_rules.specs.Limits.{Numbers, IsValid}
 use Rattle.text_lines.specs.Lines.{fields_of, line_of_fields, text_of_lines}
-use Rattle.wire_forms.specs.Liars.{Liars, IsAscending}
+use Rattle.wire_forms.specs.Liars.{Liars, IsAscending, IsClientNumber, AreLiars}
 use Rattle.line_forms.specs.Tables.{first_of, or_then}
 use Rattle.line_forms.specs.Kinds.{Kind, client, node}
 use Rattle.line_forms.specs.Kinds.Kind.{word}
@@ -32,7 +32,7 @@ liar_line d = line_of_fields (liar_fields d)
 -- a node of the cluster, or a client
 abbrev pub IsDeclarable : Numbers → Declared → Type 0
 IsDeclarable c (Node n) = n < c.n
-IsDeclarable c (Client k) = (1 ≤ k) × (k ≤ 1000)
+IsDeclarable c (Client k) = IsClientNumber k
 
 abbrev pub is_same : Declared → Declared → Bool
 is_same (Node n) (Node m) = n == m
@@ -63,16 +63,14 @@ declarations liars = map Node liars.nodes ++ map Client liars.clients
 abbrev pub event_limit : Numbers → ℕ
 event_limit c = min 200000 (1000000000 / (c.n * (c.size + 32 * c.n + 128)))
 
--- nodes of the cluster, no more than may lie, and clients
-pub record AreLiars (c : Numbers) (liars : Liars) : Type 0 where
-  pub nodes : All (λ n. n < c.n) liars.nodes
-  pub few : length liars.nodes ≤ c.b
-  pub clients : All (λ k. (1 ≤ k) × (k ≤ 1000)) liars.clients
+-- liars of the cluster, each list in ascending order
+pub record AreAscendingLiars (c : Numbers) (liars : Liars) : Type 0 where
+  pub may_lie : AreLiars c liars
   pub ascending : IsAscending liars.nodes × IsAscending liars.clients
 
 pub record IsReplay (c : Numbers) (liars : Liars) (lines : List ReplayLine) : Type 0 where
   pub valid : IsValid c
-  pub lying : AreLiars c liars
+  pub lying : AreAscendingLiars c liars
   pub events : AllByRecursion (IsEventLine c) lines
   pub limited : length lines ≤ event_limit c
 

@@ -10,7 +10,7 @@ ghost use Rattle.line_forms.specs.Kinds.Kind.{word};
 ghost use Rattle.line_forms.specs.Tables.{Gives};
 ghost use Rattle.line_forms.specs.Texts.{IsRefusal, ReadsTo};
 ghost use Rattle.event_lines.specs.Forms.{fields_cause};
-ghost use Rattle.script_text.specs.Replays.{AreLiars, IsDeclarable, declarations, field_at, is_liar_line, liar_fields, liar_forms, liar_line, replay_cause, replay_script, with_declared};
+ghost use Rattle.script_text.specs.Replays.{AreAscendingLiars, IsDeclarable, declarations, field_at, is_liar_line, liar_fields, liar_forms, liar_line, replay_cause, replay_script, with_declared};
 ghost use Rattle.script_text.specs.Reading.{AreAscending, AreDeclared, FrontRead, again_cause};
 
 use line_forms::{Cause, LineRefusal, ScriptRefusal, refused};
@@ -90,10 +90,13 @@ fn first_word(line: &[u8]) -> &[u8]
 
 // The liar line at the front of a text, and what stands after it.
 fn next_liar_line(text: &[u8]) -> Option<(&[u8], &[u8])>
-    ensures parts { IfSome result (λ found. parts_of text.now ≡ found.0.now ∷ parts_of found.1.now) }
+    ensures parts { IfSome result
+        (λ found. parts_of text.now ≡ found.0.now ∷ parts_of found.1.now) }
     ensures shorter { IfSome result (λ found. length found.1.now < length text.now) }
     ensures liar { IfSome result (λ found. is_liar_line found.0.now ≡ true) }
-    ensures none { IfNone result ((line after : List ℕ) → parts_of text.now ≡ line ∷ parts_of after → is_liar_line line ≡ false) }
+    ensures none { IfNone result
+        ((line after : List ℕ) → parts_of text.now ≡ line ∷ parts_of after
+        → is_liar_line line ≡ false) }
 {
     let (line, after) = cut(text, b'\n')?;
     if is_liar_line(line) {
@@ -112,7 +115,9 @@ fn next_declared(
 ) -> Result<Declared, LineRefusal>
     requires { is_liar_line line.now ≡ true }
     ensures { (declared : List Declared) → AreDeclared config.now declared liars.now
-        → Gives (λ d. (liar_line d ≡ line.now) × IsDeclarable config.now d × (again_cause config.now liars.now d ≡ None)) (replay_cause config.now (map liar_line declared) line.now) result }
+        → Gives (λ d. (liar_line d ≡ line.now) × IsDeclarable config.now d
+        × (again_cause config.now liars.now d ≡ None))
+        (replay_cause config.now (map liar_line declared) line.now) result }
 {
     let declared = read_declared(alloc, config, line)?;
     refuse_again(config, liars, declared)?;
@@ -147,7 +152,8 @@ fn declare(liars: &mut Liars, declared: Declared) -> Result<(), NoMemory>
 // What a liar line declares, whatever others do.
 fn read_declared(alloc: Global, config: &Config, line: &[u8]) -> Result<Declared, LineRefusal>
     requires { is_liar_line line.now ≡ true }
-    ensures { Gives (λ d. (liar_fields d ≡ fields_of line.now) × IsDeclarable config.now d) (fields_cause (liar_forms config.now) (drop 1 (fields_of line.now))) result }
+    ensures { Gives (λ d. (liar_fields d ≡ fields_of line.now) × IsDeclarable config.now d)
+        (fields_cause (liar_forms config.now) (drop 1 (fields_of line.now))) result }
 {
     let fields = fields(alloc, line)?;
     let Some((_word, fields)) = fields.as_slice().split_first() else {
@@ -157,7 +163,9 @@ fn read_declared(alloc: Global, config: &Config, line: &[u8]) -> Result<Declared
 }
 
 fn declared_in(config: &Config, fields: &[&[u8]]) -> Result<Declared, LineRefusal>
-    ensures { Gives (λ d. (liar_fields d ≡ codes "liar" ∷ texts fields.now) × IsDeclarable config.now d) (fields_cause (liar_forms config.now) (texts fields.now)) result }
+    ensures { Gives (λ d. (liar_fields d ≡ codes "liar" ∷ texts fields.now)
+        × IsDeclarable config.now d)
+        (fields_cause (liar_forms config.now) (texts fields.now)) result }
 {
     let Some((kind, fields)) = fields.split_first() else {
         return Err(LineRefusal::Cause(Cause::WrongCount));
@@ -172,7 +180,10 @@ fn declared_in(config: &Config, fields: &[&[u8]]) -> Result<Declared, LineRefusa
 }
 
 fn node_in(config: &Config, fields: &[&[u8]]) -> Result<Declared, LineRefusal>
-    ensures { Gives (λ d. (liar_fields d ≡ codes "liar" ∷ codes "node" ∷ texts fields.now) × IsDeclarable config.now d) (form_cause (word (codes "node" ∷ []) ∷ node_kind config.now.n ∷ []) (codes "node" ∷ texts fields.now)) result }
+    ensures { Gives (λ d. (liar_fields d ≡ codes "liar" ∷ codes "node" ∷ texts fields.now)
+        × IsDeclarable config.now d)
+        (form_cause (word (codes "node" ∷ []) ∷ node_kind config.now.n ∷ [])
+        (codes "node" ∷ texts fields.now)) result }
 {
     let [field] = fields else {
         return Err(LineRefusal::Cause(Cause::WrongCount));
@@ -188,7 +199,10 @@ fn node_in(config: &Config, fields: &[&[u8]]) -> Result<Declared, LineRefusal>
 }
 
 fn client_in(fields: &[&[u8]]) -> Result<Declared, LineRefusal>
-    ensures { Gives (λ d. (liar_fields d ≡ codes "liar" ∷ codes "client" ∷ texts fields.now) × ((c : Numbers) → IsDeclarable c d)) (form_cause (word (codes "client" ∷ []) ∷ client_kind ∷ []) (codes "client" ∷ texts fields.now)) result }
+    ensures { Gives (λ d. (liar_fields d ≡ codes "liar" ∷ codes "client" ∷ texts fields.now)
+        × ((c : Numbers) → IsDeclarable c d))
+        (form_cause (word (codes "client" ∷ []) ∷ client_kind ∷ [])
+        (codes "client" ∷ texts fields.now)) result }
 {
     let [field] = fields else {
         return Err(LineRefusal::Cause(Cause::WrongCount));
@@ -205,16 +219,18 @@ fn client_in(fields: &[&[u8]]) -> Result<Declared, LineRefusal>
 
 /// Adds a line for each liar, nodes first and both ascending.
 pub fn add_liars(text: &mut Text, config: &Config, liars: &Liars) -> Result<(), NoMemory>
-    requires { AreLiars config.now liars.now }
-    ensures { OnOk result (text.new ≡ text.old ++ text_of_lines (map liar_line (declarations liars.now))) }
+    requires { AreAscendingLiars config.now liars.now }
+    ensures { OnOk result (text.new
+        ≡ text.old ++ text_of_lines (map liar_line (declarations liars.now))) }
 {
     add_nodes(text, config, liars)?;
     add_clients(text, config, liars)
 }
 
 fn add_nodes(text: &mut Text, config: &Config, liars: &Liars) -> Result<(), NoMemory>
-    requires { AreLiars config.now liars.now }
-    ensures { OnOk result (text.new ≡ text.old ++ text_of_lines (map (λ n. liar_line (Declared.Node n)) liars.now.nodes)) }
+    requires { AreAscendingLiars config.now liars.now }
+    ensures { OnOk result (text.new
+        ≡ text.old ++ text_of_lines (map (λ n. liar_line (Declared.Node n)) liars.now.nodes)) }
 {
     for node in 0..config.n() as u8 {
         if liars.node(node) {
@@ -227,8 +243,9 @@ fn add_nodes(text: &mut Text, config: &Config, liars: &Liars) -> Result<(), NoMe
 }
 
 fn add_clients(text: &mut Text, config: &Config, liars: &Liars) -> Result<(), NoMemory>
-    requires { AreLiars config.now liars.now }
-    ensures { OnOk result (text.new ≡ text.old ++ text_of_lines (map (λ k. liar_line (Declared.Client k)) liars.now.clients)) }
+    requires { AreAscendingLiars config.now liars.now }
+    ensures { OnOk result (text.new
+        ≡ text.old ++ text_of_lines (map (λ k. liar_line (Declared.Client k)) liars.now.clients)) }
 {
     for client in 1..1001 {
         if liars.client(client) {

@@ -4,7 +4,7 @@ ghost use Rattle.std.specs.List.{AllByRecursion};
 ghost use Rattle.line_forms.specs.Tables.{Gives};
 ghost use Rattle.line_forms.specs.Texts.{IsFaultless, IsRefusal};
 ghost use Rattle.event_lines.specs.Lines.{event_text, IsEventLine};
-ghost use Rattle.script_text.specs.Replays.{AreLiars, IsReplay, Spells, event_limit, replay_script, replay_text};
+ghost use Rattle.script_text.specs.Replays.{AreAscendingLiars, IsReplay, Spells, event_limit, replay_script, replay_text};
 ghost use Rattle.script_text.specs.Reading.{FrontRead, later_cause};
 
 use crate::liars::{Front, add_liars, is_liar_line, read_liars};
@@ -94,7 +94,8 @@ fn next_event(
     before: usize,
     line: &[u8],
 ) -> Result<ReplayLine, LineRefusal>
-    ensures { Gives (λ event. IsEventLine config.now event × (event_text event ≡ line.now) × (before < event_limit config.now)) (later_cause config.now before line.now) result }
+    ensures { Gives (λ event. IsEventLine config.now event × (event_text event ≡ line.now)
+        × (before < event_limit config.now)) (later_cause config.now before line.now) result }
 {
     if is_liar_line(line) {
         return Err(LineRefusal::Cause(Cause::UnknownWord));
@@ -119,9 +120,10 @@ fn limit_of(config: &Config) -> u64
 ///
 /// A replay of any number of lines has one, though none beyond the limit is read back.
 pub fn print_replay(alloc: Global, replay: &Replay) -> Result<Bytes, NoMemory>
-    requires liars { AreLiars replay.now.config replay.now.liars }
+    requires liars { AreAscendingLiars replay.now.config replay.now.liars }
     requires lines { AllByRecursion (IsEventLine replay.now.config) replay.now.lines }
-    ensures { IfOk result (λ text. text ≡ replay_text replay.now.config replay.now.liars replay.now.lines) }
+    ensures { IfOk result (λ text.
+        text ≡ replay_text replay.now.config replay.now.liars replay.now.lines) }
 {
     let mut text = Text::new(alloc);
     add_head(&mut text, &replay.config)?;

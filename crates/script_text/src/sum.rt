@@ -44,14 +44,16 @@ pub fn read_sum(alloc: Global, text: &[u8]) -> Result<(Config, Bytes), ScriptRef
 
 /// The value of `len` bytes that a value line spells.
 fn read_value(alloc: Global, line: &[u8], len: usize) -> Result<Bytes, LineRefusal>
-    ensures { Gives (λ v. (value_fields v ≡ fields_of line.now) × (length v ≡ len) × IsBytes v) (form_cause (value_form len) (fields_of line.now)) result }
+    ensures { Gives (λ v. (value_fields v ≡ fields_of line.now) × (length v ≡ len) × IsBytes v)
+        (form_cause (value_form len) (fields_of line.now)) result }
 {
     let fields = fields(alloc, line)?;
     value_in(alloc, fields.as_slice(), len)
 }
 
 fn value_in(alloc: Global, fields: &[&[u8]], len: usize) -> Result<Bytes, LineRefusal>
-    ensures { Gives (λ v. (value_fields v ≡ texts fields.now) × (length v ≡ len) × IsBytes v) (form_cause (value_form len) (texts fields.now)) result }
+    ensures { Gives (λ v. (value_fields v ≡ texts fields.now) × (length v ≡ len) × IsBytes v)
+        (form_cause (value_form len) (texts fields.now)) result }
 {
     let Some((word, fields)) = fields.split_first() else {
         return Err(LineRefusal::Cause(Cause::WrongCount));

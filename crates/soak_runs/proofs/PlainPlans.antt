@@ -19,10 +19,10 @@ use Rattle.protocol.specs.Report.{is_done, is_spent}
 use Rattle.protocol.specs.Laws.{RecordsAreTold, StartsAscend}
 use Rattle.protocol.specs.Seen.{block_of}
 use Rattle.protocol.proofs.Lists.{Contains-head, Contains-rest}
-use Rattle.history_book.specs.declared.entry.Counts.{Counts}
-use Rattle.history_book.specs.Books.{Book}
-use Rattle.history_book.specs.Tellings.{Tells}
-use Rattle.history_book.proofs.Counted.{count_cons}
+use Rattle.history_entries.specs.declared.entry.Counts.{Counts}
+use Rattle.history_entries.specs.Books.{Book}
+use Rattle.history_making.specs.Tellings.{Tells}
+use Rattle.history_making.proofs.Counted.{count_cons}
 use Rattle.soak_text.specs.Soaks.{plain_line, line_with, soak_text}
 use Rattle.soak_text.specs.Plain.{Deed, deeds_of, is_on, first_register, entries_from, plain_entries, plain_text}
 use Rattle.plan_words.specs.declared.plan.Plan.{Plan}

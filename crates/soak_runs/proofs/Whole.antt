@@ -15,11 +15,11 @@ use Rattle.protocol.specs.Report.{mark}
 use Rattle.protocol.specs.Laws.{InEachCluster, HistoriesAreLegal, HistoriesAreOne, RecordsAreTold, CompletedIsHeld, AcceptedIsKnown, WritesDrawAbove, ReadsGiveUp, StartsAscend, MarksAreOne, MarksFollow}
 use Rattle.protocol.specs.Instance.{InEachRun}
 use Rattle.protocol.proofs.Lists.{Contains-head, Contains-rest, Contains-map_cases}
-use Rattle.history_book.specs.declared.entry.Entry.{Entry as BookEntry}
-use Rattle.history_book.specs.declared.entry.Kind.{Kind}
-use Rattle.history_book.specs.declared.entry.Kind.TheVariants.{Read as ReadKind, Write as WriteKind}
-use Rattle.history_book.specs.Books.{Book}
-use Rattle.history_book.specs.Tellings.{Tells, told_entry, told_with}
+use Rattle.history_entries.specs.declared.entry.Entry.{Entry as BookEntry}
+use Rattle.history_entries.specs.declared.entry.Kind.{Kind}
+use Rattle.history_entries.specs.declared.entry.Kind.TheVariants.{Read as ReadKind, Write as WriteKind}
+use Rattle.history_entries.specs.Books.{Book}
+use Rattle.history_making.specs.Tellings.{Tells, told_entry, told_with}
 use Rattle.soak_text.specs.Soaks.{plain_line}
 use Rattle.soak_text.specs.Plain.{Register, first_register, entry_of, entries_from}
 use Rattle.soak_runs.specs.Serial.{IsPast, AreSerial, record_deed, op_by, SerialRunsArePlain}

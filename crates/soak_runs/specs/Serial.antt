@@ -10,8 +10,8 @@ use Rattle.protocol.specs.Operations.{Work, Outcome}
 use Rattle.protocol.specs.Operations.Work.{Reads, Writes}
 use Rattle.protocol.specs.World.{World, Record}
 use Rattle.protocol.specs.History.{Entry, NoClash}
-use Rattle.history_book.specs.Books.{Book}
-use Rattle.history_book.specs.Tellings.{Tells}
+use Rattle.history_entries.specs.Books.{Book}
+use Rattle.history_making.specs.Tellings.{Tells}
 use Rattle.soak_text.specs.Soaks.{plain_line}
 use Rattle.soak_text.specs.Plain.{Deed, first_register, entries_from}
 

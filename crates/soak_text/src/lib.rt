@@ -8,6 +8,3 @@
 mod print;
 
 pub use print::print_soak;
-
-#[cfg(test)]
-mod tests;

@@ -1,10 +1,10 @@
 ghost use Rattle.std.specs.Prelude.{◌≡◌, [], ◌∷◌, ◌++◌, codes, map, IfOk, OnOk};
 ghost use Rattle.text_lines.specs.Lines.{line_of_fields, text_of_lines};
-ghost use Rattle.history_book.specs.Reports.{count_text, kind_word, stamp_text};
+ghost use Rattle.history_texts.specs.Reports.{count_text, kind_word, stamp_text};
 ghost use Rattle.soak_text.specs.Soaks.{deed_fields, entries_sum, line_with, outcome_fields, plain_line, soak_text, sum_field};
 
 use cross_sum::{Bytes, Hash, sha};
-use history_book::{Counts, Entry, History, Kind};
+use history_entries::{Counts, Entry, History, Kind};
 use lists::NoMemory;
 use std::alloc::Global;
 use text_lines::Text;
@@ -21,7 +21,8 @@ pub fn print_soak(alloc: Global, number: u64, history: &History) -> Result<Bytes
 }
 
 fn add_line(text: &mut Text, number: u64, counts: &Counts, sum: &Hash) -> Result<(), NoMemory>
-    ensures { OnOk result (text.new ≡ text.old ++ line_with number counts.now.done counts.now.spent sum.now) }
+    ensures { OnOk result (text.new ≡ text.old
+        ++ line_with number counts.now.done counts.now.spent sum.now) }
 {
     text.add(b"soak ")?;
     add_number_and_outcome(text, number, counts, sum)
@@ -33,7 +34,10 @@ fn add_number_and_outcome(
     counts: &Counts,
     sum: &Hash,
 ) -> Result<(), NoMemory>
-    ensures { OnOk result (text.new ≡ text.old ++ line_of_fields (count_text (codes "number") number ∷ outcome_fields counts.now.done counts.now.spent sum.now)) }
+    ensures { OnOk result (text.new ≡ text.old
+        ++ line_of_fields
+        (count_text (codes "number") number ∷ outcome_fields counts.now.done counts.now.spent
+        sum.now)) }
 {
     add_count(text, b"number", number)?;
     text.add_space()?;
@@ -41,7 +45,8 @@ fn add_number_and_outcome(
 }
 
 fn add_outcome(text: &mut Text, counts: &Counts, sum: &Hash) -> Result<(), NoMemory>
-    ensures { OnOk result (text.new ≡ text.old ++ line_of_fields (outcome_fields counts.now.done counts.now.spent sum.now)) }
+    ensures { OnOk result (text.new ≡ text.old
+        ++ line_of_fields (outcome_fields counts.now.done counts.now.spent sum.now)) }
 {
     add_count(text, b"done", counts.done)?;
     text.add_space()?;

@@ -15,10 +15,12 @@ pub fn values_read_back()
 
 /// A printed line has the fields that it was printed from.
 pub fn fields_come_apart()
-    ensures { (first : List ℕ) (more : List (List ℕ)) → AllLack 32 (first ∷ more) → fields_of (line_of_fields (first ∷ more)) ≡ first ∷ more }
+    ensures { (first : List ℕ) (more : List (List ℕ)) → AllLack 32 (first ∷ more)
+        → fields_of (line_of_fields (first ∷ more)) ≡ first ∷ more }
 {}
 
 /// A printed text has the lines that it was printed from, and nothing after the last newline.
 pub fn lines_come_apart()
-    ensures { (lines : List (List ℕ)) → AllLack 10 lines → parts_of (text_of_lines lines) ≡ lines ++ [] ∷ [] }
+    ensures { (lines : List (List ℕ)) → AllLack 10 lines
+        → parts_of (text_of_lines lines) ≡ lines ++ [] ∷ [] }
 {}

@@ -53,10 +53,7 @@ fold_ascends (n ∷ ns) ks h = fold_ascends ns (insert_key nat_cmp ks n) (insert
 pub declares : OfPlans HasLiars → OfPlans HasScriptLiars
 unfolding IsStrictlySortedBy
 declares law plan fits =
-    let has = law plan fits in
     record {
-      nodes = has.nodes;
-      few = has.few;
-      clients = has.clients;
+      may_lie = law plan fits;
       ascending = rw fits.liars (fold_ascends (lying_nodes plan.rules) [] tt, fold_ascends (lying_clients plan.rules) [] tt);
     }

@@ -4,7 +4,7 @@ ghost use Rattle.std.specs.Prelude.{◌≡◌, map, IfOk, OnOk};
 ghost use Rattle.std.specs.List.{AllByRecursion};
 ghost use Rattle.event_lines.specs.Lines.{IsEventLine};
 ghost use Rattle.event_lines.specs.declared.line.ReplayLine.TheVariants.{Plain};
-ghost use Rattle.script_text.specs.Replays.{AreLiars, replay_text};
+ghost use Rattle.script_text.specs.Replays.{AreAscendingLiars, replay_text};
 ghost use Rattle.plan_histories.specs.Told.{IsTold};
 
 use crate::forms::form_line;
@@ -39,7 +39,7 @@ pub fn script_of(
     liars: Liars,
     lines: ItemList<Line>,
 ) -> Result<Bytes, NoMemory>
-    requires liars { AreLiars config liars }
+    requires liars { AreAscendingLiars config liars }
     requires lines { AllByRecursion (IsTold config) lines }
     ensures text { IfOk result (λ text. text ≡ replay_text config liars (map Plain lines)) }
     ensures events { OnOk result (AllByRecursion (IsEventLine config) (map Plain lines)) }

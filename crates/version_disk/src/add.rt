@@ -42,12 +42,16 @@ pub(crate) fn add_version<D: Disk>(
     ask: &Ask,
     version: Version,
 ) -> Result<(), StoreRefusal>
-    requires kept { IsKept D.pending D.seen node.old.config node.old.number node.old count disk.old }
+    requires kept { IsKept D.pending D.seen node.old.config node.old.number node.old count
+        disk.old }
     requires added { Some version ≡ accepts_of node.old ask.now }
     requires fits { fits (body_len node.old.config) count (D.most disk.old) ≡ true }
-    ensures state { OnOk result (node.new ≡ with_versions node.old ask.now.block (after_of node.old ask.now)) }
-    ensures done { OnOk result (IsDone node.old.config node.old.number node.old (Answers ask.now) (D.seen disk.old) (D.seen disk.new)) }
-    ensures kept { OnOk result (IsKept D.pending D.seen node.old.config node.old.number node.new (count + 1) disk.new) }
+    ensures state { OnOk result (node.new ≡ with_versions node.old ask.now.block
+        (after_of node.old ask.now)) }
+    ensures done { OnOk result (IsDone node.old.config node.old.number node.old (Answers ask.now)
+        (D.seen disk.old) (D.seen disk.new)) }
+    ensures kept { OnOk result (IsKept D.pending D.seen node.old.config node.old.number node.new
+        (count + 1) disk.new) }
     ensures config { node.new.config ≡ node.old.config }
     ensures number { node.new.number ≡ node.old.number }
     ensures kinds { IfErr result IsMemoryOrFault }
@@ -75,12 +79,16 @@ pub(crate) fn add_prune<D: Disk>(
     block: u32,
     stamp: &Stamp,
 ) -> Result<(), StoreRefusal>
-    requires kept { IsKept D.pending D.seen node.old.config node.old.number node.old count disk.old }
+    requires kept { IsKept D.pending D.seen node.old.config node.old.number node.old count
+        disk.old }
     requires there { block < node.old.config.blocks }
     requires fits { fits (body_len node.old.config) count (D.most disk.old) ≡ true }
-    ensures state { OnOk result (node.new ≡ with_versions node.old block (pruned (setting node.old.config) stamp.now (versions_in node.old block))) }
-    ensures done { OnOk result (IsDone node.old.config node.old.number node.old (Prunes block stamp.now) (D.seen disk.old) (D.seen disk.new)) }
-    ensures kept { OnOk result (IsKept D.pending D.seen node.old.config node.old.number node.new (count + 1) disk.new) }
+    ensures state { OnOk result (node.new ≡ with_versions node.old block
+        (pruned (setting node.old.config) stamp.now (versions_in node.old block))) }
+    ensures done { OnOk result (IsDone node.old.config node.old.number node.old
+        (Prunes block stamp.now) (D.seen disk.old) (D.seen disk.new)) }
+    ensures kept { OnOk result (IsKept D.pending D.seen node.old.config node.old.number node.new
+        (count + 1) disk.new) }
     ensures config { node.new.config ≡ node.old.config }
     ensures number { node.new.number ≡ node.old.number }
     ensures kinds { IfErr result IsMemoryOrFault }
@@ -88,7 +96,8 @@ pub(crate) fn add_prune<D: Disk>(
     ensures calm_disk { IfErr result (IfCalm (disk.new ≡ disk.old)) }
     ensures room { D.most disk.new ≡ D.most disk.old }
     ensures any_moment { LeavesOnly D.moment D.left_since disk.old disk.new
-        (IsDoneOrNot node.old.config node.old.number node.old (Prunes block stamp.now) (D.seen disk.old)) }
+        (IsDoneOrNot node.old.config node.old.number node.old (Prunes block stamp.now)
+        (D.seen disk.old)) }
     ensures later { D.faults disk.old ≤ D.faults disk.new }
     ensures cause { IfErr result (IfFailed (Rose D.last (D.faults disk.old) (D.faults disk.new))) }
 {

@@ -39,7 +39,8 @@ impl StoredNode<CalmDisk> {
 
     /// Makes room for one more slot and the byte after it.
     pub fn make_room(&mut self) -> Result<(), NoMemory>
-        ensures place { OnOk result (has_place self.new.node self.new.disk.bytes self.new.disk.room ≡ true) }
+        ensures place { OnOk result (has_place self.new.node self.new.disk.bytes self.new.disk.room
+            ≡ true) }
         ensures node { self.new.node ≡ self.old.node }
         ensures bytes { self.new.disk.bytes ≡ self.old.disk.bytes }
     {
@@ -59,7 +60,8 @@ impl StoredNode<CalmDisk> {
     /// Adds what was prepared for the ask, and makes the room that its slot needs.
     pub fn keep(&mut self, ask: &Ask, added: Option<Version>) -> Result<(), NoMemory>
         requires { added ≡ accepts_of self.old.node ask.now }
-        ensures ok { OnOk result (self.new.node ≡ with_versions self.old.node ask.now.block (after_of self.old.node ask.now)) }
+        ensures ok { OnOk result (self.new.node ≡ with_versions self.old.node ask.now.block
+            (after_of self.old.node ask.now)) }
         ensures err { OnErr result (self.new.node ≡ self.old.node) }
         ensures bytes { OnErr result (self.new.disk.bytes ≡ self.old.disk.bytes) }
     {
@@ -75,7 +77,8 @@ impl StoredNode<CalmDisk> {
     /// Prunes a block by a stamp, and makes the room that the slot needs.
     pub fn keep_prune(&mut self, block: u32, stamp: &Stamp) -> Result<(), NoMemory>
         requires { block < self.old.node.config.blocks }
-        ensures ok { OnOk result (self.new.node ≡ with_versions self.old.node block (pruned (setting self.old.node.config) stamp.now (versions_in self.old.node block))) }
+        ensures ok { OnOk result (self.new.node ≡ with_versions self.old.node block
+            (pruned (setting self.old.node.config) stamp.now (versions_in self.old.node block))) }
         ensures err { OnErr result (self.new.node ≡ self.old.node) }
         ensures bytes { OnErr result (self.new.disk.bytes ≡ self.old.disk.bytes) }
     {

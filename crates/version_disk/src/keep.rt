@@ -18,18 +18,23 @@ pub(crate) fn keep_slot<D: Disk>(
     count: u64,
     piece: &[u8],
 ) -> Result<(), DiskFault>
-    requires kept { IsKept D.pending D.seen config.now number (held config.now number (D.seen disk.old)) count disk.old }
+    requires kept { IsKept D.pending D.seen config.now number
+        (held config.now number (D.seen disk.old)) count disk.old }
     requires whole { length piece.now ≡ body_len config.now + 1 }
     requires zero { slice_index piece.now (body_len config.now) ≡ 0 }
     requires room { (count + 1) * (body_len config.now + 1) + 1 ≤ D.most disk.old }
     ensures kept { (s : Slot) → IsGoodIn config.now number s → IsPieceOf s piece.now → OnOk result
-        (IsKept D.pending D.seen config.now number (after_slot (held config.now number (D.seen disk.old)) s) (count + 1) disk.new) }
+        (IsKept D.pending D.seen config.now number
+        (after_slot (held config.now number (D.seen disk.old)) s) (count + 1) disk.new) }
     ensures slots { (s : Slot) → IsGoodIn config.now number s → IsPieceOf s piece.now → OnOk result
         (slots_of config.now (D.seen disk.new) ≡ slots_of config.now (D.seen disk.old) ++ s ∷ []) }
     ensures room { D.most disk.new ≡ D.most disk.old }
     // what a crash at any moment of the call leaves holds the state before it or that after it
-    ensures any_moment { (s : Slot) → IsGoodIn config.now number s → IsPieceOf s piece.now → LeavesOnly D.moment D.left_since disk.old disk.new
-        (HoldsOneOf config.now number (slots_of config.now (D.seen disk.old)) (held config.now number (D.seen disk.old)) (after_slot (held config.now number (D.seen disk.old)) s)) }
+    ensures any_moment { (s : Slot) → IsGoodIn config.now number s → IsPieceOf s piece.now
+        → LeavesOnly D.moment D.left_since disk.old disk.new
+        (HoldsOneOf config.now number (slots_of config.now (D.seen disk.old))
+        (held config.now number (D.seen disk.old))
+        (after_slot (held config.now number (D.seen disk.old)) s)) }
     ensures cause { HasCause D.last (D.faults disk.old) (D.faults disk.new) result }
 {
     add_slot(disk, body_size(config), count, piece)

@@ -11,8 +11,10 @@ ghost use Rattle.version_disk.specs.Lives.{Moment, IsThere, IsNeverDamaged, Only
 /// at some moment stay the first ones.
 pub fn acknowledged_is_there()
     ensures there { (c : Numbers) (number : ℕ) (life : List Moment) → IsThere c number life }
-    ensures never_damaged { (c : Numbers) (number : ℕ) (life : List Moment) → IsNeverDamaged c number life }
-    ensures only_grows { (c : Numbers) (number : ℕ) (bytes : List ℕ) (life : List Moment) → OnlyGrows c number bytes life }
+    ensures never_damaged { (c : Numbers) (number : ℕ) (life : List Moment)
+        → IsNeverDamaged c number life }
+    ensures only_grows { (c : Numbers) (number : ℕ) (bytes : List ℕ) (life : List Moment)
+        → OnlyGrows c number bytes life }
 {}
 
 /// Slot k begins at k slots' length, and the slots that count are those from slot 0 to before the first that isn't open.

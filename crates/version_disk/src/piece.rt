@@ -40,7 +40,8 @@ pub(crate) fn prune_piece(
     block: u32,
     stamp: &Stamp,
 ) -> Result<Vec<u8>, NoMemory>
-    ensures piece { IfOk result (λ piece. IsPieceOf (prune_slot config.now block stamp.now) piece.items) }
+    ensures piece { IfOk result (λ piece.
+        IsPieceOf (prune_slot config.now block stamp.now) piece.items) }
     ensures fits { OnOk result (Fits config.now (prune_slot config.now block stamp.now)) }
 {
     stamp_ranges(*stamp);

@@ -38,8 +38,10 @@ pub(crate) fn play(
 ) -> Result<bool, NoMemory>
     requires config { config.now ≡ node.old.config }
     requires long { length body.now ≡ body_len config.now }
-    ensures good { IfOk result (λ good. good ≡ not (is_bad node.old.config node.old.number (slot_of config.now.n body.now))) }
-    ensures played { IfOk result (λ good. good ≡ true → node.new ≡ after_slot node.old (slot_of config.now.n body.now)) }
+    ensures good { IfOk result (λ good.
+        good ≡ not (is_bad node.old.config node.old.number (slot_of config.now.n body.now))) }
+    ensures played { IfOk result (λ good. good ≡ true
+        → node.new ≡ after_slot node.old (slot_of config.now.n body.now)) }
     ensures config { node.new.config ≡ node.old.config }
     ensures number { node.new.number ≡ node.old.number }
 {
@@ -69,7 +71,8 @@ pub(crate) fn replay(
     ensures node { IfOk result (λ r. r.0 ≡ held config.now number bytes.now) }
     ensures count { IfOk result (λ r. r.1 ≡ length (bodies (body_len config.now) bytes.now)) }
     ensures good { OnOk result (first_bad config.now number bytes.now ≡ None) }
-    ensures damaged { IfErr result (IfSlot (λ slot. first_bad config.now number bytes.now ≡ Some slot)) }
+    ensures damaged { IfErr result
+        (IfSlot (λ slot. first_bad config.now number bytes.now ≡ Some slot)) }
     ensures no_fault { IfErr result (IfFault ⊥) }
 {
     let body = body_size(config) as usize;

@@ -23,7 +23,8 @@ fn read_all<D: Disk>(alloc: Global, disk: &mut D) -> Result<Vec<u8>, OpenFault>
     ensures same { D.seen disk.new ≡ D.seen disk.old }
     ensures room { D.most disk.new ≡ D.most disk.old }
     // a crash at any moment of the call leaves what one could leave before
-    ensures any_moment { LeavesOnly D.moment D.left_since disk.old disk.new (MayLeave (D.pending disk.old)) }
+    ensures any_moment { LeavesOnly D.moment D.left_since disk.old disk.new
+        (MayLeave (D.pending disk.old)) }
     ensures later { D.faults disk.old ≤ D.faults disk.new }
     ensures cause { IfErr result (IfFault (Rose D.last (D.faults disk.old) (D.faults disk.new))) }
     ensures no_slot { IfErr result (IfSlot (λ _. ⊥)) }
@@ -45,11 +46,14 @@ pub(crate) fn start<D: Disk>(
     requires number { number < config.now.n }
     requires room { 1 ≤ D.most disk.old }
     ensures kept { IfOk result (λ r. IsKept D.pending D.seen config.now number r.0 r.1 disk.new) }
-    ensures same { OnOk result (slots_of config.now (D.seen disk.new) ≡ slots_of config.now (D.seen disk.old)) }
+    ensures same { OnOk result (slots_of config.now (D.seen disk.new)
+        ≡ slots_of config.now (D.seen disk.old)) }
     ensures good { OnOk result (first_bad config.now number (D.seen disk.old) ≡ None) }
-    ensures damaged { IfErr result (IfSlot (λ slot. first_bad config.now number (D.seen disk.old) ≡ Some slot)) }
+    ensures damaged { IfErr result
+        (IfSlot (λ slot. first_bad config.now number (D.seen disk.old) ≡ Some slot)) }
     ensures room { D.most disk.new ≡ D.most disk.old }
-    ensures any_moment { LeavesOnly D.moment D.left_since disk.old disk.new (IsStillThere config.now (D.pending disk.old) (D.seen disk.old)) }
+    ensures any_moment { LeavesOnly D.moment D.left_since disk.old disk.new
+        (IsStillThere config.now (D.pending disk.old) (D.seen disk.old)) }
     ensures later { D.faults disk.old ≤ D.faults disk.new }
     ensures cause { IfErr result (IfFault (Rose D.last (D.faults disk.old) (D.faults disk.new))) }
 {

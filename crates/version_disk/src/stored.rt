@@ -45,7 +45,8 @@ impl<D: Disk> Model for StoredNode<D> {
     ghost view = { λ s. record { node = s.node; disk = s.disk; broken = s.broken } };
 
     ghost invariant = { λ s.
-        (s.broken ≡ false → IsKept D.pending D.seen s.node.config s.node.number s.node s.count s.disk)
+        (s.broken ≡ false
+        → IsKept D.pending D.seen s.node.config s.node.number s.node s.count s.disk)
         × (s.broken ≡ true → Rose D.last 0 (D.faults s.disk))
         × (s.node.number < s.node.config.n) };
 }
@@ -79,7 +80,8 @@ impl<D: Disk> StoredNode<D> {
         requires room { 1 ≤ D.most disk }
         // the node has the state that the disk held, and the disk holds it still, safe from a crash
         ensures state { IfOk result (λ s. s.node ≡ held config.now number (D.seen disk)) }
-        ensures slots { IfOk result (λ s. slots_of config.now (D.seen s.disk) ≡ slots_of config.now (D.seen disk)) }
+        ensures slots { IfOk result (λ s. slots_of config.now (D.seen s.disk)
+            ≡ slots_of config.now (D.seen disk)) }
         ensures held { IfOk result (λ s. held config.now number (D.seen s.disk) ≡ s.node) }
         ensures durable { IfOk result (λ s. D.pending s.disk ≡ settled (D.seen s.disk)) }
         ensures whole { IfOk result (λ s. s.broken ≡ false) }
@@ -87,11 +89,14 @@ impl<D: Disk> StoredNode<D> {
         ensures number { IfOk result (λ s. s.node.number ≡ number) }
         // where the disk doesn't fail and memory is found, Damaged tells the first bad slot, and comes exactly where there is one
         ensures good { OnOk result (first_bad config.now number (D.seen disk) ≡ None) }
-        ensures damaged { IfErr result (IfSlotOf (λ slot. first_bad config.now number (D.seen disk) ≡ Some slot)) }
-        ensures any_moment { LeavesOnly D.moment D.left_since disk (disk_of result) (IsStillThere config.now (D.pending disk) (D.seen disk)) }
+        ensures damaged { IfErr result
+            (IfSlotOf (λ slot. first_bad config.now number (D.seen disk) ≡ Some slot)) }
+        ensures any_moment { LeavesOnly D.moment D.left_since disk (disk_of result)
+            (IsStillThere config.now (D.pending disk) (D.seen disk)) }
         ensures room { D.most (disk_of result) ≡ D.most disk }
         ensures later { D.faults disk ≤ D.faults (disk_of result) }
-        ensures cause { IfErr result (IfFaultOf (Rose D.last (D.faults disk) (D.faults (disk_of result)))) }
+        ensures cause { IfErr result
+            (IfFaultOf (Rose D.last (D.faults disk) (D.faults (disk_of result)))) }
     {
         let mut disk = disk;
         match start(alloc, config, number, &mut disk) {
@@ -112,21 +117,28 @@ impl<D: Disk> StoredNode<D> {
     /// written.
     pub fn handle(&mut self, ask: &Ask) -> Result<Reply, StoreRefusal>
         ensures reply { IfOk result (λ reply. reply ≡ reply_of self.old.node ask.now) }
-        ensures state { OnOk result (self.new.node ≡ with_versions self.old.node ask.now.block (after_of self.old.node ask.now)) }
-        ensures done { OnOk result (IsDone self.old.node.config self.old.node.number self.old.node (Answers ask.now) (D.seen self.old.disk) (D.seen self.new.disk)) }
+        ensures state { OnOk result (self.new.node ≡ with_versions self.old.node ask.now.block
+            (after_of self.old.node ask.now)) }
+        ensures done { OnOk result (IsDone self.old.node.config self.old.node.number self.old.node
+            (Answers ask.now) (D.seen self.old.disk) (D.seen self.new.disk)) }
         ensures durable { OnOk result (D.pending self.new.disk ≡ settled (D.seen self.new.disk)) }
         ensures broken { IsErrOf result StoreRefusal.Broken ↔ (self.old.broken ≡ true) }
-        ensures full { IsErrOf result StoreRefusal.Full ↔ ((self.old.broken ≡ false) × (adds self.old.node ask.now ≡ true) × (has_place self.old.node (D.seen self.old.disk) (D.most self.old.disk) ≡ false)) }
+        ensures full { IsErrOf result StoreRefusal.Full
+            ↔ ((self.old.broken ≡ false) × (adds self.old.node ask.now ≡ true)
+            × (has_place self.old.node (D.seen self.old.disk) (D.most self.old.disk) ≡ false)) }
         ensures calm { IfErr result (IfCalm (self.new ≡ self.old)) }
         ensures breaks { IfErr result (IfFailed (self.new.broken ≡ true)) }
         ensures whole { OnOk result (self.new.broken ≡ false) }
         ensures config { self.new.node.config ≡ self.old.node.config }
         ensures room { D.most self.new.disk ≡ D.most self.old.disk }
         // what a crash at any moment of the call leaves holds the state before it or that after it
-        ensures any_moment { self.old.broken ≡ false → LeavesOnly D.moment D.left_since self.old.disk self.new.disk
-            (IsDoneOrNot self.old.node.config self.old.node.number self.old.node (Answers ask.now) (D.seen self.old.disk)) }
+        ensures any_moment { self.old.broken ≡ false
+            → LeavesOnly D.moment D.left_since self.old.disk self.new.disk
+            (IsDoneOrNot self.old.node.config self.old.node.number self.old.node (Answers ask.now)
+            (D.seen self.old.disk)) }
         ensures later { D.faults self.old.disk ≤ D.faults self.new.disk }
-        ensures cause { IfErr result (IfFailed (Rose D.last (D.faults self.old.disk) (D.faults self.new.disk))) }
+        ensures cause { IfErr result
+            (IfFailed (Rose D.last (D.faults self.old.disk) (D.faults self.new.disk))) }
     {
         if self.broken {
             return Err(StoreRefusal::Broken);
@@ -150,21 +162,28 @@ impl<D: Disk> StoredNode<D> {
     /// Adds what was prepared for the ask, as `handle` does.
     pub fn commit(&mut self, ask: &Ask, added: Option<Version>) -> Result<(), StoreRefusal>
         requires { added ≡ accepts_of self.old.node ask.now }
-        ensures state { OnOk result (self.new.node ≡ with_versions self.old.node ask.now.block (after_of self.old.node ask.now)) }
-        ensures done { OnOk result (IsDone self.old.node.config self.old.node.number self.old.node (Answers ask.now) (D.seen self.old.disk) (D.seen self.new.disk)) }
+        ensures state { OnOk result (self.new.node ≡ with_versions self.old.node ask.now.block
+            (after_of self.old.node ask.now)) }
+        ensures done { OnOk result (IsDone self.old.node.config self.old.node.number self.old.node
+            (Answers ask.now) (D.seen self.old.disk) (D.seen self.new.disk)) }
         ensures durable { OnOk result (D.pending self.new.disk ≡ settled (D.seen self.new.disk)) }
         ensures broken { IsErrOf result StoreRefusal.Broken ↔ (self.old.broken ≡ true) }
-        ensures full { IsErrOf result StoreRefusal.Full ↔ ((self.old.broken ≡ false) × (is_some added ≡ true) × (has_place self.old.node (D.seen self.old.disk) (D.most self.old.disk) ≡ false)) }
+        ensures full { IsErrOf result StoreRefusal.Full
+            ↔ ((self.old.broken ≡ false) × (is_some added ≡ true)
+            × (has_place self.old.node (D.seen self.old.disk) (D.most self.old.disk) ≡ false)) }
         ensures calm { IfErr result (IfCalm (self.new ≡ self.old)) }
         ensures breaks { IfErr result (IfFailed (self.new.broken ≡ true)) }
         ensures whole { OnOk result (self.new.broken ≡ false) }
         ensures config { self.new.node.config ≡ self.old.node.config }
         ensures room { D.most self.new.disk ≡ D.most self.old.disk }
         // what a crash at any moment of the call leaves holds the state before it or that after it
-        ensures any_moment { self.old.broken ≡ false → LeavesOnly D.moment D.left_since self.old.disk self.new.disk
-            (IsDoneOrNot self.old.node.config self.old.node.number self.old.node (Answers ask.now) (D.seen self.old.disk)) }
+        ensures any_moment { self.old.broken ≡ false
+            → LeavesOnly D.moment D.left_since self.old.disk self.new.disk
+            (IsDoneOrNot self.old.node.config self.old.node.number self.old.node (Answers ask.now)
+            (D.seen self.old.disk)) }
         ensures later { D.faults self.old.disk ≤ D.faults self.new.disk }
-        ensures cause { IfErr result (IfFailed (Rose D.last (D.faults self.old.disk) (D.faults self.new.disk))) }
+        ensures cause { IfErr result
+            (IfFailed (Rose D.last (D.faults self.old.disk) (D.faults self.new.disk))) }
     {
         if self.broken {
             return Err(StoreRefusal::Broken);
@@ -193,21 +212,28 @@ impl<D: Disk> StoredNode<D> {
     /// Drops versions of a block, as a node does, and writes that as a slot, also where no version was dropped.
     pub fn prune(&mut self, block: u32, stamp: &Stamp) -> Result<(), StoreRefusal>
         requires { block < self.old.node.config.blocks }
-        ensures state { OnOk result (self.new.node ≡ with_versions self.old.node block (pruned (setting self.old.node.config) stamp.now (versions_in self.old.node block))) }
-        ensures done { OnOk result (IsDone self.old.node.config self.old.node.number self.old.node (Prunes block stamp.now) (D.seen self.old.disk) (D.seen self.new.disk)) }
+        ensures state { OnOk result (self.new.node ≡ with_versions self.old.node block
+            (pruned (setting self.old.node.config) stamp.now (versions_in self.old.node block))) }
+        ensures done { OnOk result (IsDone self.old.node.config self.old.node.number self.old.node
+            (Prunes block stamp.now) (D.seen self.old.disk) (D.seen self.new.disk)) }
         ensures durable { OnOk result (D.pending self.new.disk ≡ settled (D.seen self.new.disk)) }
         ensures broken { IsErrOf result StoreRefusal.Broken ↔ (self.old.broken ≡ true) }
-        ensures full { IsErrOf result StoreRefusal.Full ↔ ((self.old.broken ≡ false) × (has_place self.old.node (D.seen self.old.disk) (D.most self.old.disk) ≡ false)) }
+        ensures full { IsErrOf result StoreRefusal.Full
+            ↔ ((self.old.broken ≡ false)
+            × (has_place self.old.node (D.seen self.old.disk) (D.most self.old.disk) ≡ false)) }
         ensures calm { IfErr result (IfCalm (self.new ≡ self.old)) }
         ensures breaks { IfErr result (IfFailed (self.new.broken ≡ true)) }
         ensures whole { OnOk result (self.new.broken ≡ false) }
         ensures config { self.new.node.config ≡ self.old.node.config }
         ensures room { D.most self.new.disk ≡ D.most self.old.disk }
         // what a crash at any moment of the call leaves holds the state before it or that after it
-        ensures any_moment { self.old.broken ≡ false → LeavesOnly D.moment D.left_since self.old.disk self.new.disk
-            (IsDoneOrNot self.old.node.config self.old.node.number self.old.node (Prunes block stamp.now) (D.seen self.old.disk)) }
+        ensures any_moment { self.old.broken ≡ false
+            → LeavesOnly D.moment D.left_since self.old.disk self.new.disk
+            (IsDoneOrNot self.old.node.config self.old.node.number self.old.node
+            (Prunes block stamp.now) (D.seen self.old.disk)) }
         ensures later { D.faults self.old.disk ≤ D.faults self.new.disk }
-        ensures cause { IfErr result (IfFailed (Rose D.last (D.faults self.old.disk) (D.faults self.new.disk))) }
+        ensures cause { IfErr result
+            (IfFailed (Rose D.last (D.faults self.old.disk) (D.faults self.new.disk))) }
     {
         if self.broken {
             return Err(StoreRefusal::Broken);
@@ -240,7 +266,8 @@ impl<D: Disk> StoredNode<D> {
     /// The stamps of the versions that the node keeps of a block, in order of acceptance.
     pub fn versions(&self, block: u32) -> Result<Stamps, NoMemory>
         requires { block < self.now.node.config.blocks }
-        ensures { IfOk result (λ stamps. stamps ≡ map (λ v. v.stamp) (versions_in self.now.node block)) }
+        ensures { IfOk result (λ stamps.
+            stamps ≡ map (λ v. v.stamp) (versions_in self.now.node block)) }
     {
         self.node.versions(block)
     }

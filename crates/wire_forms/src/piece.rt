@@ -120,7 +120,8 @@ fn digits_front(most: usize, text: &[u8]) -> usize
     ensures few { result ≤ most }
     ensures within { result ≤ length text.now }
     ensures low { AllPass is_low_digit (take result text.now) }
-    ensures stops { result < most → result < length text.now → is_low_digit (slice_index text.now result) ≡ false }
+    ensures stops { result < most → result < length text.now
+        → is_low_digit (slice_index text.now result) ≡ false }
 {
     let mut end = 0;
     while end < most && end < text.len() && is_low_digit(text[end]) {

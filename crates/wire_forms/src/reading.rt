@@ -113,14 +113,16 @@ fn version(alloc: Global, fields: &[&[u8]]) -> Result<Option<Version>, NoMemory>
 
 /// What stands alone has no field after it.
 fn alone<T: Drop>(value: T, fields: &[&[u8]]) -> Option<T>
-    ensures { MatchOption result (texts fields.now ≢ []) (λ found. (found ≡ value) × (texts fields.now ≡ [])) }
+    ensures { MatchOption result (texts fields.now ≢ []) (λ found.
+        (found ≡ value) × (texts fields.now ≡ [])) }
 {
     if fields.is_empty() { Some(value) } else { None }
 }
 
 /// The one field that there is.
 fn only<'a>(fields: &[&'a [u8]]) -> Option<&'a [u8]>
-    ensures { MatchOption result ((x : List ℕ) → texts fields.now ≡ x ∷ [] → ⊥) (λ field. texts fields.now ≡ field.now ∷ []) }
+    ensures { MatchOption result ((x : List ℕ) → texts fields.now ≡ x ∷ [] → ⊥) (λ field.
+        texts fields.now ≡ field.now ∷ []) }
 {
     match fields {
         [field] => Some(field),
@@ -213,7 +215,8 @@ fn reply(alloc: Global, fields: &[&[u8]]) -> Result<Option<Reply>, NoMemory>
 }
 
 fn body(alloc: Global, word: &[u8], fields: &[&[u8]]) -> Result<Option<Body>, NoMemory>
-    ensures { IfOk result (Spells IsBody (λ body. word_of body ∷ body_fields body) (word.now ∷ texts fields.now)) }
+    ensures { IfOk result (Spells IsBody (λ body.
+        word_of body ∷ body_fields body) (word.now ∷ texts fields.now)) }
 {
     match Word::of(word) {
         Some(Word::Ask) => Ok(ask(alloc, fields)?.map(Body::Ask)),

@@ -8,7 +8,7 @@ use Rattle.std.proofs.lemmas.List.{length-map, get_or-map, get_or_past, get_or-r
 use Rattle.std.proofs.lemmas.List.Folds.{list_any_none}
 use Rattle.std.proofs.lemmas.Option.{slice_get_cases}
 use Rattle.quorum_rules.specs.Limits.{Numbers, IsValid}
-use Rattle.wire_forms.specs.Liars.{Liars, has_number}
+use Rattle.wire_forms.specs.Liars.{Liars, has_number, AreLiars, IsClientNumber}
 use Rattle.run_words.specs.declared.record.Record.{Record as Told}
 use Rattle.protocol.specs.Messages.{Version}
 use Rattle.protocol.specs.Report.{Ascend}
@@ -21,7 +21,7 @@ use Rattle.world_steps.specs.declared.node_slot.NodeSlot.{NodeSlot}
 use Rattle.world_steps.specs.declared.client_slot.ClientSlot.{ClientSlot}
 use Rattle.world_steps.specs.declared.state.State.TheInside.{Inside}
 use Rattle.world_steps.specs.contracts.state.State.{the_view}
-use Rattle.world_steps.specs.Worlds.{AreLiars, setting_in, world_in}
+use Rattle.world_steps.specs.Worlds.{setting_in, world_in}
 use Rattle.world_steps.specs.Slots.{IsWorld, IsClientSlot}
 use Rattle.world_steps.specs.declared.block_use.BlockUse.{BlockUse}
 use Rattle.world_steps.specs.BlockUses.{unused, AreUses}
@@ -64,7 +64,7 @@ module _ (w : Inside) (liars : Liars) (node_slots : AreNewNodeSlots w.config (ha
 
       client : (k : ℕ) → slice_index_or (map (λ (x : ClientSlot). x.lying) w.client_slots.items) k false ≡ has_number liars.clients k
       client = table (has_number liars.clients) (λ (x : ClientSlot). x.lying) false w.client_slots.items (λ k x e. ap (λ (y : ClientSlot). y.lying) (client_slots k x e))
-          (λ k l. absent (λ x. (1 ≤ x) × (x ≤ 1000)) liars.clients lie.clients k (λ m. let q = m.1 in omega (arith, l, q, clients)))
+          (λ k l. absent IsClientNumber liars.clients lie.clients k (λ m. let q = m.1 in omega (arith, l, q, clients)))
 
   pub world-begin : w.pool ≡ [] → w.accepted ≡ [] → w.records ≡ [] → w.place ≡ 0 → world_in (the_view w) ≡ start_world (setting_in (the_view w))
   world-begin pool accepted records place = λ j. record {

@@ -129,10 +129,10 @@ module _ (v : WorldView) (k place : ℕ) (m : Message) (answer : IsAnswer k m) (
             let counted : answer_does (client_in now k) node tag reply ≡ Counted h.0 = ap (λ (x : ClientView). answer_does x node tag reply) client-kept ∙ h.2 in
             (ap is_only_counted counted, rw (task, counted) (goes-on (client_at v.seen k).task fit h.0 (ap goes_to h.1) (slice_index_or v.seen.starts k 0)))
         at (Goes new) h =
-            let e : new.seen.task ≡ Some h.0 = ap (λ (x : ClientView). x.seen.task) h.2 in
-            (same-client new (Some h.0) h.2, (h.0, e), rw (task, e) (goes-on (client_at v.seen k).task fit h.0 h.1 (slice_index_or v.seen.starts k 0)))
+            let e : new.value.seen.task ≡ Some h.0 = ap (λ (x : ClientView). x.seen.task) h.2 in
+            (same-client new.value (Some h.0) h.2, (h.0, e), rw (task, e) (goes-on (client_at v.seen k).task fit h.0 h.1 (slice_index_or v.seen.starts k 0)))
         at (Ends new outcome) h =
-            (same-client new None h.1, ap (λ (x : ClientView). x.seen.task) h.1, rw task (ends (client_at v.seen k).task outcome h.0 (slice_index_or v.seen.starts k 0)))
+            (same-client new.value None h.1, ap (λ (x : ClientView). x.seen.task) h.1, rw task (ends (client_at v.seen k).task outcome h.0 (slice_index_or v.seen.starts k 0)))
 
   -- ---- and then it heard the message
   module _ (w : World) (start : ℕ) where

@@ -15,3 +15,4 @@ pub mod ReturnedClients
 pub mod OutstandingMail
 pub mod FirstWorlds
 pub mod SingleEvents
+pub mod PossibleFaults

@@ -8,10 +8,10 @@ use Rattle.std.specs.declared.option.Option.TheVariants.{None, Some}
 use Rattle.wire_forms.specs.declared.Body.TheVariants.{Ask as Asks, Answer as Answers}
 use Rattle.protocol.specs.Messages.{Ask, Reply, Body, Message}
 use Rattle.protocol.specs.Setting.{Setting}
-use Rattle.protocol.specs.Operations.{Task, Decision, decide, outstanding, ask_of, counted}
+use Rattle.protocol.specs.Operations.{is_counted, Task, Decision, decide, outstanding, ask_of, counted}
 use Rattle.protocol.specs.World.Event.{Lie as Lies}
 use Rattle.protocol.specs.Operations.Decision.{GoesOn, Ends}
-use Rattle.protocol.specs.World.{World, only_place, happens, sent, given, heard, heard_by, counts, advanced, decided, answer_of, all_happen}
+use Rattle.protocol.specs.World.{World, only_place, happens, sent, given, heard, heard_by, advanced, decided, answer_of, all_happen}
 use Rattle.protocol.specs.Lines.{plays, called, heard_at, is_actor}
 use Rattle.protocol.specs.Lines.Actor.{Node}
 use Rattle.run_words.specs.declared.line.Line.TheVariants.{Call, Hear, Tell, Poke}
@@ -34,7 +34,7 @@ module _ (s : Setting) (place : ℕ) where
     heard_by-place : (m : Message) (reply : Reply) (task : Option Task) → (heard_by s v place c task m reply).place ≡ place
     heard_by-place m reply None = refl
     heard_by-place m reply (Some task) =
-        either (counts s v place task m reply) (advanced s v place c (counted task m.node reply)) (only_place s v place)
+        either (is_counted s task m.node m.tag reply) (advanced s v place c (counted task m.node reply)) (only_place s v place)
         (either _ _ _ refl (decided-place (counted task m.node reply) (decide s c (counted task m.node reply) task.stage)))
         refl
 

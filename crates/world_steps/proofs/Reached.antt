@@ -3,7 +3,7 @@ use Rattle.std.proofs.Common.{◌≡◌, ℕ, ◌<◌, ◌≤◌, Bool, false, l
 use Rattle.std.specs.Prelude.{Result, Ok, Err, OnOk, OnErr, slice_index_or}
 use Rattle.std.specs.declared.option.Option.TheVariants.{None}
 use Rattle.quorum_rules.specs.Limits.{Numbers, IsValid}
-use Rattle.wire_forms.specs.Liars.{Liars, has_number}
+use Rattle.wire_forms.specs.Liars.{Liars, has_number, AreLiars}
 use Rattle.protocol.specs.Count.{count}
 use Rattle.protocol.proofs.Counting.{count_named}
 use Rattle.protocol.specs.Setting.{Setting}
@@ -12,7 +12,7 @@ use Rattle.protocol.specs.Lines.{Line, IsRun, FitsLine, fault, plays}
 use Rattle.protocol.specs.Instance.{setting_of}
 use Rattle.protocol.specs.Seen.{SeenWorld}
 use Rattle.protocol.proofs.Kept.{run_parts}
-use Rattle.world_steps.specs.Worlds.{WorldView, setting_in, world_in, IsReached, AreLiars}
+use Rattle.world_steps.specs.Worlds.{WorldView, setting_in, world_in, IsReached}
 
 -- a run goes on by a line
 one_more_line : (s : Setting) (lines : List (ℕ × Line)) (w : World) (place : ℕ) (line : Line) → IsRun s lines w → w.place < place → FitsLine s line → fault s w line ≡ None

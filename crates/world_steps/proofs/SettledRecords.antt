@@ -23,7 +23,7 @@ use Rattle.world_steps.specs.contracts.state.State.{the_view}
 use Rattle.world_steps.specs.Worlds.{world_in}
 use Rattle.world_steps.specs.Slots.{IsWorld, IsTaskOf, IsUnderWay}
 use Rattle.world_steps.specs.AnswerEffects.{IsSame, Becomes, settled}
-use Rattle.world_steps.proofs.ListItems.{slice_get-set_same}
+use Rattle.world_steps.proofs.ListItems.{slice_get-set_same, slice_set-there}
 use Rattle.world_steps.proofs.KeptWorlds.{told}
 use Rattle.world_steps.proofs.ClientSlots.{update-known, world-client_slot, slot-task, slot-crashed, client_slot-there}
 
@@ -81,6 +81,20 @@ module _ (w : Inside) (k : ℕ) (inside : k < length w.client_slots.items) (slot
 
   pub record-within : (t : SeenTask) → slot.client.seen.task ≡ Some t → slot.index < length w.records
   record-within t e = let r = record-there t e in slice_get_within w.records slot.index r.0 r.1
+
+  -- the record of an operation that goes on with the stamp that it had stays as it is
+  pub record-stays : (t : SeenTask) → slot.client.seen.task ≡ Some t → (stamp : Option Stamp) → stamp ≡ chosen_stamp t.work t.stage → (r : Told) → slice_get w.records slot.index ≡ Some r
+      → w.records ≡ slice_set w.records slot.index (record r { end = None; stamp = stamp; outcome = None })
+  record-stays t e stamp chosen r known =
+      let found = record-there t e in
+      let q : found.0 ≡ r = (let a = found.1 in cc) in
+      let opened : record_of r ≡ open_record k (task_at slot.start t) = subst (λ (x : Told). record_of x ≡ open_record k (task_at slot.start t)) q found.2 in
+      let same : record r { end = None; stamp = stamp; outcome = None } ≡ r = (λ i. record r {
+        end = sym (ap (λ (x : Record). x.end) opened) i;
+        stamp = (chosen ∙ sym (ap (λ (x : Record). x.stamp) opened)) i;
+        outcome = sym (ap (λ (x : Record). x.outcome) opened) i;
+      }) in
+      sym (ap (slice_set w.records slot.index) same ∙ slice_set-there w.records slot.index r known)
 
   module _ (t : SeenTask) (under_way : slot.client.seen.task ≡ Some t) (hearer : ClientView) (same : IsSame (the_view w) k hearer) (end : Option ℕ) (stamp : Option Stamp) (outcome : Option Outcome) (r : Told) (known : slice_get w.records slot.index ≡ Some r)
       (opened : record_of r ≡ open_record k (task_at slot.start t)) where

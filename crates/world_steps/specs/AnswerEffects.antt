@@ -28,8 +28,8 @@ answer_does c node tag reply = hears_answer (setting c.config) c.id c.seen.task 
 abbrev pub IsEffect : ClientView → Hearing → AnswerEffect → Type 0
 IsEffect c h Same = h ≡ Ignored
 IsEffect c h (Counts node tag reply) = (u : SeenTask) × (h ≡ Counted u) × (answer_does c node tag reply ≡ Counted u)
-IsEffect c h (Goes new) = (u : SeenTask) × (goes_to h ≡ Some u) × (new ≡ with_task c (Some u))
-IsEffect c h (Ends new outcome) = (h ≡ Ended outcome) × (new ≡ with_task c None)
+IsEffect c h (Goes new) = (u : SeenTask) × (goes_to h ≡ Some u) × (new.value ≡ with_task c (Some u))
+IsEffect c h (Ends new outcome) = (h ≡ Ended outcome) × (new.value ≡ with_task c None)
 
 -- the client of this number, with its life and its count of operations
 pub record IsSame (v : WorldView) (k : ℕ) (new : ClientView) : Type 0 where
@@ -55,8 +55,8 @@ Becomes c place (Some t) (Some u) = MayGoOn c place t u
 abbrev pub MayApply : WorldView → ℕ → AnswerEffect → Type 0
 MayApply v k Same = Unit {0}
 MayApply v k (Counts node tag reply) = (is_only_counted (answer_does (client_in v k) node tag reply) ≡ true) × Becomes v.config v.seen.place ((world_in v).task k) (goes_to (answer_does (client_in v k) node tag reply))
-MayApply v k (Goes new) = IsSame v k new × ((u : SeenTask) × (new.seen.task ≡ Some u)) × Becomes v.config v.seen.place ((world_in v).task k) new.seen.task
-MayApply v k (Ends new outcome) = IsSame v k new × (new.seen.task ≡ None) × Becomes v.config v.seen.place ((world_in v).task k) None
+MayApply v k (Goes new) = IsSame v k new.value × ((u : SeenTask) × (new.value.seen.task ≡ Some u)) × Becomes v.config v.seen.place ((world_in v).task k) new.value.seen.task
+MayApply v k (Ends new outcome) = IsSame v k new.value × (new.value.seen.task ≡ None) × Becomes v.config v.seen.place ((world_in v).task k) None
 
 -- the world when the client's operation has become this one, and this is told of it
 abbrev pub settled : World → ℕ → Task → Option SeenTask → Option ℕ → Option Stamp → Option Outcome → World
@@ -74,5 +74,5 @@ abbrev pub applied : World → ClientView → Option Task → AnswerEffect → W
 applied w c None effect = w
 applied w c (Some t) Same = w
 applied w c (Some t) (Counts node tag reply) = goes_on w c.id t (goes_to (answer_does c node tag reply))
-applied w c (Some t) (Goes new) = goes_on w c.id t new.seen.task
+applied w c (Some t) (Goes new) = goes_on w c.id t new.value.seen.task
 applied w c (Some t) (Ends new outcome) = settled w c.id t None (Some w.place) (stamp_of_outcome outcome) (Some outcome)

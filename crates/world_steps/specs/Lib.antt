@@ -8,3 +8,4 @@ pub mod AnswerEffects
 pub mod Beginnings
 pub mod Starts
 pub mod Events
+pub mod Faults

@@ -32,12 +32,6 @@ with_seen v seen = record { config = v.config; lying_nodes = v.lying_nodes; lyin
 abbrev pub node_in : WorldView → ℕ → SeenNode
 node_in v i = record { config = v.config; number = i; blocks = slice_index_or v.seen.versions i [] }
 
--- the lying nodes are nodes, at most b of them, and the lying clients are numbered from 1 to 1000
-pub record AreLiars (c : Numbers) (liars : Liars) : Type 0 where
-  pub nodes : All (λ i. i < c.n) liars.nodes
-  pub few : length liars.nodes ≤ c.b
-  pub clients : All (λ k. (1 ≤ k) × (k ≤ 1000)) liars.clients
-
 -- lines of a run lead to this world, and at most b of its nodes lie
 pub record IsReached (v : WorldView) : Type 0 where
   pub cluster : IsCluster v.config (λ i. slice_index_or v.lying_nodes i false)

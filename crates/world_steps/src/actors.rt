@@ -1,8 +1,8 @@
 //! Who a line speaks of.
 
 ghost use Rattle.std.specs.Prelude.{◌≡◌};
-ghost use Rattle.protocol.specs.Lines.{takes_part, lies, named, sender};
-ghost use Rattle.world_steps.specs.Actors.{actor_of, listed};
+ghost use Rattle.protocol.specs.Lines.{honest, lie_of, roles, sender};
+ghost use Rattle.world_steps.specs.Actors.{actor_of, listed, roles_of};
 
 use run_words::Line;
 use wire_forms::{Body, Message};
@@ -22,9 +22,22 @@ pub(crate) enum Actors {
     Two(Actor, Actor),
 }
 
-/// Who takes part in the line, its lies aside.
-pub(crate) fn takes_part(line: &Line) -> Actors
-    ensures { listed result ≡ takes_part line.now }
+/// The parts that nodes and clients have in a line.
+#[derive(Clone, Copy)]
+pub(crate) struct Roles {
+    /// Who takes part in it, its lies aside.
+    pub(crate) takes_part: Actors,
+    /// Who tells its lie.
+    pub(crate) lies: Actors,
+    /// The node and the client of the lie's message.
+    pub(crate) named: Actors,
+}
+
+/// The parts in each line.
+pub(crate) fn roles_in(line: &Line) -> Roles
+    ensures takes_part { listed result.takes_part ≡ (roles line.now).takes_part }
+    ensures lies { listed result.lies ≡ (roles line.now).lies }
+    ensures named { listed result.named ≡ (roles line.now).named }
 {
     match line {
         Line::Write { client, .. }
@@ -32,53 +45,68 @@ pub(crate) fn takes_part(line: &Line) -> Actors
         | Line::Resend { client }
         | Line::Hear { client, .. }
         | Line::CrashClient { client }
-        | Line::False { client, .. }
-        | Line::Back { client } => Actors::One(Actor::Client(*client)),
-        Line::Tell { message } => Actors::One(Actor::Client(message.get().client)),
+        | Line::Back { client } => honest(one_client(*client)),
         Line::Give { node, .. }
         | Line::CrashNode { node }
-        | Line::Sound { node, .. }
-        | Line::Mix { node, .. }
         | Line::Prune { node, .. }
-        | Line::Restart { node } => Actors::One(Actor::Node(*node)),
-        Line::Poke { message } => Actors::One(Actor::Node(message.get().node)),
-        Line::Call { client, node } => Actors::Two(Actor::Client(*client), Actor::Node(*node)),
-        Line::Lost { .. } | Line::Lie { .. } => Actors::Nobody,
+        | Line::Restart { node } => honest(one_node(*node)),
+        Line::Call { client, node } => {
+            honest(Actors::Two(Actor::Client(*client), Actor::Node(*node)))
+        }
+        Line::Lost { .. } => honest(Actors::Nobody),
+        Line::Lie { message } => lie_in(message.get(), Actors::Nobody),
+        Line::Tell { message } => lie_in(message.get(), one_client(message.get().client)),
+        Line::Poke { message } => lie_in(message.get(), one_node(message.get().node)),
+        Line::False { client, node, .. } => {
+            lie_of(Actor::Node(*node), *node, *client, one_client(*client))
+        }
+        Line::Sound { client, node, .. } | Line::Mix { client, node, .. } => {
+            lie_of(Actor::Client(*client), *node, *client, one_node(*node))
+        }
     }
 }
 
-/// Who tells the line's lie.
-pub(crate) fn lies(line: &Line) -> Actors
-    ensures { listed result ≡ lies line.now }
+/// These take part, and nobody lies.
+fn honest(takes_part: Actors) -> Roles
+    ensures { roles_of result ≡ honest (listed takes_part) }
 {
-    match line {
-        Line::Lie { message } | Line::Tell { message } | Line::Poke { message } => {
-            Actors::One(sender(message.get()))
-        }
-        Line::False { node, .. } => Actors::One(Actor::Node(*node)),
-        Line::Sound { client, .. } | Line::Mix { client, .. } => {
-            Actors::One(Actor::Client(*client))
-        }
-        _ => Actors::Nobody,
+    Roles {
+        takes_part,
+        lies: Actors::Nobody,
+        named: Actors::Nobody,
     }
 }
 
-/// The node and the client of the message that the line's lie is.
-pub(crate) fn named(line: &Line) -> Actors
-    ensures { listed result ≡ named line.now }
+/// These take part, and the liar's lie goes between this node and this client.
+fn lie_of(liar: Actor, node: u8, client: u32, takes_part: Actors) -> Roles
+    ensures { roles_of result ≡ lie_of (actor_of liar) node client (listed takes_part) }
 {
-    match line {
-        Line::Lie { message } | Line::Tell { message } | Line::Poke { message } => {
-            let message = message.get();
-            Actors::Two(Actor::Node(message.node), Actor::Client(message.client))
-        }
-        Line::False { client, node, .. }
-        | Line::Sound { client, node, .. }
-        | Line::Mix { client, node, .. } => {
-            Actors::Two(Actor::Node(*node), Actor::Client(*client))
-        }
-        _ => Actors::Nobody,
+    Roles {
+        takes_part,
+        lies: Actors::One(liar),
+        named: Actors::Two(Actor::Node(node), Actor::Client(client)),
     }
+}
+
+/// These take part, and the message is a lie of its sender.
+fn lie_in(message: &Message, takes_part: Actors) -> Roles
+    ensures { roles_of result
+        ≡ lie_of (sender message.now.body message.now) message.now.node message.now.client
+        (listed takes_part) }
+{
+    lie_of(sender(message), message.node, message.client, takes_part)
+}
+
+fn one_node(node: u8) -> Actors
+    ensures { result ≡ Actors.One (Actor.Node node) }
+{
+    Actors::One(Actor::Node(node))
+}
+
+fn one_client(client: u32) -> Actors
+    ensures { result ≡ Actors.One (Actor.Client client) }
+{
+    Actors::One(Actor::Client(client))
 }
 
 /// Who sends the message.

@@ -25,6 +25,7 @@ use quorum_rules::Config;
 use run_words::{Outcome, Record};
 use stamp_order::Stamp;
 use std::alloc::Global;
+use std::boxed::Box;
 use std::mem::replace;
 use wire_forms::{Ask, Body, Mail, Message, Op, Reply, Tag, Version};
 
@@ -38,7 +39,8 @@ impl State {
         requires fresh { (client_at self.now.seen client).started < 2 ^ 32 - 1 }
         requires block { block_of op < self.now.config.blocks }
         requires fits { Fits (setting_in self.now) (work_of op) }
-        ensures ok { OnOk result (world_in self.new ≡ happens (setting_in self.old) (world_in self.old) place (Start client (block_of op) (work_of op))) }
+        ensures ok { OnOk result (world_in self.new ≡ happens (setting_in self.old)
+            (world_in self.old) place (Start client (block_of op) (work_of op))) }
         ensures cluster { OnOk result (self.new.config ≡ self.old.config) }
         ensures lying_nodes { OnOk result (self.new.lying_nodes ≡ self.old.lying_nodes) }
         ensures lying_clients { OnOk result (self.new.lying_clients ≡ self.old.lying_clients) }
@@ -71,7 +73,8 @@ impl State {
     pub(crate) fn resend(&mut self, place: u64, client: u32) -> Result<(), NoMemory>
         requires later { self.now.seen.place < place }
         requires client { client ≤ 1000 }
-        ensures ok { OnOk result (world_in self.new ≡ happens (setting_in self.old) (world_in self.old) place (Resends client)) }
+        ensures ok { OnOk result (world_in self.new ≡ happens (setting_in self.old)
+            (world_in self.old) place (Resends client)) }
         ensures cluster { OnOk result (self.new.config ≡ self.old.config) }
         ensures lying_nodes { OnOk result (self.new.lying_nodes ≡ self.old.lying_nodes) }
         ensures lying_clients { OnOk result (self.new.lying_clients ≡ self.old.lying_clients) }
@@ -90,8 +93,11 @@ impl State {
         requires client { client ≤ 1000 }
         requires answer { IsAnswer client message.now }
         requires room { self.now.seen.place < 2 ^ 64 - 1 }
-        ensures effect { IfOk result (λ r. IsEffect (client_in self.now client) (hears (client_in self.now client) (client_at self.now.seen client).task message.now) r.0) }
-        ensures mail { IfOk result (λ r. r.1 ≡ next_mail (client_in self.now client) (hears (client_in self.now client) (client_at self.now.seen client).task message.now)) }
+        ensures effect { IfOk result (λ r. IsEffect (client_in self.now client)
+            (hears (client_in self.now client)
+            (client_at self.now.seen client).task message.now) r.0) }
+        ensures mail { IfOk result (λ r. r.1 ≡ next_mail (client_in self.now client)
+            (hears (client_in self.now client) (client_at self.now.seen client).task message.now)) }
     {
         effect_of(self.alloc, self.client_of(client), message)
     }
@@ -110,7 +116,8 @@ impl State {
         requires client { client ≤ 1000 }
         requires awake { (world_in self.now).client_crashed client ≡ false }
         requires effect { MayApply self.now client effect }
-        ensures world { world_in self.new ≡ applied (world_in self.old) (client_in self.old client) ((world_in self.old).task client) effect }
+        ensures world { world_in self.new ≡ applied (world_in self.old) (client_in self.old client)
+            ((world_in self.old).task client) effect }
         ensures cluster { self.new.config ≡ self.old.config }
         ensures lying_nodes { self.new.lying_nodes ≡ self.old.lying_nodes }
         ensures lying_clients { self.new.lying_clients ≡ self.old.lying_clients }
@@ -118,26 +125,30 @@ impl State {
         match effect {
             AnswerEffect::Same => {}
             AnswerEffect::Counts { node, tag, reply } => self.count(client, node, tag, reply),
-            AnswerEffect::Goes(hearer) => self.go_on(client, hearer),
-            AnswerEffect::Ends(hearer, outcome) => self.end(client, hearer, outcome),
+            AnswerEffect::Goes(hearer) => self.go_on(client, Box::into_inner(hearer)),
+            AnswerEffect::Ends(hearer, outcome) => {
+                self.end(client, Box::into_inner(hearer), outcome)
+            }
         }
     }
 
-    /// A client's operation counts an answer, and its phase goes on.
+    /// A client's operation counts an answer, and its phase goes on. What its record tells stays true.
     fn count(&mut self, client: u32, node: u8, tag: Tag, reply: Reply)
         requires client { client ≤ 1000 }
-        requires counts { is_only_counted (answer_does (client_in self.now client) node tag reply) ≡ true }
-        requires task { Becomes self.now.config self.now.seen.place ((world_in self.now).task client) (goes_to (answer_does (client_in self.now client) node tag reply)) }
-        ensures world { IfSome ((world_in self.old).task client) (λ t. world_in self.new ≡ goes_on (world_in self.old) client t (goes_to (answer_does (client_in self.old client) node tag reply))) }
+        requires counts { is_only_counted
+            (answer_does (client_in self.now client) node tag reply) ≡ true }
+        requires task { Becomes self.now.config self.now.seen.place
+            ((world_in self.now).task client)
+            (goes_to (answer_does (client_in self.now client) node tag reply)) }
+        ensures world { IfSome ((world_in self.old).task client)
+            (λ t. world_in self.new ≡ goes_on (world_in self.old) client t
+            (goes_to (answer_does (client_in self.old client) node tag reply))) }
         ensures cluster { self.new.config ≡ self.old.config }
         ensures lying_nodes { self.new.lying_nodes ≡ self.old.lying_nodes }
         ensures lying_clients { self.new.lying_clients ≡ self.old.lying_clients }
     {
         let slot = &mut self.client_slots[client as usize];
         slot.client.count(node, tag, reply);
-        let stamp = slot.client.stamp();
-        let index = slot.index;
-        tell(&mut self.records, index, None, stamp, None);
     }
 
     /// A client's operation goes on.
@@ -145,8 +156,10 @@ impl State {
         requires client { client ≤ 1000 }
         requires hearer { IsSame self.now client hearer }
         requires busy { (u : SeenTask) × (hearer.seen.task ≡ Some u) }
-        requires task { Becomes self.now.config self.now.seen.place ((world_in self.now).task client) hearer.seen.task }
-        ensures world { IfSome ((world_in self.old).task client) (λ t. world_in self.new ≡ goes_on (world_in self.old) client t hearer.seen.task) }
+        requires task { Becomes self.now.config self.now.seen.place
+            ((world_in self.now).task client) hearer.seen.task }
+        ensures world { IfSome ((world_in self.old).task client)
+            (λ t. world_in self.new ≡ goes_on (world_in self.old) client t hearer.seen.task) }
         ensures cluster { self.new.config ≡ self.old.config }
         ensures lying_nodes { self.new.lying_nodes ≡ self.old.lying_nodes }
         ensures lying_clients { self.new.lying_clients ≡ self.old.lying_clients }
@@ -164,8 +177,11 @@ impl State {
         requires awake { (world_in self.now).client_crashed client ≡ false }
         requires hearer { IsSame self.now client hearer }
         requires idle { hearer.seen.task ≡ None }
-        requires task { Becomes self.now.config self.now.seen.place ((world_in self.now).task client) None }
-        ensures world { IfSome ((world_in self.old).task client) (λ t. world_in self.new ≡ settled (world_in self.old) client t None (Some self.old.seen.place) (stamp_of_outcome outcome) (Some outcome)) }
+        requires task { Becomes self.now.config self.now.seen.place
+            ((world_in self.now).task client) None }
+        ensures world { IfSome ((world_in self.old).task client)
+            (λ t. world_in self.new ≡ settled (world_in self.old) client t None
+            (Some self.old.seen.place) (stamp_of_outcome outcome) (Some outcome)) }
         ensures cluster { self.new.config ≡ self.old.config }
         ensures lying_nodes { self.new.lying_nodes ≡ self.old.lying_nodes }
         ensures lying_clients { self.new.lying_clients ≡ self.old.lying_clients }
@@ -187,8 +203,11 @@ impl State {
         requires later { self.now.seen.place < place }
         requires client { client ≤ 1000 }
         requires awake { (world_in self.now).client_crashed client ≡ false }
-        requires answer { (m : Messages) × (slice_get self.now.seen.pool message ≡ Some m) × IsAnswer client m }
-        ensures ok { (m : Messages) → slice_get self.old.seen.pool message ≡ Some m → OnOk result (world_in self.new ≡ heard (setting_in self.old) (world_in self.old) place client m m.body) }
+        requires answer { (m : Messages) × (slice_get self.now.seen.pool message ≡ Some m)
+            × IsAnswer client m }
+        ensures ok { (m : Messages) → slice_get self.old.seen.pool message ≡ Some m
+            → OnOk result (world_in self.new ≡ heard (setting_in self.old)
+            (world_in self.old) place client m m.body) }
         ensures cluster { OnOk result (self.new.config ≡ self.old.config) }
         ensures lying_nodes { OnOk result (self.new.lying_nodes ≡ self.old.lying_nodes) }
         ensures lying_clients { OnOk result (self.new.lying_clients ≡ self.old.lying_clients) }
@@ -211,7 +230,9 @@ impl State {
         requires client { client ≤ 1000 }
         requires awake { (world_in self.now).client_crashed client ≡ false }
         requires answer { IsAnswer client message }
-        ensures ok { OnOk result (world_in self.new ≡ heard (setting_in self.old) (sent (setting_in self.old) (world_in self.old) place (message ∷ [])) place client message message.body) }
+        ensures ok { OnOk result (world_in self.new ≡ heard (setting_in self.old)
+            (sent (setting_in self.old) (world_in self.old) place
+            (message ∷ [])) place client message message.body) }
         ensures cluster { OnOk result (self.new.config ≡ self.old.config) }
         ensures lying_nodes { OnOk result (self.new.lying_nodes ≡ self.old.lying_nodes) }
         ensures lying_clients { OnOk result (self.new.lying_clients ≡ self.old.lying_clients) }
@@ -240,15 +261,18 @@ impl State {
         requires added { added ≡ accepts_in (setting_in self.now) (world_in self.now) node ask.now }
         requires awake { (world_in self.now).client_crashed client ≡ false }
         requires answer { IsAnswer client message }
-        ensures ok { OnOk result (world_in self.new ≡ heard (setting_in self.old) (handles (setting_in self.old) (world_in self.old) place node ask.now (message ∷ [])) place client message message.body) }
+        ensures ok { OnOk result (world_in self.new ≡ heard (setting_in self.old)
+            (handles (setting_in self.old) (world_in self.old) place node ask.now
+            (message ∷ [])) place client message message.body) }
         ensures cluster { OnOk result (self.new.config ≡ self.old.config) }
         ensures lying_nodes { OnOk result (self.new.lying_nodes ≡ self.old.lying_nodes) }
         ensures lying_clients { OnOk result (self.new.lying_clients ≡ self.old.lying_clients) }
         ensures err { OnErr result (self.new ≡ self.old) }
     {
+        // Says what holds of a kept world.
+        let _ = &self.place;
         let (effect, next) = self.heard(client, &message)?;
-        let mail = ahead(self.alloc, message, next)?;
-        self.give(place, node, ask, added, mail)?;
+        self.give(place, node, ask, added, message, next)?;
         self.apply(client, effect);
         Ok(())
     }
@@ -257,7 +281,8 @@ impl State {
     pub(crate) fn crash_client(&mut self, place: u64, client: u32)
         requires later { self.now.seen.place < place }
         requires client { client ≤ 1000 }
-        ensures world { world_in self.new ≡ happens (setting_in self.old) (world_in self.old) place (ClientCrashes client) }
+        ensures world { world_in self.new ≡ happens (setting_in self.old) (world_in self.old) place
+            (ClientCrashes client) }
         ensures cluster { self.new.config ≡ self.old.config }
         ensures lying_nodes { self.new.lying_nodes ≡ self.old.lying_nodes }
         ensures lying_clients { self.new.lying_clients ≡ self.old.lying_clients }
@@ -287,7 +312,8 @@ impl State {
         requires client { client ≤ 1000 }
         requires crashed { (world_in self.now).client_crashed client ≡ true }
         requires lives { (client_at self.now.seen client).life < 2 ^ 32 - 1 }
-        ensures ok { OnOk result (world_in self.new ≡ happens (setting_in self.old) (world_in self.old) place (ComesBack client)) }
+        ensures ok { OnOk result (world_in self.new ≡ happens (setting_in self.old)
+            (world_in self.old) place (ComesBack client)) }
         ensures cluster { OnOk result (self.new.config ≡ self.old.config) }
         ensures lying_nodes { OnOk result (self.new.lying_nodes ≡ self.old.lying_nodes) }
         ensures lying_clients { OnOk result (self.new.lying_clients ≡ self.old.lying_clients) }
@@ -306,7 +332,8 @@ impl State {
 /// The messages of the client's present phase, none if it is idle.
 fn outstanding(alloc: Global, client: &Client, config: &Config) -> Result<Mail, NoMemory>
     requires { client.now.config ≡ config.now }
-    ensures { IfOk result (λ mail. mail ≡ collect config.now.n (outstanding_of (setting config.now) client.now.id client.now.seen.task)) }
+    ensures { IfOk result (λ mail. mail ≡ collect config.now.n
+        (outstanding_of (setting config.now) client.now.id client.now.seen.task)) }
 {
     let mut mail = ItemList::new(alloc);
     for node in 0..config.n() as u8 {
@@ -325,13 +352,31 @@ fn effect_of(
 ) -> Result<(AnswerEffect, Mail), NoMemory>
     requires answer { IsAnswer client.now.id message.now }
     requires room { phase_of client.now.seen.task < 2 ^ 64 - 1 }
-    ensures effect { IfOk result (λ r. IsEffect client.now (hears client.now client.now.seen.task message.now) r.0) }
-    ensures mail { IfOk result (λ r. r.1 ≡ next_mail client.now (hears client.now client.now.seen.task message.now)) }
+    ensures effect { IfOk result
+        (λ r. IsEffect client.now (hears client.now client.now.seen.task message.now) r.0) }
+    ensures mail { IfOk result
+        (λ r. r.1 ≡ next_mail client.now (hears client.now client.now.seen.task message.now)) }
 {
-    if let Some(counted) = counted_by(client, message)? {
-        return Ok((counted, ItemList::new(alloc)));
+    match counted_by(client, message)? {
+        Some(counted) => Ok((counted, ItemList::new(alloc))),
+        None => effect_on_copy(alloc, client, message),
     }
-    let mut hearer = client.copy()?;
+}
+
+/// What a message makes of a client, as a copy of it that hears the message shows.
+fn effect_on_copy(
+    alloc: Global,
+    client: &Client,
+    message: &Message,
+) -> Result<(AnswerEffect, Mail), NoMemory>
+    requires answer { IsAnswer client.now.id message.now }
+    requires room { phase_of client.now.seen.task < 2 ^ 64 - 1 }
+    ensures effect { IfOk result
+        (λ r. IsEffect client.now (hears client.now client.now.seen.task message.now) r.0) }
+    ensures mail { IfOk result
+        (λ r. r.1 ≡ next_mail client.now (hears client.now client.now.seen.task message.now)) }
+{
+    let mut hearer = Box::new(alloc, client.copy()?)?;
     let heard = hearer.hear(message)?;
     match heard {
         Heard::Unchanged => Ok((AnswerEffect::Same, ItemList::new(alloc))),
@@ -344,7 +389,9 @@ fn effect_of(
 /// That the client counts the answer and its phase goes on, if it does so.
 fn counted_by(client: &Client, message: &Message) -> Result<Option<AnswerEffect>, NoMemory>
     requires { IsAnswer client.now.id message.now }
-    ensures effect { IfOk result (λ r. IfSome r (λ e. (t : SeenTask) × (hears client.now client.now.seen.task message.now ≡ Counted t) × IsEffect client.now (Counted t) e)) }
+    ensures effect { IfOk result (λ r. IfSome r
+        (λ e. (t : SeenTask) × (hears client.now client.now.seen.task message.now ≡ Counted t)
+        × IsEffect client.now (Counted t) e)) }
 {
     let Body::Answer(reply) = &message.body else {
         return Ok(None);
@@ -409,7 +456,9 @@ fn tell(
     outcome: Option<Outcome>,
 )
     requires { index < length records.now }
-    ensures { (r : Told) → slice_get records.old index ≡ Some r → records.new ≡ slice_set records.old index (record r { end = end; stamp = stamp; outcome = outcome }) }
+    ensures { (r : Told) → slice_get records.old index ≡ Some r
+        → records.new ≡ slice_set records.old index
+        (record r { end = end; stamp = stamp; outcome = outcome }) }
 {
     let none = ItemList::new(records.allocator());
     let mut told = replace(records, none).into_vec();

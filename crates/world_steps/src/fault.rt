@@ -5,8 +5,9 @@ ghost use Rattle.protocol.specs.Lines.{fault, meets, some_of, is_actor, is_liar,
 ghost use Rattle.protocol.specs.Seen.{client_at};
 ghost use Rattle.world_steps.specs.Worlds.{setting_in, world_in};
 ghost use Rattle.world_steps.specs.Actors.{actor_of, listed};
+ghost use Rattle.world_steps.specs.Faults.{possible_faults};
 
-use crate::actors::{Actor, Actors, lies, named, takes_part};
+use crate::actors::{Actor, Actors, roles_in};
 use crate::state::State;
 use run_words::{Line, StepFault};
 use wire_forms::{Body, Message};
@@ -27,6 +28,23 @@ const FAULTS: [StepFault; 12] = [
     StepFault::NotCrashed,
 ];
 
+/// Those that a call can meet.
+const CALL_FAULTS: [StepFault; 4] = [
+    StepFault::NoSuchActor,
+    StepFault::Crashed,
+    StepFault::Idle,
+    StepFault::IsALiar,
+];
+
+/// Those that the start of an operation can meet.
+const START_FAULTS: [StepFault; 5] = [
+    StepFault::NoSuchActor,
+    StepFault::Busy,
+    StepFault::Crashed,
+    StepFault::IsALiar,
+    StepFault::Worn,
+];
+
 /// How many operations a life has room for; a client has room for one life more.
 const LAST: u32 = u32::MAX;
 
@@ -35,7 +53,7 @@ impl State {
     pub fn fault(&self, line: &Line) -> Option<StepFault>
         ensures { result ≡ fault (setting_in self.now) (world_in self.now) line.now }
     {
-        FAULTS
+        possible_faults(line)
             .iter()
             .find(|fault| self.meets(line, **fault))
             .copied()
@@ -47,15 +65,16 @@ impl State {
     {
         match fault {
             StepFault::NoSuchActor => {
-                self.some_missing(takes_part(line)) || self.some_missing(named(line))
+                let roles = roles_in(line);
+                self.some_missing(roles.takes_part) || self.some_missing(roles.named)
             }
             StepFault::NoSuchMessage => self.lacks_message(line),
             StepFault::WrongReceiver => self.has_wrong_receiver(line),
             StepFault::Busy => self.is_busy(line),
             StepFault::Crashed => self.meets_crashed(line),
-            StepFault::NotALiar => self.some_honest(lies(line)),
+            StepFault::NotALiar => self.some_honest(roles_in(line).lies),
             StepFault::Idle => self.asks_nothing(line),
-            StepFault::IsALiar => self.some_lying(takes_part(line)),
+            StepFault::IsALiar => self.some_lying(roles_in(line).takes_part),
             StepFault::NotQuiet => self.meets_busy_block(line),
             StepFault::NoRead => self.lacks_read(line),
             StepFault::Worn => self.is_worn(line),
@@ -65,7 +84,8 @@ impl State {
 
     /// Whether one of them isn't there.
     fn some_missing(&self, actors: Actors) -> bool
-        ensures { result ≡ some_of (λ a. not (is_actor (setting_in self.now) (world_in self.now) a)) (listed actors) }
+        ensures { result ≡ some_of (λ a. not (is_actor (setting_in self.now) (world_in self.now) a))
+            (listed actors) }
     {
         match actors {
             Actors::Nobody => false,
@@ -76,7 +96,8 @@ impl State {
 
     /// Whether one of them isn't declared lying.
     fn some_honest(&self, actors: Actors) -> bool
-        ensures { result ≡ some_of (λ a. not (is_liar (setting_in self.now) (world_in self.now) a)) (listed actors) }
+        ensures { result ≡ some_of (λ a. not (is_liar (setting_in self.now) (world_in self.now) a))
+            (listed actors) }
     {
         match actors {
             Actors::Nobody => false,
@@ -87,7 +108,8 @@ impl State {
 
     /// Whether one of them is declared lying.
     fn some_lying(&self, actors: Actors) -> bool
-        ensures { result ≡ some_of (is_liar (setting_in self.now) (world_in self.now)) (listed actors) }
+        ensures { result ≡ some_of (is_liar (setting_in self.now) (world_in self.now))
+            (listed actors) }
     {
         match actors {
             Actors::Nobody => false,
@@ -98,7 +120,8 @@ impl State {
 
     /// Whether one of them has crashed.
     fn some_crashed(&self, actors: Actors) -> bool
-        ensures { result ≡ some_of (has_crashed (setting_in self.now) (world_in self.now)) (listed actors) }
+        ensures { result ≡ some_of (has_crashed (setting_in self.now) (world_in self.now))
+            (listed actors) }
     {
         match actors {
             Actors::Nobody => false,
@@ -161,7 +184,8 @@ impl State {
 
     /// Whether the line names a message that isn't in the pool.
     fn lacks_message(&self, line: &Line) -> bool
-        ensures { result ≡ meets (setting_in self.now) (world_in self.now) line.now StepFault.NoSuchMessage }
+        ensures { result ≡ meets (setting_in self.now)
+            (world_in self.now) line.now StepFault.NoSuchMessage }
     {
         match line {
             Line::Give { message, .. } | Line::Hear { message, .. } => {
@@ -173,7 +197,8 @@ impl State {
 
     /// Whether the line's message isn't one for its node or client.
     fn has_wrong_receiver(&self, line: &Line) -> bool
-        ensures { result ≡ meets (setting_in self.now) (world_in self.now) line.now StepFault.WrongReceiver }
+        ensures { result ≡ meets (setting_in self.now)
+            (world_in self.now) line.now StepFault.WrongReceiver }
     {
         match line {
             Line::Give { node, message } => match self.pool.get(*message as usize) {
@@ -202,12 +227,13 @@ impl State {
 
     /// Whether someone who takes part has crashed, in a line other than the one that ends a crash.
     fn meets_crashed(&self, line: &Line) -> bool
-        ensures { result ≡ meets (setting_in self.now) (world_in self.now) line.now StepFault.Crashed }
+        ensures { result ≡ meets (setting_in self.now)
+            (world_in self.now) line.now StepFault.Crashed }
     {
         if let Line::Back { .. } = line {
             return false;
         }
-        self.some_crashed(takes_part(line))
+        self.some_crashed(roles_in(line).takes_part)
     }
 
     /// Whether the line needs what a client asks for, and the client asks for nothing.
@@ -224,7 +250,8 @@ impl State {
 
     /// Whether an operation on the block that the line prunes is under way.
     fn meets_busy_block(&self, line: &Line) -> bool
-        ensures { result ≡ meets (setting_in self.now) (world_in self.now) line.now StepFault.NotQuiet }
+        ensures { result ≡ meets (setting_in self.now)
+            (world_in self.now) line.now StepFault.NotQuiet }
     {
         match line {
             Line::Prune { block, .. } => 0 < self.block_use(*block).at_work,
@@ -234,7 +261,8 @@ impl State {
 
     /// Whether no read of the block that the line prunes has completed.
     fn lacks_read(&self, line: &Line) -> bool
-        ensures { result ≡ meets (setting_in self.now) (world_in self.now) line.now StepFault.NoRead }
+        ensures { result ≡ meets (setting_in self.now)
+            (world_in self.now) line.now StepFault.NoRead }
     {
         match line {
             Line::Prune { block, .. } => self.block_use(*block).given.is_none(),
@@ -263,12 +291,24 @@ impl State {
 
     /// Whether the line brings back a client that hasn't crashed.
     fn has_not_crashed(&self, line: &Line) -> bool
-        ensures { result ≡ meets (setting_in self.now) (world_in self.now) line.now StepFault.NotCrashed }
+        ensures { result ≡ meets (setting_in self.now)
+            (world_in self.now) line.now StepFault.NotCrashed }
     {
         match line {
             Line::Back { client } => !self.has_crashed(Actor::Client(*client)),
             _ => false,
         }
+    }
+}
+
+/// The faults that are looked for in a line. Calls and starts, which most lines are, can meet only some of them.
+fn possible_faults(line: &Line) -> &'static [StepFault]
+    ensures { result.now ≡ possible_faults line.now }
+{
+    match line {
+        Line::Call { .. } => &CALL_FAULTS,
+        Line::Write { .. } | Line::Read { .. } => &START_FAULTS,
+        _ => &FAULTS,
     }
 }
 

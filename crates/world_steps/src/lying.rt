@@ -16,7 +16,8 @@ impl State {
     pub(crate) fn outstanding(&self, client: u32, node: u8) -> Result<Option<Message>, NoMemory>
         requires client { client ≤ 1000 }
         requires node { node < self.now.config.n }
-        ensures { IfOk result (λ m. m ≡ asked_by (setting_in self.now) client node ((world_in self.now).task client)) }
+        ensures { IfOk result (λ m. m ≡ asked_by (setting_in self.now) client node
+            ((world_in self.now).task client)) }
     {
         self.client_slots[client as usize].client.outstanding(node)
     }
@@ -30,7 +31,8 @@ impl State {
     ) -> Result<Option<Message>, NoMemory>
         requires client { client ≤ 1000 }
         requires node { node < self.now.config.n }
-        ensures { IfOk result (λ m. m ≡ lied_by (setting_in self.now) rule client node ((world_in self.now).task client)) }
+        ensures { IfOk result (λ m. m ≡ lied_by (setting_in self.now) rule client node
+            ((world_in self.now).task client)) }
     {
         let Some(asked) = self.outstanding(client, node)? else {
             return Ok(None);
@@ -49,7 +51,8 @@ impl State {
     ) -> Result<Message, NoMemory>
         requires node { node < self.now.config.n }
         requires size { length value.now ≡ self.now.config.size }
-        ensures { IfOk result (λ m. m ≡ sound_ask_of (setting_in self.now) client node block time value.now) }
+        ensures { IfOk result
+            (λ m. m ≡ sound_ask_of (setting_in self.now) client node block time value.now) }
     {
         liar_rules::sound_ask(self.alloc, &self.config, client, node, block, time, value)
     }
@@ -67,7 +70,8 @@ impl State {
         requires node { node < self.now.config.n }
         requires size { length value.now ≡ self.now.config.size }
         requires other_size { length other.now ≡ self.now.config.size }
-        ensures { IfOk result (λ m. m ≡ mix_ask_of (setting_in self.now) client node block time value.now other.now) }
+        ensures { IfOk result
+            (λ m. m ≡ mix_ask_of (setting_in self.now) client node block time value.now other.now) }
     {
         liar_rules::mix_ask(
             self.alloc,

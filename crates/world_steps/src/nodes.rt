@@ -1,6 +1,6 @@
 //! What takes place at nodes: messages are sent, asks are handled, nodes crash and prune.
 
-ghost use Rattle.std.specs.Prelude.{◌≡◌, ℕ, ◌<◌, nat_lt, IfOk, OnOk, OnErr};
+ghost use Rattle.std.specs.Prelude.{◌≡◌, ℕ, ◌<◌, nat_lt, IfOk, OnOk, OnErr, ◌∷◌, ◌++◌};
 ghost use Rattle.protocol.specs.World.{sent, answer_of, happens, only_place, greatest_given};
 ghost use Rattle.protocol.specs.Lines.{is_busy_at};
 ghost use Rattle.protocol.specs.Seen.{block_of};
@@ -25,7 +25,8 @@ impl State {
     /// Sends messages.
     pub(crate) fn send(&mut self, place: u64, mut mail: Mail) -> Result<(), NoMemory>
         requires { self.now.seen.place < place }
-        ensures ok { OnOk result (world_in self.new ≡ sent (setting_in self.old) (world_in self.old) place mail) }
+        ensures ok { OnOk result
+            (world_in self.new ≡ sent (setting_in self.old) (world_in self.old) place mail) }
         ensures clients { OnOk result (self.new.seen.clients ≡ self.old.seen.clients) }
         ensures cluster { OnOk result (self.new.config ≡ self.old.config) }
         ensures lying_nodes { OnOk result (self.new.lying_nodes ≡ self.old.lying_nodes) }
@@ -45,8 +46,10 @@ impl State {
         ask: &Ask,
     ) -> Result<(Message, Option<Version>), NoMemory>
         requires { node < self.now.config.n }
-        ensures answer { IfOk result (λ r. r.0 ≡ answer_of (setting_in self.now) (world_in self.now) node message.now ask.now) }
-        ensures added { IfOk result (λ r. r.1 ≡ accepts_in (setting_in self.now) (world_in self.now) node ask.now) }
+        ensures answer { IfOk result (λ r. r.0 ≡ answer_of (setting_in self.now)
+            (world_in self.now) node message.now ask.now) }
+        ensures added { IfOk result
+            (λ r. r.1 ≡ accepts_in (setting_in self.now) (world_in self.now) node ask.now) }
     {
         let slot = &self.node_slots[usize::from(node)];
         let Prepared { reply, added } = slot.stored.prepare(ask)?;
@@ -59,19 +62,21 @@ impl State {
         Ok((answer, added))
     }
 
-    /// Lets the node add what it prepared for the ask, and sends messages.
+    /// Lets the node add what it prepared for the ask, and sends a message and others behind it.
     pub(crate) fn give(
         &mut self,
         place: u64,
         node: u8,
         ask: &Ask,
         added: Option<Version>,
-        mut mail: Mail,
+        message: Message,
+        others: Mail,
     ) -> Result<(), NoMemory>
         requires later { self.now.seen.place < place }
         requires node { node < self.now.config.n }
         requires added { added ≡ accepts_in (setting_in self.now) (world_in self.now) node ask.now }
-        ensures ok { OnOk result (world_in self.new ≡ handles (setting_in self.old) (world_in self.old) place node ask.now mail) }
+        ensures ok { OnOk result (world_in self.new ≡ handles (setting_in self.old)
+            (world_in self.old) place node ask.now (message ∷ others)) }
         ensures clients { OnOk result (self.new.seen.clients ≡ self.old.seen.clients) }
         ensures cluster { OnOk result (self.new.config ≡ self.old.config) }
         ensures lying_nodes { OnOk result (self.new.lying_nodes ≡ self.old.lying_nodes) }
@@ -79,7 +84,7 @@ impl State {
         ensures err { OnErr result (self.new ≡ self.old) }
     {
         let sent = self.pool.len();
-        self.pool.append(&mut mail)?;
+        send_all(&mut self.pool, message, others)?;
         let slot = &mut self.node_slots[usize::from(node)];
         match keep(&mut slot.stored, node, ask, added, &mut self.accepted) {
             Ok(()) => {
@@ -105,7 +110,8 @@ impl State {
     pub(crate) fn crash_node(&mut self, place: u64, node: u8)
         requires later { self.now.seen.place < place }
         requires node { node < self.now.config.n }
-        ensures world { world_in self.new ≡ happens (setting_in self.old) (world_in self.old) place (NodeCrashes node) }
+        ensures world { world_in self.new ≡ happens (setting_in self.old) (world_in self.old) place
+            (NodeCrashes node) }
         ensures cluster { self.new.config ≡ self.old.config }
         ensures lying_nodes { self.new.lying_nodes ≡ self.old.lying_nodes }
         ensures lying_clients { self.new.lying_clients ≡ self.old.lying_clients }
@@ -117,7 +123,8 @@ impl State {
 
     /// What a prune of the block goes by.
     pub(crate) fn block_use(&self, block: u32) -> BlockUse
-        ensures at_work { nat_lt 0 result.at_work ≡ is_busy_at (setting_in self.now) (world_in self.now) block }
+        ensures at_work { nat_lt 0 result.at_work ≡ is_busy_at (setting_in self.now)
+            (world_in self.now) block }
         ensures given { result.given ≡ greatest_given block self.now.seen.records }
     {
         match self.uses.get(block as usize) {
@@ -131,7 +138,8 @@ impl State {
         requires later { self.now.seen.place < place }
         requires node { node < self.now.config.n }
         requires block { block < self.now.config.blocks }
-        ensures ok { OnOk result (world_in self.new ≡ happens (setting_in self.old) (world_in self.old) place (Prunes node block)) }
+        ensures ok { OnOk result (world_in self.new ≡ happens (setting_in self.old)
+            (world_in self.old) place (Prunes node block)) }
         ensures cluster { OnOk result (self.new.config ≡ self.old.config) }
         ensures lying_nodes { OnOk result (self.new.lying_nodes ≡ self.old.lying_nodes) }
         ensures lying_clients { OnOk result (self.new.lying_clients ≡ self.old.lying_clients) }
@@ -151,7 +159,8 @@ impl State {
     pub(crate) fn restart(&mut self, place: u64, node: u8) -> Result<(), NoMemory>
         requires later { self.now.seen.place < place }
         requires node { node < self.now.config.n }
-        ensures ok { OnOk result (world_in self.new ≡ only_place (setting_in self.old) (world_in self.old) place) }
+        ensures ok { OnOk result
+            (world_in self.new ≡ only_place (setting_in self.old) (world_in self.old) place) }
         ensures cluster { OnOk result (self.new.config ≡ self.old.config) }
         ensures lying_nodes { OnOk result (self.new.lying_nodes ≡ self.old.lying_nodes) }
         ensures lying_clients { OnOk result (self.new.lying_clients ≡ self.old.lying_clients) }
@@ -168,10 +177,30 @@ impl State {
     pub(crate) fn stored(&self, node: u8) -> &[u8]
         requires { node < self.now.config.n }
         ensures state { held self.now.config node result.now ≡ node_in self.now node }
-        ensures versions { (block : ℕ) → block < self.now.config.blocks → versions_in (held self.now.config node result.now) block ≡ (world_in self.now).versions node block }
+        ensures versions { (block : ℕ) → block < self.now.config.blocks
+            → versions_in (held self.now.config node result.now) block ≡
+            (world_in self.now).versions node block }
     {
         self.node_slots[usize::from(node)].stored.bytes()
     }
+}
+
+/// Adds the message and the others behind it to the pool, or nothing.
+fn send_all(
+    pool: &mut ItemList<Message>,
+    message: Message,
+    mut others: Mail,
+) -> Result<(), NoMemory>
+    ensures ok { OnOk result (pool.new ≡ pool.old ++ message ∷ others) }
+    ensures err { OnErr result (pool.new ≡ pool.old) }
+{
+    let len = pool.len();
+    pool.push(message)?;
+    let sent = pool.append(&mut others);
+    if sent.is_err() {
+        pool.truncate(len);
+    }
+    sent
 }
 
 /// Lets the node of this number add what it prepared for the ask, and tells the version, if any.
@@ -183,8 +212,10 @@ fn keep(
     accepted: &mut ItemList<Accepted>,
 ) -> Result<(), NoMemory>
     requires { added ≡ accepts_of node.old.node ask.now }
-    ensures node { OnOk result (node.new.node ≡ with_versions node.old.node ask.now.block (after_of node.old.node ask.now)) }
-    ensures told { OnOk result (accepted.new ≡ one_more accepted.old (told_of number ask.now.block (accepts_of node.old.node ask.now))) }
+    ensures node { OnOk result (node.new.node ≡ with_versions node.old.node ask.now.block
+        (after_of node.old.node ask.now)) }
+    ensures told { OnOk result (accepted.new ≡ one_more accepted.old
+        (told_of number ask.now.block (accepts_of node.old.node ask.now))) }
     ensures node_kept { OnErr result (node.new.node ≡ node.old.node) }
     ensures told_kept { OnErr result (accepted.new ≡ accepted.old) }
 {

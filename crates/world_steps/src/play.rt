@@ -22,12 +22,15 @@ impl State {
     pub fn play(&mut self, place: u64, line: &Line) -> Result<(), StepRefusal>
         requires later { self.now.seen.place < place }
         requires fits { FitsLine (setting_in self.now) line.now }
-        ensures allowed { OnOk result (fault (setting_in self.old) (world_in self.old) line.now ≡ None) }
-        ensures ok { OnOk result (world_in self.new ≡ plays (setting_in self.old) (world_in self.old) place line.now) }
+        ensures allowed { OnOk result
+            (fault (setting_in self.old) (world_in self.old) line.now ≡ None) }
+        ensures ok { OnOk result
+            (world_in self.new ≡ plays (setting_in self.old) (world_in self.old) place line.now) }
         ensures cluster { OnOk result (self.new.config ≡ self.old.config) }
         ensures lying_nodes { OnOk result (self.new.lying_nodes ≡ self.old.lying_nodes) }
         ensures lying_clients { OnOk result (self.new.lying_clients ≡ self.old.lying_clients) }
-        ensures fault { (f : Faults) → IsErrOf result (StepRefusal.Fault f) → fault (setting_in self.old) (world_in self.old) line.now ≡ Some f }
+        ensures fault { (f : Faults) → IsErrOf result (StepRefusal.Fault f)
+            → fault (setting_in self.old) (world_in self.old) line.now ≡ Some f }
         ensures unchanged { OnErr result (self.new ≡ self.old) }
     {
         if let Some(fault) = self.fault(line) {
@@ -133,7 +136,8 @@ impl State {
     fn give_pooled(&mut self, place: u64, node: u8, number: u64) -> Result<(), NoMemory>
         requires later { self.now.seen.place < place }
         requires node { node < self.now.config.n }
-        requires asked { (m : Messages) × (slice_get self.now.seen.pool number ≡ Some m) × IsAskOf node m }
+        requires asked { (m : Messages) × (slice_get self.now.seen.pool number ≡ Some m)
+            × IsAskOf node m }
         ensures ok { OnOk result (IsPlayedBy self.old self.new place (lines.Give node number)) }
         ensures err { OnErr result (self.new ≡ self.old) }
     {
@@ -145,9 +149,8 @@ impl State {
         };
         let ask = ask.copy()?;
         let (answer, added) = self.answer(node, message, &ask)?;
-        let mut mail = Mail::new(self.alloc);
-        mail.push(answer)?;
-        self.give(place, node, &ask, added, mail)
+        let others = Mail::new(self.alloc);
+        self.give(place, node, &ask, added, answer, others)
     }
 
     /// A message is sent.
@@ -175,10 +178,9 @@ impl State {
         let ask = ask.copy()?;
         let node = message.node;
         let (answer, added) = self.answer(node, &message, &ask)?;
-        let mut mail = Mail::new(self.alloc);
-        mail.push(message)?;
-        mail.push(answer)?;
-        self.give(place, node, &ask, added, mail)
+        let mut others = Mail::new(self.alloc);
+        others.push(answer)?;
+        self.give(place, node, &ask, added, message, others)
     }
 
     /// A lying node answers what the client asks by a rule, and the client hears it.
@@ -189,7 +191,8 @@ impl State {
         requires working { IsWorking self.now client }
         requires awake { (world_in self.now).client_crashed client ≡ false }
         requires rule { rule ≢ Rule.Silent }
-        ensures ok { OnOk result (IsPlayedBy self.old self.new place (lines.False client node rule)) }
+        ensures ok { OnOk result
+            (IsPlayedBy self.old self.new place (lines.False client node rule)) }
         ensures err { OnErr result (self.new ≡ self.old) }
     {
         let Some(message) = self.false_answer(client, node, rule)? else {

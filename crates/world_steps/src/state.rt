@@ -1,9 +1,9 @@
 ghost use Rattle.std.specs.Prelude.{◌≡◌, ◌<◌, List, length, IfOk};
 ghost use Rattle.protocol.specs.Instance.{setting_of};
-ghost use Rattle.wire_forms.specs.Liars.{has_number};
+ghost use Rattle.wire_forms.specs.Liars.{has_number, AreLiars};
 ghost use Rattle.quorum_rules.specs.Limits.{IsValid};
 ghost use Rattle.protocol.specs.World.{start_world};
-ghost use Rattle.world_steps.specs.Worlds.{setting_in, world_in, AreLiars};
+ghost use Rattle.world_steps.specs.Worlds.{setting_in, world_in};
 ghost use Rattle.world_steps.specs.Beginnings.{AreNewNodeSlots, AreNewClientSlots};
 
 use crate::block_use::{BlockUse, UNUSED};
@@ -77,7 +77,8 @@ impl State {
     pub fn new(alloc: Global, config: &Config, liars: &Liars) -> Result<State, NoMemory>
         requires { AreLiars config.now liars.now }
         ensures cluster { IfOk result (λ w. w.config ≡ config.now) }
-        ensures liars { IfOk result (λ w. setting_in w ≡ setting_of config.now (has_number liars.now.nodes) (has_number liars.now.clients)) }
+        ensures liars { IfOk result (λ w. setting_in w ≡ setting_of config.now
+            (has_number liars.now.nodes) (has_number liars.now.clients)) }
         ensures start { IfOk result (λ w. world_in w ≡ start_world (setting_in w)) }
     {
         Ok(State {
@@ -99,7 +100,8 @@ impl State {
 fn new_node_slots(alloc: Global, config: &Config, liars: &Liars) -> Result<Vec<NodeSlot>, NoMemory>
     ensures valid { IsValid config.now }
     ensures count { IfOk result (λ slots. length slots.items ≡ config.now.n) }
-    ensures new { IfOk result (λ slots. AreNewNodeSlots config.now (has_number liars.now.nodes) slots.items) }
+    ensures new { IfOk result
+        (λ slots. AreNewNodeSlots config.now (has_number liars.now.nodes) slots.items) }
 {
     let mut slots = Vec::new(alloc);
     for number in 0..config.n() as u8 {
@@ -119,7 +121,8 @@ fn new_client_slots(
     liars: &Liars,
 ) -> Result<Vec<ClientSlot>, NoMemory>
     ensures count { IfOk result (λ slots. length slots.items ≡ 1001) }
-    ensures new { IfOk result (λ slots. AreNewClientSlots config.now (has_number liars.now.clients) slots.items) }
+    ensures new { IfOk result
+        (λ slots. AreNewClientSlots config.now (has_number liars.now.clients) slots.items) }
 {
     let nobody = Client::new(alloc, config, 0)?;
     let mut slots = Vec::new(alloc);

@@ -1,6 +1,6 @@
 ghost use Rattle.std.specs.Prelude.{false, ◌≡◌, ℕ, ◌<◌, OnOk, OnErr, IfOk, IsErrOf, map};
 ghost use Rattle.std.specs.declared.option.Option.TheVariants.{None, Some};
-ghost use Rattle.wire_forms.specs.Liars.{has_number};
+ghost use Rattle.wire_forms.specs.Liars.{has_number, AreLiars};
 ghost use Rattle.protocol.specs.Instance.{setting_of};
 ghost use Rattle.protocol.specs.World.{start_world};
 ghost use Rattle.protocol.specs.Setting.{first_stamp};
@@ -9,7 +9,7 @@ ghost use Rattle.protocol.specs.Seen.{record_of, accepted_of};
 ghost use Rattle.run_words.specs.declared.line.StepFault.{StepFault as Faults};
 ghost use Rattle.node_core.specs.Seen.{versions_in};
 ghost use Rattle.version_disk.specs.Held.{held};
-ghost use Rattle.world_steps.specs.Worlds.{setting_in, world_in, node_in, AreLiars, IsReached};
+ghost use Rattle.world_steps.specs.Worlds.{setting_in, world_in, node_in, IsReached};
 ghost use Rattle.world_steps.specs.Events.{line_of, Happens};
 
 use crate::event::Event;
@@ -46,7 +46,8 @@ impl World {
     pub fn new(alloc: Global, config: &Config, liars: &Liars) -> Result<World, NoMemory>
         requires { AreLiars config.now liars.now }
         ensures cluster { IfOk result (λ w. w.config ≡ config.now) }
-        ensures liars { IfOk result (λ w. setting_in w ≡ setting_of config.now (has_number liars.now.nodes) (has_number liars.now.clients)) }
+        ensures liars { IfOk result (λ w. setting_in w ≡ setting_of config.now
+            (has_number liars.now.nodes) (has_number liars.now.clients)) }
         ensures start { IfOk result (λ w. world_in w ≡ start_world (setting_in w)) }
     {
         let state = State::new(alloc, config, liars)?;
@@ -61,11 +62,14 @@ impl World {
     pub fn play(&mut self, place: u64, line: &Line) -> Result<(), StepRefusal>
         requires later { self.now.seen.place < place }
         requires fits { FitsLine (setting_in self.now) line.now }
-        ensures allowed { OnOk result (fault (setting_in self.old) (world_in self.old) line.now ≡ None) }
-        ensures ok { OnOk result (world_in self.new ≡ plays (setting_in self.old) (world_in self.old) place line.now) }
+        ensures allowed { OnOk result
+            (fault (setting_in self.old) (world_in self.old) line.now ≡ None) }
+        ensures ok { OnOk result
+            (world_in self.new ≡ plays (setting_in self.old) (world_in self.old) place line.now) }
         ensures cluster { OnOk result (self.new.config ≡ self.old.config) }
         ensures setting { OnOk result (setting_in self.new ≡ setting_in self.old) }
-        ensures fault { (f : Faults) → IsErrOf result (StepRefusal.Fault f) → fault (setting_in self.old) (world_in self.old) line.now ≡ Some f }
+        ensures fault { (f : Faults) → IsErrOf result (StepRefusal.Fault f)
+            → fault (setting_in self.old) (world_in self.old) line.now ≡ Some f }
         ensures unchanged { OnErr result (self.new ≡ self.old) }
     {
         self.state.play(place, line)
@@ -76,12 +80,16 @@ impl World {
     pub fn step(&mut self, place: u64, event: &Event) -> Result<(), StepRefusal>
         requires later { self.now.seen.place < place }
         requires fits { FitsLine (setting_in self.now) (line_of event.now) }
-        ensures allowed { OnOk result (fault (setting_in self.old) (world_in self.old) (line_of event.now) ≡ None) }
-        ensures ok { OnOk result (world_in self.new ≡ plays (setting_in self.old) (world_in self.old) place (line_of event.now)) }
-        ensures happens { OnOk result (Happens (setting_in self.old) (world_in self.old) place event.now (world_in self.new)) }
+        ensures allowed { OnOk result
+            (fault (setting_in self.old) (world_in self.old) (line_of event.now) ≡ None) }
+        ensures ok { OnOk result (world_in self.new ≡ plays (setting_in self.old)
+            (world_in self.old) place (line_of event.now)) }
+        ensures happens { OnOk result (Happens (setting_in self.old)
+            (world_in self.old) place event.now (world_in self.new)) }
         ensures cluster { OnOk result (self.new.config ≡ self.old.config) }
         ensures setting { OnOk result (setting_in self.new ≡ setting_in self.old) }
-        ensures fault { (f : Faults) → IsErrOf result (StepRefusal.Fault f) → fault (setting_in self.old) (world_in self.old) (line_of event.now) ≡ Some f }
+        ensures fault { (f : Faults) → IsErrOf result (StepRefusal.Fault f)
+            → fault (setting_in self.old) (world_in self.old) (line_of event.now) ≡ Some f }
         ensures unchanged { OnErr result (self.new ≡ self.old) }
     {
         let line = event.line(self.state.alloc)?;
@@ -137,7 +145,9 @@ impl World {
         requires there { node < self.now.config.n }
         requires upright { (setting_in self.now).lying_node node ≡ false }
         ensures state { held self.now.config node result.now ≡ node_in self.now node }
-        ensures versions { (block : ℕ) → block < self.now.config.blocks → versions_in (held self.now.config node result.now) block ≡ (world_in self.now).versions node block }
+        ensures versions { (block : ℕ) → block < self.now.config.blocks
+            → versions_in (held self.now.config node result.now) block ≡
+            (world_in self.now).versions node block }
     {
         self.state.stored(node)
     }

@@ -1,4 +1,3 @@
-pub mod Ending
-pub mod Drawing
-pub mod Hearing
 pub mod Saying
+pub mod Hearing
+pub mod Drawing

@@ -1,3 +1,2 @@
-pub mod Tasks
-pub mod Views
+pub mod Times
 pub mod Writers

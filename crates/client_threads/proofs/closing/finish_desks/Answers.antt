@@ -28,22 +28,6 @@ loop-seat-preserved c =
     c.loop-seat.desks c.push-in-loop-seat.new.self c.loop-seat.passes c.push.new.self c.in-Some.seat c.finish-journal.result.0 c.finish-journal.result.1
     c.loop-seat.invariant steps.0 steps.1 c.in_ok-push-2.ensures.ok told.client told.entries c.in_ok-push.ensures.ok told.pass told.kept
 
-pub loop-seat-preserved-in_ok-push-2 : goal.loop-seat-preserved-in_ok-push-2
-loop-seat-preserved-in_ok-push-2 c =
-    let steps = c.in-Some.ensures.steps in
-    let told = c.finish-journal.ensures in
-    one_finished c.args.seats.items c.args.passes.now (into_iter_items c.loop-seat.seat-iterator) (into_iter_items c.next.new.self) (into_iter_len c.loop-seat.seat-iterator) (into_iter_len c.next.new.self)
-    c.loop-seat.desks c.push-in-loop-seat.new.self c.loop-seat.passes c.push.new.self c.in-Some.seat c.finish-journal.result.0 c.finish-journal.result.1
-    c.loop-seat.invariant steps.0 steps.1 c.in_ok-push-2.ensures.ok told.client told.entries c.in_ok-push.ensures.ok told.pass told.kept
-
-pub loop-seat-preserved-in_ok-push-2-2 : goal.loop-seat-preserved-in_ok-push-2-2
-loop-seat-preserved-in_ok-push-2-2 c =
-    let steps = c.in-Some.ensures.steps in
-    let told = c.finish-journal.ensures in
-    one_finished c.args.seats.items c.args.passes.now (into_iter_items c.loop-seat.seat-iterator) (into_iter_items c.next.new.self) (into_iter_len c.loop-seat.seat-iterator) (into_iter_len c.next.new.self)
-    c.loop-seat.desks c.push-in-loop-seat.new.self c.loop-seat.passes c.push.new.self c.in-Some.seat c.finish-journal.result.0 c.finish-journal.result.1
-    c.loop-seat.invariant steps.0 steps.1 c.in_ok-push-2.ensures.ok told.client told.entries c.in_ok-push.ensures.ok told.pass told.kept
-
 pub returns-clause-desks : goal.returns-clause-desks
 returns-clause-desks c =
     let inv = c.loop-seat.invariant in

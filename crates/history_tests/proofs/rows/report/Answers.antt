@@ -1,7 +1,7 @@
 use Rattle.std.proofs.Common.{◌<◌, ◌^◌, map, length, replicate, arith}
 use Rattle.std.proofs.lemmas.List.{length-map}
 use Rattle.protocol.specs.Seen.{record_of}
-use Rattle.history_book.proofs.Rows.{row_records}
+use Rattle.history_tests.proofs.ByHand.{row_records}
 use Rattle.history_tests.proofs.rows.report.Goals as goal
 
 pub history_of-requires : goal.history_of-requires

@@ -1,5 +1,5 @@
 use Rattle.std.proofs.Common.{List, ℕ, subst, sym}
-use Rattle.pasis_shell.specs.PlanRuns.{Runs}
+use Rattle.command_texts.specs.PlanRuns.{Runs}
 use Rattle.pasis_shell.proofs.RunsOfPlans.{is_plan}
 use Rattle.pasis_shell.proofs.planned.run_of.Goals as goal
 

@@ -1,10 +1,10 @@
 use Rattle.std.proofs.Common.{List, ℕ, ap, subst, sym}
 use Rattle.std.specs.Prelude.{Err}
-use Rattle.pasis_shell.specs.PlanRuns.{Soaks}
-use Rattle.pasis_shell.specs.Texts.{Refuses}
-use Rattle.pasis_shell.specs.Statuses.{refusal_of_run}
-use Rattle.pasis_shell.specs.declared.words.Command.TheVariants.{Soak}
-use Rattle.pasis_shell.specs.declared.text.Refusal.TheVariants.{NoMemory}
+use Rattle.command_texts.specs.PlanRuns.{Soaks}
+use Rattle.command_texts.specs.Texts.{Refuses}
+use Rattle.call_statuses.specs.Statuses.{refusal_of_run}
+use Rattle.command_words.specs.declared.words.Command.TheVariants.{Soak}
+use Rattle.call_statuses.specs.declared.refusal.Refusal.TheVariants.{NoMemory}
 use Rattle.pasis_shell.proofs.RunsOfPlans.{soak_refuses, given_on}
 use Rattle.pasis_shell.proofs.planned.soak_of.Goals as goal
 

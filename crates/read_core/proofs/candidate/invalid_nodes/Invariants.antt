@@ -2,7 +2,7 @@ use Rattle.std.proofs.Common.{◌≡◌, ◌&&◌, not}
 use Rattle.protocol.specs.Count.{collect, kept_where}
 use Rattle.protocol.specs.Operations.{is_answered, is_there}
 use Rattle.candidate_class.specs.Stamps.{stamp_at}
-use Rattle.read_core.specs.Rounds.{answer_at}
+use Rattle.operation_core.specs.Counting.{answer_at}
 use Rattle.read_core.proofs.candidate.invalid_nodes.Given as goal
 
 abbrev pub invariant-loop-i : goal.invariant-loop-i

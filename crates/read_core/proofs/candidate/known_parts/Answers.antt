@@ -1,6 +1,6 @@
-use Rattle.std.proofs.Common.{◌≡◌, refl}
+use Rattle.std.proofs.Common.{◌≡◌}
 use Rattle.std.specs.Prelude.{slice_get}
-use Rattle.std.specs.declared.option.Option.TheVariants.{Some, None}
+use Rattle.std.specs.declared.option.Option.TheVariants.{Some}
 use Rattle.cross_sum.specs.Digest.{digest}
 use Rattle.read_core.proofs.Gathering.{carrier_at, known_pushed}
 use Rattle.read_core.proofs.candidate.known_parts.Goals as goal

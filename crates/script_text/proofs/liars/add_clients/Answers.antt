@@ -2,6 +2,7 @@ use Rattle.std.proofs.Common.{◌≡◌, ◌≤◌, ◌<◌, ◌++◌, ℕ, List
 use Rattle.std.specs.Prelude.{codes, decimal}
 use Rattle.std.specs.List.{AllByRecursion}
 use Rattle.std.proofs.lemmas.List.Elements.{recursion_from_All}
+use Rattle.wire_forms.specs.Liars.{IsClientNumber}
 use Rattle.script_text.specs.Replays.{liar_line}
 use Rattle.script_text.specs.declared.liars.Declared.TheVariants.{Client}
 use Rattle.script_text.proofs.Ascending.{below_none, below_all}
@@ -12,21 +13,18 @@ use Rattle.script_text.proofs.liars.add_clients.Goals.{then-client+in_ok-add+in_
 abbrev line : ℕ → List ℕ
 line k = liar_line (Client k)
 
-abbrev IsClient : ℕ → Type 0
-IsClient k = (1 ≤ k) × (k ≤ 1000)
-
-from_one : (ks : List ℕ) → AllByRecursion IsClient ks → AllByRecursion (λ k. 1 ≤ k) ks
+from_one : (ks : List ℕ) → AllByRecursion IsClientNumber ks → AllByRecursion (λ k. 1 ≤ k) ks
 from_one [] h = tt
 from_one (k ∷ ks) h = (h.0.0, from_one ks h.1)
 
-to_last : (ks : List ℕ) → AllByRecursion IsClient ks → AllByRecursion (λ k. k < 1001) ks
+to_last : (ks : List ℕ) → AllByRecursion IsClientNumber ks → AllByRecursion (λ k. k < 1001) ks
 to_last [] h = tt
 to_last (k ∷ ks) h = let le : k ≤ 1000 = h.0.1 in (omega arith, to_last ks h.1)
 
 pub loop-client-init : goal.loop-client-init
 loop-client-init c =
     let ks = c.args.liars.now.clients in
-    none_written line c.args.text.now ks 1 (below_none 1 ks (from_one ks (recursion_from_All IsClient ks c.requires.clients)))
+    none_written line c.args.text.now ks 1 (below_none 1 ks (from_one ks (recursion_from_All IsClientNumber ks c.requires.may_lie.clients)))
 
 pub loop-client-preserved : goal.loop-client-preserved
 loop-client-preserved c =
@@ -47,4 +45,4 @@ returns c =
     let high = c.loop-client-test.false in
     let low = c.loop-client.auto in
     let end : c.loop-client.client ≡ 1001 = omega arith in
-    c.loop-client.invariant ∙ ap (λ (k : ℕ). written line old k ks) end ∙ all_written line old ks 1001 (below_all 1001 ks (to_last ks (recursion_from_All IsClient ks c.requires.clients)))
+    c.loop-client.invariant ∙ ap (λ (k : ℕ). written line old k ks) end ∙ all_written line old ks 1001 (below_all 1001 ks (to_last ks (recursion_from_All IsClientNumber ks c.requires.may_lie.clients)))

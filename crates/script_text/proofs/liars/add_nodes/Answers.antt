@@ -35,4 +35,4 @@ returns c =
     let low = c.loop-node.auto.node-end in
     let is = c.n-node-end.ensures.is in
     let end : c.loop-node.node ≡ n = omega arith in
-    c.loop-node.invariant ∙ ap (λ (k : ℕ). written line old k ks) end ∙ all_written line old ks n (below_all n ks (recursion_from_All (λ k. k < n) ks c.requires.nodes))
+    c.loop-node.invariant ∙ ap (λ (k : ℕ). written line old k ks) end ∙ all_written line old ks n (below_all n ks (recursion_from_All (λ k. k < n) ks c.requires.may_lie.nodes))

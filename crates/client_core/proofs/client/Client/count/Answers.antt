@@ -11,5 +11,5 @@ count-requires-clause-goes_on c =
 pub count-requires-in-Reading-clause-goes_on : goal.count-requires-in-Reading-clause-goes_on
 count-requires-in-Reading-clause-goes_on c =
     let r = c.in-Reading.reader in
-    let own = (rw c.in-Reading.is at c.self.invariant.own).0 in
+    let own = rw c.in-Reading.is at c.self.invariant.own in
     goes_on (setting r.config) r.client c.args.node c.args.tag c.args.reply r.task (rw (← c.self.view_is, c.in-Reading.is, ← own.cluster, ← own.client) at c.requires)

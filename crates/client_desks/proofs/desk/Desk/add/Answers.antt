@@ -4,7 +4,8 @@ use Rattle.journals.specs.declared.desk.DeskAct.TheVariants.{Call}
 use Rattle.journals.specs.Desks.{DeskState, new_desk, desk_after_all, ActsAs}
 use Rattle.client_core.specs.Clients.{ClientView}
 use Rattle.locked_nodes.specs.Cells.{number_of, with_seen}
-use Rattle.client_desks.specs.Desks.{DeskView, state_at, reply_told, heard, ending, desk_entry, with_call}
+use Rattle.client_desks.specs.Desks.{DeskView, state_at, heard, ending, desk_entry, with_call}
+use Rattle.locked_nodes.specs.Cells.{reply_told}
 use Rattle.client_desks.proofs.Desking.{desk_grows, desk_stays, heeds_call, told_client, told_crashed}
 use Rattle.client_desks.proofs.desk.Desk.add.Goals as goal
 

@@ -1,4 +1,4 @@
-use Rattle.client_desks.specs.Desks.{reply_told}
+use Rattle.locked_nodes.specs.Cells.{reply_told}
 use Rattle.client_desks.proofs.Desking.{calls_as}
 use Rattle.client_desks.proofs.desk.Desk.hear.Goals as goal
 

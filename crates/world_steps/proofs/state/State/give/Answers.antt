@@ -1,4 +1,4 @@
-use Rattle.std.proofs.Common.{◌≡◌, List, map, take, refl, sym, ◌∙◌, ap, arith}
+use Rattle.std.proofs.Common.{◌≡◌, List, ◌∷◌, map, take, refl, sym, ◌∙◌, ap, arith}
 use Rattle.std.proofs.Math.Seq.{take-append_seam}
 use Rattle.run_words.specs.declared.record.Accepted.{Accepted}
 use Rattle.protocol.specs.Count.{one_more}
@@ -44,14 +44,14 @@ returns-in-Ok-clause-ok c =
     let world = world-handled c.self.inside i inside old there is c.args.ask.now (record old { stored = c.keep.new.node }) refl c.in-Ok.ensures.node in
     let accepts = accepts-node_slot c.self.inside i inside old there is c.args.ask.now in
     let told = ap (λ (xs : List Accepted). map accepted_of xs) c.in-Ok.ensures.told ∙ accepted-more s c.self.inside.accepted c.args.node block _ in
-    (λ j. record (world j) { pool = c.in_ok-append.ensures.ok j; accepted = told j; place = c.args.place })
+    (λ j. record (world j) { pool = c.in_ok-send_all.ensures.ok j; accepted = told j; place = c.args.place })
     ∙ (λ j. record (world_in (the_view c.self.inside)) {
-      pool = (handles s (world_in (the_view c.self.inside)) c.args.place i c.args.ask.now c.args.mail).pool;
-      versions = (handles s (world_in (the_view c.self.inside)) c.args.place i c.args.ask.now c.args.mail).versions;
+      pool = (handles s (world_in (the_view c.self.inside)) c.args.place i c.args.ask.now (c.args.message ∷ c.args.others)).pool;
+      versions = (handles s (world_in (the_view c.self.inside)) c.args.place i c.args.ask.now (c.args.message ∷ c.args.others)).versions;
       accepted = one_more (world_in (the_view c.self.inside)).accepted (accepted_at s (sym c.from.ensures j) block (accepts j));
       place = c.args.place;
     })
-    ∙ (λ j. handles (setting_in (c.self.view_is j)) (world_in (c.self.view_is j)) c.args.place (c.from.ensures j) c.args.ask.now c.args.mail)
+    ∙ (λ j. handles (setting_in (c.self.view_is j)) (world_in (c.self.view_is j)) c.args.place (c.from.ensures j) c.args.ask.now (c.args.message ∷ c.args.others))
 
 pub returns-in-Ok-clause-lying_nodes : goal.returns-in-Ok-clause-lying_nodes
 returns-in-Ok-clause-lying_nodes c =
@@ -69,13 +69,13 @@ invariant_of-self-in-Err c =
     let same = node_slots_same c.self.inside.config i old is (record old { stored = c.keep.new.node }) c.in-Err.ensures.node_kept in
     (with_node_slot _ _ _ _ _ c.self.invariant.0 i _ same, c.self.invariant.1, c.self.invariant.2)
 
-pub returns-clause-err : goal.returns-clause-err
-returns-clause-err c =
+pub returns-in-Err-clause-err : goal.returns-in-Err-clause-err
+returns-in-Err-clause-err c =
     let i = c.from.result in
     let old = c.index_mut-slot.result.now in
     let inside = within c.self.inside _ i c.args.node c.self.invariant.0 c.self.view_is c.from.ensures c.requires.node in
     let same = view-same c.self.inside i inside old c.index_mut-slot.ensures.value (record old { stored = c.keep.new.node }) refl refl c.in-Err.ensures.node_kept in
     let pool : c.truncate.new.self ≡ c.self.inside.pool =
-    c.truncate.ensures ∙ (λ j. take (c.len-sent.ensures j) (c.in_ok-append.ensures.ok j)) ∙ take-append_seam c.self.inside.pool c.args.mail in
+    c.truncate.ensures ∙ (λ j. take (c.len-sent.ensures j) (c.in_ok-send_all.ensures.ok j)) ∙ take-append_seam c.self.inside.pool (c.args.message ∷ c.args.others) in
     let told : c.keep.new.accepted ≡ c.self.inside.accepted = c.in-Err.ensures.told_kept in
     (λ j. record (same j) { seen = record (same j).seen { pool = pool j; accepted = map accepted_of (told j) } }) ∙ c.self.view_is

@@ -25,7 +25,7 @@ returns-clause-ok c =
     let k = c.args.client in
     let m = c.args.message in
     let one = handles (setting_in v) (world_in v) c.args.place c.args.node c.args.ask.now (m ∷ []) in
-    let pool = sent-together (world_in v).pool c.in_ok-mail.mail c.in_ok-effect.next _ m c.in_ok-mail.ensures c.in_ok-effect.ensures.mail in
+    let pool = sent-together (world_in v).pool (m ∷ c.in_ok-effect.next) c.in_ok-effect.next _ m refl c.in_ok-effect.ensures.mail in
     c.apply.ensures.world
     ∙ heard-applied v k c.args.place m c.requires.answer c.in_ok-effect.effect one refl
     (subst (λ x. Fits x.config.n x.seen.place (client_at x.seen k).task) c.self.view_is (slot-fits c.self.inside c.self.invariant.0 k c.requires.client)) c.in_ok-effect.ensures.effect

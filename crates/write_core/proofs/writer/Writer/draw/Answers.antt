@@ -1,30 +1,43 @@
-use Rattle.std.proofs.Common.{◌+◌, ap}
-use Rattle.write_core.proofs.Drawing.{asks, says_spent, is_spent, says_storing, is_storing}
+use Rattle.std.proofs.Common.{◌≡◌, ◌∙◌, ap}
+use Rattle.quorum_rules.specs.Limits.{Numbers}
+use Rattle.protocol.specs.Seen.{SeenOperation}
+use Rattle.write_core.proofs.Drawing.{says_spent, is_spent, says_storing, is_storing}
 use Rattle.write_core.proofs.writer.Writer.draw.Goals as goal
 
 pub returns-then-time-clause-said : goal.returns-then-time-clause-said
 returns-then-time-clause-said c =
-    let idle = asks _ _ _ _ _ _ (rw (← c.self.view_is) at c.requires) in
-    let drawn = rw (c.as_slice.ensures.value, c.b.ensures.is) at c.drawn-time.ensures in
-    rw (← c.self.view_is) (says_spent c.self.inside.config c.self.inside.head c.self.inside.parcel c.self.invariant.packed c.self.inside.answers.items c.self.invariant.places c.self.inside.stamp c.self.inside.over idle c.drawn-time.result drawn c.if-time.true)
+    let o = c.args.self.now in
+    let v : c.self.inside.operation ≡ o = c.self.view_is in
+    let answers = rw v at c.answers.ensures.answers in
+    let places = rw v at c.answers.ensures.places in
+    let lying : c.b.result ≡ o.config.b = c.b.ensures.is ∙ ap (λ (n : Numbers). n.b) c.config.ensures ∙ ap (λ (x : SeenOperation). x.config.b) v in
+    says_spent o c.requires c.answers.result.now answers places c.b.result lying c.drawn-time.result c.drawn-time.ensures c.if-time.true
 
 pub returns-then-time-clause-ok : goal.returns-then-time-clause-ok
 returns-then-time-clause-ok c =
-    let idle = asks _ _ _ _ _ _ (rw (← c.self.view_is) at c.requires) in
-    let drawn = rw (c.as_slice.ensures.value, c.b.ensures.is) at c.drawn-time.ensures in
-    rw (← c.self.view_is) (is_spent c.self.inside.config c.self.inside.head c.self.inside.parcel c.self.invariant.packed c.self.inside.answers.items c.self.invariant.places c.self.inside.stamp c.self.inside.over idle c.drawn-time.result drawn c.if-time.true)
+    let o = c.args.self.now in
+    let v : c.self.inside.operation ≡ o = c.self.view_is in
+    let answers = rw v at c.answers.ensures.answers in
+    let places = rw v at c.answers.ensures.places in
+    let lying : c.b.result ≡ o.config.b = c.b.ensures.is ∙ ap (λ (n : Numbers). n.b) c.config.ensures ∙ ap (λ (x : SeenOperation). x.config.b) v in
+    rw v at c.end.ensures ∙ is_spent o c.requires c.answers.result.now answers places c.b.result lying c.drawn-time.result c.drawn-time.ensures c.if-time.true
 
 pub returns-clause-said : goal.returns-clause-said
 returns-clause-said c =
-    let idle = asks _ _ _ _ _ _ (rw (← c.self.view_is) at c.requires) in
-    let drawn = rw (c.as_slice.ensures.value, c.b.ensures.is) at c.drawn-time.ensures in
-    let is = ap (λ v. record { time = c.drawn-time.result + 1; client = c.self.inside.head.client; verifier = v }) c.verifier.ensures in
-    rw (← c.self.view_is) (says_storing c.self.inside.config c.self.inside.head c.self.inside.parcel c.self.invariant.packed c.self.inside.answers.items c.self.invariant.places c.self.inside.stamp c.self.inside.over idle c.drawn-time.result drawn c.if-time.false (record { time = c.drawn-time.result + 1; client = c.self.inside.head.client; verifier = c.verifier.result }) is c.in_ok-letters.letters c.in_ok-letters.ensures)
+    let o = c.args.self.now in
+    let v : c.self.inside.operation ≡ o = c.self.view_is in
+    let answers = rw v at c.answers.ensures.answers in
+    let places = rw v at c.answers.ensures.places in
+    let lying : c.b.result ≡ o.config.b = c.b.ensures.is ∙ ap (λ (n : Numbers). n.b) c.config.ensures ∙ ap (λ (x : SeenOperation). x.config.b) v in
+    let next = rw v at c.in_ok-mail.ensures.ok in
+    says_storing o c.requires c.answers.result.now answers places c.b.result lying c.drawn-time.result c.drawn-time.ensures c.if-time.false c.in_ok-storing.storing c.in_ok-storing.ensures.stored c.go_on.new.self c.in_ok-mail.mail next c.in_ok-mail.ensures.mail
 
 pub returns-clause-ok : goal.returns-clause-ok
 returns-clause-ok c =
-    let idle = asks _ _ _ _ _ _ (rw (← c.self.view_is) at c.requires) in
-    let drawn = rw (c.as_slice.ensures.value, c.b.ensures.is) at c.drawn-time.ensures in
-    let is = ap (λ v. record { time = c.drawn-time.result + 1; client = c.self.inside.head.client; verifier = v }) c.verifier.ensures in
-    let none = rw c.n.ensures.is at c.in_ok-self-inside.ensures in
-    rw (← c.self.view_is) (is_storing c.self.inside.config c.self.inside.head c.self.inside.parcel c.self.invariant.packed c.self.inside.answers.items c.self.invariant.places c.self.inside.stamp c.self.inside.over idle c.drawn-time.result drawn c.if-time.false (record { time = c.drawn-time.result + 1; client = c.self.inside.head.client; verifier = c.verifier.result }) is c.in_ok-self-inside.field-0.items none)
+    let o = c.args.self.now in
+    let v : c.self.inside.operation ≡ o = c.self.view_is in
+    let answers = rw v at c.answers.ensures.answers in
+    let places = rw v at c.answers.ensures.places in
+    let lying : c.b.result ≡ o.config.b = c.b.ensures.is ∙ ap (λ (n : Numbers). n.b) c.config.ensures ∙ ap (λ (x : SeenOperation). x.config.b) v in
+    let next = rw v at c.in_ok-mail.ensures.ok in
+    is_storing o c.requires c.answers.result.now answers places c.b.result lying c.drawn-time.result c.drawn-time.ensures c.if-time.false c.in_ok-storing.storing c.in_ok-storing.ensures.stored c.go_on.new.self next

@@ -1,0 +1,4 @@
+pub mod Alone
+pub mod Commands
+pub mod Forms
+pub mod NbdForms

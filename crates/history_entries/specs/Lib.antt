@@ -1,0 +1,4 @@
+pub mod Kinds
+pub mod Books
+pub mod Numbers
+pub mod Orders

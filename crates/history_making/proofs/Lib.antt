@@ -1,0 +1,11 @@
+pub mod Stamped
+pub mod Orders
+pub mod Blocks
+pub mod Counted
+pub mod Sweeps
+pub mod Sorting
+pub mod Marking
+pub mod Candidates
+pub mod Histories
+pub mod Steps
+pub mod Drafting

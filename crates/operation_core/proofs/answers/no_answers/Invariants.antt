@@ -1,0 +1,5 @@
+use Rattle.std.proofs.Common.{◌≡◌, replicate, None}
+use Rattle.operation_core.proofs.answers.no_answers.Given as goal
+
+abbrev pub invariant-loop : goal.invariant-loop
+invariant-loop l = l.answers.items ≡ replicate l.counter None

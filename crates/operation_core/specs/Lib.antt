@@ -1,0 +1,3 @@
+pub mod Stages
+pub mod Mails
+pub mod Counting

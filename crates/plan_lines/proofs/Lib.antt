@@ -1,0 +1,5 @@
+mod FormCauses
+mod Words
+pub mod Texts
+pub mod Accepted
+pub mod Unique

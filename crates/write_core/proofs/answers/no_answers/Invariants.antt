@@ -1,5 +1,0 @@
-use Rattle.std.proofs.Common.{◌≡◌, replicate, None}
-use Rattle.write_core.proofs.answers.no_answers.Given as goal
-
-abbrev pub invariant-loop : goal.invariant-loop
-invariant-loop l = l.answers.items ≡ replicate l.counter None
