@@ -15,8 +15,8 @@ use Rattle.nbd_front.specs.declared.ending.Served.{Served}
 use Rattle.nbd_front.specs.declared.ending.Served.TheVariants.{Next, Over}
 use Rattle.nbd_front.specs.declared.ending.SessionEnd.{SessionEnd}
 use Rattle.nbd_front.specs.declared.ending.SessionEnd.TheVariants as ends
-use Rattle.client_threads.specs.declared.run.RunRefusal.{RunRefusal}
-use Rattle.client_threads.specs.declared.run.RunRefusal.TheVariants as runs
+use Rattle.event_clock.specs.declared.refusal.RunRefusal.{RunRefusal}
+use Rattle.event_clock.specs.declared.refusal.RunRefusal.TheVariants as runs
 use Rattle.call_statuses.specs.declared.refusal.Refusal.{Refusal}
 use Rattle.call_statuses.specs.declared.refusal.Refusal.TheVariants as refusals
 

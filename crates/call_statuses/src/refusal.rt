@@ -2,8 +2,7 @@ ghost use Rattle.std.specs.Prelude.{◌≡◌};
 ghost use Rattle.call_statuses.specs.Statuses.{refusal_of, refusal_of_run};
 ghost use Rattle.call_statuses.specs.declared.refusal.Refusal.TheVariants as refusals;
 
-use client_threads::RunRefusal;
-use event_clock::Drawn;
+use event_clock::{Drawn, RunRefusal};
 use line_forms::{ScriptFault, ScriptRefusal};
 use lists::NoMemory;
 

@@ -3,13 +3,12 @@ use Rattle.std.proofs.Common.{◌≡◌, ℕ, ◌+◌, ◌<◌, ◌≤◌, false
 use Rattle.std.specs.Prelude.{count_by, Result}
 use Rattle.std.specs.Result.{IsErrAnd}
 use Rattle.std.proofs.lemmas.List.Sums.{count_by_more_yes, count_by_more_no, sum_by-take-le}
-use Rattle.event_clock.specs.Passes.{Tally}
+use Rattle.event_clock.specs.Passes.{HasFullPass, Tally}
 use Rattle.plan_words.specs.Named.{is_phase}
 use Rattle.plan_words.specs.declared.job.Job.{Job}
 use Rattle.plan_words.specs.declared.job.Job.TheVariants.{Block, Device, Phase}
-use Rattle.client_threads.specs.declared.run.RunRefusal.{RunRefusal}
-use Rattle.client_threads.specs.declared.run.RunRefusal.TheVariants.{ClockFull}
-use Rattle.client_threads.specs.Ran.{HasFullPass}
+use Rattle.event_clock.specs.declared.refusal.RunRefusal.{RunRefusal}
+use Rattle.event_clock.specs.declared.refusal.RunRefusal.TheVariants.{ClockFull}
 
 -- a full clock has a full pass
 abbrev pub ShowsFull : RunRefusal → Type 0

@@ -7,7 +7,7 @@ use Rattle.std.proofs.lemmas.List.Elements.{Contains-get_or, All-append, All-pus
 use Rattle.protocol.proofs.Lists.{Contains-map, Contains-map_cases}
 use Rattle.quorum_rules.specs.Limits.{Numbers}
 use Rattle.event_clock.specs.declared.rule.Share.{Share}
-use Rattle.event_clock.specs.Passes.{ClockId, Holder, Tally, share_of}
+use Rattle.event_clock.specs.Passes.{ClockId, Holder, HasFullPass, IsOneFull, Tally, share_of}
 use Rattle.event_clock.specs.Views.{times, times_drawn, IsDrawnOnce}
 use Rattle.locked_nodes.specs.Cells.{CellView, KeptCell}
 use Rattle.client_desks.specs.Desks.{DeskView, KeptDesk, own_numbers}
@@ -15,7 +15,6 @@ use Rattle.run_journals.specs.Standing.{IsDeskAt, AreCells, journal_at}
 use Rattle.journals.specs.declared.desk.DeskJournal.{DeskJournal}
 use Rattle.phase_threads.specs.declared.duty.Seat.{Seat}
 use Rattle.client_work.specs.declared.work.Work.{Work}
-use Rattle.client_threads.specs.Ran.{HasFullPass, IsOneFull}
 use Rattle.client_threads.specs.Running.{desks_of}
 use Rattle.client_threads.proofs.Threading.{desks_pushed}
 use Rattle.client_threads.proofs.Rounds.{cells_tick}

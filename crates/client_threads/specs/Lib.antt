@@ -1,4 +1,3 @@
-pub mod Ran
 pub mod Met
 pub mod Mailed
 pub mod Pruned

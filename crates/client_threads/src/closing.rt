@@ -1,18 +1,16 @@
 //! The end of a run: journals and passes are taken out, and the clock is closed.
 ghost use Rattle.std.specs.Prelude.{◌≡◌, ◌<◌, ◌++◌, [], map, All, length, replicate, slice_set, slice_index_or, true, IsTrue, IfOk, OnOk};
-ghost use Rattle.event_clock.specs.Passes.{Tally};
+ghost use Rattle.event_clock.specs.Passes.{HasFullPass, IsOneFull, Tally};
 ghost use Rattle.event_clock.specs.Views.{IsDrawnOnce};
 ghost use Rattle.locked_nodes.specs.Cells.{KeptCell};
 ghost use Rattle.client_desks.specs.Desks.{KeptDesk};
-ghost use Rattle.client_threads.specs.Ran.{HasFullPass, IsOneFull};
 ghost use Rattle.client_threads.specs.Running.{IsOpen, desks_of, node_journals, plan_of, shares_of};
 ghost use Rattle.run_journals.specs.Standing.{journal_at};
 ghost use Rattle.locked_nodes.specs.Joined as joined;
 
-use crate::run::RunRefusal;
 use crate::state::Run;
 use client_work::Work;
-use event_clock::{Drawn, Passes};
+use event_clock::{Drawn, Passes, RunRefusal};
 use journals::{DeskJournals, NodeJournal, NodeJournals};
 use lists::{ItemList, NoMemory};
 use locked_nodes::{CellRefusal, NodeCell, join};

@@ -19,5 +19,5 @@ mod threads;
 
 pub use client_desks::Desk;
 pub use crews::{Edge, Gate, OpenGate};
-pub use run::{Ran, RunRefusal, run_by, run_plan};
+pub use run::{Ran, run_by, run_plan};
 pub use threads::Phased;

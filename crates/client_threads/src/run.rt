@@ -1,14 +1,12 @@
 //! A plan, run in threads.
 ghost use Rattle.std.specs.Prelude.{◌≡◌, ◌+◌, ◌≤◌, ℕ, IfOk, IfErr, Err};
 ghost use Rattle.std.specs.Thread.{IsSync};
-ghost use Rattle.event_clock.specs.Passes.{Tally};
+ghost use Rattle.event_clock.specs.Passes.{HasFullPass, Tally};
 ghost use Rattle.plan_words.specs.Plans.{Fits};
 ghost use Rattle.plan_followed.specs.Followed.{AreOfPlan};
-ghost use Rattle.client_threads.specs.declared.run.RunRefusal.TheVariants as refusals;
 ghost use Rattle.phase_threads.specs.Phases.{MayPhase, HasPhased};
 ghost use Rattle.client_work.specs.Work.{Ready, Done};
 ghost use Rattle.client_threads.specs.Phases.{DoesPhases};
-ghost use Rattle.client_threads.specs.Ran.{HasFullPass};
 ghost use Rattle.client_threads.specs.Running.{IsBetween, IsWorked, plan_of, cuts};
 
 use crate::between::close_phase;
@@ -19,7 +17,7 @@ use crate::state::Run;
 use crate::threads::{Phased, work};
 use client_work::Work;
 use crews::Gate;
-use event_clock::{Clock, Drawn};
+use event_clock::{Clock, Drawn, RunRefusal};
 use journals::Journals;
 use lists::NoMemory;
 use locked_nodes::NodeCell;
@@ -37,22 +35,6 @@ use wire_forms::Liars;
 pub struct Ran {
     pub journals: Journals,
     pub drawn: Drawn,
-}
-
-/// Why a plan wasn't run to its end.
-#[derive(Drop)]
-pub enum RunRefusal {
-    NoMemory,
-    /// A pass drew 2^40 numbers and can't draw more. The numbers drawn show it.
-    ClockFull(Drawn),
-}
-
-impl From<NoMemory> for RunRefusal {
-    ghost from_gives = { λ _ e. e ≡ refusals.NoMemory };
-
-    fn from(_: NoMemory) -> RunRefusal {
-        RunRefusal::NoMemory
-    }
 }
 
 // How many cells a node has, so that clients of several blocks are served side by side.

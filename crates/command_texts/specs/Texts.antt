@@ -19,7 +19,7 @@ use Rattle.script_text.specs.Replays.{replay_script}
 use Rattle.script_text.specs.Sum.{IsSum, sum_text, sum_script}
 use Rattle.command_texts.specs.Shown.{shown_text}
 use Rattle.plan_text.specs.Plans.{plan_script}
-use Rattle.client_threads.specs.Ran.{HasFullPass}
+use Rattle.event_clock.specs.Passes.{HasFullPass}
 use Rattle.command_texts.specs.PlanRuns.{IsPlan, Runs, Traces, Soaks}
 
 -- the input spells a configuration and a value, and the text shows the value's fragments, their digests and its verifier

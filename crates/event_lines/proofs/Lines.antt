@@ -8,7 +8,7 @@ use Rattle.wire_forms.specs.declared.message.Request.TheVariants.{Time, Read as 
 use Rattle.wire_forms.specs.declared.message.Reply.TheVariants.{TimeIs, Found, Nothing, Ack, Refused}
 use Rattle.wire_forms.specs.declared.message.Body.{Body}
 use Rattle.wire_forms.specs.declared.message.Body.TheVariants.{Ask as Asks, Answer as Answers}
-use Rattle.wire_forms.specs.Texts.{IsRequest, IsBody, HasShortRequest, HasLimits}
+use Rattle.message_texts.specs.Texts.{IsRequest, IsBody, HasShortRequest, HasLimits}
 use Rattle.run_words.specs.declared.line.Line.{Line}
 use Rattle.run_words.specs.declared.line.Line.TheVariants.{Lie, Tell, Poke}
 use Rattle.line_forms.specs.declared.cause.Cause.TheVariants.{UnknownWord}

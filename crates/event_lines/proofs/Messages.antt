@@ -19,8 +19,8 @@ use Rattle.wire_forms.specs.declared.message.Reply.TheVariants.{TimeIs, Found, N
 use Rattle.wire_forms.specs.declared.message.Body.{Body}
 use Rattle.wire_forms.specs.declared.message.Body.TheVariants.{Ask as Asks, Answer as Answers}
 use Rattle.wire_forms.specs.declared.message.Message.{Message}
-use Rattle.wire_forms.specs.Texts.{IsVersion, IsRequest, IsReply, IsBody, IsMessage, IsText, version_fields, request_fields, reply_fields, reason_text, message_fields, text_of}
-use Rattle.wire_forms.proofs.Fields.{fields-text_of}
+use Rattle.message_texts.specs.Texts.{IsVersion, IsRequest, IsReply, IsBody, IsMessage, IsText, version_fields, request_fields, reply_fields, reason_text, message_fields, text_of}
+use Rattle.message_texts.proofs.Fields.{fields-text_of}
 use Rattle.line_forms.specs.Tables.{Gives, first_of}
 use Rattle.line_forms.specs.declared.cause.Cause.{Cause}
 use Rattle.line_forms.specs.declared.cause.Cause.TheVariants.{WrongCount, BadMessage}

@@ -14,9 +14,9 @@ use Rattle.text_lines.specs.Fields.{number_of, value_of, value_text}
 use Rattle.text_lines.proofs.Numbers.{number_of-some, number_of-decimal}
 use Rattle.text_lines.proofs.Values.{value_of-some, value_of-text}
 use Rattle.stamp_order.specs.declared.Stamp.{Stamp}
-use Rattle.wire_forms.specs.Texts.{IsBytes, IsDigest, IsStamp, IsSum, IsFragment, stamp_text, sum_text}
-use Rattle.wire_forms.proofs.Digits.{low_encoded, sum_of_digits}
-use Rattle.wire_forms.proofs.Spelling.{are_bytes, are_all_bytes, joined, stamp_parts, length-flat, fragment_spelled}
+use Rattle.message_texts.specs.Texts.{IsBytes, IsDigest, IsStamp, IsSum, IsFragment, stamp_text, sum_text}
+use Rattle.message_texts.proofs.Digits.{low_encoded, sum_of_digits}
+use Rattle.message_texts.proofs.Spelling.{are_bytes, are_all_bytes, joined, stamp_parts, length-flat, fragment_spelled}
 use Rattle.event_lines.specs.Messages.{is_digest, is_stamp, is_value}
 
 -- ---- what a part spells

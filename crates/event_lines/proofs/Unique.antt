@@ -12,8 +12,8 @@ use Rattle.wire_forms.specs.declared.message.Body.TheVariants.{Answer}
 use Rattle.wire_forms.specs.declared.message.Reply.TheVariants.{Ack}
 use Rattle.wire_forms.specs.declared.rule.Rule.{Rule}
 use Rattle.wire_forms.specs.declared.rule.Rule.TheVariants.{Silent, Old, Top, Bad}
-use Rattle.wire_forms.specs.Texts.{IsMessage, message_fields}
-use Rattle.wire_forms.proofs.Unique.{message_unique}
+use Rattle.message_texts.specs.Texts.{IsMessage, message_fields}
+use Rattle.message_texts.proofs.Unique.{message_unique}
 use Rattle.run_words.specs.declared.line.Line.{Line}
 use Rattle.run_words.specs.declared.line.Line.TheVariants as lines
 use Rattle.event_lines.specs.declared.line.ReplayLine.{ReplayLine}

@@ -7,7 +7,7 @@ use Rattle.text_lines.specs.Fields.{value_text, IsBytes}
 use Rattle.wire_forms.specs.Liars.{IsClientNumber}
 use Rattle.wire_forms.specs.declared.rule.Rule.{Rule}
 use Rattle.wire_forms.specs.declared.rule.Rule.TheVariants.{Silent, Old, Top, Bad}
-use Rattle.wire_forms.specs.Texts.{IsMessage, HasLimits, message_fields}
+use Rattle.message_texts.specs.Texts.{IsMessage, HasLimits, message_fields}
 use Rattle.run_words.specs.declared.line.Line.{Line}
 use Rattle.run_words.specs.declared.line.Line.TheVariants.{Write, Read, Resend, Call, Give, Hear, Lost, CrashNode, CrashClient, Lie, Tell, Poke, False, Sound, Mix, Prune, Back, Restart}
 use Rattle.event_lines.specs.Messages.{is_ask, is_answer}

@@ -3,7 +3,7 @@ ghost use Rattle.std.specs.Prelude.{◌≡◌, ◌≢◌, ◌↔◌, ◌∷◌, 
 ghost use Rattle.quorum_rules.specs.Limits.{Numbers};
 ghost use Rattle.text_lines.specs.Lines.{fields_of, Lacks};
 ghost use Rattle.wire_forms.specs.declared.message.Message.{Message};
-ghost use Rattle.wire_forms.specs.Texts.{IsMessage, text_of};
+ghost use Rattle.message_texts.specs.Texts.{IsMessage, text_of};
 ghost use Rattle.event_lines.specs.declared.line.ReplayLine.{ReplayLine};
 ghost use Rattle.event_lines.specs.Forms.{event_cause};
 ghost use Rattle.event_lines.specs.Lines.{IsEventLine, HasText, event_text, event_fields};

@@ -2,7 +2,7 @@
 
 ghost use Rattle.std.specs.Prelude.{◌≡◌, ◌∷◌, ◌++◌};
 ghost use Rattle.line_forms.specs.Tables.{Gives};
-ghost use Rattle.wire_forms.specs.Texts.{IsMessage, message_fields};
+ghost use Rattle.message_texts.specs.Texts.{IsMessage, message_fields};
 ghost use Rattle.event_lines.specs.Forms.{message_cause, messages_of};
 ghost use Rattle.event_lines.specs.Lines.{IsSpelled};
 ghost use Rattle.event_lines.specs.Messages.{ask_forms, answer_forms, is_ask, is_answer};
@@ -13,9 +13,10 @@ ghost use Rattle.quorum_rules.specs.Limits.{Numbers};
 use crate::line::ReplayLine;
 use crate::word::Speech;
 use line_forms::{Cause, LineRefusal};
+use message_texts::{TextRefusal, read};
 use run_words::{BoxedMessage, Line};
 use std::alloc::Global;
-use wire_forms::{Body, Message, TextRefusal, read};
+use wire_forms::{Body, Message};
 
 /// The line of a message, from what follows the space behind its word, if there is one.
 pub fn read_speech(

@@ -1,19 +1,20 @@
 //! The text of an event line, written from its front to its end.
-#![tactic(auto, using(wire_forms::proofs::Printed::joining))]
+#![tactic(auto, using(message_texts::proofs::Printed::joining))]
 
 ghost use Rattle.std.specs.Prelude.{◌≡◌, ◌++◌, ◌∷◌, [], codes, decimal, OnOk};
 ghost use Rattle.text_lines.specs.Fields.{value_text};
 ghost use Rattle.text_lines.specs.Lines.{line_of_fields};
-ghost use Rattle.wire_forms.specs.Texts.{HasLimits, text_of};
+ghost use Rattle.message_texts.specs.Texts.{HasLimits, text_of};
 ghost use Rattle.event_lines.specs.Lines.{HasText, event_text, line_fields, rule_text};
 
 use crate::line::ReplayLine;
 use cross_sum::Bytes;
 use lists::NoMemory;
+use message_texts::print;
 use run_words::Line;
 use std::alloc::Global;
 use text_lines::Text;
-use wire_forms::{Message, Rule, print};
+use wire_forms::{Message, Rule};
 
 /// Adds the text of an event line, its newline aside.
 ///

@@ -2,14 +2,15 @@
 //! nodes prune, and clients crash and come back. Their reports are legal.
 
 ghost use Rattle.std.specs.Prelude.{IsTrue};
-ghost use Rattle.wire_forms.specs.Texts.{HasLimits, HasShort};
+ghost use Rattle.message_texts.specs.Texts.{HasLimits, HasShort};
 
 use crate::played::Played;
 use crate::program::answered;
 use crate::unmade::Unmade;
 use lists::{Copied, NoMemory};
+use message_texts::print;
 use std::alloc::Global;
-use wire_forms::{Body, Message, Reply, Request, Version, print};
+use wire_forms::{Body, Message, Reply, Request, Version};
 
 /// A cluster in which the last nodes and the clients 8 and 9 lie, and runs in it.
 pub struct Cluster {

@@ -7,7 +7,7 @@ use Rattle.std.specs.List.{Contains}
 use Rattle.std.proofs.lemmas.List.{length-map, length-take-le, get_or-map, get_or-take}
 use Rattle.std.proofs.lemmas.List.Elements.{All-from_recursion, Contains-get_or}
 use Rattle.std.proofs.lemmas.Option.{get_or_from_slice_get, slice_get_within}
-use Rattle.wire_forms.proofs.Spelling.{are_bytes}
+use Rattle.message_texts.proofs.Spelling.{are_bytes}
 use Rattle.protocol.specs.Messages.{IsBytes}
 use Rattle.protocol.specs.History.{Entry as FullEntry, Kind as FullKind, is_read, IsSorted}
 use Rattle.protocol.specs.History.Kind.{Write as FullWrite, Foreign as FullForeign, Read as FullRead}

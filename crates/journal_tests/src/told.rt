@@ -1,7 +1,7 @@
 //! The lines of journals as a script.
 
 ghost use Rattle.std.specs.Prelude.{IsTrue};
-ghost use Rattle.wire_forms.specs.Texts.{HasLimits, HasShort, HasShortRequest};
+ghost use Rattle.message_texts.specs.Texts.{HasLimits, HasShort, HasShortRequest};
 ghost use Rattle.event_lines.specs.declared.line.ReplayLine.TheVariants as lines;
 ghost use Rattle.event_lines.specs.Lines.{HasText};
 

@@ -1,18 +1,17 @@
 //! A plan, run with each node in a thread of its own.
 ghost use Rattle.std.specs.Prelude.{◌≡◌, Err, IfOk};
 ghost use Rattle.std.specs.Thread.{IsSync};
-ghost use Rattle.event_clock.specs.Passes.{Tally};
+ghost use Rattle.event_clock.specs.Passes.{HasFullPass, Tally};
 ghost use Rattle.plan_words.specs.Plans.{Fits};
 ghost use Rattle.plan_followed.specs.Followed.{AreOfPlan};
 ghost use Rattle.phase_threads.specs.Phases.{MayPhase, HasPhased};
 ghost use Rattle.client_work.specs.Work.{Ready, Done};
-ghost use Rattle.client_threads.specs.Ran.{HasFullPass};
 
 use crate::phase::run_mail_phase;
-use client_threads::{Phased, Ran, RunRefusal, run_by};
+use client_threads::{Phased, Ran, run_by};
 use client_work::Work;
 use crews::Gate;
-use event_clock::Clock;
+use event_clock::{Clock, RunRefusal};
 use locked_nodes::NodeCell;
 use phase_threads::Seat;
 use plan_words::Plan;

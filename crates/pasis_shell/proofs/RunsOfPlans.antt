@@ -3,13 +3,12 @@ use Rattle.std.proofs.Common.{◌≡◌, ℕ, List, refl, subst}
 use Rattle.std.specs.Prelude.{Result, Ok, Err, IfErr}
 use Rattle.std.specs.Result.{IsErrAnd}
 use Rattle.line_forms.specs.Texts.{IsFaultless}
-use Rattle.event_clock.specs.Passes.{Tally}
+use Rattle.event_clock.specs.Passes.{HasFullPass, Tally}
 use Rattle.plan_words.specs.declared.plan.Plan.{Plan}
 use Rattle.plan_words.specs.Plans.{Fits}
 use Rattle.plan_text.specs.Plans.{Spells, plan_script}
-use Rattle.client_threads.specs.Ran.{HasFullPass}
-use Rattle.client_threads.specs.declared.run.RunRefusal.{RunRefusal}
-use Rattle.client_threads.specs.declared.run.RunRefusal.TheVariants as runs
+use Rattle.event_clock.specs.declared.refusal.RunRefusal.{RunRefusal}
+use Rattle.event_clock.specs.declared.refusal.RunRefusal.TheVariants as runs
 use Rattle.command_words.specs.declared.words.Serving.{Serving}
 use Rattle.command_words.specs.declared.words.Command.TheVariants.{Run, Trace, Soak}
 use Rattle.call_statuses.specs.Statuses.{refusal_of_run}

@@ -1,17 +1,17 @@
 //! What the commands that run threads write.
 ghost use Rattle.std.specs.Prelude.{◌≡◌, ◌<◌, ◌^◌, ℕ, List, None, Err, length, IfOk, IfErr};
-ghost use Rattle.event_clock.specs.Passes.{Tally};
+ghost use Rattle.event_clock.specs.Passes.{HasFullPass, Tally};
 ghost use Rattle.plan_words.specs.Plans.{Fits};
 ghost use Rattle.plan_followed.specs.Followed.{AreOfPlan};
-ghost use Rattle.client_threads.specs.Ran.{HasFullPass};
 ghost use Rattle.command_texts.specs.PlanRuns.{Soaks};
 ghost use Rattle.command_texts.specs.Texts.{Writes, Refuses};
 
 use call_statuses::Refusal;
-use client_threads::{Gate, Ran, RunRefusal, run_plan};
+use client_threads::{Gate, Ran, run_plan};
 use command_texts::{Answer, text_of};
 use command_words::{Command, Serving};
 use cross_sum::Bytes;
+use event_clock::RunRefusal;
 use load_reports::{load_of, load_text};
 use node_workers::run_workers;
 use plan_reports::{run_text, trace_text};

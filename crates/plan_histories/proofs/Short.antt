@@ -14,7 +14,7 @@ use Rattle.wire_forms.specs.declared.Request.TheVariants.{Time, Read as AskRead,
 use Rattle.wire_forms.specs.declared.Reply.TheVariants.{TimeIs, Found, Nothing, Ack}
 use Rattle.wire_forms.specs.declared.rule.Rule.TheVariants.{Silent, Old, Top, Bad}
 use Rattle.gf_field.specs.Fragments.{string_len}
-use Rattle.wire_forms.specs.Texts.{HasLimits, HasShort}
+use Rattle.message_texts.specs.Texts.{HasLimits, HasShort}
 use Rattle.wire_forms.specs.declared.Body.TheVariants.{Answer as Answers}
 use Rattle.protocol.specs.Messages.{Message, Request, Reply, Version, IsBytes}
 use Rattle.protocol.specs.Setting.{Setting, IsValid, IsBlock, zeros, first_stamp, verifier_of}

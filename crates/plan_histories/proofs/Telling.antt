@@ -6,7 +6,7 @@ use Rattle.std.specs.List.{Contains, AllByRecursion}
 use Rattle.std.proofs.lemmas.List.{length-replicate}
 use Rattle.quorum_rules.specs.Limits.{Numbers}
 use Rattle.wire_forms.specs.Liars.{Liars, has_number, IsClientNumber}
-use Rattle.wire_forms.specs.Texts.{HasLimits}
+use Rattle.message_texts.specs.Texts.{HasLimits}
 use Rattle.wire_forms.specs.declared.op.Op.TheVariants.{Read as ReadOp, Write as WriteOp}
 use Rattle.wire_forms.specs.declared.Body.{Body}
 use Rattle.wire_forms.specs.declared.Body.TheVariants.{Ask as Asks, Answer as Answers}

@@ -2,7 +2,7 @@
 use Rattle.std.specs.Prelude.{◌≡◌, ℕ, ◌<◌, true, List, length}
 use Rattle.std.specs.List.{AllByRecursion}
 use Rattle.quorum_rules.specs.Limits.{Numbers}
-use Rattle.wire_forms.specs.Texts.{HasLimits}
+use Rattle.message_texts.specs.Texts.{HasLimits}
 use Rattle.run_words.specs.declared.line.Line.{Line}
 use Rattle.run_words.specs.declared.line.Line.TheVariants.{Write, Read, Call, Give, Lost, CrashNode, CrashClient, Tell, Poke, Prune}
 use Rattle.wire_forms.specs.Liars.{IsClientNumber}

@@ -1,16 +1,16 @@
 ghost use Rattle.std.specs.Prelude.{IsTrue};
-ghost use Rattle.wire_forms.specs.Texts.{HasShort, HasLimits};
+ghost use Rattle.message_texts.specs.Texts.{HasShort, HasLimits};
 
 use cross_sum::{Bytes, CrossSum};
 use lists::Copied;
+use message_texts::{TextRefusal, print, read};
 use quorum_rules::Config;
 use stamp_order::{Bound, Stamp};
 use std::alloc::Global;
 use std::process::Abort;
 use std::test::Fail;
 use wire_forms::{
-    Ask, Body, DeviceOp, First, Liars, Message, Op, Reason, Reply, Request, Tag, TextRefusal,
-    Version, print, read,
+    Ask, Body, DeviceOp, First, Liars, Message, Op, Reason, Reply, Request, Tag, Version,
 };
 
 const STAMP: Stamp = Stamp {

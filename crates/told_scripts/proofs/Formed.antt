@@ -6,7 +6,7 @@ use Rattle.std.specs.List.{All, AllByRecursion}
 use Rattle.std.proofs.lemmas.List.Elements.{recursion_from_All, All-from_recursion}
 use Rattle.cross_sum.specs.Digest.{flat}
 use Rattle.text_lines.specs.Fields as text
-use Rattle.wire_forms.specs.Texts.{IsBytes, IsDigest}
+use Rattle.message_texts.specs.Texts.{IsBytes, IsDigest}
 
 each_byte : (xs : List ℕ) → AllByRecursion (λ b. b < 256) xs → (i : ℕ) → slice_index xs i < 256
 each_byte [] h i = omega arith

@@ -1,10 +1,1 @@
 pub mod Firsts
-pub mod Printed
-pub mod Spelling
-pub mod Fields
-pub mod Unique
-pub mod Fronts
-pub mod Pieces
-pub mod Forms
-pub mod Digits
-pub mod Grammar

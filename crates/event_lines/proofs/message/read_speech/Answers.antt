@@ -1,6 +1,6 @@
 use Rattle.std.proofs.Common.{◌≡◌, ◌∷◌}
 use Rattle.wire_forms.specs.declared.message.Message.{Message}
-use Rattle.wire_forms.specs.Texts.{IsMessage, message_fields}
+use Rattle.message_texts.specs.Texts.{IsMessage, message_fields}
 use Rattle.event_lines.specs.Lines.{IsSpelled}
 use Rattle.event_lines.specs.Rests.{fields_after}
 use Rattle.event_lines.specs.Words.{speech_text}

@@ -1,5 +1,5 @@
 use Rattle.std.proofs.Common.{subst}
-use Rattle.wire_forms.specs.Texts.{IsBytes}
+use Rattle.message_texts.specs.Texts.{IsBytes}
 use Rattle.told_scripts.proofs.forms.form_digest.Goals as goal
 
 pub returns : goal.returns

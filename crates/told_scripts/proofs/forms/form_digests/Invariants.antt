@@ -1,6 +1,6 @@
 use Rattle.std.proofs.Common.{take}
 use Rattle.std.specs.List.{AllByRecursion}
-use Rattle.wire_forms.specs.Texts.{IsDigest}
+use Rattle.message_texts.specs.Texts.{IsDigest}
 use Rattle.told_scripts.proofs.forms.form_digests.Given as goal
 
 -- the digests so far

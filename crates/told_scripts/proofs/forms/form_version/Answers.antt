@@ -1,6 +1,6 @@
 use Rattle.std.proofs.Common.{subst}
 use Rattle.std.specs.List.{AllByRecursion}
-use Rattle.wire_forms.specs.Texts.{IsDigest}
+use Rattle.message_texts.specs.Texts.{IsDigest}
 use Rattle.told_scripts.proofs.Formed.{sum_bytes, sum_lengths}
 use Rattle.told_scripts.proofs.forms.form_version.Goals as goal
 

@@ -1,0 +1,9 @@
+pub mod Printed
+pub mod Spelling
+pub mod Fields
+pub mod Unique
+pub mod Fronts
+pub mod Pieces
+pub mod Forms
+pub mod Digits
+pub mod Grammar

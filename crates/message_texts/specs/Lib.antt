@@ -1,0 +1,5 @@
+pub mod Longest
+pub mod Pieces
+pub mod Refusals
+pub mod Texts
+pub mod Words

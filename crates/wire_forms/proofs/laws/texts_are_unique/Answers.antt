@@ -1,5 +1,0 @@
-use Rattle.wire_forms.proofs.Unique.{message_unique}
-use Rattle.wire_forms.proofs.laws.texts_are_unique.Goals as goal
-
-pub returns : goal.returns
-returns c = λ m n a b e. message_unique m n a b e

@@ -1,6 +1,0 @@
-use Rattle.std.proofs.Common.{sym, arith}
-use Rattle.wire_forms.proofs.Pieces.{low_more}
-use Rattle.wire_forms.proofs.piece.digits_front.Goals as goal
-
-pub loop-end-preserved : goal.loop-end-preserved
-loop-end-preserved c = (omega arith, omega arith, low_more c.args.text.now c.loop-end.end (omega arith) c.loop-end.invariant.2 (sym c.if-is_low_digit.ensures))

@@ -1,9 +1,0 @@
-use Rattle.std.proofs.Common.{arith}
-use Rattle.wire_forms.specs.Pieces.{IsOfForms, message_forms}
-use Rattle.wire_forms.specs.Texts.{IsText}
-use Rattle.wire_forms.proofs.Fronts.{same_texts}
-use Rattle.wire_forms.proofs.Grammar.{text_of_form, form_of_text}
-use Rattle.wire_forms.proofs.piece.longest.Goals as goal
-
-pub returns : goal.returns
-returns c = same_texts (IsOfForms message_forms) IsText c.args.text.now c.furthest.result (λ x is. text_of_form x is) (λ x is. form_of_text x is) (c.furthest.ensures.some (omega arith))

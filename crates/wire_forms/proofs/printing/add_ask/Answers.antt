@@ -1,5 +1,0 @@
-use Rattle.wire_forms.proofs.Printed.{after_field}
-use Rattle.wire_forms.proofs.printing.add_ask.Goals as goal
-
-pub returns : goal.returns
-returns c = after_field _ _ _ _ _ _ (rw c.from.ensures at c.in_ok-add_number.ensures) c.add_request.ensures
