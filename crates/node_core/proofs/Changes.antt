@@ -1,6 +1,7 @@
 -- What a version more, and fewer, do to the list of versions.
 use Rattle.std.proofs.Common.{◌≡◌, ◌⊎◌, ◌≤◌, Bool, true, false, cond, ◌||◌, List, [], ◌∷◌, ◌++◌, filter, refl, sym, ◌∙◌, ap, inl, inr}
 use Rattle.std.specs.declared.option.Option.TheVariants.{None, Some}
+use Rattle.std.specs.Option.{option_map}
 use Rattle.std.specs.Ordering.{is_eq}
 use Rattle.std.specs.List.{Contains, filter_map}
 use Rattle.std.specs.BTreeMap.{BTreeMap}
@@ -16,9 +17,10 @@ use Rattle.protocol.proofs.Order.{≼-refl, ≼-trans, ≼-antisym, before-≼, 
 use Rattle.protocol.proofs.Counting.{cases_bool}
 use Rattle.protocol.proofs.Lists.{Contains-head, Contains-rest, Contains-none, Contains-cons_cases}
 use Rattle.protocol.proofs.Keeping.{keeps-Contains, greatest_in_is, greatest_in_above}
-use Rattle.node_core.specs.Index.{compared, is_up_to, version_at, versions_of, IsIndex}
+use Rattle.node_core.specs.declared.kept.Content.{Content}
+use Rattle.node_core.specs.Index.{compared, is_up_to, version_of, content_at, version_at, versions_of, IsIndex}
 use Rattle.node_core.proofs.Listing.{listed-push, listed-same, listed-filter}
-use Rattle.node_core.proofs.Finding.{some_is}
+use Rattle.node_core.proofs.Finding.{some_is, own}
 
 pub same_by_fields : (s t : Stamp) → is_eq (compared s t) ≡ same_stamp s t
 unfolding same_stamp stamp_cmp
@@ -67,22 +69,31 @@ or_by true b h = refl
 or_by false b (inl h) = absurd (cc)
 or_by false b (inr h) = h
 
-module _ (order : List Stamp) (m n : BTreeMap Stamp Version) (h : IsIndex order m) where
+module _ (order : List Stamp) (m n : BTreeMap Stamp Content) (h : IsIndex order m) where
   -- one version more
-  module _ (v : Version) (new : version_at m v.stamp ≡ None) (later : 1 ≤ v.stamp.time) (updates : (q : Stamp) → version_at n q ≡ cond (is_eq (compared v.stamp q)) (Some v) (version_at m q)) where
+  module _ (v : Version) (content : Content) (is : v ≡ version_of v.stamp content) (new : version_at m v.stamp ≡ None) (later : 1 ≤ v.stamp.time) (updates : (q : Stamp) → content_at n q ≡ cond (is_eq (compared v.stamp q)) (Some content) (content_at m q)) where
+    updated : (q : Stamp) → version_at n q ≡ cond (is_eq (compared v.stamp q)) (Some v) (version_at m q)
+    updated q = ap (option_map (version_of q)) (updates q) ∙ at (is_eq (compared v.stamp q)) refl
+      where
+        at : (b : Bool) → is_eq (compared v.stamp q) ≡ b → option_map (version_of q) (cond b (Some content) (content_at m q)) ≡ cond b (Some v) (version_at m q)
+        at true e =
+            let same : v.stamp ≡ q = same_stamp-≡ v.stamp q (sym (same_by_fields v.stamp q) ∙ e) in
+            ap (λ s. Some (version_of s content)) (sym same) ∙ ap Some (sym is)
+        at false e = refl
+
     at_new : version_at n v.stamp ≡ Some v
-    at_new = updates v.stamp ∙ ap (λ b. cond b (Some v) (version_at m v.stamp)) (same_by_fields v.stamp v.stamp ∙ same_stamp-refl v.stamp)
+    at_new = updated v.stamp ∙ ap (λ b. cond b (Some v) (version_at m v.stamp)) (same_by_fields v.stamp v.stamp ∙ same_stamp-refl v.stamp)
 
     -- what is found was found before, or is the new one
     found_then : (q : Stamp) (u : Version) → version_at n q ≡ Some u → (version_at m q ≡ Some u) ⊎ ((v.stamp ≡ q) × (v ≡ u))
-    found_then q u e = at (is_eq (compared v.stamp q)) refl (sym (updates q) ∙ e)
+    found_then q u e = at (is_eq (compared v.stamp q)) refl (sym (updated q) ∙ e)
       where
         at : (b : Bool) → is_eq (compared v.stamp q) ≡ b → cond b (Some v) (version_at m q) ≡ Some u → (version_at m q ≡ Some u) ⊎ ((v.stamp ≡ q) × (v ≡ u))
         at true same f = inr (same_stamp-≡ v.stamp q (sym (same_by_fields v.stamp q) ∙ same), cc)
         at false same f = inl f
 
     still : (q : Stamp) (u : Version) → version_at m q ≡ Some u → version_at n q ≡ Some u
-    still q u e = updates q ∙ at (is_eq (compared v.stamp q)) refl
+    still q u e = updated q ∙ at (is_eq (compared v.stamp q)) refl
       where
         at : (b : Bool) → is_eq (compared v.stamp q) ≡ b → cond b (Some v) (version_at m q) ≡ Some u
         at true same =
@@ -101,7 +112,6 @@ module _ (order : List Stamp) (m n : BTreeMap Stamp Version) (h : IsIndex order 
         | inl f ↦ Contains-append_left order (v.stamp ∷ []) q (h.accepted q u f)
         | inr f ↦ (rw (← f.0) (Contains-push order v.stamp))
       ];
-      own = λ q u e. elim (found_then q u e) [ inl f ↦ h.own q u f | inr f ↦ ap (λ (x : Version). x.stamp) (sym f.1) ∙ f.0 ];
       later = λ q u e. elim (found_then q u e) [ inl f ↦ h.later q u f | inr f ↦ (rw (← f.0) later) ];
     }
 
@@ -113,9 +123,16 @@ module _ (order : List Stamp) (m n : BTreeMap Stamp Version) (h : IsIndex order 
 
   -- the versions of lower stamps dropped
   module _ (least : Stamp) (dropped : n.entries ≡ filter (λ e. is_up_to least e.0) m.entries) where
-    at_dropped : (q : Stamp) → version_at n q ≡ cond (is_up_to least q) (version_at m q) None
-    at_dropped q =
+    content_dropped : (q : Stamp) → content_at n q ≡ cond (is_up_to least q) (content_at m q) None
+    content_dropped q =
         rw dropped (lookup-filter-keys (λ k. is_eq (compared q k)) (is_up_to least) (is_up_to least q) (λ k e. ap (is_up_to least) (sym (same_stamp-≡ q k (sym (same_by_fields q k) ∙ e)))) m.entries)
+
+    at_dropped : (q : Stamp) → version_at n q ≡ cond (is_up_to least q) (version_at m q) None
+    at_dropped q = ap (option_map (version_of q)) (content_dropped q) ∙ at (is_up_to least q)
+      where
+        at : (b : Bool) → option_map (version_of q) (cond b (content_at m q) None) ≡ cond b (version_at m q) None
+        at true = refl
+        at false = refl
 
     kept_then : (q : Stamp) (u : Version) → version_at n q ≡ Some u → (version_at m q ≡ Some u) × (is_up_to least q ≡ true)
     kept_then q u e = at (is_up_to least q) refl (sym (at_dropped q) ∙ e)
@@ -131,14 +148,13 @@ module _ (order : List Stamp) (m n : BTreeMap Stamp Version) (h : IsIndex order 
     dropped_index = record {
       there = λ q k. let r = filtered_is (is_up_to least) order q k in rw (stays q r.1) (h.there q r.0);
       accepted = λ q u e. let r = kept_then q u e in filtered_has (is_up_to least) order q (h.accepted q u r.0) r.1;
-      own = λ q u e. h.own q u (kept_then q u e).0;
       later = λ q u e. h.later q u (kept_then q u e).0;
     }
 
     pub dropped_list : versions_of (filter (is_up_to least) order) n ≡ filter (λ v. is_up_to least v.stamp) (versions_of order m)
     dropped_list =
         listed-same (version_at n) (version_at m) (filter (is_up_to least) order) (λ q k. stays q (filtered_is (is_up_to least) order q k).1)
-        ∙ listed-filter (version_at m) (is_up_to least) (λ v. is_up_to least v.stamp) order (λ q u k e. ap (is_up_to least) (h.own q u e)) (λ q k. some_is (version_at m q) (h.there q k))
+        ∙ listed-filter (version_at m) (is_up_to least) (λ v. is_up_to least v.stamp) order (λ q u k e. ap (is_up_to least) (own m q u e)) (λ q k. some_is (version_at m q) (h.there q k))
 
 -- which versions a prune keeps after the first
 module _ (stamp : Stamp) (vs : List Version) where

@@ -13,9 +13,9 @@ use Rattle.stamp_order.specs.declared.Bound.{Bound}
 use Rattle.stamp_order.specs.declared.Bound.TheVariants.{All as Every, AtMost, Below}
 use Rattle.stamp_order.specs.Stamps.{has, ◌≼◌}
 use Rattle.stamp_order.proofs.Orders.{up_to_by_fields, before_by_fields}
-use Rattle.wire_forms.specs.declared.message.Version.{Version}
 use Rattle.protocol.proofs.Order.{before_false}
-use Rattle.node_core.specs.Index.{compared, version_at, IsLastIn, IsNoneIn}
+use Rattle.node_core.specs.declared.kept.Content.{Content}
+use Rattle.node_core.specs.Index.{compared, content_at, IsLastIn, IsNoneIn}
 
 le_is : (o : Ordering) → is_gt o ≡ false → is_le o ≡ true
 le_is Less h = refl
@@ -53,19 +53,19 @@ end_below limit = record {
 pub not_above : (stamp q : Stamp) → is_lt (compared stamp q) ≡ false → q ≼ stamp
 not_above stamp q h = before_false q stamp (sym (before_by_fields stamp q) ∙ h)
 
-module _ (m : BTreeMap Stamp Version) (bound : Bound) (edge : Edge Stamp) (is : IsEndOf edge bound) (r rest : List (Stamp × Version)) (range : IsRangeOf compared Unbounded edge m r) where
-  last_is : (stamp : Stamp) (v : Version) → r ≡ rest ++ (stamp, v) ∷ [] → IsLastIn m bound stamp v
-  last_is stamp v e = record {
-    found = (range.3 (stamp, v) rest e).1;
-    inside = is.inside stamp (range.3 (stamp, v) rest e).0.1;
-    above = λ q inside there. not_above stamp q (range.4 (stamp, v) rest e q (tt, is.reached q inside) there);
+module _ (m : BTreeMap Stamp Content) (bound : Bound) (edge : Edge Stamp) (is : IsEndOf edge bound) (r rest : List (Stamp × Content)) (range : IsRangeOf compared Unbounded edge m r) where
+  last_is : (stamp : Stamp) (content : Content) → r ≡ rest ++ (stamp, content) ∷ [] → IsLastIn m bound stamp content
+  last_is stamp content e = record {
+    found = (range.3 (stamp, content) rest e).1;
+    inside = is.inside stamp (range.3 (stamp, content) rest e).0.1;
+    above = λ q inside there. not_above stamp q (range.4 (stamp, content) rest e q (tt, is.reached q inside) there);
   }
 
   none_is : r ≡ [] → IsNoneIn m bound
   none_is e = λ q inside. range.5 e q (tt, is.reached q inside)
 
   -- what comes back from the range's end
-  module _ {A : Type 0} (key : A → Stamp) (value : A → Version) (Left : Type 0) where
+  module _ {A : Type 0} (key : A → Stamp) (value : A → Content) (Left : Type 0) where
     pub some_from_range : (o : Option A) → MatchOption o (r ≡ [] × Left) (λ x. r ≡ rest ++ (key x, value x) ∷ []) → IfSome o (λ x. IsLastIn m bound (key x) (value x))
     some_from_range None h = tt
     some_from_range (Some x) h = last_is (key x) (value x) h
@@ -75,7 +75,7 @@ module _ (m : BTreeMap Stamp Version) (bound : Bound) (edge : Edge Stamp) (is : 
     none_from_range (Some x) h = tt
 
 -- the last of all entries
-pub some_from_all : {A : Type 0} (m : BTreeMap Stamp Version) (key : A → Stamp) (value : A → Version) (o : Option A)
-    → IfSome o (λ x. version_at m (key x) ≡ Some (value x)) → IfSome o (λ x. (q : Stamp) → IsSome (version_at m q) → is_lt (compared (key x) q) ≡ false) → IfSome o (λ x. IsLastIn m Every (key x) (value x))
+pub some_from_all : {A : Type 0} (m : BTreeMap Stamp Content) (key : A → Stamp) (value : A → Content) (o : Option A)
+    → IfSome o (λ x. content_at m (key x) ≡ Some (value x)) → IfSome o (λ x. (q : Stamp) → IsSome (content_at m q) → is_lt (compared (key x) q) ≡ false) → IfSome o (λ x. IsLastIn m Every (key x) (value x))
 some_from_all m key value None h k = tt
 some_from_all m key value (Some x) h k = record { found = h; inside = refl; above = λ q inside there. not_above (key x) q (k q there) }

@@ -1,24 +1,45 @@
-ghost use Rattle.std.specs.Prelude.{◌≡◌, ◌≤◌, ◌↔◌, ◌||◌, true, false, IsTrue, [], ◌∷◌, ◌++◌, map, filter, OnOk, OnErr, IfOk, IfSome, IfNone, option_copied};
+ghost use Rattle.std.specs.Prelude.{◌≡◌, ◌≤◌, ◌↔◌, ◌||◌, true, false, IsTrue, [], ◌∷◌, ◌++◌, map, filter, OnOk, OnErr, IfOk, IfSome, IfNone, option_map};
 ghost use Rattle.stamp_order.specs.Stamps.{before};
 ghost use Rattle.protocol.specs.Nodes.{keeps, carries, greatest_in, greatest_time};
 ghost use Rattle.std.specs.List.{Contains};
 ghost use Rattle.wire_forms.specs.declared.message.Version.{Version};
-ghost use Rattle.node_core.specs.Index.{is_up_to, IsLastIn, IsNoneIn};
+ghost use Rattle.node_core.specs.Index.{version_of, is_up_to, IsLastIn, IsNoneIn};
 ghost use Rattle.stamp_order.specs.declared.Bound.TheVariants.{AtMost};
 
-use lists::{ItemList, NoMemory};
+use cross_sum::{Bytes, CrossSum};
+use lists::{Copied, ItemList, NoMemory};
 use stamp_order::{Bound, Stamp};
 use std::alloc::Global;
 use std::collections::BTreeMap;
 use std::marker::Model;
 use wire_forms::Version;
 
+/// What a version has beside its stamp.
+#[derive(Drop)]
+pub(crate) struct Content {
+    sum: CrossSum,
+    fragment: Bytes,
+}
+
+impl Content {
+    /// A copy of the version that has this stamp and content.
+    pub(crate) fn version(&self, stamp: &Stamp) -> Result<Version, NoMemory>
+        ensures { IfOk result (λ version. version ≡ version_of stamp.now self.now) }
+    {
+        Ok(Version {
+            stamp: *stamp,
+            sum: self.sum.copy()?,
+            fragment: self.fragment.copy()?,
+        })
+    }
+}
+
 /// The versions of a block that were accepted after the first, in order of acceptance. None has the time 0.
 #[derive(Drop)]
 pub(crate) struct Kept {
     /// Their stamps, in order of acceptance.
     order: Vec<Stamp>,
-    by_stamp: BTreeMap<Stamp, Version>,
+    by_stamp: BTreeMap<Stamp, Content>,
 }
 
 impl Model for Kept {
@@ -50,15 +71,13 @@ impl Kept {
         self.by_stamp.contains_key(stamp)
     }
 
-    /// The version of greatest stamp in the bound.
-    pub(crate) fn greatest_in(&self, bound: &Bound) -> Option<&Version>
-        ensures greatest { option_copied result ≡ greatest_in bound.now self.now }
-        ensures later { IfSome result (λ v. 1 ≤ v.now.stamp.time) }
+    /// The greatest stamp in the bound, and the content of its version.
+    pub(crate) fn greatest_in(&self, bound: &Bound) -> Option<(&Stamp, &Content)>
+        ensures greatest { option_map (λ e. version_of e.0.now e.1.now) result
+            ≡ greatest_in bound.now self.now }
+        ensures later { IfSome result (λ e. 1 ≤ e.0.now.time) }
     {
-        match last_in(&self.by_stamp, bound) {
-            Some((_, version)) => Some(version),
-            None => None,
-        }
+        last_in(&self.by_stamp, bound)
     }
 
     /// The greatest time, or 0 where there are no versions.
@@ -66,7 +85,7 @@ impl Kept {
         ensures { result ≡ greatest_time self.now }
     {
         match self.greatest_in(&Bound::All) {
-            Some(version) => version.stamp.time,
+            Some((stamp, _)) => stamp.time,
             None => 0,
         }
     }
@@ -78,9 +97,13 @@ impl Kept {
         ensures ok { OnOk result (self.new ≡ self.old ++ version ∷ []) }
         ensures err { OnErr result (self.new ≡ self.old) }
     {
-        let stamp = version.stamp;
         self.order.reserve(1)?;
-        self.by_stamp.insert(stamp, version)?;
+        let Version {
+            stamp,
+            sum,
+            fragment,
+        } = version;
+        self.by_stamp.insert(stamp, Content { sum, fragment })?;
         let _ = self.order.push(stamp);
         Ok(())
     }
@@ -104,8 +127,8 @@ impl Kept {
             (greatest_in (AtMost stamp.now) self.old) || before stamp.now v.stamp) self.old }
     {
         match self.greatest_in(&Bound::AtMost(*stamp)) {
-            Some(greatest) => {
-                let least = greatest.stamp;
+            Some((greatest, _)) => {
+                let least = *greatest;
                 drop_stamps(&mut self.order, least);
                 drop_versions(&mut self.by_stamp, least);
             }
@@ -116,9 +139,9 @@ impl Kept {
 
 // The last entry whose stamp is in the bound.
 fn last_in<'a>(
-    by_stamp: &'a BTreeMap<Stamp, Version>,
+    by_stamp: &'a BTreeMap<Stamp, Content>,
     bound: &Bound,
-) -> Option<(&'a Stamp, &'a Version)>
+) -> Option<(&'a Stamp, &'a Content)>
     ensures some { IfSome result (λ e. IsLastIn by_stamp.now bound.now e.0.now e.1.now) }
     ensures none { IfNone result (IsNoneIn by_stamp.now bound.now) }
 {
@@ -140,14 +163,14 @@ fn drop_stamps(order: &mut Vec<Stamp>, least: Stamp)
     );
 }
 
-// Drops the versions of stamps below one.
-fn drop_versions(by_stamp: &mut BTreeMap<Stamp, Version>, least: Stamp)
+// Drops what is kept by stamps below one.
+fn drop_versions(by_stamp: &mut BTreeMap<Stamp, Content>, least: Stamp)
     ensures { by_stamp.new.entries ≡ filter (λ e. is_up_to least e.0) by_stamp.old.entries }
 {
     by_stamp.retain(
-        |stamp: &Stamp, _version: &mut Version| -> bool
+        |stamp: &Stamp, _content: &mut Content| -> bool
             ensures passes { result ≡ is_up_to least stamp.now }
-            ensures same { _version.new ≡ _version.old }
+            ensures same { _content.new ≡ _content.old }
         { least.cmp(stamp).is_le() },
     );
 }

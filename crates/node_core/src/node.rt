@@ -211,7 +211,7 @@ impl Node {
             (λ reply. reply ≡ found (greatest_in bound.now (versions_in self.now block))) }
     {
         match self.blocks[block as usize].greatest_in(bound) {
-            Some(version) => Ok(Reply::Found(version.copy()?)),
+            Some((stamp, content)) => Ok(Reply::Found(content.version(stamp)?)),
             None if bound.has(&self.first.stamp) => Ok(Reply::Found(self.first.copy()?)),
             None => Ok(Reply::Nothing),
         }

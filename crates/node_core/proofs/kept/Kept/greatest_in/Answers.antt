@@ -1,11 +1,9 @@
-use Rattle.std.proofs.Common.{sym}
-use Rattle.node_core.proofs.Finding.{greatest-at, greatest-none}
+use Rattle.node_core.proofs.Finding.{greatest-is, found-later}
 use Rattle.node_core.proofs.kept.Kept.greatest_in.Goals as goal
 
-pub returns-in-Some-clause-greatest : goal.returns-in-Some-clause-greatest
-returns-in-Some-clause-greatest c =
-    let last = c.in-Some.ensures.some in
-    rw (← c.self.view_is) (sym (greatest-at _ _ c.self.invariant _ _ _ last.found last.inside last.above))
+pub returns-clause-greatest : goal.returns-clause-greatest
+returns-clause-greatest c =
+    rw (← c.self.view_is) (greatest-is _ _ c.self.invariant (λ x. x.0.now) (λ x. x.1.now) _ _ c.last_in.ensures.some c.last_in.ensures.none)
 
-pub returns-in-None-clause-greatest : goal.returns-in-None-clause-greatest
-returns-in-None-clause-greatest c = rw (← c.self.view_is) (sym (greatest-none _ _ c.self.invariant _ c.in-None.ensures.none))
+pub returns-clause-later : goal.returns-clause-later
+returns-clause-later c = found-later _ _ c.self.invariant (λ x. x.0.now) (λ x. x.1.now) _ _ c.last_in.ensures.some
