@@ -13,15 +13,14 @@ use Rattle.protocol.specs.Operations.{Work, Outcome, How}
 use Rattle.protocol.specs.Operations.Work.{Reads, Writes}
 use Rattle.run_words.specs.declared.outcome.Outcome.TheVariants.{Wrote, Spent, Gave, Outvoted}
 use Rattle.protocol.specs.World.{World, Record}
-use Rattle.protocol.specs.History.{Entry, entry_cmp, IsSorted, IsEntry, IsHistory}
-use Rattle.protocol.specs.History.Kind.{Read, Write}
+use Rattle.protocol.specs.History.{Entry, read_entry, write_entry, entry_cmp, IsSorted, IsRead, IsWrite, IsEntry, IsHistory}
 use Rattle.protocol.specs.Report.{SpentWrite, IsSpentWrite, Ascend, spent_write, spent_writes, is_done, is_spent, is_pending, is_ended, counts_of}
 use Rattle.protocol.proofs.Counting.{cases_bool}
 use Rattle.protocol.proofs.Tests.{is_eqb, eqb_is}
 use Rattle.protocol.proofs.Histories.{outcome_at, not_outvoted, read_end}
 use Rattle.protocol.proofs.Keeping.{or_cases}
 use Rattle.protocol.proofs.Lists.{filter_is, filter_has, Contains-none, Contains-head, Contains-rest, Contains-cons_cases, Contains-map, Contains-map_cases}
-use Rattle.protocol.proofs.Entries.{same_entry, not_self, member_of}
+use Rattle.protocol.proofs.Entries.{start_made, end_made, not_self, member_of}
 use Rattle.protocol.proofs.Invariant.{IsSafe, IsRecord, IsOutcome}
 use Rattle.protocol.proofs.Apart.{IsApart}
 use Rattle.protocol.proofs.Starts.{starts}
@@ -129,13 +128,13 @@ start_is e n q = ap start_or q
 module _ (s : Setting) (w : World) (safe : IsSafe s w) (apart : IsApart w.records) where
   -- an entry that has an end is a completed read's or a completed write's
   data Ended (e : Entry) : Type 0 where
-    of_read : (r : Record) → Contains w.records r → (how : How) (rounds : ℕ) → r.outcome ≡ Some (Gave e.stamp e.value how rounds) → e.kind ≡ Read → e.block ≡ r.block → e.client ≡ r.client → e.start ≡ Some r.start → e.end ≡ r.end → Ended e
-    of_write : (r : Record) → Contains w.records r → r.outcome ≡ Some (Wrote e.stamp) → r.work ≡ Writes e.value → e.kind ≡ Write → e.block ≡ r.block → e.client ≡ r.client → e.start ≡ Some r.start → e.end ≡ r.end → Ended e
+    of_read : IsRead w.records e → Ended e
+    of_write : (h : IsWrite w.records e) → h.write.outcome ≡ Some (Wrote e.stamp) → Ended e
 
   ended : (e : Entry) → IsEntry w.records (first_stamp s) e → is_ended e ≡ true → Ended e
-  ended e (inl h) t = of_read h.0 h.1 h.2 h.3 h.4 h.5 h.6 h.7 h.8 h.9
-  ended e (inr (inl h)) t = elim h.9 [ inl k ↦ of_write h.0 h.1 k h.2 h.4 h.5 h.6 h.7 h.8 | inr k ↦ absurd (no_end e (h.8 ∙ k.0) t) ]
-  ended e (inr (inr h)) t = absurd (no_end e h.1.7 t)
+  ended e (inl h) t = of_read h
+  ended e (inr (inl h)) t = elim h.stands [ inl k ↦ of_write h k | inr k ↦ absurd (no_end e (end_made h.made ∙ k.pending) t) ]
+  ended e (inr (inr h)) t = absurd (no_end e (end_made h.1.made) t)
 
   one_record : (e f : Entry) (r q : Record) → Contains w.records r → Contains w.records q → e.start ≡ Some r.start → f.start ≡ Some q.start → start_of e ≡ start_of f → r ≡ q
   one_record e f r q h k a b same = apart.starts r q h k (sym (start_is e r.start a) ∙ same ∙ start_is f q.start b)
@@ -153,22 +152,25 @@ module _ (s : Setting) (w : World) (safe : IsSafe s w) (apart : IsApart w.record
   not_both_kinds o a b u h m f g = let q : Some (Gave a u h m) ≡ Some (Wrote b) = sym f ∙ g in cc
 
   one_start : (e f : Entry) → Ended e → Ended f → start_of e ≡ start_of f → e ≡ f
-  one_start e f (of_read r h how m o k b c a z) (of_read q l way n p j d g y x) same =
-      let one = one_record e f r q h l a y same in
-      let given = gave_stamp r.outcome e.stamp f.stamp e.value f.value how way m n o (ap (λ (t : Record). t.outcome) one ∙ p) in
-      same_entry e f (b ∙ ap (λ (t : Record). t.block) one ∙ sym d) given.0 (k ∙ sym j) (c ∙ ap (λ (t : Record). t.client) one ∙ sym g) (a ∙ ap (λ (t : Record). Some t.start) one ∙ sym y) (z ∙ ap (λ (t : Record). t.end) one ∙ sym x) given.1
-  one_start e f (of_write r h o v k b c a z) (of_write q l p u j d g y x) same =
-      let one = one_record e f r q h l a y same in
-      same_entry e f (b ∙ ap (λ (t : Record). t.block) one ∙ sym d) (wrote_stamp r.outcome e.stamp f.stamp o (ap (λ (t : Record). t.outcome) one ∙ p)) (k ∙ sym j) (c ∙ ap (λ (t : Record). t.client) one ∙ sym g) (a ∙ ap (λ (t : Record). Some t.start) one ∙ sym y) (z ∙ ap (λ (t : Record). t.end) one ∙ sym x)
-      (written r.work e.value f.value v (ap (λ (t : Record). t.work) one ∙ u))
-  one_start e f (of_read r h how m o k b c a z) (of_write q l p u j d g y x) same =
-      let one = one_record e f r q h l a y same in absurd (not_both_kinds r.outcome e.stamp f.stamp e.value how m o (ap (λ (t : Record). t.outcome) one ∙ p))
-  one_start e f (of_write r h o v k b c a z) (of_read q l way n p j d g y x) same =
-      let one = one_record e f r q h l a y same in absurd (not_both_kinds q.outcome f.stamp e.stamp f.value way n p (ap (λ (t : Record). t.outcome) (sym one) ∙ o))
+  one_start e f (of_read h) (of_read k) same =
+      let one = one_record e f h.read k.read h.there k.there (start_made h.made) (start_made k.made) same in
+      let given = gave_stamp h.read.outcome e.stamp f.stamp e.value f.value h.how k.how h.rounds k.rounds h.gave (ap (λ (t : Record). t.outcome) one ∙ k.gave) in
+      h.made ∙ (λ i. read_entry (one i) (given.0 i) (given.1 i)) ∙ sym k.made
+  one_start e f (of_write h o) (of_write k p) same =
+      let one = one_record e f h.write k.write h.there k.there (start_made h.made) (start_made k.made) same in
+      let stamp = wrote_stamp h.write.outcome e.stamp f.stamp o (ap (λ (t : Record). t.outcome) one ∙ p) in
+      let value = written h.write.work e.value f.value h.writes (ap (λ (t : Record). t.work) one ∙ k.writes) in
+      h.made ∙ (λ i. write_entry (one i) (stamp i) (value i)) ∙ sym k.made
+  one_start e f (of_read h) (of_write k p) same =
+      let one = one_record e f h.read k.write h.there k.there (start_made h.made) (start_made k.made) same in
+      absurd (not_both_kinds h.read.outcome e.stamp f.stamp e.value h.how h.rounds h.gave (ap (λ (t : Record). t.outcome) one ∙ p))
+  one_start e f (of_write h o) (of_read k) same =
+      let one = one_record e f h.write k.read h.there k.there (start_made h.made) (start_made k.made) same in
+      absurd (not_both_kinds k.read.outcome f.stamp e.stamp f.value k.how k.rounds k.gave (ap (λ (t : Record). t.outcome) (sym one) ∙ o))
 
   has_done : (e : Entry) → Ended e → (r : Record) × Contains w.records r × (is_done r.outcome ≡ true) × (r.start ≡ start_of e)
-  has_done e (of_read r h how m o k b c a z) = (r, h, rw o refl, sym (start_is e r.start a))
-  has_done e (of_write r h o v k b c a z) = (r, h, rw o refl, sym (start_is e r.start a))
+  has_done e (of_read h) = (h.read, h.there, rw h.gave refl, sym (start_is e h.read.start (start_made h.made)))
+  has_done e (of_write h o) = (h.write, h.there, rw o refl, sym (start_is e h.write.start (start_made h.made)))
 
   module _ (h : List Entry) (hist : IsHistory s w h) where
     Found : Record → Type 0
@@ -179,15 +181,15 @@ module _ (s : Setting) (w : World) (safe : IsSafe s w) (apart : IsApart w.record
     wrote_entry r there stamp o Reads e k = absurd k
     wrote_entry r there stamp o (Writes value) e k =
         let z = read_end s w safe r (Wrote stamp) there o in
-        let x : Entry = record { block = r.block; stamp = stamp; kind = Write; client = r.client; start = Some r.start; end = r.end; value = value } in
-        (x, (hist.1 x).1 (inr (inl (r, there, e, k.0, refl, refl, refl, refl, refl, inl o))), an_end x z.0 z.1, refl)
+        let x = write_entry r stamp value in
+        (x, (hist.1 x).1 (inr (inl (record { write = r; there = there; writes = e; chose = k.0; stands = inl o; made = refl }))), an_end x z.0 z.1, refl)
 
     gave_entry : (r : Record) → Contains w.records r → (stamp : Stamp) (value : List ℕ) (how : How) (rounds : ℕ) → r.outcome ≡ Some (Gave stamp value how rounds) → Found r
     unfolding Found start_of start_or
     gave_entry r there stamp value how rounds o =
         let z = read_end s w safe r (Gave stamp value how rounds) there o in
-        let x : Entry = record { block = r.block; stamp = stamp; kind = Read; client = r.client; start = Some r.start; end = r.end; value = value } in
-        (x, (hist.1 x).1 (inl (r, there, how, rounds, o, refl, refl, refl, refl, refl)), an_end x z.0 z.1, refl)
+        let x = read_entry r stamp value in
+        (x, (hist.1 x).1 (inl (record { read = r; there = there; how = how; rounds = rounds; gave = o; made = refl })), an_end x z.0 z.1, refl)
 
     done_entry : (r : Record) → Contains w.records r → (o : Option Outcome) → r.outcome ≡ o → is_done o ≡ true → Found r
     done_entry r there None e t = absurd (cc)

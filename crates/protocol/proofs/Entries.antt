@@ -109,3 +109,24 @@ member_of {X} P xs x h k = let e = k.2 in let p = each_of P xs k.0 x k.1 h in rw
 -- entries that are equal part by part
 pub same_entry : (e f : Entry) → e.block ≡ f.block → e.stamp ≡ f.stamp → e.kind ≡ f.kind → e.client ≡ f.client → e.start ≡ f.start → e.end ≡ f.end → e.value ≡ f.value → e ≡ f
 same_entry e f a b c d g h k i = record { block = a i; stamp = b i; kind = c i; client = d i; start = g i; end = h i; value = k i }
+
+-- ---- what an entry has of the one that it was made as
+
+pub block_made : {e x : Entry} → e ≡ x → e.block ≡ x.block
+block_made p = ap (λ (y : Entry). y.block) p
+
+pub kind_made : {e x : Entry} → e ≡ x → e.kind ≡ x.kind
+kind_made p = ap (λ (y : Entry). y.kind) p
+
+pub client_made : {e x : Entry} → e ≡ x → e.client ≡ x.client
+client_made p = ap (λ (y : Entry). y.client) p
+
+pub start_made : {e x : Entry} → e ≡ x → e.start ≡ x.start
+start_made p = ap (λ (y : Entry). y.start) p
+
+pub end_made : {e x : Entry} → e ≡ x → e.end ≡ x.end
+end_made p = ap (λ (y : Entry). y.end) p
+
+-- it was made so of this stamp and value too
+pub made_of : (make : Stamp → List ℕ → Entry) (e : Entry) (t : Stamp) (v : List ℕ) → e ≡ make e.stamp e.value → e.stamp ≡ t → e.value ≡ v → e ≡ make t v
+made_of make e t v made p q = made ∙ (λ i. make (p i) (q i))

@@ -13,12 +13,11 @@ use Rattle.protocol.specs.Operations.{Work, Outcome, How}
 use Rattle.protocol.specs.Operations.Work.{Reads, Writes}
 use Rattle.run_words.specs.declared.outcome.Outcome.TheVariants.{Wrote, Spent, Gave, Outvoted}
 use Rattle.protocol.specs.World.{World, Record}
-use Rattle.protocol.specs.History.{Entry, entry_cmp, IsSorted, IsEntry, IsForeign, HasRead, HasWrite, IsHistory}
-use Rattle.protocol.specs.History.Kind.{Write, Foreign, Read}
+use Rattle.protocol.specs.History.{Entry, read_entry, write_entry, foreign_entry, entry_cmp, IsSorted, IsEntry, IsDue, IsForeign, HasRead, HasWrite, IsHistory}
 use Rattle.protocol.proofs.Counting.{cases_bool}
 use Rattle.protocol.proofs.Order.{same_stamp-≡, same_stamp-refl}
 use Rattle.protocol.proofs.Lists.{Contains-none, Contains-head, Contains-rest, Contains-cons_cases, Contains-one}
-use Rattle.protocol.proofs.Entries.{same_entry, entry_total, member_of}
+use Rattle.protocol.proofs.Entries.{block_made, made_of, entry_total, member_of}
 use Rattle.protocol.proofs.Searches.{find_write, find_read, FirstRead}
 use Rattle.protocol.proofs.Invariant.{IsSafe}
 use Rattle.protocol.proofs.Apart.{IsApart}
@@ -117,20 +116,12 @@ module _ (s : Setting) (w : World) (safe : IsSafe s w) (apart : IsApart w.record
   abbrev rs : List Record
   rs = w.records
 
-  -- what an entry has of its record
-  record IsOf (r : Record) (e : Entry) : Type 0 where
-    block : e.block ≡ r.block
-    client : e.client ≡ r.client
-    start : e.start ≡ Some r.start
-    end : e.end ≡ r.end
-
   -- the entry of a completed read
   record ReadOf (r : Record) (e : Entry) : Type 0 where
     how : How
     rounds : ℕ
     gave : r.outcome ≡ Some (Gave e.stamp e.value how rounds)
-    kind : e.kind ≡ Read
-    own : IsOf r e
+    made : e ≡ read_entry r e.stamp e.value
 
   read_of : (r : Record) (o : Option Outcome) → r.outcome ≡ o → HasAll (ReadOf r)
   read_of r None q = none_all (ReadOf r) (λ e h. let k = h.gave in cc)
@@ -138,21 +129,16 @@ module _ (s : Setting) (w : World) (safe : IsSafe s w) (apart : IsApart w.record
   read_of r (Some Spent) q = none_all (ReadOf r) (λ e h. let k = h.gave in cc)
   read_of r (Some (Outvoted nodes)) q = none_all (ReadOf r) (λ e h. let k = h.gave in cc)
   read_of r (Some (Gave t v how n)) q =
-      let x : Entry = record { block = r.block; stamp = t; kind = Read; client = r.client; start = Some r.start; end = r.end; value = v } in
-      one_all (ReadOf r) x (record { how = how; rounds = n; gave = q; kind = refl; own = record { block = refl; client = refl; start = refl; end = refl } })
+      one_all (ReadOf r) (read_entry r t v) (record { how = how; rounds = n; gave = q; made = refl })
       (λ e h. let k : Some (Gave e.stamp e.value h.how h.rounds) ≡ Some (Gave t v how n) = sym h.gave ∙ q in
-      same_entry e x h.own.block (cc k) h.kind h.own.client h.own.start h.own.end (cc k))
-
-  abbrev IsDue : Record → ℕ → Stamp → Type 0
-  IsDue r block t = (r.outcome ≡ Some (Wrote t)) ⊎ ((r.end ≡ None) × (value : List ℕ) × (end : ℕ) × HasRead rs block t value end)
+      made_of (read_entry r) e t v h.made (cc k) (cc k))
 
   -- the entry of a write
   record WriteOf (r : Record) (e : Entry) : Type 0 where
     work : r.work ≡ Writes e.value
     stamp : r.stamp ≡ Some e.stamp
-    kind : e.kind ≡ Write
-    own : IsOf r e
-    due : IsDue r e.block e.stamp
+    due : IsDue rs r e.block e.stamp
+    made : e ≡ write_entry r e.stamp e.value
 
   wrote_at : (o : Option Outcome) (t : Stamp) → (o ≡ Some (Wrote t)) ⊎ (o ≡ Some (Wrote t) → ⊥)
   wrote_at None t = inr (λ e. cc)
@@ -164,26 +150,25 @@ module _ (s : Setting) (w : World) (safe : IsSafe s w) (apart : IsApart w.record
   wrote_at (Some (Gave u v how n)) t = inr (λ e. cc)
   wrote_at (Some (Outvoted nodes)) t = inr (λ e. cc)
 
-  due_at : (r : Record) (t : Stamp) (end : Option ℕ) → r.end ≡ end → IsDue r r.block t ⊎ (IsDue r r.block t → ⊥)
+  due_at : (r : Record) (t : Stamp) (end : Option ℕ) → r.end ≡ end → IsDue rs r r.block t ⊎ (IsDue rs r r.block t → ⊥)
   due_at r t end e = elim (wrote_at r.outcome t) [
     | inl h ↦ inl (inl h)
     | inr n ↦ pending end e (find_read r.block t rs) n
   ]
     where
-      pending : (end : Option ℕ) → r.end ≡ end → FirstRead r.block t rs ⊎ ((value : List ℕ) (end : ℕ) → HasRead rs r.block t value end → ⊥) → (r.outcome ≡ Some (Wrote t) → ⊥) → IsDue r r.block t ⊎ (IsDue r r.block t → ⊥)
-      pending None e (inl h) n = inl (inr (e, h.value, h.end, h.is))
-      pending None e (inr m) n = inr (λ d. elim d [ inl k ↦ n k | inr k ↦ m k.1 k.2 k.3 ])
-      pending (Some x) e h n = inr (λ d. elim d [ inl k ↦ n k | inr k ↦ (let q = k.0 in cc) ])
+      pending : (end : Option ℕ) → r.end ≡ end → FirstRead r.block t rs ⊎ ((value : List ℕ) (end : ℕ) → HasRead rs r.block t value end → ⊥) → (r.outcome ≡ Some (Wrote t) → ⊥) → IsDue rs r r.block t ⊎ (IsDue rs r r.block t → ⊥)
+      pending None e (inl h) n = inl (inr (record { pending = e; value = h.value; end = h.end; seen = h.is }))
+      pending None e (inr m) n = inr (λ d. elim d [ inl k ↦ n k | inr k ↦ m k.value k.end k.seen ])
+      pending (Some x) e h n = inr (λ d. elim d [ inl k ↦ n k | inr k ↦ (let q = k.pending in cc) ])
 
   write_of : (r : Record) (work : Work) → r.work ≡ work → (stamp : Option Stamp) → r.stamp ≡ stamp → HasAll (WriteOf r)
   write_of r Reads e stamp f = none_all (WriteOf r) (λ x h. let k = h.work in cc)
   write_of r (Writes v) e None f = none_all (WriteOf r) (λ x h. let k = h.stamp in cc)
   write_of r (Writes v) e (Some t) f = elim (due_at r t r.end refl) [
     | inl d ↦
-        (let x : Entry = record { block = r.block; stamp = t; kind = Write; client = r.client; start = Some r.start; end = r.end; value = v } in
-        one_all (WriteOf r) x (record { work = e; stamp = f; kind = refl; own = record { block = refl; client = refl; start = refl; end = refl }; due = d })
-        (λ y h. let p : Writes y.value ≡ Writes v = sym h.work ∙ e in let q : Some y.stamp ≡ Some t = sym h.stamp ∙ f in same_entry y x h.own.block (cc q) h.kind h.own.client h.own.start h.own.end (cc p)))
-    | inr n ↦ none_all (WriteOf r) (λ y h. n (let q : Some y.stamp ≡ Some t = sym h.stamp ∙ f in let st : y.stamp ≡ t = cc q in let d = h.due in rw (h.own.block, st) at d))
+        one_all (WriteOf r) (write_entry r t v) (record { work = e; stamp = f; due = d; made = refl })
+        (λ y h. let p : Writes y.value ≡ Writes v = sym h.work ∙ e in let q : Some y.stamp ≡ Some t = sym h.stamp ∙ f in made_of (write_entry r) y t v h.made (cc q) (cc p))
+    | inr n ↦ none_all (WriteOf r) (λ y h. n (let q : Some y.stamp ≡ Some t = sym h.stamp ∙ f in let st : y.stamp ≡ t = cc q in let d = h.due in rw (block_made h.made, st) at d))
   ]
 
   -- the entry of the foreign write that the record's read gave
@@ -210,7 +195,7 @@ module _ (s : Setting) (w : World) (safe : IsSafe s w) (apart : IsApart w.record
 
   foreign_as : (e : Entry) (block : ℕ) (t : Stamp) → e.block ≡ block → e.stamp ≡ t → (a : FirstRead block t rs) → IsForeign rs e → e.value ≡ a.value
   foreign_as e block t p q a h =
-      first_values block t a e.value h.0 (let k = h.1 in rw (p, q) at k) (λ v other k. h.2 v other (rw (p, q) k))
+      first_values block t a e.value h.place (let k = h.seen in rw (p, q) at k) (λ v other k. h.first v other (rw (p, q) k))
 
   write_as : (e : Entry) (block : ℕ) (t : Stamp) → e.block ≡ block → e.stamp ≡ t → HasWrite rs block t → HasWrite rs e.block e.stamp
   write_as e block t p q h = rw (p, q) h
@@ -223,21 +208,24 @@ module _ (s : Setting) (w : World) (safe : IsSafe s w) (apart : IsApart w.record
   foreign_of r (Some (Gave t v how n)) q = elim (cases_bool (same_stamp t (first_stamp s))) [
     | inl f ↦ none_all (ForeignOf r) (λ e h. h.later (stamp_of e h.gave ∙ same_stamp-≡ t (first_stamp s) f))
     | inr f ↦ elim (find_write r.block t rs) [
-      | inl k ↦ none_all (ForeignOf r) (λ e h. h.foreign.3 (write_as e r.block t (sym h.of_block) (stamp_of e h.gave) k))
+      | inl k ↦ none_all (ForeignOf r) (λ e h. h.foreign.no_write (write_as e r.block t (sym h.of_block) (stamp_of e h.gave) k))
       | inr k ↦ elim (find_read r.block t rs) [
         | inl a ↦
-            (let x : Entry = record { block = r.block; stamp = t; kind = Foreign; client = t.client; start = None; end = None; value = a.value } in
-            one_all (ForeignOf r) x (record {
+            one_all (ForeignOf r) (foreign_entry r.block t a.value) (record {
               of_block = refl;
               value = v;
               how = how;
               rounds = n;
               gave = q;
               later = λ g. let l : same_stamp t t ≡ false = rw (← g) at f in let m = same_stamp-refl t in cc;
-              foreign = (a.end, a.is, a.first, k, refl, refl, refl, refl);
+              foreign = record { place = a.end; seen = a.is; first = a.first; no_write = k; made = refl };
             })
-            (λ e h. let st = stamp_of e h.gave in let g = h.foreign in same_entry e x (sym h.of_block) st g.4 (g.5 ∙ ap (λ (y : Stamp). y.client) st) g.6 g.7 (foreign_as e r.block t (sym h.of_block) st a g)))
-        | inr m ↦ none_all (ForeignOf r) (λ e h. m e.value h.foreign.0 (let st = stamp_of e h.gave in let z = h.foreign.1 in rw (← h.of_block, st) at z))
+            (λ e h.
+            let block = sym h.of_block in
+            let st = stamp_of e h.gave in
+            let value = foreign_as e r.block t block st a h.foreign in
+            h.foreign.made ∙ (λ i. foreign_entry (block i) (st i) (value i)))
+        | inr m ↦ none_all (ForeignOf r) (λ e h. m e.value h.foreign.place (let st = stamp_of e h.gave in let z = h.foreign.seen in rw (← h.of_block, st) at z))
       ]
     ]
   ]
@@ -252,14 +240,14 @@ module _ (s : Setting) (w : World) (safe : IsSafe s w) (apart : IsApart w.record
   entry_of r = both_all (ReadOf r) (λ e. WriteOf r e ⊎ ForeignOf r e) (read_of r r.outcome refl) (both_all (WriteOf r) (ForeignOf r) (write_of r r.work refl r.stamp refl) (foreign_of r r.outcome refl))
 
   to_entry : (e : Entry) → OfSome EntryOf rs e → IsEntry rs (first_stamp s) e
-  to_entry e (r, there, inl h) = inl (r, there, h.how, h.rounds, h.gave, h.kind, h.own.block, h.own.client, h.own.start, h.own.end)
-  to_entry e (r, there, inr (inl h)) = inr (inl (r, there, h.work, h.stamp, h.kind, h.own.block, h.own.client, h.own.start, h.own.end, h.due))
+  to_entry e (r, there, inl h) = inl (record { read = r; there = there; how = h.how; rounds = h.rounds; gave = h.gave; made = h.made })
+  to_entry e (r, there, inr (inl h)) = inr (inl (record { write = r; there = there; writes = h.work; chose = h.stamp; stands = h.due; made = h.made }))
   to_entry e (r, there, inr (inr h)) = inr (inr (h.later, h.foreign))
 
   from_entry : (e : Entry) → IsEntry rs (first_stamp s) e → OfSome EntryOf rs e
-  from_entry e (inl h) = (h.0, h.1, inl (record { how = h.2; rounds = h.3; gave = h.4; kind = h.5; own = record { block = h.6; client = h.7; start = h.8; end = h.9 } }))
-  from_entry e (inr (inl h)) = (h.0, h.1, inr (inl (record { work = h.2; stamp = h.3; kind = h.4; own = record { block = h.5; client = h.6; start = h.7; end = h.8 }; due = h.9 })))
-  from_entry e (inr (inr h)) = let r = h.1.1 in (r.read, r.there, inr (inr (record { of_block = r.of_block; value = e.value; how = r.how; rounds = r.rounds; gave = r.gave; later = h.0; foreign = h.1 })))
+  from_entry e (inl h) = (h.read, h.there, inl (record { how = h.how; rounds = h.rounds; gave = h.gave; made = h.made }))
+  from_entry e (inr (inl h)) = (h.write, h.there, inr (inl (record { work = h.writes; stamp = h.chose; due = h.stands; made = h.made })))
+  from_entry e (inr (inr h)) = let r = h.1.seen in (r.read, r.there, inr (inr (record { of_block = r.of_block; value = e.value; how = r.how; rounds = r.rounds; gave = r.gave; later = h.0; foreign = h.1 })))
 
   pub has_history : (h : List Entry) × IsHistory s w h
   has_history =

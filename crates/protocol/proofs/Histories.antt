@@ -22,7 +22,7 @@ use Rattle.protocol.specs.History.IsSeen.{sum_seen, fragment_seen}
 use Rattle.protocol.proofs.Order.{≼-refl, ≼-cases, before-≼, lower_time}
 use Rattle.protocol.proofs.Invariant.{IsSafe, IsGood, IsGiven, IsOutcome, IsAfter}
 use Rattle.protocol.proofs.Strings.{NoClashFor-any}
-use Rattle.protocol.proofs.Entries.{less_by_stamp, less_by_kind, less_by_end, not_back, not_self, sorted_before}
+use Rattle.protocol.proofs.Entries.{block_made, kind_made, start_made, end_made, less_by_stamp, less_by_kind, less_by_end, not_back, not_self, sorted_before}
 use Rattle.protocol.proofs.Parts.{ascending_collect, length_collect}
 use Rattle.protocol.proofs.Lists.{Contains-collect}
 
@@ -82,19 +82,19 @@ module _ (s : Setting) (good : IsValid s) (w : World) (safe : IsSafe s w) where
 
   pub has_read : (e : Entry) → IsRead w.records e → (end : ℕ) × HasRead w.records e.block e.stamp e.value end
   has_read e h =
-      let x = read_end s w safe h.0 (Gave e.stamp e.value h.2 h.3) h.1 h.4 in
-      (x.0, record { read = h.0; there = h.1; of_block = sym h.6; ended = x.1; how = h.2; rounds = h.3; gave = h.4 })
+      let x = read_end s w safe h.read (Gave e.stamp e.value h.how h.rounds) h.there h.gave in
+      (x.0, record { read = h.read; there = h.there; of_block = sym (block_made h.made); ended = x.1; how = h.how; rounds = h.rounds; gave = h.gave })
 
   pub read_stamped : (e : Entry) → IsRead w.records e → IsStamped e.stamp e.value
   read_stamped e h = let r = has_read e h in from_given e.block r.0 e.stamp e.value r.1 (has_read_given e.block r.0 e.stamp e.value r.1)
 
   write_stamped : (e : Entry) → IsWrite w.records e → IsStamped e.stamp e.value
   write_stamped e h =
-      let g = write_good h.0 e.value e.stamp h.1 h.2 h.3 in
-      record { of_run = written {r = h.0} {value = e.value} {stamp = e.stamp} h.1 h.2 h.3; size = g.whole; sound = g.sound }
+      let g = write_good h.write e.value e.stamp h.there h.writes h.chose in
+      record { of_run = written {r = h.write} {value = e.value} {stamp = e.stamp} h.there h.writes h.chose; size = g.whole; sound = g.sound }
 
   foreign_stamped : (e : Entry) → IsForeign w.records e → IsStamped e.stamp e.value
-  foreign_stamped e h = from_given e.block h.0 e.stamp e.value h.1 (has_read_given e.block h.0 e.stamp e.value h.1)
+  foreign_stamped e h = from_given e.block h.place e.stamp e.value h.seen (has_read_given e.block h.place e.stamp e.value h.seen)
 
   pub entry_stamped : (e : Entry) → IsEntry w.records (first_stamp s) e → IsStamped e.stamp e.value
   entry_stamped e (inl h) = read_stamped e h
@@ -108,8 +108,8 @@ module _ (s : Setting) (good : IsValid s) (w : World) (safe : IsSafe s w) where
   -- no entry is below the first stamp, and no write has it
   pub entry_low : (e : Entry) → IsEntry w.records (first_stamp s) e → first_stamp s ≼ e.stamp
   entry_low e (inl h) = let r = has_read e h in given_low e.stamp e.value (has_read_given e.block r.0 e.stamp e.value r.1)
-  entry_low e (inr (inl h)) = before-≼ _ _ (lower_time (first_stamp s) e.stamp (write_good h.0 e.value e.stamp h.1 h.2 h.3).later)
-  entry_low e (inr (inr h)) = given_low e.stamp e.value (has_read_given e.block h.1.0 e.stamp e.value h.1.1)
+  entry_low e (inr (inl h)) = before-≼ _ _ (lower_time (first_stamp s) e.stamp (write_good h.write e.value e.stamp h.there h.writes h.chose).later)
+  entry_low e (inr (inr h)) = given_low e.stamp e.value (has_read_given e.block h.1.place e.stamp e.value h.1.seen)
 
   -- the parts that determine a value
   abbrev part : List ℕ → ℕ → Option (ℕ × List ℕ)
@@ -164,11 +164,28 @@ module _ (s : Setting) (good : IsValid s) (w : World) (safe : IsSafe s w) where
 
   own_entry : (e : Entry) → IsEntry w.records (first_stamp s) e → (IsOf e) ⊎ ((e.start ≡ None) × (e.end ≡ None))
   own_entry e (inl h) =
-      let g = read_given h.0 e.stamp e.value h.2 h.3 h.1 h.4 in
-      let x = read_end s w safe h.0 (Gave e.stamp e.value h.2 h.3) h.1 h.4 in
-      inl (record { of = h.0; there = h.1; block = h.6; start = h.8; end = h.9; stamp = g.1; kind = inl (g.0, h.5, x.0, x.1) })
-  own_entry e (inr (inl h)) = inl (record { of = h.0; there = h.1; block = h.5; start = h.7; end = h.8; stamp = h.3; kind = inr (e.value, h.2, h.4) })
-  own_entry e (inr (inr h)) = inr (h.1.6, h.1.7)
+      let g = read_given h.read e.stamp e.value h.how h.rounds h.there h.gave in
+      let x = read_end s w safe h.read (Gave e.stamp e.value h.how h.rounds) h.there h.gave in
+      inl (record {
+        of = h.read;
+        there = h.there;
+        block = block_made h.made;
+        start = start_made h.made;
+        end = end_made h.made;
+        stamp = g.1;
+        kind = inl (g.0, kind_made h.made, x.0, x.1);
+      })
+  own_entry e (inr (inl h)) =
+      inl (record {
+        of = h.write;
+        there = h.there;
+        block = block_made h.made;
+        start = start_made h.made;
+        end = end_made h.made;
+        stamp = h.chose;
+        kind = inr (e.value, h.writes, kind_made h.made);
+      })
+  own_entry e (inr (inr h)) = inr (start_made h.1.made, end_made h.1.made)
 
   started_entry : (e : Entry) (start : ℕ) → IsEntry w.records (first_stamp s) e → e.start ≡ Some start → IsOf e
   started_entry e start h f = elim (own_entry e h) [ inl k ↦ k | inr k ↦ absurd (let q = k.0 in cc) ]

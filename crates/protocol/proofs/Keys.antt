@@ -15,7 +15,7 @@ use Rattle.protocol.specs.History.Kind.{Write, Foreign, Read}
 use Rattle.protocol.proofs.Order.{then_equal, stamp_exact}
 use Rattle.protocol.proofs.Apart.{IsApart}
 use Rattle.protocol.proofs.Lists.{Contains-head, Contains-rest, Contains-none, Contains-cons_cases}
-use Rattle.protocol.proofs.Entries.{not_back, not_self, member_of}
+use Rattle.protocol.proofs.Entries.{kind_made, start_made, not_back, not_self, member_of}
 
 place_exact : (x y : Option ℕ) → place_cmp x y ≡ Equal → x ≡ y
 place_exact None None h = refl
@@ -74,27 +74,27 @@ module _ (s : Setting) (w : World) (apart : IsApart w.records) where
   pub one_key : (e f : Entry) → IsEntry w.records (first_stamp s) e → IsEntry w.records (first_stamp s) f → entry_cmp e f ≡ Equal → e ≡ f
   one_key e f (inl h) (inl k) eq =
       let key = same_key e f eq in
-      let r = apart.starts h.0 k.0 h.1 k.1 (start_of h.0.start k.0.start e.start f.start key.start h.8 k.8) in
-      entry_is e f key (h.5 ∙ sym k.5) (gave_value h.0.outcome k.0.outcome e.stamp f.stamp e.value f.value h.2 k.2 h.3 k.3 (ap (λ (x : Record). x.outcome) r) h.4 k.4)
-  one_key e f (inl h) (inr (inl k)) eq = absurd (no_kind e.kind f.kind 0 0 h.5 k.4 (same_key e f eq).kind)
-  one_key e f (inl h) (inr (inr k)) eq = absurd (no_foreign e.kind f.kind h.5 k.1.4 (same_key e f eq).kind)
-  one_key e f (inr (inl h)) (inl k) eq = absurd (no_kind f.kind e.kind 0 0 k.5 h.4 (sym (same_key e f eq).kind))
+      let r = apart.starts h.read k.read h.there k.there (start_of h.read.start k.read.start e.start f.start key.start (start_made h.made) (start_made k.made)) in
+      entry_is e f key (kind_made h.made ∙ sym (kind_made k.made)) (gave_value h.read.outcome k.read.outcome e.stamp f.stamp e.value f.value h.how k.how h.rounds k.rounds (ap (λ (x : Record). x.outcome) r) h.gave k.gave)
+  one_key e f (inl h) (inr (inl k)) eq = absurd (no_kind e.kind f.kind 0 0 (kind_made h.made) (kind_made k.made) (same_key e f eq).kind)
+  one_key e f (inl h) (inr (inr k)) eq = absurd (no_foreign e.kind f.kind (kind_made h.made) (kind_made k.1.made) (same_key e f eq).kind)
+  one_key e f (inr (inl h)) (inl k) eq = absurd (no_kind f.kind e.kind 0 0 (kind_made k.made) (kind_made h.made) (sym (same_key e f eq).kind))
   one_key e f (inr (inl h)) (inr (inl k)) eq =
       let key = same_key e f eq in
-      let r = apart.starts h.0 k.0 h.1 k.1 (start_of h.0.start k.0.start e.start f.start key.start h.7 k.7) in
-      entry_is e f key (h.4 ∙ sym k.4) (wrote_value h.0.work k.0.work e.value f.value (ap (λ (x : Record). x.work) r) h.2 k.2)
-  one_key e f (inr (inl h)) (inr (inr k)) eq = absurd (no_start h.0.start e.start f.start (same_key e f eq).start h.7 k.1.6)
-  one_key e f (inr (inr h)) (inl k) eq = absurd (no_foreign f.kind e.kind k.5 h.1.4 (sym (same_key e f eq).kind))
-  one_key e f (inr (inr h)) (inr (inl k)) eq = absurd (no_start k.0.start f.start e.start (sym (same_key e f eq).start) k.7 h.1.6)
+      let r = apart.starts h.write k.write h.there k.there (start_of h.write.start k.write.start e.start f.start key.start (start_made h.made) (start_made k.made)) in
+      entry_is e f key (kind_made h.made ∙ sym (kind_made k.made)) (wrote_value h.write.work k.write.work e.value f.value (ap (λ (x : Record). x.work) r) h.writes k.writes)
+  one_key e f (inr (inl h)) (inr (inr k)) eq = absurd (no_start h.write.start e.start f.start (same_key e f eq).start (start_made h.made) (start_made k.1.made))
+  one_key e f (inr (inr h)) (inl k) eq = absurd (no_foreign f.kind e.kind (kind_made k.made) (kind_made h.1.made) (sym (same_key e f eq).kind))
+  one_key e f (inr (inr h)) (inr (inl k)) eq = absurd (no_start k.write.start f.start e.start (sym (same_key e f eq).start) (start_made k.made) (start_made h.1.made))
   one_key e f (inr (inr h)) (inr (inr k)) eq =
       let key = same_key e f eq in
-      let a = h.1.1 in
-      let b = k.1.1 in
-      let to : h.1.0 ≤ k.1.0 = h.1.2 f.value k.1.0 (record { read = b.read; there = b.there; of_block = b.of_block ∙ sym key.block; ended = b.ended; how = b.how; rounds = b.rounds; gave = b.gave ∙ ap (λ (t : Stamp). Some (Gave t f.value b.how b.rounds)) (sym key.stamp) }) in
-      let from : k.1.0 ≤ h.1.0 = k.1.2 e.value h.1.0 (record { read = a.read; there = a.there; of_block = a.of_block ∙ key.block; ended = a.ended; how = a.how; rounds = a.rounds; gave = a.gave ∙ ap (λ (t : Stamp). Some (Gave t e.value a.how a.rounds)) key.stamp }) in
-      let same : h.1.0 ≡ k.1.0 = omega (arith, to, from) in
-      let r = apart.ends a.read b.read h.1.0 a.there b.there a.ended (b.ended ∙ ap Some (sym same)) in
-      entry_is e f key (h.1.4 ∙ sym k.1.4) (gave_value a.read.outcome b.read.outcome e.stamp f.stamp e.value f.value a.how b.how a.rounds b.rounds (ap (λ (x : Record). x.outcome) r) a.gave b.gave)
+      let a = h.1.seen in
+      let b = k.1.seen in
+      let to : h.1.place ≤ k.1.place = h.1.first f.value k.1.place (record { read = b.read; there = b.there; of_block = b.of_block ∙ sym key.block; ended = b.ended; how = b.how; rounds = b.rounds; gave = b.gave ∙ ap (λ (t : Stamp). Some (Gave t f.value b.how b.rounds)) (sym key.stamp) }) in
+      let from : k.1.place ≤ h.1.place = k.1.first e.value h.1.place (record { read = a.read; there = a.there; of_block = a.of_block ∙ key.block; ended = a.ended; how = a.how; rounds = a.rounds; gave = a.gave ∙ ap (λ (t : Stamp). Some (Gave t e.value a.how a.rounds)) key.stamp }) in
+      let same : h.1.place ≡ k.1.place = omega (arith, to, from) in
+      let r = apart.ends a.read b.read h.1.place a.there b.there a.ended (b.ended ∙ ap Some (sym same)) in
+      entry_is e f key (kind_made h.1.made ∙ sym (kind_made k.1.made)) (gave_value a.read.outcome b.read.outcome e.stamp f.stamp e.value f.value a.how b.how a.rounds b.rounds (ap (λ (x : Record). x.outcome) r) a.gave b.gave)
 
 -- two lists that ascend strictly and have the same members are one
 pub one_list : (h k : List Entry) → IsSorted h → IsSorted k → ((e : Entry) → Contains h e → Contains k e) → ((e : Entry) → Contains k e → Contains h e) → h ≡ k

@@ -11,13 +11,13 @@ use Rattle.protocol.specs.Operations.{Work, Outcome}
 use Rattle.protocol.specs.Operations.Work.{Reads, Writes}
 use Rattle.run_words.specs.declared.outcome.Outcome.TheVariants.{Wrote, Spent, Gave, Outvoted}
 use Rattle.protocol.specs.World.{Record, World}
-use Rattle.protocol.specs.History.{Entry, Kind, is_read, entry_cmp, IsSorted, IsEntry, HasRead, HasWrite, IsHistory, Legal, LegalFrom, legal_at, values_after, NoClash}
+use Rattle.protocol.specs.History.{Entry, Kind, write_entry, foreign_entry, is_read, entry_cmp, IsSorted, IsEntry, IsDue, HasRead, HasWrite, IsHistory, Legal, LegalFrom, legal_at, values_after, NoClash}
 use Rattle.protocol.specs.History.Kind.{Write, Foreign, Read}
 use Rattle.protocol.proofs.Counting.{update-cases}
 use Rattle.protocol.proofs.Order.{≼-antisym}
 use Rattle.protocol.proofs.Lists.{Contains-head, Contains-rest, Contains-cons_cases}
 use Rattle.protocol.proofs.Invariant.{IsSafe, IsRecord, IsGiven, IsOutcome}
-use Rattle.protocol.proofs.Entries.{less_by_kind, not_back, stamp_upto, member_of}
+use Rattle.protocol.proofs.Entries.{kind_made, less_by_kind, not_back, stamp_upto, member_of}
 use Rattle.protocol.proofs.Searches.{find_write, find_read, FirstRead}
 use Rattle.protocol.proofs.Histories.{entry_stamped, entry_low, one_value, has_read, has_read_given}
 
@@ -132,7 +132,7 @@ module _ (s : Setting) (good : IsValid s) (w : World) (safe : IsSafe s w) (apart
 
   -- a write that hasn't ended, or has ended with a stamp, is an entry where a read gave its stamp
   write_ends : (r : Record) (stamp : Stamp) (value : List ℕ) → Contains w.records r → r.work ≡ Writes value → r.stamp ≡ Some stamp → (block : ℕ) (v : List ℕ) (place : ℕ) → HasRead w.records block stamp v place
-      → (r.outcome ≡ Some (Wrote stamp)) ⊎ ((r.end ≡ None) × (v : List ℕ) × (end : ℕ) × HasRead w.records block stamp v end)
+      → IsDue w.records r block stamp
   write_ends r stamp value there work chose block v place read = at r.end refl
     where
       right : IsRecord s w r
@@ -148,27 +148,28 @@ module _ (s : Setting) (good : IsValid s) (w : World) (safe : IsSafe s w) (apart
       outcome_as : (o : Option Outcome) → r.outcome ≡ o → IsOutcome s r.work r.stamp o
       outcome_as o e = let k = right.outcome in (rw e at k)
 
-      at : (o : Option ℕ) → r.end ≡ o → (r.outcome ≡ Some (Wrote stamp)) ⊎ ((r.end ≡ None) × (v : List ℕ) × (end : ℕ) × HasRead w.records block stamp v end)
-      at None e = inr (e, v, place, read)
+      at : (o : Option ℕ) → r.end ≡ o → IsDue w.records r block stamp
+      at None e = inr (record { pending = e; value = v; end = place; seen = read })
       at (Some end) e = let o = right.closed_end end e in inl (by r.work refl work o.0 o.1 (outcome_as (Some o.0) o.1))
 
   set_write : (e : Entry) (v : List ℕ) (place : ℕ) → HasRead w.records e.block e.stamp v place → HasWrite w.records e.block e.stamp → HasSetter h e.block e.stamp
   set_write e v place read k =
-      let entry : Entry = record { block = e.block; stamp = e.stamp; kind = Write; client = k.write.client; start = Some k.write.start; end = k.write.end; value = k.value } in
+      let entry = write_entry k.write e.stamp k.value in
+      let due = write_ends k.write e.stamp k.value k.there k.writes k.chose k.write.block v place (rw k.of_block read) in
       record {
         setter = entry;
-        there = in_history entry (inr (inl (k.write, k.there, k.writes, k.chose, refl, sym k.of_block, refl, refl, refl, write_ends k.write e.stamp k.value k.there k.writes k.chose e.block v place read)));
+        there = in_history entry (inr (inl (record { write = k.write; there = k.there; writes = k.writes; chose = k.chose; stands = due; made = refl })));
         sets = tt;
-        of_block = refl;
+        of_block = k.of_block;
         stamped = refl;
       }
 
   set_foreign : (e : Entry) → (e.stamp ≢ first_stamp s) → FirstRead e.block e.stamp w.records → (HasWrite w.records e.block e.stamp → ⊥) → HasSetter h e.block e.stamp
   set_foreign e other k none =
-      let entry : Entry = record { block = e.block; stamp = e.stamp; kind = Foreign; client = e.stamp.client; start = None; end = None; value = k.value } in
+      let entry = foreign_entry e.block e.stamp k.value in
       record {
         setter = entry;
-        there = in_history entry (inr (inr (other, (k.end, k.is, k.first, none, refl, refl, refl, refl))));
+        there = in_history entry (inr (inr (other, record { place = k.end; seen = k.is; first = k.first; no_write = none; made = refl })));
         sets = tt;
         of_block = refl;
         stamped = refl;
@@ -188,8 +189,8 @@ module _ (s : Setting) (good : IsValid s) (w : World) (safe : IsSafe s w) (apart
 
   set_by : (e : Entry) → e.kind ≡ Read → IsEntry w.records (first_stamp s) e → ((e.stamp ≡ first_stamp s) × (e.value ≡ zeros s)) ⊎ HasSetter h e.block e.stamp
   set_by e k (inl r) = let x = has_read s good w safe e r in set_read e x.0 x.1 (has_read_given s good w safe e.block x.0 e.stamp e.value x.1)
-  set_by e k (inr (inl r)) = absurd (let q = r.4 in cc)
-  set_by e k (inr (inr r)) = absurd (let q = r.1.4 in cc)
+  set_by e k (inr (inl r)) = absurd (let q : e.kind ≡ Write = kind_made r.made in cc)
+  set_by e k (inr (inr r)) = absurd (let q : e.kind ≡ Foreign = kind_made r.1.made in cc)
 
   pub legal : Legal s h
   legal = legal_left h (λ block. zeros s) (λ block. first_stamp s) (record {

@@ -8,8 +8,9 @@ use Rattle.run_words.specs.declared.outcome.Outcome.TheVariants.{Outvoted}
 use Rattle.protocol.specs.World.{World, Record, start_world}
 use Rattle.protocol.specs.Lines.{Line, Run, FitsLine, fault, IsPlayable}
 use Rattle.protocol.specs.History.{Entry, IsHistory, IsEntry, Legal, InTime, NoClash, HasRead, HasLie, entry_cmp}
-use Rattle.protocol.specs.History.Kind.{Read, Foreign}
+use Rattle.protocol.specs.History.Kind.{Read, Write, Foreign}
 use Rattle.protocol.specs.Bounds.{IsBounded, IsLow}
+use Rattle.protocol.proofs.Entries.{kind_made}
 use Rattle.protocol.proofs.Histories.{outcome_at, not_outvoted, in_time, entry_stamped}
 use Rattle.protocol.proofs.Registers as registers
 use Rattle.protocol.proofs.RunOrigins.{read_known}
@@ -55,10 +56,10 @@ module _ (s : Setting) (lines : List (ℕ × Line)) (w : World) (good : IsValid 
   run_foreign more last h on hist e there kind value place read = at ((hist.1 e).0 there) (read_known s w right.origins e.block e.stamp value place read)
     where
       at : IsEntry last.records (first_stamp s) e → IsKnown s w e.block e.stamp → HasLie s w e.block e.stamp
-      at (inl k) known = absurd (let q = k.5 in cc)
-      at (inr (inl k)) known = absurd (let q = k.4 in cc)
+      at (inl k) known = absurd (let q : e.kind ≡ Read = kind_made k.made in cc)
+      at (inr (inl k)) known = absurd (let q : e.kind ≡ Write = kind_made k.made in cc)
       at (inr (inr k)) (inl f) = absurd (k.0 f)
-      at (inr (inr k)) (inr (inl f)) = absurd (k.1.3 (run_writes s good more w last right on e.block e.stamp f))
+      at (inr (inr k)) (inr (inl f)) = absurd (k.1.no_write (run_writes s good more w last right on e.block e.stamp f))
       at (inr (inr k)) (inr (inr f)) = f
 
   pub run_refusals : (place : ℕ) (line : Line) → w.place < place → FitsLine s line → (fault s w line ≡ None) ↔ IsPlayable s w place line

@@ -34,6 +34,38 @@ pub record Entry : Type 0 where
   pub end : Option ℕ
   pub value : List ℕ
 
+-- the entry of this kind, stamp and value that an operation's record makes
+abbrev pub entry_as : Record → Kind → Stamp → List ℕ → Entry
+entry_as r kind stamp value = record {
+  block = r.block;
+  stamp = stamp;
+  kind = kind;
+  client = r.client;
+  start = Some r.start;
+  end = r.end;
+  value = value;
+}
+
+-- the entry of a read that gave this
+abbrev pub read_entry : Record → Stamp → List ℕ → Entry
+read_entry r stamp value = entry_as r Read stamp value
+
+-- the entry of a write of a correct client
+abbrev pub write_entry : Record → Stamp → List ℕ → Entry
+write_entry r stamp value = entry_as r Write stamp value
+
+-- the entry of a write that a read saw and no correct client made
+abbrev pub foreign_entry : ℕ → Stamp → List ℕ → Entry
+foreign_entry block stamp value = record {
+  block = block;
+  stamp = stamp;
+  kind = Foreign;
+  client = stamp.client;
+  start = None;
+  end = None;
+  value = value;
+}
+
 -- writes before reads
 abbrev pub is_read : Kind → ℕ
 is_read Write = 0
@@ -81,23 +113,44 @@ module _ (records : List Record) where
     pub writes : write.work ≡ Writes value
     pub chose : write.stamp ≡ Some stamp
 
+  -- a write that hasn't ended, and whose stamp a completed read of the block gave
+  pub record IsPendingButRead (write : Record) (block : ℕ) (stamp : Stamp) : Type 0 where
+    pub pending : write.end ≡ None
+    pub value : List ℕ
+    pub end : ℕ
+    pub seen : HasRead block stamp value end
+
+  -- a write that has an entry: it ended as Wrote, or hasn't ended and was read
+  abbrev pub IsDue : Record → ℕ → Stamp → Type 0
+  IsDue write block stamp =
+      (write.outcome ≡ Some (Wrote stamp)) ⊎ IsPendingButRead write block stamp
+
   -- the entry is that of a completed read
-  abbrev pub IsRead : Entry → Type 0
-  IsRead e = (read : Record) × Contains records read × (how : How) × (rounds : ℕ) × (read.outcome ≡ Some (Gave e.stamp e.value how rounds))
-      × (e.kind ≡ Read) × (e.block ≡ read.block) × (e.client ≡ read.client) × (e.start ≡ Some read.start) × (e.end ≡ read.end)
+  pub record IsRead (e : Entry) : Type 0 where
+    pub read : Record
+    pub there : Contains records read
+    pub how : How
+    pub rounds : ℕ
+    pub gave : read.outcome ≡ Some (Gave e.stamp e.value how rounds)
+    pub made : e ≡ read_entry read e.stamp e.value
 
   -- the entry is that of a write which ended as Wrote, or hasn't ended and whose stamp a read gave
-  abbrev pub IsWrite : Entry → Type 0
-  IsWrite e = (write : Record) × Contains records write × (write.work ≡ Writes e.value) × (write.stamp ≡ Some e.stamp)
-      × (e.kind ≡ Write) × (e.block ≡ write.block) × (e.client ≡ write.client) × (e.start ≡ Some write.start) × (e.end ≡ write.end)
-      × ((write.outcome ≡ Some (Wrote e.stamp)) ⊎ ((write.end ≡ None) × (value : List ℕ) × (end : ℕ) × HasRead e.block e.stamp value end))
+  pub record IsWrite (e : Entry) : Type 0 where
+    pub write : Record
+    pub there : Contains records write
+    pub writes : write.work ≡ Writes e.value
+    pub chose : write.stamp ≡ Some e.stamp
+    pub stands : IsDue write e.block e.stamp
+    pub made : e ≡ write_entry write e.stamp e.value
 
-  -- the entry stands for a write that a read saw and no correct client made, with the value of the first such read
-  abbrev pub IsForeign : Entry → Type 0
-  IsForeign e = (place : ℕ) × HasRead e.block e.stamp e.value place
-      × ((value : List ℕ) (other : ℕ) → HasRead e.block e.stamp value other → place ≤ other)
-      × (HasWrite e.block e.stamp → ⊥)
-      × (e.kind ≡ Foreign) × (e.client ≡ e.stamp.client) × (e.start ≡ None) × (e.end ≡ None)
+  -- the entry stands for a write that a read saw and no correct client made, with the value of the
+  -- first such read
+  pub record IsForeign (e : Entry) : Type 0 where
+    pub place : ℕ
+    pub seen : HasRead e.block e.stamp e.value place
+    pub first : (value : List ℕ) (other : ℕ) → HasRead e.block e.stamp value other → place ≤ other
+    pub no_write : HasWrite e.block e.stamp → ⊥
+    pub made : e ≡ foreign_entry e.block e.stamp e.value
 
   -- what stands in a history
   abbrev pub IsEntry : Stamp → Entry → Type 0
