@@ -8,13 +8,13 @@ use Rattle.run_words.specs.declared.outcome.Outcome.TheVariants.{Wrote, Spent, G
 use Rattle.protocol.specs.Operations.{Work, Outcome, How}
 use Rattle.protocol.specs.Operations.Work.{Reads, Writes}
 use Rattle.protocol.specs.World.{Record}
-use Rattle.protocol.specs.History.{Entry}
+use Rattle.protocol.specs.History.{Entry, read_entry, write_entry}
 use Rattle.protocol.specs.History.Kind.{Write, Foreign, Read}
 use Rattle.protocol.specs.Report.{Ascend}
 use Rattle.protocol.proofs.Counting.{cases_bool}
 use Rattle.protocol.proofs.Lists.{Contains-none, Contains-head, Contains-rest, Contains-cons_cases}
 use Rattle.history_making.proofs.Counted.{count_cons}
-use Rattle.history_making.specs.Drafts.{entry_as, read_entry, write_entry, candidate_by, candidate, candidates, starts_at, HaveStarts, AreCandidates}
+use Rattle.history_making.specs.Drafts.{read_candidate_of, write_candidate_of, candidate_by, candidate, candidates, starts_at, HaveStarts, AreCandidates}
 
 -- ---- what a function gives of a list
 
@@ -43,12 +43,12 @@ pub record IsReadOf (r : Record) (e : Entry) : Type 0 where
   pub how : How
   pub rounds : ℕ
   pub gave : r.outcome ≡ Some (Gave e.stamp e.value how rounds)
-  pub is : e ≡ entry_as r Read e.stamp e.value
+  pub is : e ≡ read_entry r e.stamp e.value
 
 pub record IsWriteOf (r : Record) (e : Entry) : Type 0 where
   pub work : r.work ≡ Writes e.value
   pub chose : r.stamp ≡ Some e.stamp
-  pub is : e ≡ entry_as r Write e.stamp e.value
+  pub is : e ≡ write_entry r e.stamp e.value
 
 pub candidate_cases : (r : Record) (e : Entry) → candidate r ≡ Some e → IsReadOf r e ⊎ IsWriteOf r e
 candidate_cases r e h = at r.work refl h
@@ -56,30 +56,30 @@ candidate_cases r e h = at r.work refl h
     from : (x : Entry) → Some x ≡ Some e → e ≡ x
     from x h = cc
 
-    read : r.work ≡ Reads → (o : Option Outcome) → r.outcome ≡ o → read_entry r o ≡ Some e → IsReadOf r e ⊎ IsWriteOf r e
+    read : r.work ≡ Reads → (o : Option Outcome) → r.outcome ≡ o → read_candidate_of r o ≡ Some e → IsReadOf r e ⊎ IsWriteOf r e
     read w None q h = absurd (cc)
     read w (Some (Wrote t)) q h = absurd (cc)
     read w (Some Spent) q h = absurd (cc)
     read w (Some (Outvoted nodes)) q h = absurd (cc)
     read w (Some (Gave t v how n)) q h =
-        let i = from (entry_as r Read t v) h in
+        let i = from (read_entry r t v) h in
         inl (record { work = w; how = how; rounds = n; gave = rw i q; is = rw i refl })
 
-    write : (v : List ℕ) → r.work ≡ Writes v → (t : Option Stamp) → r.stamp ≡ t → write_entry r v t ≡ Some e → IsReadOf r e ⊎ IsWriteOf r e
+    write : (v : List ℕ) → r.work ≡ Writes v → (t : Option Stamp) → r.stamp ≡ t → write_candidate_of r v t ≡ Some e → IsReadOf r e ⊎ IsWriteOf r e
     write v w None q h = absurd (cc)
     write v w (Some t) q h =
-        let i = from (entry_as r Write t v) h in
+        let i = from (write_entry r t v) h in
         inr (record { work = rw i w; chose = rw i q; is = rw i refl })
 
     at : (w : Work) → r.work ≡ w → candidate_by r w ≡ Some e → IsReadOf r e ⊎ IsWriteOf r e
     at Reads q h = read q r.outcome refl h
     at (Writes v) q h = write v q r.stamp refl h
 
-pub read_candidate : (r : Record) (t : Stamp) (v : List ℕ) (how : How) (n : ℕ) → r.work ≡ Reads → r.outcome ≡ Some (Gave t v how n) → candidate r ≡ Some (entry_as r Read t v)
-read_candidate r t v how n w g = ap (candidate_by r) w ∙ ap (read_entry r) g
+pub read_candidate : (r : Record) (t : Stamp) (v : List ℕ) (how : How) (n : ℕ) → r.work ≡ Reads → r.outcome ≡ Some (Gave t v how n) → candidate r ≡ Some (read_entry r t v)
+read_candidate r t v how n w g = ap (candidate_by r) w ∙ ap (read_candidate_of r) g
 
-pub write_candidate : (r : Record) (t : Stamp) (v : List ℕ) → r.work ≡ Writes v → r.stamp ≡ Some t → candidate r ≡ Some (entry_as r Write t v)
-write_candidate r t v w c = ap (candidate_by r) w ∙ ap (write_entry r v) c
+pub write_candidate : (r : Record) (t : Stamp) (v : List ℕ) → r.work ≡ Writes v → r.stamp ≡ Some t → candidate r ≡ Some (write_entry r t v)
+write_candidate r t v w c = ap (candidate_by r) w ∙ ap (write_candidate_of r v) c
 
 -- ---- the starts of candidates
 

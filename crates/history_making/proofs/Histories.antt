@@ -10,17 +10,14 @@ use Rattle.protocol.specs.Operations.{Work, Outcome, How}
 use Rattle.protocol.specs.Operations.Work.{Reads, Writes}
 use Rattle.protocol.specs.World.{Record}
 use Rattle.protocol.specs.Facts.{IsOutcomeOf}
-use Rattle.protocol.specs.History.{Entry, is_read, entry_cmp, IsEntry, IsSorted, HasRead, HasWrite, IsForeign}
+use Rattle.protocol.specs.History.{Entry, read_entry, write_entry, is_read, entry_cmp, IsEntry, IsSorted, HasRead, HasWrite, IsDue, IsRead, IsWrite, IsForeign}
 use Rattle.protocol.specs.History.Kind.{Write, Read}
 use Rattle.protocol.proofs.Lists.{Contains-none, Contains-head, Contains-rest, Contains-cons_cases}
-use Rattle.protocol.proofs.Entries.{entry_total, member_of, less_by_kind, less_by_end, not_back}
+use Rattle.protocol.proofs.Entries.{same_entry, block_made, kind_made, client_made, start_made, end_made, entry_total, member_of, less_by_kind, less_by_end, not_back}
 use Rattle.history_making.specs.Tellings.{AreRecords, IsHistoryOf}
-use Rattle.history_making.specs.Drafts.{entry_as, candidate, candidates, has_end, foreign_of, is_of_version, IsVersion, IsLeast, IsKept, IsSeen, AreKept}
+use Rattle.history_making.specs.Drafts.{candidate, candidates, has_end, foreign_of, is_of_version, IsVersion, IsLeast, IsKept, IsSeen, AreKept}
 use Rattle.history_making.proofs.Orders.{version_is, version_if, version_back, version_on}
 use Rattle.history_making.proofs.Candidates.{IsReadOf, IsWriteOf, given_by, gives, candidate_cases, read_candidate, write_candidate}
-
-same_entry : (e f : Entry) → e.block ≡ f.block → e.stamp ≡ f.stamp → e.kind ≡ f.kind → e.client ≡ f.client → e.start ≡ f.start → e.end ≡ f.end → e.value ≡ f.value → e ≡ f
-same_entry e f a b c d g h k i = record { block = a i; stamp = b i; kind = c i; client = d i; start = g i; end = h i; value = k i }
 
 -- entries that differ at most in the value have one key
 tied : (e f : Entry) → e.block ≡ f.block → e.stamp ≡ f.stamp → e.kind ≡ f.kind → e.client ≡ f.client → e.start ≡ f.start → e.end ≡ f.end → entry_cmp e f ≡ Equal
@@ -88,16 +85,16 @@ module _ (rs : List Record) (first : Stamp) (are : AreRecords rs first) where
     record_of e k = let g = given_by candidate rs e ((members e).0 k) in (g.0, g.1, candidate_cases g.0 e g.2)
 
     reader_of : (e : Entry) → Contains all e → e.kind ≡ Read → (r : Record) × Contains rs r × IsReadOf r e
-    reader_of e k d = let g = record_of e k in elim g.2 [ inl h ↦ (g.0, g.1, h) | inr h ↦ absurd (let i = ap (λ (x : Entry). x.kind) h.is in let j : Write ≡ Read = sym i ∙ d in cc) ]
+    reader_of e k d = let g = record_of e k in elim g.2 [ inl h ↦ (g.0, g.1, h) | inr h ↦ absurd (let j : Write ≡ Read = sym (kind_made h.is) ∙ d in cc) ]
 
     writer_of : (e : Entry) → Contains all e → e.kind ≡ Write → (r : Record) × Contains rs r × IsWriteOf r e
-    writer_of e k d = let g = record_of e k in elim g.2 [ inr h ↦ (g.0, g.1, h) | inl h ↦ absurd (let i = ap (λ (x : Entry). x.kind) h.is in let j : Read ≡ Write = sym i ∙ d in cc) ]
+    writer_of e k d = let g = record_of e k in elim g.2 [ inr h ↦ (g.0, g.1, h) | inl h ↦ absurd (let j : Read ≡ Write = sym (kind_made h.is) ∙ d in cc) ]
 
-    read_there : (r : Record) (t : Stamp) (v : List ℕ) (how : How) (n : ℕ) → Contains rs r → r.outcome ≡ Some (Gave t v how n) → Contains all (entry_as r Read t v)
-    read_there r t v how n k q = (members (entry_as r Read t v)).1 (gives candidate rs r (entry_as r Read t v) k (read_candidate r t v how n (gave_reads r t v how n k q) q))
+    read_there : (r : Record) (t : Stamp) (v : List ℕ) (how : How) (n : ℕ) → Contains rs r → r.outcome ≡ Some (Gave t v how n) → Contains all (read_entry r t v)
+    read_there r t v how n k q = (members (read_entry r t v)).1 (gives candidate rs r (read_entry r t v) k (read_candidate r t v how n (gave_reads r t v how n k q) q))
 
-    write_there : (r : Record) (t : Stamp) (v : List ℕ) → Contains rs r → r.work ≡ Writes v → r.stamp ≡ Some t → Contains all (entry_as r Write t v)
-    write_there r t v k w c = (members (entry_as r Write t v)).1 (gives candidate rs r (entry_as r Write t v) k (write_candidate r t v w c))
+    write_there : (r : Record) (t : Stamp) (v : List ℕ) → Contains rs r → r.work ≡ Writes v → r.stamp ≡ Some t → Contains all (write_entry r t v)
+    write_there r t v k w c = (members (write_entry r t v)).1 (gives candidate rs r (write_entry r t v) k (write_candidate r t v w c))
 
     -- a read among the candidates is one of the records
     has_read : (z : Entry) → Contains all z → z.kind ≡ Read → (n : ℕ) × (z.end ≡ Some n) × HasRead rs z.block z.stamp z.value n
@@ -105,30 +102,30 @@ module _ (rs : List Record) (first : Stamp) (are : AreRecords rs first) where
         let g = reader_of z k d in
         let h = g.2 in
         let n = has_ended g.0 (Gave z.stamp z.value h.how h.rounds) g.1 h.gave in
-        (n.0, ap (λ (x : Entry). x.end) h.is ∙ n.1, record { read = g.0; there = g.1; of_block = sym (ap (λ (x : Entry). x.block) h.is); ended = n.1; how = h.how; rounds = h.rounds; gave = h.gave })
+        (n.0, end_made h.is ∙ n.1, record { read = g.0; there = g.1; of_block = sym (block_made h.is); ended = n.1; how = h.how; rounds = h.rounds; gave = h.gave })
 
     -- ---- what is kept is an entry
 
-    read_entry : (e : Entry) → Contains all e → e.kind ≡ Read → IsEntry rs first e
-    read_entry e k d =
+    read_is_entry : (e : Entry) → Contains all e → e.kind ≡ Read → IsEntry rs first e
+    read_is_entry e k d =
         let g = reader_of e k d in
         let h = g.2 in
-        inl (g.0, g.1, h.how, h.rounds, h.gave, d, ap (λ (x : Entry). x.block) h.is, ap (λ (x : Entry). x.client) h.is, ap (λ (x : Entry). x.start) h.is, ap (λ (x : Entry). x.end) h.is)
+        inl (record { read = g.0; there = g.1; how = h.how; rounds = h.rounds; gave = h.gave; made = h.is })
 
-    write_entry : (e : Entry) → Contains all e → e.kind ≡ Write → (has_end e.end ≡ true) ⊎ ((z : Entry) × Contains all z × (z.kind ≡ Read) × IsVersion e z) → IsEntry rs first e
-    write_entry e k d why =
+    write_is_entry : (e : Entry) → Contains all e → e.kind ≡ Write → (has_end e.end ≡ true) ⊎ ((z : Entry) × Contains all z × (z.kind ≡ Read) × IsVersion e z) → IsEntry rs first e
+    write_is_entry e k d why =
         let g = writer_of e k d in
         let h = g.2 in
-        inr (inl (g.0, g.1, h.work, h.chose, d, ap (λ (x : Entry). x.block) h.is, ap (λ (x : Entry). x.client) h.is, ap (λ (x : Entry). x.start) h.is, ap (λ (x : Entry). x.end) h.is, due g.0 g.1 h g.0.end refl why))
+        inr (inl (record { write = g.0; there = g.1; writes = h.work; chose = h.chose; stands = due g.0 g.1 h g.0.end refl why; made = h.is }))
       where
         due : (r : Record) → Contains rs r → IsWriteOf r e → (end : Option ℕ) → r.end ≡ end → (has_end e.end ≡ true) ⊎ ((z : Entry) × Contains all z × (z.kind ≡ Read) × IsVersion e z)
-            → (r.outcome ≡ Some (Wrote e.stamp)) ⊎ ((r.end ≡ None) × (value : List ℕ) × (end : ℕ) × HasRead rs e.block e.stamp value end)
+            → IsDue rs r e.block e.stamp
         due r c h (Some n) q why = inl (wrote_if_ended r e.stamp e.value c h.work h.chose (rw q refl))
-        due r c h None q (inl f) = absurd (let i = ap (λ (x : Entry). x.end) h.is ∙ q in let b : has_end None ≡ true = rw i at f in cc)
-        due r c h None q (inr z) = let p = has_read z.0 z.1 z.2 in let v = z.3 in inr (q, z.0.value, p.0, rw (v.block, v.stamp) p.2)
+        due r c h None q (inl f) = absurd (let i = end_made h.is ∙ q in let b : has_end None ≡ true = rw i at f in cc)
+        due r c h None q (inr z) = let p = has_read z.0 z.1 z.2 in let v = z.3 in inr (record { pending = q; value = z.0.value; end = p.0; seen = rw (v.block, v.stamp) p.2 })
 
-    foreign_entry : (e : Entry) → IsSeen first all all e → IsEntry rs first e
-    foreign_entry e seen = rw seen.is (inr (inr (seen.other, (p.0, p.2, earliest, nobody, refl, refl, refl, refl))))
+    foreign_is_entry : (e : Entry) → IsSeen first all all e → IsEntry rs first e
+    foreign_is_entry e seen = rw seen.is (inr (inr (seen.other, record { place = p.0; seen = p.2; first = earliest; no_write = nobody; made = refl })))
       where
         y : Entry
         y = seen.read
@@ -138,71 +135,67 @@ module _ (rs : List Record) (first : Stamp) (are : AreRecords rs first) where
 
         earliest : (value : List ℕ) (other : ℕ) → HasRead rs y.block y.stamp value other → p.0 ≤ other
         earliest value other h =
-            let z : Entry = entry_as h.read Read y.stamp value in
+            let z : Entry = read_entry h.read y.stamp value in
             elim (seen.first_one.least z (read_there h.read y.stamp value h.how h.rounds h.there h.gave) (record { block = sym h.of_block; stamp = refl })) [
-              | inl i ↦ (let q : Some other ≡ Some p.0 = sym h.ended ∙ ap (λ (x : Entry). x.end) i ∙ p.1 in let n : other ≡ p.0 = cc in omega (arith, n))
+              | inl i ↦ (let q : Some other ≡ Some p.0 = sym h.ended ∙ end_made i ∙ p.1 in let n : other ≡ p.0 = cc in omega (arith, n))
               | inr l ↦ grind (arith, λ (b : other < p.0). not_back y z l (less_by_end z y h.of_block refl (ap is_read (sym seen.reads)) other p.0 h.ended p.1 b))
             ]
 
         nobody : HasWrite rs y.block y.stamp → ⊥
         nobody h =
-            let z : Entry = entry_as h.write Write y.stamp h.value in
+            let z : Entry = write_entry h.write y.stamp h.value in
             let below : is_read Write < is_read Read = omega arith in
             let r = seen.reads in
             let under = less_by_kind z y h.of_block refl (rw r below) in
             elim (seen.first_one.least z (write_there h.write y.stamp h.value h.there h.writes h.chose) (record { block = sym h.of_block; stamp = refl })) [
-              | inl i ↦ (let j : Write ≡ Read = ap (λ (x : Entry). x.kind) i ∙ seen.reads in cc)
+              | inl i ↦ (let j : Write ≡ Read = kind_made i ∙ seen.reads in cc)
               | inr l ↦ not_back y z l under
             ]
 
     to_entry : (e : Entry) → (Contains all e × IsKept all e) ⊎ IsSeen first all all e → IsEntry rs first e
-    to_entry e (inl (k, inl r)) = read_entry e k r
-    to_entry e (inl (k, inr w)) = write_entry e k w.0 w.1
-    to_entry e (inr s) = foreign_entry e s
+    to_entry e (inl (k, inl r)) = read_is_entry e k r
+    to_entry e (inl (k, inr w)) = write_is_entry e k w.0 w.1
+    to_entry e (inr s) = foreign_is_entry e s
 
     -- ---- an entry is kept
 
-    from_read : (e : Entry) (r : Record) → Contains rs r → (how : How) (n : ℕ) → r.outcome ≡ Some (Gave e.stamp e.value how n) → e.kind ≡ Read → e.block ≡ r.block → e.client ≡ r.client → e.start ≡ Some r.start → e.end ≡ r.end → Contains all e
-    from_read e r k how n g d b c s t =
-        let x : Entry = entry_as r Read e.stamp e.value in
-        rw (same_entry e x b refl d c s t refl) (read_there r e.stamp e.value how n k g)
+    from_read : (e : Entry) → IsRead rs e → Contains all e
+    from_read e h = subst (Contains all) (sym h.made) (read_there h.read e.stamp e.value h.how h.rounds h.there h.gave)
 
-    from_write : (e : Entry) (r : Record) → Contains rs r → r.work ≡ Writes e.value → r.stamp ≡ Some e.stamp → e.kind ≡ Write → e.block ≡ r.block → e.client ≡ r.client → e.start ≡ Some r.start → e.end ≡ r.end → Contains all e
-    from_write e r k w h d b c s t =
-        let x : Entry = entry_as r Write e.stamp e.value in
-        rw (same_entry e x b refl d c s t refl) (write_there r e.stamp e.value k w h)
+    from_write : (e : Entry) → IsWrite rs e → Contains all e
+    from_write e h = subst (Contains all) (sym h.made) (write_there h.write e.stamp e.value h.there h.writes h.chose)
 
-    is_due : (e : Entry) (r : Record) → Contains rs r → e.end ≡ r.end → (r.outcome ≡ Some (Wrote e.stamp)) ⊎ ((r.end ≡ None) × (value : List ℕ) × (end : ℕ) × HasRead rs e.block e.stamp value end)
-        → (has_end e.end ≡ true) ⊎ ((z : Entry) × Contains all z × (z.kind ≡ Read) × IsVersion e z)
-    is_due e r k q (inl w) = let n = has_ended r (Wrote e.stamp) k w in inl (rw (q ∙ n.1) refl)
-    is_due e r k q (inr h) =
-        let a = h.3 in
-        inr (entry_as a.read Read e.stamp h.1, read_there a.read e.stamp h.1 a.how a.rounds a.there a.gave, refl, record { block = sym a.of_block; stamp = refl })
+    -- a write that is due has ended or was read
+    has_reason : (e : Entry) (r : Record) → Contains rs r → e.end ≡ r.end → IsDue rs r e.block e.stamp → (has_end e.end ≡ true) ⊎ ((z : Entry) × Contains all z × (z.kind ≡ Read) × IsVersion e z)
+    has_reason e r k q (inl w) = let n = has_ended r (Wrote e.stamp) k w in inl (rw (q ∙ n.1) refl)
+    has_reason e r k q (inr h) =
+        let a = h.seen in
+        inr (read_entry a.read e.stamp h.value, read_there a.read e.stamp h.value a.how a.rounds a.there a.gave, refl, record { block = sym a.of_block; stamp = refl })
 
     -- the foreign write of a version is that of its first candidate
     from_foreign : (e : Entry) → e.stamp ≢ first → IsForeign rs e → IsSeen first all all e
     from_foreign e other h =
-        let a = h.1 in
-        let z : Entry = entry_as a.read Read e.stamp e.value in
+        let a = h.seen in
+        let z : Entry = read_entry a.read e.stamp e.value in
         let y = first_of all sorted z (read_there a.read e.stamp e.value a.how a.rounds a.there a.gave) in
         let b : y.0.block ≡ e.block = y.2.block ∙ a.of_block in
         let t : y.0.stamp ≡ e.stamp = y.2.stamp in
         let seen : IsSeen first all all (foreign_of y.0) = record { read = y.0; there = y.1; reads = reads y.0 y.1 b t; other = λ f. other (sym t ∙ f); first_one = y.3; is = refl } in
-        let key = tied e (foreign_of y.0) (sym b) (sym t) h.4 (h.5 ∙ ap (λ (s : Stamp). s.client) (sym t)) h.6 h.7 in
-        let same = are.keys e (foreign_of y.0) (inr (inr (other, h))) (foreign_entry (foreign_of y.0) seen) key in
+        let key = tied e (foreign_of y.0) (sym b) (sym t) (kind_made h.made) (client_made h.made ∙ ap (λ (s : Stamp). s.client) (sym t)) (start_made h.made) (end_made h.made) in
+        let same = are.keys e (foreign_of y.0) (inr (inr (other, h))) (foreign_is_entry (foreign_of y.0) seen) key in
         record { read = y.0; there = y.1; reads = seen.reads; other = seen.other; first_one = y.3; is = same }
       where
         reads : (y : Entry) → Contains all y → y.block ≡ e.block → y.stamp ≡ e.stamp → y.kind ≡ Read
         reads y k b t =
             let g = record_of y k in
             elim g.2 [
-              | inl r ↦ ap (λ (x : Entry). x.kind) r.is
-              | inr w ↦ absurd (h.3 (record { write = g.0; there = g.1; of_block = sym (ap (λ (x : Entry). x.block) w.is) ∙ b; value = y.value; writes = w.work; chose = w.chose ∙ ap Some t }))
+              | inl r ↦ kind_made r.is
+              | inr w ↦ absurd (h.no_write (record { write = g.0; there = g.1; of_block = sym (block_made w.is) ∙ b; value = y.value; writes = w.work; chose = w.chose ∙ ap Some t }))
             ]
 
     from_entry : (e : Entry) → IsEntry rs first e → (Contains all e × IsKept all e) ⊎ IsSeen first all all e
-    from_entry e (inl h) = inl (from_read e h.0 h.1 h.2 h.3 h.4 h.5 h.6 h.7 h.8 h.9, inl h.5)
-    from_entry e (inr (inl h)) = inl (from_write e h.0 h.1 h.2 h.3 h.4 h.5 h.6 h.7 h.8, inr (h.4, is_due e h.0 h.1 h.8 h.9))
+    from_entry e (inl h) = inl (from_read e h, inl (kind_made h.made))
+    from_entry e (inr (inl h)) = inl (from_write e h, inr (kind_made h.made, has_reason e h.write h.there (end_made h.made) h.stands))
     from_entry e (inr (inr h)) = inr (from_foreign e h.0 h.1)
 
     pub history : (h : List Entry) → AreKept first all h → IsHistoryOf rs first h

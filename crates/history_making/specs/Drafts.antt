@@ -12,7 +12,7 @@ use Rattle.protocol.specs.Operations.{Work, Outcome}
 use Rattle.protocol.specs.Operations.Work.{Reads, Writes}
 use Rattle.protocol.specs.World.{Record}
 use Rattle.protocol.specs.Report.{AreRivals}
-use Rattle.protocol.specs.History.{Entry as FullEntry, Kind as FullKind, is_read, place_cmp, entry_cmp, IsSorted}
+use Rattle.protocol.specs.History.{Entry as FullEntry, Kind as FullKind, read_entry, write_entry, foreign_entry, is_read, place_cmp, entry_cmp, IsSorted}
 use Rattle.protocol.specs.History.Kind.{Write as FullWrite, Foreign as FullForeign, Read as FullRead}
 use Rattle.history_entries.specs.Kinds.{full_kind}
 use Rattle.history_making.specs.declared.draft.Draft.{Draft}
@@ -35,22 +35,20 @@ in_block_cmp = then_cmp (on (λ e. e.stamp) stamp_cmp) in_version_cmp
 abbrev pub entries_of : List Draft → List FullEntry
 entries_of drafts = map entry_of drafts
 
--- an entry of a record, of this kind, stamp and value
-abbrev pub entry_as : Record → FullKind → Stamp → List ℕ → FullEntry
-entry_as r kind stamp value = record { block = r.block; stamp = stamp; kind = kind; client = r.client; start = Some r.start; end = r.end; value = value }
+-- the entry of a read whose outcome is this
+abbrev pub read_candidate_of : Record → Option Outcome → Option FullEntry
+read_candidate_of r (Some (Gave stamp value how rounds)) = Some (read_entry r stamp value)
+read_candidate_of r _ = None
 
-abbrev pub read_entry : Record → Option Outcome → Option FullEntry
-read_entry r (Some (Gave stamp value how rounds)) = Some (entry_as r FullRead stamp value)
-read_entry r _ = None
-
-abbrev pub write_entry : Record → List ℕ → Option Stamp → Option FullEntry
-write_entry r value (Some stamp) = Some (entry_as r FullWrite stamp value)
-write_entry r value None = None
+-- the entry of a write of this value whose stamp is this
+abbrev pub write_candidate_of : Record → List ℕ → Option Stamp → Option FullEntry
+write_candidate_of r value (Some stamp) = Some (write_entry r stamp value)
+write_candidate_of r value None = None
 
 -- the entry of a completed read, or of a write that has chosen a stamp, whether or not it stands in the history
 abbrev pub candidate_by : Record → Work → Option FullEntry
-candidate_by r Reads = read_entry r r.outcome
-candidate_by r (Writes value) = write_entry r value r.stamp
+candidate_by r Reads = read_candidate_of r r.outcome
+candidate_by r (Writes value) = write_candidate_of r value r.stamp
 
 abbrev pub candidate : Record → Option FullEntry
 candidate r = candidate_by r r.work
@@ -85,7 +83,7 @@ is_of_some e (Some f) = is_of_version e f
 
 -- the write that a read saw and no correct client made
 abbrev pub foreign_of : FullEntry → FullEntry
-foreign_of e = record { block = e.block; stamp = e.stamp; kind = FullForeign; client = e.stamp.client; start = None; end = None; value = e.value }
+foreign_of e = foreign_entry e.block e.stamp e.value
 
 abbrev pub has_end : Option ℕ → Bool
 has_end None = false
