@@ -3,8 +3,6 @@
 #![tactic(auto)]
 
 pub mod laws;
-mod planned;
-mod session;
 pub mod top;
 
 pub use call_statuses::{Refusal, Status};

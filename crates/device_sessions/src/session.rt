@@ -1,7 +1,7 @@
 //! The session of `nbd`: a device that is served over the source and the sink.
 ghost use Rattle.std.specs.Prelude.{◌≡◌, ◌≢◌};
 ghost use Rattle.outside_io.specs.Causes.{Rose};
-ghost use Rattle.pasis_shell.specs.Sessions.{Serves};
+ghost use Rattle.device_sessions.specs.Sessions.{Serves};
 
 use call_statuses::Status;
 use nbd_front::serve;

@@ -1,0 +1,2 @@
+mod RunsOfPlans
+mod Tracing
