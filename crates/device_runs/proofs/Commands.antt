@@ -20,6 +20,7 @@ use Rattle.protocol.specs.History.{Entry, IsEntry, IsHistory, NoClash}
 use Rattle.protocol.specs.Facts.{IsTold}
 use Rattle.protocol.specs.Laws.{HistoriesAreLegal, HistoriesAreInTime, ValuesAreBlocks, RecordsAreTold}
 use Rattle.protocol.proofs.Lists.{Contains-head, Contains-rest}
+use Rattle.protocol.proofs.Entries.{start_made, end_made}
 use Rattle.device_runs.specs.Moments.{values_at, array_of, IsQuiet}
 use Rattle.device_runs.specs.Commands.{IsDone, bytes_given}
 use Rattle.device_runs.specs.Laws.{InEachHistory, PutsGoIn, PutsAreMerged, GetsGiveTheirRange, GetsGiveWhatWasPut, array_at}
@@ -35,12 +36,12 @@ some_is x a b p q = cc
 
 pub told_in_order : (w : World) → ((r : _) → Contains w.records r → IsTold w r) → (first : _) (e : Entry) → IsEntry w.records first e → (start end : ℕ) → e.start ≡ Some start → e.end ≡ Some end → start ≤ end
 told_in_order w told first e (inl read) start end begun ended =
-    let low = ((told read.0 read.1).end end (sym read.9 ∙ ended)).0 in
-    omega (arith, low, some_is e.start start read.0.start begun read.8)
+    let low = ((told read.read read.there).end end (sym (end_made read.made) ∙ ended)).0 in
+    omega (arith, low, some_is e.start start read.read.start begun (start_made read.made))
 told_in_order w told first e (inr (inl write)) start end begun ended =
-    let low = ((told write.0 write.1).end end (sym write.8 ∙ ended)).0 in
-    omega (arith, low, some_is e.start start write.0.start begun write.7)
-told_in_order w told first e (inr (inr foreign)) start end begun ended = absurd (let none = foreign.1.6 in cc)
+    let low = ((told write.write write.there).end end (sym (end_made write.made) ∙ ended)).0 in
+    omega (arith, low, some_is e.start start write.write.start begun (start_made write.made))
+told_in_order w told first e (inr (inr foreign)) start end begun ended = absurd (let none : e.start ≡ None = start_made foreign.1.made in cc)
 
 -- ---- ranges within the device
 not_first : (b : Bool) (x : DeviceFault) (other : Option DeviceFault) → cond b (Some x) other ≡ None → b ≡ false
