@@ -18,8 +18,7 @@ use Rattle.protocol.specs.Operations.{Work}
 use Rattle.protocol.specs.Operations.Work.{Reads, Writes}
 use Rattle.protocol.specs.World.{World, Record, stamp_of_outcome}
 use Rattle.protocol.specs.Facts.{IsTold, IsOutcomeOf}
-use Rattle.protocol.specs.History.{Entry, IsEntry}
-use Rattle.protocol.specs.History.Kind.{Read as ReadKind, Write as WriteKind}
+use Rattle.protocol.specs.History.{Entry, read_entry, write_entry, IsRead, IsWrite, IsEntry}
 use Rattle.protocol.specs.Bounds.{IsLow}
 use Rattle.protocol.specs.Instance.{InEachRun}
 use Rattle.protocol.specs.Laws.{RecordsAreTold, SpentAreThese}
@@ -118,11 +117,13 @@ module _ (j : Journals) (w : World) (history : List Entry) (entries : (e : Entry
 
   by_outcome : (work : Work) (outcome : Outcome) → x.work ≡ work → x.outcome ≡ outcome → IsShown w history c x
   by_outcome Reads (Gave stamp value how rounds) p q =
-      let e : Entry = record { block = x.block; stamp = stamp; kind = ReadKind; client = c; start = Some (x.start + 1); end = Some (x.end + 1); value = value } in
-      inl (e, (entries e).1 (inl (ended_record c x, there, how, rounds, ap (λ (o : Outcome). Some o) q, refl, refl, refl, refl, refl)), record { client = refl; block = refl; start = refl; end = refl })
+      let e = read_entry (ended_record c x) stamp value in
+      let is : IsRead w.records e = record { read = ended_record c x; there = there; how = how; rounds = rounds; gave = ap (λ (o : Outcome). Some o) q; made = refl } in
+      inl (e, (entries e).1 (inl is), record { client = refl; block = refl; start = refl; end = refl })
   by_outcome (Writes value) (Wrote stamp) p q =
-      let e : Entry = record { block = x.block; stamp = stamp; kind = WriteKind; client = c; start = Some (x.start + 1); end = Some (x.end + 1); value = value } in
-      inl (e, (entries e).1 (inr (inl (ended_record c x, there, p, ap stamp_of_outcome q, refl, refl, refl, refl, refl, inl (ap (λ (o : Outcome). Some o) q)))), record { client = refl; block = refl; start = refl; end = refl })
+      let e = write_entry (ended_record c x) stamp value in
+      let is : IsWrite w.records e = record { write = ended_record c x; there = there; writes = p; chose = ap stamp_of_outcome q; stands = inl (ap (λ (o : Outcome). Some o) q); made = refl } in
+      inl (e, (entries e).1 (inr (inl is)), record { client = refl; block = refl; start = refl; end = refl })
   by_outcome (Writes value) Spent p q =
       inr ((spent (record { client = c; start = x.start + 1; end = x.end + 1 })).1 (ended_record c x, there, ap (λ (o : Outcome). Some o) q, refl, refl, refl))
   by_outcome Reads (Wrote stamp) p q = absurd (impossible Reads (Wrote stamp) p q)

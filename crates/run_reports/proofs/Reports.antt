@@ -12,6 +12,7 @@ use Rattle.protocol.specs.Lines.{Line, IsRun}
 use Rattle.protocol.specs.History.{Entry, Kind, IsEntry, IsRead, IsWrite, IsForeign, NoClash}
 use Rattle.protocol.specs.History.Kind.{Read, Write, Foreign}
 use Rattle.protocol.specs.Report.{SpentWrite, spent_writes, is_ended, is_done, is_spent, is_pending, is_repaired}
+use Rattle.protocol.proofs.Entries.{kind_made, start_made, end_made}
 use Rattle.protocol.proofs.Theorem.{run_legal, run_in_time}
 use Rattle.protocol.proofs.Kept.{run_told, run_blocks, run_done, run_spent, run_spent_ascend}
 use Rattle.protocol.proofs.Counts.{spent_writes_are}
@@ -46,15 +47,17 @@ module _ (s : Setting) (lines : List (ℕ × Line)) (w : World) (good : IsValid 
   of_kind e kind start end p q r h = rw (p, q, r) h
 
   read_has : (e : Entry) → IsRead w.records e → HasPlaces (told_kind e.kind) e.start e.end
-  read_has e (r, there, how, rounds, gave, kind, block, client, start, end) =
-      of_kind e Read (Some r.start) r.end kind start end (read_places e r there how rounds gave r.end refl)
+  read_has e h =
+      let r = h.read in
+      of_kind e Read (Some r.start) r.end (kind_made h.made) (start_made h.made) (end_made h.made) (read_places e r h.there h.how h.rounds h.gave r.end refl)
 
   write_has : (e : Entry) → IsWrite w.records e → HasPlaces (told_kind e.kind) e.start e.end
-  write_has e (r, there, work, stamp, kind, block, client, start, end, why) =
-      of_kind e Write (Some r.start) r.end kind start end (start_low r there, place_or_none r there r.end refl)
+  write_has e h =
+      let r = h.write in
+      of_kind e Write (Some r.start) r.end (kind_made h.made) (start_made h.made) (end_made h.made) (start_low r h.there, place_or_none r h.there r.end refl)
 
   foreign_has : (e : Entry) → IsForeign w.records e → HasPlaces (told_kind e.kind) e.start e.end
-  foreign_has e (place, read, first, none, kind, client, start, end) = of_kind e Foreign None None kind start end (refl, refl)
+  foreign_has e h = of_kind e Foreign None None (kind_made h.made) (start_made h.made) (end_made h.made) (refl, refl)
 
   entry_has : (e : Entry) → IsEntry w.records (first_stamp s) e → HasPlaces (told_kind e.kind) e.start e.end
   entry_has e (inl read) = read_has e read

@@ -10,7 +10,7 @@ use Rattle.run_words.specs.declared.outcome.Outcome.TheVariants.{Wrote, Spent, G
 use Rattle.protocol.specs.Operations.{Outcome}
 use Rattle.protocol.specs.World.{Record}
 use Rattle.protocol.specs.Seen.{record_of}
-use Rattle.protocol.specs.History.Kind.{Read}
+use Rattle.protocol.specs.History.{read_entry}
 use Rattle.protocol.proofs.Cluster.{cluster_valid}
 use Rattle.protocol.proofs.Kept.{run_blocks}
 use Rattle.world_steps.specs.Worlds.{WorldView, setting_in, world_in, IsReached}
@@ -67,5 +67,4 @@ module _ (client block : ℕ) where
       let gave = value-gave r.outcome v found.2 in
       (run_blocks (setting_in w) reached.lines (world_in w)
       (cluster_valid w.config (λ i. slice_index_or w.lying_nodes i false) (λ k. slice_index_or w.lying_clients k false) reached.cluster) reached.run
-      (record { block = r.block; stamp = gave.0; kind = Read; client = r.client; start = Some r.start; end = r.end; value = v })
-      (inl (r, found.1, gave.1, gave.2, gave.3, refl, refl, refl, refl, refl))).0
+      (read_entry r gave.0 v) (inl (record { read = r; there = found.1; how = gave.1; rounds = gave.2; gave = gave.3; made = refl }))).0
