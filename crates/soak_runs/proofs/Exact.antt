@@ -10,11 +10,11 @@ use Rattle.protocol.specs.Operations.{Work, Outcome, How}
 use Rattle.protocol.specs.Operations.Work.{Reads, Writes}
 use Rattle.protocol.specs.World.{World, Record}
 use Rattle.protocol.specs.Facts.{IsKnown, IsComplete}
-use Rattle.protocol.specs.History.{Entry, IsEntry, IsForeign}
+use Rattle.protocol.specs.History.{Entry, entry_as, IsEntry, IsForeign}
+use Rattle.protocol.specs.History.Kind.{Read as ReadKind, Write as WriteKind}
 use Rattle.protocol.specs.Laws.{RecordsAreTold, CompletedIsHeld, AcceptedIsKnown}
 use Rattle.protocol.proofs.Counting.{some_passes}
 use Rattle.protocol.proofs.Lists.{Contains-map, Contains-map_cases}
-use Rattle.protocol.proofs.Entries.{same_entry}
 use Rattle.soak_runs.specs.Serial.{IsDone, AreSerial}
 use Rattle.soak_runs.proofs.Records.{stamp_in, stamp_of, given_in, value_by, kind_by, record_entry, stamped, ended, IsWriting}
 use Rattle.soak_runs.proofs.Sorted.{in_flat}
@@ -62,31 +62,23 @@ module _ (s : Setting) (w : World) (rs : ℕ → List Record) (serial : AreSeria
     where
       by : (work : Work) (outcome : Option Outcome) → r.work ≡ work → r.outcome ≡ outcome → IsDone work r.client outcome → IsEntry w.records (first_stamp s) (record_entry r)
       by Reads (Some (Gave stamp value how rounds)) p q d =
-          inl (
-            r,
-            there,
-            how,
-            rounds,
-            q ∙ ap (λ (o : Option Outcome). Some (Gave (stamp_in o) (value_by Reads o) how rounds)) (sym q) ∙ ap (λ (k : Work). Some (Gave (stamp_in r.outcome) (value_by k r.outcome) how rounds)) (sym p),
-            ap kind_by p,
-            refl,
-            refl,
-            refl,
-            refl,
-          )
+          inl (record {
+            read = r;
+            there = there;
+            how = how;
+            rounds = rounds;
+            gave = q ∙ ap (λ (o : Option Outcome). Some (Gave (stamp_in o) (value_by Reads o) how rounds)) (sym q) ∙ ap (λ (k : Work). Some (Gave (stamp_in r.outcome) (value_by k r.outcome) how rounds)) (sym p);
+            made = ap (λ (k : Work). entry_as r (kind_by k) (stamp_of r) (value_by r.work r.outcome)) p;
+          })
       by (Writes value) (Some (Wrote stamp)) p q d =
-          inr (inl (
-            r,
-            there,
-            p ∙ ap (λ (k : Work). Writes (value_by k r.outcome)) (sym p),
-            stamp_is r there,
-            ap kind_by p,
-            refl,
-            refl,
-            refl,
-            refl,
-            inl (q ∙ ap (λ (o : Option Outcome). Some (Wrote (stamp_in o))) (sym q)),
-          ))
+          inr (inl (record {
+            write = r;
+            there = there;
+            writes = p ∙ ap (λ (k : Work). Writes (value_by k r.outcome)) (sym p);
+            chose = stamp_is r there;
+            stands = inl (q ∙ ap (λ (o : Option Outcome). Some (Wrote (stamp_in o))) (sym q));
+            made = ap (λ (k : Work). entry_as r (kind_by k) (stamp_of r) (value_by r.work r.outcome)) p;
+          }))
       by Reads None p q d = absurd d
       by Reads (Some (Wrote stamp)) p q d = absurd d
       by Reads (Some Spent) p q d = absurd d
@@ -133,7 +125,7 @@ module _ (s : Setting) (w : World) (rs : ℕ → List Record) (serial : AreSeria
 
     not_foreign : (e : Entry) → (e.stamp ≡ first_stamp s → ⊥) → IsForeign w.records e → ⊥
     not_foreign e other f =
-        let h = f.1 in
+        let h = f.seen in
         let same : stamp_of h.read ≡ e.stamp = ap stamp_in h.gave in
         elim (origin h.read h.there) [
           | inl first ↦ other (sym same ∙ first)
@@ -145,20 +137,24 @@ module _ (s : Setting) (w : World) (rs : ℕ → List Record) (serial : AreSeria
           where
             by : (work : Work) → m.work ≡ work → IsWriting work → ⊥
             by Reads p k = k
-            by (Writes value) p k = f.3 (record { write = m; there = there; of_block = block; value = value; writes = p; chose = stamp_is m there ∙ ap Some stamp })
+            by (Writes value) p k = f.no_write (record { write = m; there = there; of_block = block; value = value; writes = p; chose = stamp_is m there ∙ ap Some stamp })
 
     pub exact : (e : Entry) → IsEntry w.records (first_stamp s) e → Contains (all_entries s.blocks rs) e
-    exact e (inl (r, there, how, rounds, gave, kind, block, client, start, end)) =
-        let reads = gave_reads r.work r.client r.outcome e.stamp e.value how rounds (done_in r there) gave in
-        let same : e ≡ record_entry r =
-        same_entry e (record_entry r) block (sym (ap stamp_in gave)) (kind ∙ sym (ap kind_by reads)) client start end
-        (sym (ap (λ (k : Work). value_by k r.outcome) reads ∙ ap given_in gave)) in
-        subst (Contains (all_entries s.blocks rs)) (sym same) (in_all r there)
-    exact e (inr (inl (r, there, work, stamp, kind, block, client, start, end, how))) =
-        let same : e ≡ record_entry r =
-        same_entry e (record_entry r) block (same_some r.stamp e.stamp (stamp_of r) stamp (stamp_is r there)) (kind ∙ sym (ap kind_by work)) client start end
-        (sym (ap (λ (k : Work). value_by k r.outcome) work)) in
-        subst (Contains (all_entries s.blocks rs)) (sym same) (in_all r there)
+    exact e (inl h) =
+        let r = h.read in
+        let reads = gave_reads r.work r.client r.outcome e.stamp e.value h.how h.rounds (done_in r h.there) h.gave in
+        let stamp : e.stamp ≡ stamp_of r = sym (ap stamp_in h.gave) in
+        let value : e.value ≡ value_by r.work r.outcome = sym (ap (λ (k : Work). value_by k r.outcome) reads ∙ ap given_in h.gave) in
+        let kind : ReadKind ≡ kind_by r.work = sym (ap kind_by reads) in
+        let same : e ≡ record_entry r = h.made ∙ (λ i. entry_as r (kind i) (stamp i) (value i)) in
+        subst (Contains (all_entries s.blocks rs)) (sym same) (in_all r h.there)
+    exact e (inr (inl h)) =
+        let r = h.write in
+        let stamp : e.stamp ≡ stamp_of r = same_some r.stamp e.stamp (stamp_of r) h.chose (stamp_is r h.there) in
+        let value : e.value ≡ value_by r.work r.outcome = sym (ap (λ (k : Work). value_by k r.outcome) h.writes) in
+        let kind : WriteKind ≡ kind_by r.work = sym (ap kind_by h.writes) in
+        let same : e ≡ record_entry r = h.made ∙ (λ i. entry_as r (kind i) (stamp i) (value i)) in
+        subst (Contains (all_entries s.blocks rs)) (sym same) (in_all r h.there)
     exact e (inr (inr (other, foreign))) = absurd (not_foreign e other foreign)
 
   pub entries_there : (e : Entry) → Contains (all_entries s.blocks rs) e → IsEntry w.records (first_stamp s) e

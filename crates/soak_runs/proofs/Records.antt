@@ -8,7 +8,7 @@ use Rattle.protocol.specs.Operations.{Work, Outcome}
 use Rattle.protocol.specs.Operations.Work.{Reads, Writes}
 use Rattle.protocol.specs.World.{World, Record}
 use Rattle.protocol.specs.Facts.{IsTold, IsOutcomeOf}
-use Rattle.protocol.specs.History.{Entry, Kind}
+use Rattle.protocol.specs.History.{Entry, Kind, entry_as}
 use Rattle.protocol.specs.History.Kind.{Read as ReadKind, Write as WriteKind}
 use Rattle.protocol.proofs.Lists.{Contains-head, Contains-rest}
 use Rattle.soak_runs.specs.Serial.{IsDone}
@@ -36,7 +36,7 @@ stamp_of r = stamp_in r.outcome
 
 -- the entry of a record that is done
 abbrev pub record_entry : Record → Entry
-record_entry r = record { block = r.block; stamp = stamp_of r; kind = kind_by r.work; client = r.client; start = Some r.start; end = r.end; value = value_by r.work r.outcome }
+record_entry r = entry_as r (kind_by r.work) (stamp_of r) (value_by r.work r.outcome)
 
 -- how many of these write
 abbrev pub writes_by : Work → ℕ
