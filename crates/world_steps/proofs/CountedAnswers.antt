@@ -17,7 +17,7 @@ use Rattle.world_steps.specs.contracts.state.State.{the_view}
 use Rattle.world_steps.specs.Slots.{IsWorld}
 use Rattle.world_steps.specs.Steps.{client_in, IsAnswer}
 use Rattle.world_steps.specs.AnswerEffects.{answer_does, IsSame}
-use Rattle.world_steps.proofs.KeptWorlds.{client_slot-within}
+use Rattle.world_steps.proofs.KeptWorlds.{client-within}
 use Rattle.world_steps.proofs.ClientSlots.{slot-client, client_slot-there}
 
 -- it leaves an operation that goes on
@@ -65,7 +65,7 @@ module _ (w : Inside) (good : IsWorld w.config w.node_slots.items w.client_slots
   -- the slot of a number has its client
   pub slot-is : slot.client ≡ client_in (the_view w) k
   slot-is =
-      let inside = client_slot-within _ _ _ _ _ good k l in
+      let inside = client-within w good k l in
       let is = good.client_slot k slot (client_slot-there w k inside slot there) in
       λ i. record { config = is.config i; id = is.id i; seen = sym (slot-client w k inside slot there) i }
 

@@ -14,6 +14,7 @@ use Rattle.protocol.specs.Seen.{SeenTask, task_at, record_of}
 use Rattle.protocol.proofs.Starts.{ascend_push}
 use Rattle.world_steps.specs.declared.node_slot.NodeSlot.{NodeSlot}
 use Rattle.world_steps.specs.declared.client_slot.ClientSlot.{ClientSlot}
+use Rattle.world_steps.specs.declared.state.State.TheInside.{Inside}
 use Rattle.world_steps.specs.Slots.{IsWorld, IsClientSlot, IsTaskOf}
 use Rattle.world_steps.proofs.ListItems.{slice_get-set_cases, slice_get-set_other, slice_get-push, slice_get-push_cases}
 
@@ -36,11 +37,11 @@ all_below : (rs : List Told) (n : ℕ) → ((k : ℕ) (r : Told) → slice_get r
 all_below [] n h = tt
 all_below (r ∷ rs) n h = (h 0 r refl, all_below rs n (λ k x e. h (suc k) x e))
 
-module _ (c : Numbers) (node_slots : List NodeSlot) (client_slots : List ClientSlot) (records : List Told) (p : ℕ) (h : IsWorld c node_slots client_slots records p) where
-  -- each client has a slot
-  pub client_slot-within : (k : ℕ) → k ≤ 1000 → k < length client_slots
-  client_slot-within k l = let e = h.clients in omega (arith, e, l)
+-- each client has a slot
+pub client-within : (w : Inside) → IsWorld w.config w.node_slots.items w.client_slots.items w.records w.place → (k : ℕ) → k ≤ 1000 → k < length w.client_slots.items
+client-within w h k l = let e = h.clients in omega (arith, e, l)
 
+module _ (c : Numbers) (node_slots : List NodeSlot) (client_slots : List ClientSlot) (records : List Told) (p : ℕ) (h : IsWorld c node_slots client_slots records p) where
   -- the place is raised
   pub raised : (q : ℕ) → p ≤ q → IsWorld c node_slots client_slots records q
   raised q l = record {

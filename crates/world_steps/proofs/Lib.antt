@@ -1,6 +1,7 @@
 pub mod LineEvents
 pub mod Reached
 pub mod ListItems
+pub mod Became
 pub mod KeptWorlds
 pub mod ClientSlots
 pub mod GreatestGiven

@@ -12,9 +12,9 @@ use Rattle.protocol.specs.Operations.{is_counted, Task, Decision, decide, outsta
 use Rattle.protocol.specs.World.Event.{Lie as Lies}
 use Rattle.protocol.specs.Operations.Decision.{GoesOn, Ends}
 use Rattle.protocol.specs.World.{World, only_place, happens, sent, given, heard, heard_by, advanced, decided, answer_of, all_happen}
-use Rattle.protocol.specs.Lines.{plays, called, heard_at, is_actor}
+use Rattle.protocol.specs.Lines.{plays, called, given_at, heard_at, is_actor}
 use Rattle.protocol.specs.Lines.Actor.{Node}
-use Rattle.run_words.specs.declared.line.Line.TheVariants.{Call, Hear, Tell, Poke}
+use Rattle.run_words.specs.declared.line.Line.TheVariants.{Call, Give, Hear, Tell, Poke}
 use Rattle.world_steps.specs.Steps.{handles, asked_by}
 
 module _ (s : Setting) (place : ℕ) where
@@ -67,6 +67,13 @@ module _ (s : Setting) (place : ℕ) where
         ap (λ (z : Ask). heard s (handles s w place i z (a ∷ [])) place c a a.body) asked
         ∙ ap (λ (z : Message). heard s (handles s w place i (ask_of s working.0 i) (z ∷ [])) place c z z.body) told
         ∙ called-is working.0 working.1
+
+  -- a node handles an ask of the pool
+  pub given_plays : (w : World) (i k : ℕ) (m : Message) (ask : Ask) (a : Message) → slice_get w.pool k ≡ Some m → m.body ≡ Asks ask → a ≡ answer_of s w i m ask → (mail : List Message) → mail ≡ a ∷ [] → handles s w place i ask mail ≡ plays s w place (Give i k)
+  given_plays w i k m ask a e f g mail h =
+      ap (λ (z : List Message). handles s w place i ask z) (h ∙ ap (λ (z : Message). z ∷ []) g)
+      ∙ ap (λ (z : Body). only_place s (given s w place i m z) place) (sym f)
+      ∙ ap (λ (z : Option Message). only_place s (all_happen s w place (given_at s w i z)) place) (sym e)
 
   -- an ask is sent, and its node handles it
   pub poked_plays : (w : World) (m : Message) (ask : Ask) (a : Message) → m.body ≡ Asks ask → a ≡ answer_of s w m.node m ask → (mail : List Message) → mail ≡ m ∷ a ∷ [] → handles s w place m.node ask mail ≡ plays s w place (Poke m)

@@ -13,6 +13,7 @@ use Rattle.protocol.specs.Instance.{setting_of}
 use Rattle.protocol.specs.Seen.{SeenWorld}
 use Rattle.protocol.proofs.Kept.{run_parts}
 use Rattle.world_steps.specs.Worlds.{WorldView, setting_in, world_in, IsReached}
+use Rattle.world_steps.specs.Steps.{IsPlayedBy}
 
 -- a run goes on by a line
 one_more_line : (s : Setting) (lines : List (ℕ × Line)) (w : World) (place : ℕ) (line : Line) → IsRun s lines w → w.place < place → FitsLine s line → fault s w line ≡ None
@@ -30,22 +31,20 @@ at v seen = record { config = v.config; lying_nodes = v.lying_nodes; lying_clien
 
 -- a line leads on
 pub leads_on : (old new : WorldView) (place : ℕ) (line : Line) → IsReached old → old.seen.place < place → FitsLine (setting_in old) line
-    → fault (setting_in old) (world_in old) line ≡ None → world_in new ≡ plays (setting_in old) (world_in old) place line
-    → new.config ≡ old.config → new.lying_nodes ≡ old.lying_nodes → new.lying_clients ≡ old.lying_clients → IsReached new
-leads_on old new place line reached later fits fine e f g h =
-    let same : new ≡ at old new.seen = same_cluster old.config new.config old.lying_nodes new.lying_nodes old.lying_clients new.lying_clients f g h new.seen in
+    → fault (setting_in old) (world_in old) line ≡ None → IsPlayedBy old new place line → IsReached new
+leads_on old new place line reached later fits fine h =
+    let same : new ≡ at old new.seen = same_cluster old.config new.config old.lying_nodes new.lying_nodes old.lying_clients new.lying_clients h.config h.lying_nodes h.lying_clients new.seen in
     subst IsReached (sym same) (record {
       cluster = reached.cluster;
       lines = reached.lines ++ (place, line) ∷ [];
-      run = one_more_line (setting_in old) reached.lines (world_in old) place line reached.run later fits fine (world_in (at old new.seen)) (ap world_in (sym same) ∙ e);
+      run = one_more_line (setting_in old) reached.lines (world_in old) place line reached.run later fits fine (world_in (at old new.seen)) (ap world_in (sym same) ∙ h.now);
     })
 
 -- whether a line took place or was refused, lines still lead to the world
 pub still_reached : {T E : Type 0} (r : Result T E) (old new : WorldView) (place : ℕ) (line : Line) → IsReached old → old.seen.place < place → FitsLine (setting_in old) line
-    → OnOk r (fault (setting_in old) (world_in old) line ≡ None) → OnOk r (world_in new ≡ plays (setting_in old) (world_in old) place line)
-    → OnOk r (new.config ≡ old.config) → OnOk r (new.lying_nodes ≡ old.lying_nodes) → OnOk r (new.lying_clients ≡ old.lying_clients) → OnErr r (new ≡ old) → IsReached new
-still_reached (Ok x) old new place line reached later fits fine e f g h k = leads_on old new place line reached later fits fine e f g h
-still_reached (Err x) old new place line reached later fits fine e f g h k = subst IsReached (sym k) reached
+    → OnOk r (fault (setting_in old) (world_in old) line ≡ None) → OnOk r (IsPlayedBy old new place line) → OnErr r (new ≡ old) → IsReached new
+still_reached (Ok x) old new place line reached later fits fine h k = leads_on old new place line reached later fits fine h
+still_reached (Err x) old new place line reached later fits fine h k = subst IsReached (sym k) reached
 
 -- a world before anything took place
 pub begins : (v : WorldView) (c : Numbers) (liars : Liars) → IsValid v.config → v.config ≡ c → AreLiars c liars

@@ -13,9 +13,10 @@ use Rattle.world_steps.specs.contracts.state.State.{the_view}
 use Rattle.world_steps.specs.Worlds.{setting_in, world_in}
 use Rattle.world_steps.specs.Slots.{IsWorld, IsTaskOf}
 use Rattle.world_steps.specs.BlockUses.{AreUses}
+use Rattle.world_steps.specs.Steps.{HasBecome}
 use Rattle.world_steps.proofs.BlockUses.{idle_works_nowhere, crashed_works_nowhere, uses-kept, count-kept}
 use Rattle.world_steps.proofs.KeptWorlds.{raised, with_client_slot}
-use Rattle.world_steps.proofs.ClientSlots.{world-client_slot}
+use Rattle.world_steps.proofs.ClientSlots.{world-client_slot, slot-lying}
 
 module _ (w : Inside) (k : ℕ) (inside : k < length w.client_slots.items) (slot : ClientSlot) (good : IsWorld w.config w.node_slots.items w.client_slots.items w.records w.place) (place : ℕ) (later : w.place ≤ place) (again : ClientView) (life : ℕ)
     (is : again ≡ record { config = w.config; id = k; seen = record { life = life; started = 0; task = None } }) where
@@ -33,7 +34,7 @@ module _ (w : Inside) (k : ℕ) (inside : k < length w.client_slots.items) (slot
       }))
       place later
 
-  pub back-world : life ≡ (client_at (the_view w).seen k).life + 1 → world_in (the_view (record w { client_slots = with_item w.client_slots k new_slot; place = place })) ≡ back_again (setting_in (the_view w)) (world_in (the_view w)) place k
+  back-world : life ≡ (client_at (the_view w).seen k).life + 1 → world_in (the_view (record w { client_slots = with_item w.client_slots k new_slot; place = place })) ≡ back_again (setting_in (the_view w)) (world_in (the_view w)) place k
   back-world more =
       world-client_slot w k inside new_slot w.pool w.records place
       ∙ (λ i. record (world_in (the_view w)) {
@@ -43,6 +44,15 @@ module _ (w : Inside) (k : ℕ) (inside : k < length w.client_slots.items) (slot
         client_crashed = update (world_in (the_view w)).client_crashed k false;
         place = place;
       })
+
+  pub back-became : slot ≡ get_or w.client_slots.items k slot → life ≡ (client_at (the_view w).seen k).life + 1
+      → HasBecome (the_view w) (the_view (record w { client_slots = with_item w.client_slots k new_slot; place = place })) (back_again (setting_in (the_view w)) (world_in (the_view w)) place k)
+  back-became there more = record {
+    now = back-world more;
+    config = refl;
+    lying_nodes = refl;
+    lying_clients = slot-lying w k inside new_slot slot there refl;
+  }
 
   -- who works where stays: a client that has crashed works nowhere
   pub back-uses : slot ≡ get_or w.client_slots.items k slot → slot.crashed ≡ true → AreUses w.config w.client_slots.items w.records w.uses.items → AreUses w.config (slice_set w.client_slots.items k new_slot) w.records w.uses.items

@@ -22,10 +22,11 @@ use Rattle.world_steps.specs.declared.state.State.TheInside.{Inside}
 use Rattle.world_steps.specs.contracts.state.State.{the_view}
 use Rattle.world_steps.specs.Worlds.{world_in}
 use Rattle.world_steps.specs.Slots.{IsWorld, IsTaskOf, IsUnderWay}
+use Rattle.world_steps.specs.Steps.{HasBecome}
 use Rattle.world_steps.specs.AnswerEffects.{IsSame, Becomes, settled}
 use Rattle.world_steps.proofs.ListItems.{slice_get-set_same, slice_set-there}
 use Rattle.world_steps.proofs.KeptWorlds.{told}
-use Rattle.world_steps.proofs.ClientSlots.{update-known, world-client_slot, slot-task, slot-crashed, client_slot-there}
+use Rattle.world_steps.proofs.ClientSlots.{update-known, world-client_slot, slot-lying, slot-task, slot-crashed, client_slot-there}
 
 -- ---- the record of an operation is the one that began at its place
 
@@ -172,10 +173,16 @@ module _ (w : Inside) (k : ℕ) (inside : k < length w.client_slots.items) (slot
           (world-kept task-there.0 task-there.1 hearer same end stamp outcome known.0 known.1 known.2 (subst (λ o. Becomes w.config w.place o hearer.seen.task) task-is may) standing)
 
       pub settle-world : IfSome ((world_in (the_view w)).task k)
-          (λ t. world_in (the_view (record w { client_slots = with_item w.client_slots k (record slot { client = hearer }); records = records })) ≡ settled (world_in (the_view w)) k t hearer.seen.task end stamp outcome)
+          (λ t. HasBecome (the_view w) (the_view (record w { client_slots = with_item w.client_slots k (record slot { client = hearer }); records = records })) (settled (world_in (the_view w)) k t hearer.seen.task end stamp outcome))
       settle-world =
           subst
-          (λ (o : Option Task). IfSome o (λ t. world_in (the_view (record w { client_slots = with_item w.client_slots k (record slot { client = hearer }); records = records })) ≡ settled (world_in (the_view w)) k t hearer.seen.task end stamp outcome))
+          (λ (o : Option Task). IfSome o (λ t. HasBecome (the_view w) (the_view (record w { client_slots = with_item w.client_slots k (record slot { client = hearer }); records = records })) (settled (world_in (the_view w)) k t hearer.seen.task end stamp outcome)))
           (sym task-is)
-          (ap (λ (rs : List Told). world_in (the_view (record w { client_slots = with_item w.client_slots k (record slot { client = hearer }); records = rs }))) (are known.0 known.1)
-          ∙ world-settled task-there.0 task-there.1 hearer same end stamp outcome known.0 known.1 known.2)
+          (record {
+            now =
+                ap (λ (rs : List Told). world_in (the_view (record w { client_slots = with_item w.client_slots k (record slot { client = hearer }); records = rs }))) (are known.0 known.1)
+                ∙ world-settled task-there.0 task-there.1 hearer same end stamp outcome known.0 known.1 known.2;
+            config = refl;
+            lying_nodes = refl;
+            lying_clients = slot-lying w k inside (record slot { client = hearer }) slot there refl;
+          })

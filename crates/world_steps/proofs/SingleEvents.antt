@@ -71,7 +71,7 @@ module _ (s : Setting) (w : World) where
     pruned-place i block (Some stamp) = refl
 
     -- whatever happens, the place is the event's
-    happens-place : (e : AnyEvent) → (happens s w place e).place ≡ place
+    pub happens-place : (e : AnyEvent) → (happens s w place e).place ≡ place
     happens-place (Starts c block work) = refl
     happens-place (Resends c) = resent-place c (w.task c)
     happens-place (Gives i m) = given-place i m m.body

@@ -22,10 +22,10 @@ use Rattle.world_steps.specs.contracts.state.State.{the_view}
 use Rattle.world_steps.specs.Worlds.{WorldView, setting_in, world_in}
 use Rattle.world_steps.specs.Slots.{IsWorld, IsTaskOf}
 use Rattle.world_steps.specs.BlockUses.{works_at, AreUses}
-use Rattle.world_steps.specs.Steps.{client_in}
+use Rattle.world_steps.specs.Steps.{HasBecome, client_in}
 use Rattle.world_steps.proofs.ListItems.{slice_get-end}
 use Rattle.world_steps.proofs.KeptWorlds.{added}
-use Rattle.world_steps.proofs.ClientSlots.{update-known, world-client_slot, slot-crashed}
+use Rattle.world_steps.proofs.ClientSlots.{update-known, world-client_slot, slot-lying, slot-crashed}
 use Rattle.world_steps.proofs.GreatestGiven.{greatest-more}
 use Rattle.world_steps.proofs.BlockUses.{eqb-same, eqb-other, works_on_task, idle_works_nowhere, use-there, uses-set}
 
@@ -70,7 +70,7 @@ module _ (w : Inside) (k : ℕ) (inside : k < length w.client_slots.items) (slot
             });
       }))
 
-  pub begun-world : (pool mail_sent : List Message) → pool ≡ w.pool ++ mail_sent → mail_sent ≡ mail_of (client_in (the_view w) k) (started (client_in (the_view w) k) op)
+  begun-world : (pool mail_sent : List Message) → pool ≡ w.pool ++ mail_sent → mail_sent ≡ mail_of (client_in (the_view w) k) (started (client_in (the_view w) k) op)
       → world_in (the_view (record w { pool = pool; client_slots = with_item w.client_slots k new_slot; records = records; place = place }))
       ≡ started_by (setting_in (the_view w)) (world_in (the_view w)) place k (new_task (the_view w) k op place)
   begun-world pool mail_sent e f =
@@ -87,6 +87,16 @@ module _ (w : Inside) (k : ℕ) (inside : k < length w.client_slots.items) (slot
     where
       same_task : task_at place (started (client_in (the_view w) k) op) ≡ new_task (the_view w) k op place
       same_task = begun-seen place (setting w.config) (ops_of (client_in (the_view w) k).seen + 1) (block_of op) (work_of op)
+
+  pub begun-became : (pool mail_sent : List Message) → pool ≡ w.pool ++ mail_sent → mail_sent ≡ mail_of (client_in (the_view w) k) (started (client_in (the_view w) k) op)
+      → HasBecome (the_view w) (the_view (record w { pool = pool; client_slots = with_item w.client_slots k new_slot; records = records; place = place }))
+      (started_by (setting_in (the_view w)) (world_in (the_view w)) place k (new_task (the_view w) k op place))
+  begun-became pool mail_sent e f = record {
+    now = begun-world pool mail_sent e f;
+    config = refl;
+    lying_nodes = refl;
+    lying_clients = slot-lying w k inside new_slot slot there refl;
+  }
 
   -- one client more works on the block
   pub begun-uses : AreUses w.config w.client_slots.items w.records w.uses.items → slot.client.seen.task ≡ None → slot.crashed ≡ false → (u : BlockUse) → block_of op < length w.uses.items → u ≡ get_or w.uses.items (block_of op) u

@@ -44,12 +44,16 @@ abbrev pub lied_by : Setting → Rule → ℕ → ℕ → Option Task → Option
 lied_by s rule c i None = None
 lied_by s rule c i (Some task) = false_answer s rule c i task
 
--- the world after a line, in the same cluster
-pub record IsPlayedBy (old new : WorldView) (place : ℕ) (line : Line) : Type 0 where
-  pub world : world_in new ≡ plays (setting_in old) (world_in old) place line
+-- the world became this one, in the same cluster, in which the same nodes and clients lie
+pub record HasBecome (old new : WorldView) (world : World) : Type 0 where
+  pub now : world_in new ≡ world
   pub config : new.config ≡ old.config
   pub lying_nodes : new.lying_nodes ≡ old.lying_nodes
   pub lying_clients : new.lying_clients ≡ old.lying_clients
+
+-- the world became what a line makes of it
+abbrev pub IsPlayedBy : WorldView → WorldView → ℕ → Line → Type 0
+IsPlayedBy old new place line = HasBecome old new (plays (setting_in old) (world_in old) place line)
 
 -- the client does something
 abbrev pub IsWorking : WorldView → ℕ → Type 0

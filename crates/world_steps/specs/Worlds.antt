@@ -1,7 +1,6 @@
 -- The world that is kept, as contracts see it.
-use Rattle.std.specs.Prelude.{ℕ, ◌<◌, ◌≤◌, Bool, false, List, [], length, All, slice_index_or}
+use Rattle.std.specs.Prelude.{ℕ, Bool, false, List, [], slice_index_or}
 use Rattle.quorum_rules.specs.Limits.{Numbers}
-use Rattle.wire_forms.specs.Liars.{Liars}
 use Rattle.protocol.specs.Setting.{Setting}
 use Rattle.protocol.specs.World.{World}
 use Rattle.protocol.specs.Seen.{SeenWorld, world_of}

@@ -12,7 +12,7 @@ ghost use Rattle.world_steps.specs.Worlds.{setting_in, world_in};
 ghost use Rattle.run_words.specs.declared.record.Record.{Record as Told};
 ghost use Rattle.client_core.specs.Clients.{hears, goes_to, is_only_counted};
 ghost use Rattle.protocol.specs.Seen.Hearing.{Counted};
-ghost use Rattle.world_steps.specs.Steps.{accepts_in, handles, client_in, IsAnswer};
+ghost use Rattle.world_steps.specs.Steps.{HasBecome, accepts_in, handles, client_in, IsAnswer};
 ghost use Rattle.world_steps.specs.AnswerEffects.{IsEffect, next_mail, answer_does, IsSame, Becomes, MayApply, goes_on, settled, applied};
 
 use crate::answer_effect::AnswerEffect;
@@ -39,11 +39,8 @@ impl State {
         requires fresh { (client_at self.now.seen client).started < 2 ^ 32 - 1 }
         requires block { block_of op < self.now.config.blocks }
         requires fits { Fits (setting_in self.now) (work_of op) }
-        ensures ok { OnOk result (world_in self.new ≡ happens (setting_in self.old)
-            (world_in self.old) place (Start client (block_of op) (work_of op))) }
-        ensures cluster { OnOk result (self.new.config ≡ self.old.config) }
-        ensures lying_nodes { OnOk result (self.new.lying_nodes ≡ self.old.lying_nodes) }
-        ensures lying_clients { OnOk result (self.new.lying_clients ≡ self.old.lying_clients) }
+        ensures ok { OnOk result (HasBecome self.old self.new (happens (setting_in self.old)
+            (world_in self.old) place (Start client (block_of op) (work_of op)))) }
         ensures err { OnErr result (self.new ≡ self.old) }
     {
         let mut starter = self.client_of(client).copy()?;
@@ -73,11 +70,8 @@ impl State {
     pub(crate) fn resend(&mut self, place: u64, client: u32) -> Result<(), NoMemory>
         requires later { self.now.seen.place < place }
         requires client { client ≤ 1000 }
-        ensures ok { OnOk result (world_in self.new ≡ happens (setting_in self.old)
-            (world_in self.old) place (Resends client)) }
-        ensures cluster { OnOk result (self.new.config ≡ self.old.config) }
-        ensures lying_nodes { OnOk result (self.new.lying_nodes ≡ self.old.lying_nodes) }
-        ensures lying_clients { OnOk result (self.new.lying_clients ≡ self.old.lying_clients) }
+        ensures ok { OnOk result (HasBecome self.old self.new (happens (setting_in self.old)
+            (world_in self.old) place (Resends client))) }
         ensures err { OnErr result (self.new ≡ self.old) }
     {
         let mail = outstanding(
@@ -116,11 +110,8 @@ impl State {
         requires client { client ≤ 1000 }
         requires awake { (world_in self.now).client_crashed client ≡ false }
         requires effect { MayApply self.now client effect }
-        ensures world { world_in self.new ≡ applied (world_in self.old) (client_in self.old client)
-            ((world_in self.old).task client) effect }
-        ensures cluster { self.new.config ≡ self.old.config }
-        ensures lying_nodes { self.new.lying_nodes ≡ self.old.lying_nodes }
-        ensures lying_clients { self.new.lying_clients ≡ self.old.lying_clients }
+        ensures { HasBecome self.old self.new (applied (world_in self.old)
+            (client_in self.old client) ((world_in self.old).task client) effect) }
     {
         match effect {
             AnswerEffect::Same => {}
@@ -140,12 +131,9 @@ impl State {
         requires task { Becomes self.now.config self.now.seen.place
             ((world_in self.now).task client)
             (goes_to (answer_does (client_in self.now client) node tag reply)) }
-        ensures world { IfSome ((world_in self.old).task client)
-            (λ t. world_in self.new ≡ goes_on (world_in self.old) client t
-            (goes_to (answer_does (client_in self.old client) node tag reply))) }
-        ensures cluster { self.new.config ≡ self.old.config }
-        ensures lying_nodes { self.new.lying_nodes ≡ self.old.lying_nodes }
-        ensures lying_clients { self.new.lying_clients ≡ self.old.lying_clients }
+        ensures { IfSome ((world_in self.old).task client)
+            (λ t. HasBecome self.old self.new (goes_on (world_in self.old) client t
+            (goes_to (answer_does (client_in self.old client) node tag reply)))) }
     {
         let slot = &mut self.client_slots[client as usize];
         slot.client.count(node, tag, reply);
@@ -158,11 +146,8 @@ impl State {
         requires busy { (u : SeenTask) × (hearer.seen.task ≡ Some u) }
         requires task { Becomes self.now.config self.now.seen.place
             ((world_in self.now).task client) hearer.seen.task }
-        ensures world { IfSome ((world_in self.old).task client)
-            (λ t. world_in self.new ≡ goes_on (world_in self.old) client t hearer.seen.task) }
-        ensures cluster { self.new.config ≡ self.old.config }
-        ensures lying_nodes { self.new.lying_nodes ≡ self.old.lying_nodes }
-        ensures lying_clients { self.new.lying_clients ≡ self.old.lying_clients }
+        ensures { IfSome ((world_in self.old).task client) (λ t. HasBecome self.old self.new
+            (goes_on (world_in self.old) client t hearer.seen.task)) }
     {
         let stamp = hearer.stamp();
         let slot = &mut self.client_slots[client as usize];
@@ -179,12 +164,9 @@ impl State {
         requires idle { hearer.seen.task ≡ None }
         requires task { Becomes self.now.config self.now.seen.place
             ((world_in self.now).task client) None }
-        ensures world { IfSome ((world_in self.old).task client)
-            (λ t. world_in self.new ≡ settled (world_in self.old) client t None
-            (Some self.old.seen.place) (stamp_of_outcome outcome) (Some outcome)) }
-        ensures cluster { self.new.config ≡ self.old.config }
-        ensures lying_nodes { self.new.lying_nodes ≡ self.old.lying_nodes }
-        ensures lying_clients { self.new.lying_clients ≡ self.old.lying_clients }
+        ensures { IfSome ((world_in self.old).task client)
+            (λ t. HasBecome self.old self.new (settled (world_in self.old) client t None
+            (Some self.old.seen.place) (stamp_of_outcome outcome) (Some outcome))) }
     {
         let slot = &mut self.client_slots[client as usize];
         slot.client = hearer;
@@ -206,11 +188,8 @@ impl State {
         requires answer { (m : Messages) × (slice_get self.now.seen.pool message ≡ Some m)
             × IsAnswer client m }
         ensures ok { (m : Messages) → slice_get self.old.seen.pool message ≡ Some m
-            → OnOk result (world_in self.new ≡ heard (setting_in self.old)
-            (world_in self.old) place client m m.body) }
-        ensures cluster { OnOk result (self.new.config ≡ self.old.config) }
-        ensures lying_nodes { OnOk result (self.new.lying_nodes ≡ self.old.lying_nodes) }
-        ensures lying_clients { OnOk result (self.new.lying_clients ≡ self.old.lying_clients) }
+            → OnOk result (HasBecome self.old self.new (heard (setting_in self.old)
+            (world_in self.old) place client m m.body)) }
         ensures err { OnErr result (self.new ≡ self.old) }
     {
         let (effect, mail) = self.heard(client, &self.pool.as_slice()[message])?;
@@ -230,12 +209,9 @@ impl State {
         requires client { client ≤ 1000 }
         requires awake { (world_in self.now).client_crashed client ≡ false }
         requires answer { IsAnswer client message }
-        ensures ok { OnOk result (world_in self.new ≡ heard (setting_in self.old)
+        ensures ok { OnOk result (HasBecome self.old self.new (heard (setting_in self.old)
             (sent (setting_in self.old) (world_in self.old) place
-            (message ∷ [])) place client message message.body) }
-        ensures cluster { OnOk result (self.new.config ≡ self.old.config) }
-        ensures lying_nodes { OnOk result (self.new.lying_nodes ≡ self.old.lying_nodes) }
-        ensures lying_clients { OnOk result (self.new.lying_clients ≡ self.old.lying_clients) }
+            (message ∷ [])) place client message message.body)) }
         ensures err { OnErr result (self.new ≡ self.old) }
     {
         let (effect, next) = self.heard(client, &message)?;
@@ -261,12 +237,9 @@ impl State {
         requires added { added ≡ accepts_in (setting_in self.now) (world_in self.now) node ask.now }
         requires awake { (world_in self.now).client_crashed client ≡ false }
         requires answer { IsAnswer client message }
-        ensures ok { OnOk result (world_in self.new ≡ heard (setting_in self.old)
+        ensures ok { OnOk result (HasBecome self.old self.new (heard (setting_in self.old)
             (handles (setting_in self.old) (world_in self.old) place node ask.now
-            (message ∷ [])) place client message message.body) }
-        ensures cluster { OnOk result (self.new.config ≡ self.old.config) }
-        ensures lying_nodes { OnOk result (self.new.lying_nodes ≡ self.old.lying_nodes) }
-        ensures lying_clients { OnOk result (self.new.lying_clients ≡ self.old.lying_clients) }
+            (message ∷ [])) place client message message.body)) }
         ensures err { OnErr result (self.new ≡ self.old) }
     {
         // Says what holds of a kept world.
@@ -281,11 +254,8 @@ impl State {
     pub(crate) fn crash_client(&mut self, place: u64, client: u32)
         requires later { self.now.seen.place < place }
         requires client { client ≤ 1000 }
-        ensures world { world_in self.new ≡ happens (setting_in self.old) (world_in self.old) place
-            (ClientCrashes client) }
-        ensures cluster { self.new.config ≡ self.old.config }
-        ensures lying_nodes { self.new.lying_nodes ≡ self.old.lying_nodes }
-        ensures lying_clients { self.new.lying_clients ≡ self.old.lying_clients }
+        ensures { HasBecome self.old self.new (happens (setting_in self.old)
+            (world_in self.old) place (ClientCrashes client)) }
     {
         let block = self.works_on(client);
         leave(&mut self.uses, block);
@@ -312,11 +282,8 @@ impl State {
         requires client { client ≤ 1000 }
         requires crashed { (world_in self.now).client_crashed client ≡ true }
         requires lives { (client_at self.now.seen client).life < 2 ^ 32 - 1 }
-        ensures ok { OnOk result (world_in self.new ≡ happens (setting_in self.old)
-            (world_in self.old) place (ComesBack client)) }
-        ensures cluster { OnOk result (self.new.config ≡ self.old.config) }
-        ensures lying_nodes { OnOk result (self.new.lying_nodes ≡ self.old.lying_nodes) }
-        ensures lying_clients { OnOk result (self.new.lying_clients ≡ self.old.lying_clients) }
+        ensures ok { OnOk result (HasBecome self.old self.new (happens (setting_in self.old)
+            (world_in self.old) place (ComesBack client))) }
         ensures err { OnErr result (self.new ≡ self.old) }
     {
         let life = self.client_slots[client as usize].client.life() + 1;

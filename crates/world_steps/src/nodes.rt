@@ -9,7 +9,7 @@ ghost use Rattle.world_steps.specs.Worlds.{setting_in, world_in, with_seen, node
 ghost use Rattle.protocol.specs.Count.{one_more};
 ghost use Rattle.node_core.specs.Seen.{versions_in, with_versions, after_of, accepts_of};
 ghost use Rattle.version_disk.specs.Held.{held};
-ghost use Rattle.world_steps.specs.Steps.{accepts_in, handles};
+ghost use Rattle.world_steps.specs.Steps.{HasBecome, accepts_in, handles};
 ghost use Rattle.world_steps.specs.Acceptances.{told_of};
 
 use crate::block_use::{BlockUse, UNUSED};
@@ -25,12 +25,9 @@ impl State {
     /// Sends messages.
     pub(crate) fn send(&mut self, place: u64, mut mail: Mail) -> Result<(), NoMemory>
         requires { self.now.seen.place < place }
-        ensures ok { OnOk result
-            (world_in self.new ≡ sent (setting_in self.old) (world_in self.old) place mail) }
+        ensures ok { OnOk result (HasBecome self.old self.new
+            (sent (setting_in self.old) (world_in self.old) place mail)) }
         ensures clients { OnOk result (self.new.seen.clients ≡ self.old.seen.clients) }
-        ensures cluster { OnOk result (self.new.config ≡ self.old.config) }
-        ensures lying_nodes { OnOk result (self.new.lying_nodes ≡ self.old.lying_nodes) }
-        ensures lying_clients { OnOk result (self.new.lying_clients ≡ self.old.lying_clients) }
         ensures err { OnErr result (self.new ≡ self.old) }
     {
         self.pool.append(&mut mail)?;
@@ -75,12 +72,9 @@ impl State {
         requires later { self.now.seen.place < place }
         requires node { node < self.now.config.n }
         requires added { added ≡ accepts_in (setting_in self.now) (world_in self.now) node ask.now }
-        ensures ok { OnOk result (world_in self.new ≡ handles (setting_in self.old)
-            (world_in self.old) place node ask.now (message ∷ others)) }
+        ensures ok { OnOk result (HasBecome self.old self.new (handles (setting_in self.old)
+            (world_in self.old) place node ask.now (message ∷ others))) }
         ensures clients { OnOk result (self.new.seen.clients ≡ self.old.seen.clients) }
-        ensures cluster { OnOk result (self.new.config ≡ self.old.config) }
-        ensures lying_nodes { OnOk result (self.new.lying_nodes ≡ self.old.lying_nodes) }
-        ensures lying_clients { OnOk result (self.new.lying_clients ≡ self.old.lying_clients) }
         ensures err { OnErr result (self.new ≡ self.old) }
     {
         let sent = self.pool.len();
@@ -110,11 +104,8 @@ impl State {
     pub(crate) fn crash_node(&mut self, place: u64, node: u8)
         requires later { self.now.seen.place < place }
         requires node { node < self.now.config.n }
-        ensures world { world_in self.new ≡ happens (setting_in self.old) (world_in self.old) place
-            (NodeCrashes node) }
-        ensures cluster { self.new.config ≡ self.old.config }
-        ensures lying_nodes { self.new.lying_nodes ≡ self.old.lying_nodes }
-        ensures lying_clients { self.new.lying_clients ≡ self.old.lying_clients }
+        ensures { HasBecome self.old self.new (happens (setting_in self.old)
+            (world_in self.old) place (NodeCrashes node)) }
     {
         let slot = &mut self.node_slots[usize::from(node)];
         slot.crashed = true;
@@ -138,11 +129,8 @@ impl State {
         requires later { self.now.seen.place < place }
         requires node { node < self.now.config.n }
         requires block { block < self.now.config.blocks }
-        ensures ok { OnOk result (world_in self.new ≡ happens (setting_in self.old)
-            (world_in self.old) place (Prunes node block)) }
-        ensures cluster { OnOk result (self.new.config ≡ self.old.config) }
-        ensures lying_nodes { OnOk result (self.new.lying_nodes ≡ self.old.lying_nodes) }
-        ensures lying_clients { OnOk result (self.new.lying_clients ≡ self.old.lying_clients) }
+        ensures ok { OnOk result (HasBecome self.old self.new (happens (setting_in self.old)
+            (world_in self.old) place (Prunes node block))) }
         ensures err { OnErr result (self.new ≡ self.old) }
     {
         let Some(stamp) = self.block_use(block).given else {
@@ -159,11 +147,8 @@ impl State {
     pub(crate) fn restart(&mut self, place: u64, node: u8) -> Result<(), NoMemory>
         requires later { self.now.seen.place < place }
         requires node { node < self.now.config.n }
-        ensures ok { OnOk result
-            (world_in self.new ≡ only_place (setting_in self.old) (world_in self.old) place) }
-        ensures cluster { OnOk result (self.new.config ≡ self.old.config) }
-        ensures lying_nodes { OnOk result (self.new.lying_nodes ≡ self.old.lying_nodes) }
-        ensures lying_clients { OnOk result (self.new.lying_clients ≡ self.old.lying_clients) }
+        ensures ok { OnOk result (HasBecome self.old self.new
+            (only_place (setting_in self.old) (world_in self.old) place)) }
         ensures err { OnErr result (self.new ≡ self.old) }
     {
         let slot = &mut self.node_slots[usize::from(node)];

@@ -4,7 +4,7 @@ ghost use Rattle.std.specs.Prelude.{false, ◌≡◌, ◌≢◌, ◌<◌, ◌≤
 ghost use Rattle.std.specs.declared.option.Option.TheVariants.{None, Some};
 ghost use Rattle.protocol.specs.Messages.{Message as Messages};
 ghost use Rattle.protocol.specs.Setting.{first_stamp};
-ghost use Rattle.protocol.specs.Lines.{fault, plays, FitsLine};
+ghost use Rattle.protocol.specs.Lines.{fault, FitsLine};
 ghost use Rattle.run_words.specs.declared.line.StepFault.{StepFault as Faults};
 ghost use Rattle.run_words.specs.declared.line.Line.TheVariants as lines;
 ghost use Rattle.world_steps.specs.Worlds.{setting_in, world_in};
@@ -24,11 +24,7 @@ impl State {
         requires fits { FitsLine (setting_in self.now) line.now }
         ensures allowed { OnOk result
             (fault (setting_in self.old) (world_in self.old) line.now ≡ None) }
-        ensures ok { OnOk result
-            (world_in self.new ≡ plays (setting_in self.old) (world_in self.old) place line.now) }
-        ensures cluster { OnOk result (self.new.config ≡ self.old.config) }
-        ensures lying_nodes { OnOk result (self.new.lying_nodes ≡ self.old.lying_nodes) }
-        ensures lying_clients { OnOk result (self.new.lying_clients ≡ self.old.lying_clients) }
+        ensures ok { OnOk result (IsPlayedBy self.old self.new place line.now) }
         ensures fault { (f : Faults) → IsErrOf result (StepRefusal.Fault f)
             → fault (setting_in self.old) (world_in self.old) line.now ≡ Some f }
         ensures unchanged { OnErr result (self.new ≡ self.old) }

@@ -1,17 +1,14 @@
-use Rattle.std.proofs.Common.{rules, ◌∙◌, sym}
+use Rattle.std.proofs.Common.{◌∙◌, sym}
 use Rattle.world_steps.specs.Worlds.{setting_in, world_in}
 use Rattle.world_steps.proofs.state.State.call.Goals as goal
 use Rattle.std.proofs.lemmas.Result.{on_ok_weaker}
+use Rattle.world_steps.proofs.Became.{is_this}
 use Rattle.world_steps.proofs.LineEvents.{called_plays}
 
 -- src/play.rt:86:5
 pub returns-clause-ok : goal.returns-clause-ok
 returns-clause-ok c =
     on_ok_weaker c.hear_given.result
-    (λ e. record {
-      world = e ∙ called_plays (setting_in c.args.self.now) c.args.place (world_in c.args.self.now) c.args.client c.args.node c.in-Some.message c.in-Ask.ask c.in_ok-answer.answer c.requires.working (sym c.in-Some.is ∙ c.in_ok-message.ensures) c.in-Ask.is c.in_ok-answer.ensures.answer;
-      config = search rules;
-      lying_nodes = search rules;
-      lying_clients = search rules;
-    })
+    (λ h. is_this _ _ _ _ h
+    (called_plays (setting_in c.args.self.now) c.args.place (world_in c.args.self.now) c.args.client c.args.node c.in-Some.message c.in-Ask.ask c.in_ok-answer.answer c.requires.working (sym c.in-Some.is ∙ c.in_ok-message.ensures) c.in-Ask.is c.in_ok-answer.ensures.answer))
     c.hear_given.ensures.ok

@@ -9,6 +9,7 @@ use Rattle.world_steps.proofs.SettledUses.{left-is, may-leave, crash-uses}
 use Rattle.world_steps.specs.Worlds.{world_in}
 use Rattle.world_steps.specs.contracts.state.State.{the_view}
 use Rattle.world_steps.proofs.KeptWorlds.{raised, with_client_slot}
+use Rattle.world_steps.proofs.Became.{known_as}
 use Rattle.world_steps.proofs.ClientSlots.{update-known, world-client_slot, slot-lying, slot-client, slot-task, client_slot-there}
 use Rattle.world_steps.proofs.state.State.crash_client.Goals as goal
 
@@ -30,24 +31,19 @@ invariant_of-self c =
           (crash-uses c.self.inside c.args.client inside old c.index_mut-slot.ensures.value h c.self.invariant.2 (record old { crashed = true }) refl),
     )
 
-pub returns-clause-world : goal.returns-clause-world
-returns-clause-world c =
+pub returns : goal.returns
+returns c =
     let inside : c.args.client < length c.self.inside.client_slots.items = (let l = c.self.invariant.0.clients in let q = c.requires.client in omega (arith, l, q)) in
     let old = c.index_mut-slot.result.now in
     let there = c.index_mut-slot.ensures.value in
     let v = the_view c.self.inside in
-    world-client_slot c.self.inside c.args.client inside (record old { crashed = true }) c.self.inside.pool c.self.inside.records c.args.place
+    let world = world-client_slot c.self.inside c.args.client inside (record old { crashed = true }) c.self.inside.pool c.self.inside.records c.args.place
     ∙ (λ i. record (world_in v) {
       task = update-known (world_in v).task c.args.client _ (sym (slot-task c.self.inside c.args.client inside old there)) i;
       life = update-known (world_in v).life c.args.client _ (ap (λ x. x.life) (sym (slot-client c.self.inside c.args.client inside old there))) i;
       started = update-known (world_in v).started c.args.client _ (ap (λ x. x.started) (sym (slot-client c.self.inside c.args.client inside old there))) i;
       client_crashed = update (world_in v).client_crashed c.args.client true;
       place = c.args.place;
-    })
-    ∙ ap (λ x. record (world_in x) { client_crashed = update (world_in x).client_crashed c.args.client true; place = c.args.place }) c.self.view_is
-
-pub returns-clause-lying_clients : goal.returns-clause-lying_clients
-returns-clause-lying_clients c =
-    let inside : c.args.client < length c.self.inside.client_slots.items = (let l = c.self.invariant.0.clients in let q = c.requires.client in omega (arith, l, q)) in
-    let old = c.index_mut-slot.result.now in
-    slot-lying c.self.inside c.args.client inside (record old { crashed = true }) old c.index_mut-slot.ensures.value refl ∙ ap (λ v. v.lying_clients) c.self.view_is
+    }) in
+    known_as v c.args.self.now _ c.self.view_is (λ x. record (world_in x) { client_crashed = update (world_in x).client_crashed c.args.client true; place = c.args.place })
+    (record { now = world; config = refl; lying_nodes = refl; lying_clients = slot-lying c.self.inside c.args.client inside (record old { crashed = true }) old there refl })

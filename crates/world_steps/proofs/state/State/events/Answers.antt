@@ -1,12 +1,16 @@
-use Rattle.std.proofs.Common.{rules, ◌∙◌, ap, [], ◌∷◌}
+use Rattle.std.proofs.Common.{OnOk, sym, ◌∙◌, ap, subst, [], ◌∷◌}
 use Rattle.protocol.specs.Messages.{Message as Messages}
 use Rattle.run_words.specs.declared.line.Line.TheVariants as lines
 use Rattle.world_steps.specs.Worlds.{setting_in, world_in}
+use Rattle.world_steps.specs.Steps.{IsPlayedBy}
 use Rattle.world_steps.proofs.state.State.events.Goals as goal
 use Rattle.std.proofs.lemmas.Result.{on_ok_weaker}
-use Rattle.protocol.specs.World.{heard, sent}
+use Rattle.protocol.specs.World.{heard, sent, happens, only_place}
+use Rattle.protocol.specs.World.Event.{Prune as Prunes}
 use Rattle.protocol.proofs.Playing.{no_fault}
-use Rattle.world_steps.proofs.LineEvents.{is_node, is_pooled, heard_plays, told_plays}
+use Rattle.world_steps.proofs.Became.{is_this}
+use Rattle.world_steps.proofs.SingleEvents.{happens-place}
+use Rattle.world_steps.proofs.LineEvents.{placed, is_node, is_pooled, heard_plays, told_plays}
 
 -- src/play.rt:78:17
 pub prune-requires-clause-node : goal.prune-requires-clause-node
@@ -23,12 +27,7 @@ returns-in-Hear-clause-ok c =
     let line = lines.Hear c.in-Hear.client c.in-Hear.message in
     let there = is_pooled s c.args.place w c.in-Hear.message (no_fault s w line (rw c.in-Hear.is at c.requires.allowed)).message in
     rw c.in-Hear.is (on_ok_weaker c.hear.result
-    (λ e. record {
-      world = e ∙ heard_plays s c.args.place w c.in-Hear.client c.in-Hear.message there.0 there.1;
-      config = search rules;
-      lying_nodes = search rules;
-      lying_clients = search rules;
-    })
+    (λ h. is_this _ _ _ _ h (heard_plays s c.args.place w c.in-Hear.client c.in-Hear.message there.0 there.1))
     (c.hear.ensures.ok there.0 there.1))
 
 -- src/play.rt:39:5
@@ -37,10 +36,29 @@ returns-in_ok-message-in-Tell-clause-ok c =
     let s = setting_in c.args.self.now in
     let w = world_in c.args.self.now in
     rw c.in-Tell.is (on_ok_weaker c.hear_sent.result
-    (λ e. record {
-      world = e ∙ ap (λ (z : Messages). heard s (sent s w c.args.place (z ∷ [])) c.args.place z.client z z.body) (c.in_ok-message-in-Tell.ensures ∙ c.get-in-Tell.ensures) ∙ told_plays s c.args.place w c.in-Tell.message;
-      config = search rules;
-      lying_nodes = search rules;
-      lying_clients = search rules;
-    })
+    (λ h. is_this _ _ _ _ h
+    (ap (λ (z : Messages). heard s (sent s w c.args.place (z ∷ [])) c.args.place z.client z z.body) (c.in_ok-message-in-Tell.ensures ∙ c.get-in-Tell.ensures) ∙ told_plays s c.args.place w c.in-Tell.message))
     c.hear_sent.ensures.ok)
+
+pub returns-in-Call-clause-ok : goal.returns-in-Call-clause-ok
+returns-in-Call-clause-ok c = rw c.in-Call.is c.call.ensures.ok
+
+pub returns-in_ok-copy-in-Poke-clause-ok : goal.returns-in_ok-copy-in-Poke-clause-ok
+returns-in_ok-copy-in-Poke-clause-ok c =
+    rw c.in-Poke.is
+    (subst (λ (z : Messages). OnOk c.poke.result (IsPlayedBy c.args.self.now c.poke.new.self c.args.place (lines.Poke z))) (c.in_ok-copy-in-Poke.ensures ∙ c.get-in-Poke.ensures) c.poke.ensures.ok)
+
+pub returns-in_ok-message-in-Mix-clause-ok : goal.returns-in_ok-message-in-Mix-clause-ok
+returns-in_ok-message-in-Mix-clause-ok c =
+    rw c.in-Mix.is
+    (subst (λ (z : Messages). OnOk c.poke-in-Mix.result (IsPlayedBy c.args.self.now c.poke-in-Mix.new.self c.args.place (lines.Poke z))) c.in_ok-message-in-Mix.ensures c.poke-in-Mix.ensures.ok)
+
+pub returns-in-Prune-clause-ok : goal.returns-in-Prune-clause-ok
+returns-in-Prune-clause-ok c =
+    let s = setting_in c.args.self.now in
+    let w = world_in c.args.self.now in
+    let event = Prunes c.in-Prune.node c.in-Prune.block in
+    rw c.in-Prune.is
+    (on_ok_weaker c.prune.result
+    (λ h. is_this c.args.self.now c.prune.new.self (happens s w c.args.place event) (only_place s (happens s w c.args.place event) c.args.place) h (sym (placed s c.args.place (happens s w c.args.place event) (happens-place s w c.args.place event))))
+    c.prune.ensures.ok)

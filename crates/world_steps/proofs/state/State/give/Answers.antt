@@ -9,6 +9,7 @@ use Rattle.world_steps.specs.Worlds.{setting_in, world_in}
 use Rattle.world_steps.specs.Steps.{accepts_in, handles}
 use Rattle.world_steps.specs.contracts.state.State.{the_view}
 use Rattle.world_steps.proofs.KeptWorlds.{raised}
+use Rattle.world_steps.proofs.Became.{known_as}
 use Rattle.world_steps.proofs.NodeSlots.{within, node_slot-there, node_slots_versions, node_slots_same, with_node_slot, slot-lying, world-handled, accepts-node_slot, accepted-more, view-same}
 use Rattle.world_steps.proofs.state.State.give.Goals as goal
 
@@ -44,21 +45,22 @@ returns-in-Ok-clause-ok c =
     let world = world-handled c.self.inside i inside old there is c.args.ask.now (record old { stored = c.keep.new.node }) refl c.in-Ok.ensures.node in
     let accepts = accepts-node_slot c.self.inside i inside old there is c.args.ask.now in
     let told = ap (λ (xs : List Accepted). map accepted_of xs) c.in-Ok.ensures.told ∙ accepted-more s c.self.inside.accepted c.args.node block _ in
-    (λ j. record (world j) { pool = c.in_ok-send_all.ensures.ok j; accepted = told j; place = c.args.place })
-    ∙ (λ j. record (world_in (the_view c.self.inside)) {
-      pool = (handles s (world_in (the_view c.self.inside)) c.args.place i c.args.ask.now (c.args.message ∷ c.args.others)).pool;
-      versions = (handles s (world_in (the_view c.self.inside)) c.args.place i c.args.ask.now (c.args.message ∷ c.args.others)).versions;
-      accepted = one_more (world_in (the_view c.self.inside)).accepted (accepted_at s (sym c.from.ensures j) block (accepts j));
-      place = c.args.place;
+    let v = the_view c.self.inside in
+    known_as v c.args.self.now _ c.self.view_is (λ x. handles (setting_in x) (world_in x) c.args.place c.args.node c.args.ask.now (c.args.message ∷ c.args.others))
+    (record {
+      now =
+          (λ j. record (world j) { pool = c.in_ok-send_all.ensures.ok j; accepted = told j; place = c.args.place })
+          ∙ (λ j. record (world_in v) {
+            pool = (handles s (world_in v) c.args.place i c.args.ask.now (c.args.message ∷ c.args.others)).pool;
+            versions = (handles s (world_in v) c.args.place i c.args.ask.now (c.args.message ∷ c.args.others)).versions;
+            accepted = one_more (world_in v).accepted (accepted_at s (sym c.from.ensures j) block (accepts j));
+            place = c.args.place;
+          })
+          ∙ (λ j. handles s (world_in v) c.args.place (c.from.ensures j) c.args.ask.now (c.args.message ∷ c.args.others));
+      config = refl;
+      lying_nodes = slot-lying c.self.inside i inside old there (record old { stored = c.keep.new.node }) refl;
+      lying_clients = refl;
     })
-    ∙ (λ j. handles (setting_in (c.self.view_is j)) (world_in (c.self.view_is j)) c.args.place (c.from.ensures j) c.args.ask.now (c.args.message ∷ c.args.others))
-
-pub returns-in-Ok-clause-lying_nodes : goal.returns-in-Ok-clause-lying_nodes
-returns-in-Ok-clause-lying_nodes c =
-    let i = c.from.result in
-    let old = c.index_mut-slot.result.now in
-    let inside = within c.self.inside _ i c.args.node c.self.invariant.0 c.self.view_is c.from.ensures c.requires.node in
-    slot-lying c.self.inside i inside old c.index_mut-slot.ensures.value (record old { stored = c.keep.new.node }) refl ∙ ap (λ v. v.lying_nodes) c.self.view_is
 
 pub invariant_of-self-in-Err : goal.invariant_of-self-in-Err
 invariant_of-self-in-Err c =

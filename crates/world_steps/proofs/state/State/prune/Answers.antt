@@ -8,6 +8,7 @@ use Rattle.node_core.specs.Seen.{SeenNode}
 use Rattle.world_steps.specs.Worlds.{setting_in, world_in}
 use Rattle.world_steps.specs.contracts.state.State.{the_view}
 use Rattle.world_steps.proofs.KeptWorlds.{raised}
+use Rattle.world_steps.proofs.Became.{is_this, known_as, passed}
 use Rattle.world_steps.proofs.NodeSlots.{within, node_slot-there, node_slots_versions, node_slots_same, with_node_slot, slot-lying, world-versions, versions-there, view-same, held_after_err}
 use Rattle.world_steps.proofs.state.State.prune.Goals as goal
 
@@ -43,25 +44,26 @@ returns-clause-ok c =
     let v = the_view c.self.inside in
     let world = world-versions c.self.inside i inside old there (record old { stored = c.keep_prune.new.self }) refl c.args.block _ l (ap (λ (a : SeenNode). a.blocks) c.in_ok-keep_prune.ensures.ok) in
     let same = versions-there c.self.inside i inside old there c.args.block l in
-    (λ j. record (world j) { place = c.args.place })
-    ∙ (λ j. record (world_in v) {
-      versions = update (world_in v).versions i (update ((world_in v).versions i) c.args.block (pruned (setting (is.config j)) stamp (sym same j)));
-      place = c.args.place;
-    })
-    ∙ (λ j. pruned_at (setting_in (c.self.view_is j)) (world_in (c.self.view_is j)) c.args.place (c.from.ensures j) c.args.block (Some stamp))
-    ∙ ap (pruned_at (setting_in c.args.self.now) (world_in c.args.self.now) c.args.place c.args.node c.args.block) (sym c.in-Some.is ∙ c.block_use.ensures.given)
-
-pub returns-clause-lying_nodes : goal.returns-clause-lying_nodes
-returns-clause-lying_nodes c =
-    let i = c.from.result in
-    let old = c.index_mut-slot.result.now in
-    let inside = within c.self.inside _ i c.args.node c.self.invariant.0 c.self.view_is c.from.ensures c.requires.node in
-    slot-lying c.self.inside i inside old c.index_mut-slot.ensures.value (record old { stored = c.keep_prune.new.self }) refl ∙ ap (λ v. v.lying_nodes) c.self.view_is
+    let became = known_as v c.args.self.now _ c.self.view_is (λ x. pruned_at (setting_in x) (world_in x) c.args.place c.args.node c.args.block (Some stamp))
+    (record {
+      now =
+          (λ j. record (world j) { place = c.args.place })
+          ∙ (λ j. record (world_in v) {
+            versions = update (world_in v).versions i (update ((world_in v).versions i) c.args.block (pruned (setting (is.config j)) stamp (sym same j)));
+            place = c.args.place;
+          })
+          ∙ (λ j. pruned_at (setting_in v) (world_in v) c.args.place (c.from.ensures j) c.args.block (Some stamp));
+      config = refl;
+      lying_nodes = slot-lying c.self.inside i inside old there (record old { stored = c.keep_prune.new.self }) refl;
+      lying_clients = refl;
+    }) in
+    is_this c.args.self.now _ _ _ became
+    (ap (pruned_at (setting_in c.args.self.now) (world_in c.args.self.now) c.args.place c.args.node c.args.block) (sym c.in-Some.is ∙ c.block_use.ensures.given))
 
 pub returns-in_default-clause-ok : goal.returns-in_default-clause-ok
 returns-in_default-clause-ok c =
     let v = c.args.self.now in
-    ap world_in c.pass.ensures ∙ ap (pruned_at (setting_in v) (world_in v) c.args.place c.args.node c.args.block) (sym c.in_default.is ∙ c.block_use.ensures.given)
+    is_this v _ _ _ (passed v c.pass.new.self c.args.place c.pass.ensures) (ap (pruned_at (setting_in v) (world_in v) c.args.place c.args.node c.args.block) (sym c.in_default.is ∙ c.block_use.ensures.given))
 
 pub invariant_of-self : goal.invariant_of-self
 invariant_of-self c =

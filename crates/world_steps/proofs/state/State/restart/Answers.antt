@@ -1,7 +1,9 @@
 use Rattle.std.proofs.Common.{refl, ◌∙◌, ap, arith}
 use Rattle.protocol.specs.World.{only_place}
+use Rattle.world_steps.specs.contracts.state.State.{the_view}
 use Rattle.world_steps.specs.Worlds.{setting_in, world_in}
 use Rattle.world_steps.proofs.KeptWorlds.{raised}
+use Rattle.world_steps.proofs.Became.{known_as}
 use Rattle.world_steps.proofs.NodeSlots.{within, node_slot-there, node_slots_same, with_node_slot, slot-lying, view-same, held_after_err}
 use Rattle.world_steps.proofs.state.State.restart.Goals as goal
 
@@ -35,11 +37,10 @@ returns-clause-ok c =
     let old = c.index_mut-slot.result.now in
     let inside = within c.self.inside _ i c.args.node c.self.invariant.0 c.self.view_is c.from.ensures c.requires.node in
     let same = view-same c.self.inside i inside old c.index_mut-slot.ensures.value (record old { stored = c.in_ok-again.again }) refl refl c.in_ok-again.ensures in
-    ap (λ v. only_place (setting_in v) (world_in v) c.args.place) (same ∙ c.self.view_is)
-
-pub returns-clause-lying_nodes : goal.returns-clause-lying_nodes
-returns-clause-lying_nodes c =
-    let i = c.from.result in
-    let old = c.index_mut-slot.result.now in
-    let inside = within c.self.inside _ i c.args.node c.self.invariant.0 c.self.view_is c.from.ensures c.requires.node in
-    slot-lying c.self.inside i inside old c.index_mut-slot.ensures.value (record old { stored = c.in_ok-again.again }) refl ∙ ap (λ v. v.lying_nodes) c.self.view_is
+    known_as (the_view c.self.inside) c.args.self.now _ c.self.view_is (λ v. only_place (setting_in v) (world_in v) c.args.place)
+    (record {
+      now = ap (λ v. only_place (setting_in v) (world_in v) c.args.place) same;
+      config = refl;
+      lying_nodes = slot-lying c.self.inside i inside old c.index_mut-slot.ensures.value (record old { stored = c.in_ok-again.again }) refl;
+      lying_clients = refl;
+    })

@@ -1,11 +1,13 @@
-use Rattle.std.proofs.Common.{◌<◌, length, get_or, refl, sym, ◌∙◌, ap, arith}
+use Rattle.std.proofs.Common.{◌<◌, length, get_or, sym, ◌∙◌, ap, arith}
 use Rattle.protocol.specs.World.{started_by}
 use Rattle.client_core.specs.Clients.{ClientView, started, with_started, mail_of}
+use Rattle.world_steps.specs.contracts.state.State.{the_view}
 use Rattle.world_steps.specs.Worlds.{setting_in, world_in}
 use Rattle.world_steps.specs.Steps.{client_in}
-use Rattle.world_steps.proofs.KeptWorlds.{client_slot-within}
-use Rattle.world_steps.proofs.ClientSlots.{slot-lying, slot-client, slot-crashed}
-use Rattle.world_steps.proofs.StartedOperations.{new_task, begun-kept, begun-uses, begun-world}
+use Rattle.world_steps.proofs.KeptWorlds.{client-within}
+use Rattle.world_steps.proofs.ClientSlots.{slot-client, slot-crashed}
+use Rattle.world_steps.proofs.Became.{known_as}
+use Rattle.world_steps.proofs.StartedOperations.{new_task, begun-kept, begun-uses, begun-became}
 use Rattle.world_steps.proofs.BlockUses.{use-few}
 use Rattle.protocol.specs.Seen.{client_at}
 use Rattle.world_steps.proofs.state.State.start.Goals as goal
@@ -21,16 +23,16 @@ pub invariant_of-self-2 : goal.invariant_of-self-2
 invariant_of-self-2 c =
     let is = c.in_ok-starter.ensures ∙ c.client_of.ensures.same ∙ ap (λ v. client_in v c.args.client) (sym c.self.view_is) in
     rw (c.len-index.ensures, c.block_of-block.ensures) (
-      begun-kept c.self.inside c.args.client (client_slot-within _ _ _ _ _ c.self.invariant.0 c.args.client c.requires.client) c.index_mut-slot.result.now c.index_mut-slot.ensures.value c.self.invariant.0
+      begun-kept c.self.inside c.args.client (client-within c.self.inside c.self.invariant.0 c.args.client c.requires.client) c.index_mut-slot.result.now c.index_mut-slot.ensures.value c.self.invariant.0
           c.args.op c.args.place (let l = c.requires.later in let e = ap (λ v. v.seen.place) c.self.view_is in omega (arith, l, e)) c.start.new.self
           (c.in_ok-mail.ensures.ok ∙ ap (λ (x : ClientView). with_started x (started x c.args.op)) is) c.add.new.records c.in_ok-add.ensures.told,
       c.self.invariant.1,
-      begun-uses c.self.inside c.args.client (client_slot-within _ _ _ _ _ c.self.invariant.0 c.args.client c.requires.client) c.index_mut-slot.result.now c.index_mut-slot.ensures.value c.self.invariant.0
+      begun-uses c.self.inside c.args.client (client-within c.self.inside c.self.invariant.0 c.args.client c.requires.client) c.index_mut-slot.result.now c.index_mut-slot.ensures.value c.self.invariant.0
           c.args.op c.args.place (let l = c.requires.later in let e = ap (λ v. v.seen.place) c.self.view_is in omega (arith, l, e)) c.start.new.self
           (c.in_ok-mail.ensures.ok ∙ ap (λ (x : ClientView). with_started x (started x c.args.op)) is) c.add.new.records c.in_ok-add.ensures.told
           c.self.invariant.2
-          (ap (λ x. x.task) (sym (slot-client c.self.inside c.args.client (client_slot-within _ _ _ _ _ c.self.invariant.0 c.args.client c.requires.client) c.index_mut-slot.result.now c.index_mut-slot.ensures.value)) ∙ ap (λ v. (client_at v.seen c.args.client).task) c.self.view_is ∙ c.requires.idle)
-          (sym (slot-crashed c.self.inside c.args.client (client_slot-within _ _ _ _ _ c.self.invariant.0 c.args.client c.requires.client) c.index_mut-slot.result.now c.index_mut-slot.ensures.value) ∙ ap (λ v. (world_in v).client_crashed c.args.client) c.self.view_is ∙ c.requires.awake)
+          (ap (λ x. x.task) (sym (slot-client c.self.inside c.args.client (client-within c.self.inside c.self.invariant.0 c.args.client c.requires.client) c.index_mut-slot.result.now c.index_mut-slot.ensures.value)) ∙ ap (λ v. (client_at v.seen c.args.client).task) c.self.view_is ∙ c.requires.idle)
+          (sym (slot-crashed c.self.inside c.args.client (client-within c.self.inside c.self.invariant.0 c.args.client c.requires.client) c.index_mut-slot.result.now c.index_mut-slot.ensures.value) ∙ ap (λ v. (world_in v).client_crashed c.args.client) c.self.view_is ∙ c.requires.awake)
           c.index_mut-block_use.result.now (let l = c.requires.block in let n = c.self.invariant.2.count in let e = ap (λ v. v.config.blocks) c.self.view_is in omega (arith, l, n, e))
           (c.index_mut-block_use.ensures.value ∙ ap (λ j. get_or c.self.inside.uses.items j c.index_mut-block_use.result.now) c.block_of-block.ensures),
     )
@@ -39,14 +41,8 @@ pub returns-clause-ok : goal.returns-clause-ok
 returns-clause-ok c =
     let is = c.in_ok-starter.ensures ∙ c.client_of.ensures.same ∙ ap (λ v. client_in v c.args.client) (sym c.self.view_is) in
     rw c.len-index.ensures
-    (begun-world c.self.inside c.args.client (client_slot-within _ _ _ _ _ c.self.invariant.0 c.args.client c.requires.client) c.index_mut-slot.result.now c.index_mut-slot.ensures.value c.self.invariant.0
+    (known_as (the_view c.self.inside) c.args.self.now _ c.self.view_is (λ v. started_by (setting_in v) (world_in v) c.args.place c.args.client (new_task v c.args.client c.args.op c.args.place))
+    (begun-became c.self.inside c.args.client (client-within c.self.inside c.self.invariant.0 c.args.client c.requires.client) c.index_mut-slot.result.now c.index_mut-slot.ensures.value c.self.invariant.0
     c.args.op c.args.place (let l = c.requires.later in let e = ap (λ v. v.seen.place) c.self.view_is in omega (arith, l, e)) c.start.new.self
     (c.in_ok-mail.ensures.ok ∙ ap (λ (x : ClientView). with_started x (started x c.args.op)) is) c.add.new.records c.in_ok-add.ensures.told
-    c.add.new.pool c.in_ok-mail.mail c.in_ok-add.ensures.sent (c.in_ok-mail.ensures.mail ∙ ap (λ (x : ClientView). mail_of x (started x c.args.op)) is))
-    ∙ ap (λ v. started_by (setting_in v) (world_in v) c.args.place c.args.client (new_task v c.args.client c.args.op c.args.place)) c.self.view_is
-
-pub returns-clause-lying_clients : goal.returns-clause-lying_clients
-returns-clause-lying_clients c =
-    slot-lying c.self.inside c.args.client (client_slot-within _ _ _ _ _ c.self.invariant.0 c.args.client c.requires.client)
-    (record c.index_mut-slot.result.now { client = c.start.new.self; start = c.args.place; index = c.len-index.result }) c.index_mut-slot.result.now c.index_mut-slot.ensures.value refl
-    ∙ ap (λ v. v.lying_clients) c.self.view_is
+    c.add.new.pool c.in_ok-mail.mail c.in_ok-add.ensures.sent (c.in_ok-mail.ensures.mail ∙ ap (λ (x : ClientView). mail_of x (started x c.args.op)) is)))
