@@ -12,7 +12,7 @@ use Rattle.protocol.specs.Operations.{is_counted, Task, Decision, decide, outsta
 use Rattle.protocol.specs.World.Event.{Lie as Lies}
 use Rattle.protocol.specs.Operations.Decision.{GoesOn, Ends}
 use Rattle.protocol.specs.World.{World, only_place, happens, sent, given, heard, heard_by, advanced, decided, answer_of, all_happen}
-use Rattle.protocol.specs.Lines.{plays, called, given_at, heard_at, is_actor}
+use Rattle.protocol.specs.Lines.{plays, called, given_at, heard_at, is_actor, is_ask_to}
 use Rattle.protocol.specs.Lines.Actor.{Node}
 use Rattle.run_words.specs.declared.line.Line.TheVariants.{Call, Give, Hear, Tell, Poke}
 use Rattle.world_steps.specs.Steps.{handles, asked_by}
@@ -94,6 +94,14 @@ module _ (s : Setting) (place : ℕ) where
   -- an actor that a line names is there
   pub is_node : (w : World) (i : ℕ) → not (is_actor s w (Node i)) ≡ false → i < s.n
   is_node w i e = grind (arith, nat_tests)
+
+  -- a message that isn't misgiven to its node is an ask
+  pub is_ask : (m : Message) → not (is_ask_to m.node m.body m) ≡ false → (ask : Ask) × (m.body ≡ Asks ask)
+  is_ask m e = at m.body refl e
+    where
+      at : (b : Body) → m.body ≡ b → not (is_ask_to m.node b m) ≡ false → (ask : Ask) × (m.body ≡ Asks ask)
+      at (Asks ask) f g = (ask, f)
+      at (Answers reply) f g = absurd (cc)
 
   -- a message whose number is that of one is there
   pub is_pooled : (w : World) (k : ℕ) → nat_le (length w.pool) k ≡ false → (m : Message) × (slice_get w.pool k ≡ Some m)

@@ -13,7 +13,7 @@ ghost use Rattle.run_words.specs.declared.record.Record.{Record as Told};
 ghost use Rattle.client_core.specs.Clients.{hears, goes_to, is_only_counted};
 ghost use Rattle.protocol.specs.Seen.Hearing.{Counted};
 ghost use Rattle.world_steps.specs.Steps.{HasBecome, accepts_in, handles, client_in, IsAnswer};
-ghost use Rattle.world_steps.specs.AnswerEffects.{IsEffect, next_mail, answer_does, IsSame, Becomes, MayApply, goes_on, settled, applied};
+ghost use Rattle.world_steps.specs.AnswerEffects.{IsEffect, next_mail, answer_does, IsSame, Becomes, goes_on, settled};
 
 use crate::answer_effect::AnswerEffect;
 use crate::block_use::{greater, leave, stamp_given};
@@ -105,26 +105,8 @@ impl State {
         &self.client_slots[client as usize].client
     }
 
-    /// Does an answer's effect to the client, and tells in its record what came of it.
-    fn apply(&mut self, client: u32, effect: AnswerEffect)
-        requires client { client ≤ 1000 }
-        requires awake { (world_in self.now).client_crashed client ≡ false }
-        requires effect { MayApply self.now client effect }
-        ensures { HasBecome self.old self.new (applied (world_in self.old)
-            (client_in self.old client) ((world_in self.old).task client) effect) }
-    {
-        match effect {
-            AnswerEffect::Same => {}
-            AnswerEffect::Counts { node, tag, reply } => self.count(client, node, tag, reply),
-            AnswerEffect::Goes(hearer) => self.go_on(client, Box::into_inner(hearer)),
-            AnswerEffect::Ends(hearer, outcome) => {
-                self.end(client, Box::into_inner(hearer), outcome)
-            }
-        }
-    }
-
     /// A client's operation counts an answer, and its phase goes on. What its record tells stays true.
-    fn count(&mut self, client: u32, node: u8, tag: Tag, reply: Reply)
+    pub(crate) fn count(&mut self, client: u32, node: u8, tag: Tag, reply: Reply)
         requires client { client ≤ 1000 }
         requires counts { is_only_counted
             (answer_does (client_in self.now client) node tag reply) ≡ true }
@@ -140,7 +122,7 @@ impl State {
     }
 
     /// A client's operation goes on.
-    fn go_on(&mut self, client: u32, hearer: Client)
+    pub(crate) fn go_on(&mut self, client: u32, hearer: Client)
         requires client { client ≤ 1000 }
         requires hearer { IsSame self.now client hearer }
         requires busy { (u : SeenTask) × (hearer.seen.task ≡ Some u) }
@@ -157,7 +139,7 @@ impl State {
     }
 
     /// A client's operation ends.
-    fn end(&mut self, client: u32, hearer: Client, outcome: Outcome)
+    pub(crate) fn end(&mut self, client: u32, hearer: Client, outcome: Outcome)
         requires client { client ≤ 1000 }
         requires awake { (world_in self.now).client_crashed client ≡ false }
         requires hearer { IsSame self.now client hearer }
@@ -194,7 +176,7 @@ impl State {
     {
         let (effect, mail) = self.heard(client, &self.pool.as_slice()[message])?;
         self.send(place, mail)?;
-        self.apply(client, effect);
+        effect.apply(self, client);
         Ok(())
     }
 
@@ -217,7 +199,7 @@ impl State {
         let (effect, next) = self.heard(client, &message)?;
         let mail = ahead(self.alloc, message, next)?;
         self.send(place, mail)?;
-        self.apply(client, effect);
+        effect.apply(self, client);
         Ok(())
     }
 
@@ -246,7 +228,7 @@ impl State {
         let _ = &self.place;
         let (effect, next) = self.heard(client, &message)?;
         self.give(place, node, ask, added, message, next)?;
-        self.apply(client, effect);
+        effect.apply(self, client);
         Ok(())
     }
 

@@ -79,7 +79,7 @@ impl State {
                 let message = message.get().copy()?;
                 self.hear_sent(place, message.client, message)
             }
-            Line::Poke { message } => self.poke(place, message.get().copy()?),
+            Line::Poke { message } => self.poke(place, message.get()),
             Line::False { client, node, rule } => self.tell_false(place, *client, *node, *rule),
             Line::Sound {
                 client,
@@ -89,7 +89,7 @@ impl State {
                 value,
             } => {
                 let message = self.sound_ask(*client, *node, *block, *time, value)?;
-                self.poke(place, message)
+                self.poke(place, &message)
             }
             Line::Mix {
                 client,
@@ -100,7 +100,7 @@ impl State {
                 other,
             } => {
                 let message = self.mix_ask(*client, *node, *block, *time, value, other)?;
-                self.poke(place, message)
+                self.poke(place, &message)
             }
             Line::Prune { node, block } => self.prune(place, *node, *block),
             Line::Back { client } => self.come_back(place, *client),
@@ -140,13 +140,13 @@ impl State {
         let Some(message) = self.pool.get(number as usize) else {
             return Ok(());
         };
+        let message = message.copy()?;
         let Body::Ask(ask) = &message.body else {
             return Ok(());
         };
-        let ask = ask.copy()?;
-        let (answer, added) = self.answer(node, message, &ask)?;
+        let (answer, added) = self.answer(node, &message, ask)?;
         let others = Mail::new(self.alloc);
-        self.give(place, node, &ask, added, answer, others)
+        self.give(place, node, ask, added, answer, others)
     }
 
     /// A message is sent.
@@ -161,22 +161,22 @@ impl State {
     }
 
     /// An ask is sent, and its node is given it.
-    fn poke(&mut self, place: u64, message: Message) -> Result<(), NoMemory>
+    fn poke(&mut self, place: u64, message: &Message) -> Result<(), NoMemory>
         requires later { self.now.seen.place < place }
-        requires node { message.node < self.now.config.n }
-        requires asked { IsAskOf message.node message }
-        ensures ok { OnOk result (IsPlayedBy self.old self.new place (lines.Poke message)) }
+        requires node { message.now.node < self.now.config.n }
+        requires asked { IsAskOf message.now.node message.now }
+        ensures ok { OnOk result (IsPlayedBy self.old self.new place (lines.Poke message.now)) }
         ensures err { OnErr result (self.new ≡ self.old) }
     {
         let Body::Ask(ask) = &message.body else {
             return Ok(());
         };
-        let ask = ask.copy()?;
         let node = message.node;
-        let (answer, added) = self.answer(node, &message, &ask)?;
+        let poked = message.copy()?;
+        let (answer, added) = self.answer(node, message, ask)?;
         let mut others = Mail::new(self.alloc);
         others.push(answer)?;
-        self.give(place, node, &ask, added, message, others)
+        self.give(place, node, ask, added, poked, others)
     }
 
     /// A lying node answers what the client asks by a rule, and the client hears it.

@@ -1,8 +1,8 @@
-use Rattle.std.proofs.Common.{OnOk, sym, ◌∙◌, ap, subst, [], ◌∷◌}
+use Rattle.std.proofs.Common.{refl, OnOk, sym, ◌∙◌, ap, subst, [], ◌∷◌}
 use Rattle.protocol.specs.Messages.{Message as Messages}
 use Rattle.run_words.specs.declared.line.Line.TheVariants as lines
 use Rattle.world_steps.specs.Worlds.{setting_in, world_in}
-use Rattle.world_steps.specs.Steps.{IsPlayedBy}
+use Rattle.world_steps.specs.Steps.{IsPlayedBy, IsAskOf}
 use Rattle.world_steps.proofs.state.State.events.Goals as goal
 use Rattle.std.proofs.lemmas.Result.{on_ok_weaker}
 use Rattle.protocol.specs.World.{heard, sent, happens, only_place}
@@ -10,7 +10,7 @@ use Rattle.protocol.specs.World.Event.{Prune as Prunes}
 use Rattle.protocol.proofs.Playing.{no_fault}
 use Rattle.world_steps.proofs.Became.{is_this}
 use Rattle.world_steps.proofs.SingleEvents.{happens-place}
-use Rattle.world_steps.proofs.LineEvents.{placed, is_node, is_pooled, heard_plays, told_plays}
+use Rattle.world_steps.proofs.LineEvents.{placed, is_node, is_ask, is_pooled, heard_plays, told_plays}
 
 -- src/play.rt:78:17
 pub prune-requires-clause-node : goal.prune-requires-clause-node
@@ -43,10 +43,10 @@ returns-in_ok-message-in-Tell-clause-ok c =
 pub returns-in-Call-clause-ok : goal.returns-in-Call-clause-ok
 returns-in-Call-clause-ok c = rw c.in-Call.is c.call.ensures.ok
 
-pub returns-in_ok-copy-in-Poke-clause-ok : goal.returns-in_ok-copy-in-Poke-clause-ok
-returns-in_ok-copy-in-Poke-clause-ok c =
+pub returns-in-Poke-clause-ok : goal.returns-in-Poke-clause-ok
+returns-in-Poke-clause-ok c =
     rw c.in-Poke.is
-    (subst (λ (z : Messages). OnOk c.poke.result (IsPlayedBy c.args.self.now c.poke.new.self c.args.place (lines.Poke z))) (c.in_ok-copy-in-Poke.ensures ∙ c.get-in-Poke.ensures) c.poke.ensures.ok)
+    (subst (λ (z : Messages). OnOk c.poke.result (IsPlayedBy c.args.self.now c.poke.new.self c.args.place (lines.Poke z))) c.get-in-Poke.ensures c.poke.ensures.ok)
 
 pub returns-in_ok-message-in-Mix-clause-ok : goal.returns-in_ok-message-in-Mix-clause-ok
 returns-in_ok-message-in-Mix-clause-ok c =
@@ -62,3 +62,11 @@ returns-in-Prune-clause-ok c =
     (on_ok_weaker c.prune.result
     (λ h. is_this c.args.self.now c.prune.new.self (happens s w c.args.place event) (only_place s (happens s w c.args.place event) c.args.place) h (sym (placed s c.args.place (happens s w c.args.place event) (happens-place s w c.args.place event))))
     c.prune.ensures.ok)
+
+pub poke-requires-clause-asked : goal.poke-requires-clause-asked
+poke-requires-clause-asked c =
+    let s = setting_in c.args.self.now in
+    let w = world_in c.args.self.now in
+    let fine = no_fault s w (lines.Poke c.in-Poke.message) (rw c.in-Poke.is at c.requires.allowed) in
+    let asked = is_ask s c.args.place c.in-Poke.message fine.receiver in
+    subst (λ (z : Messages). IsAskOf z.node z) (sym c.get-in-Poke.ensures) (refl, asked.0, asked.1)

@@ -38,7 +38,7 @@ returns-clause-ok c = λ m known.
     let asked = c.requires.answer in
     let same_asked = here v.seen.pool c.as_slice.result.now c.args.message x asked.0 c.index-as_slice-message.is (c.as_slice.ensures ∙ ap (λ y. y.seen.pool) c.self.view_is) asked.1 in
     let e = c.in_ok-send.ensures.ok in
-    and_then v c.send.new.self c.apply.new.self _ _ _ e c.apply.ensures
+    and_then v c.send.new.self c.apply.new.state _ _ _ e c.apply.ensures
     (heard-applied v k c.args.place x (subst (λ y. IsAnswer k y) (sym same_asked) asked.2) c.in_ok-effect.effect (world_in v) refl
     (subst (λ y. Fits y.config.n y.seen.place (client_at y.seen k).task) c.self.view_is (slot-fits c.self.inside c.self.invariant.0 k c.requires.client)) c.in_ok-effect.ensures.effect
     (client_in c.send.new.self k) (λ i. record { config = e.config i; id = k; seen = slice_index_or (c.in_ok-send.ensures.clients i) k new_client })

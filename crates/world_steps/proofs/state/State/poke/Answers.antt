@@ -1,8 +1,7 @@
-use Rattle.std.proofs.Common.{rules, ◌∙◌, sym, ap}
+use Rattle.std.proofs.Common.{rules}
 use Rattle.world_steps.specs.Worlds.{setting_in, world_in}
 use Rattle.world_steps.proofs.state.State.poke.Goals as goal
 use Rattle.std.proofs.lemmas.Result.{on_ok_weaker}
-use Rattle.wire_forms.specs.declared.message.Body.TheVariants.{Ask as Asks}
 use Rattle.world_steps.proofs.Became.{is_this}
 use Rattle.world_steps.proofs.LineEvents.{poked_plays}
 
@@ -11,5 +10,5 @@ pub returns-clause-ok : goal.returns-clause-ok
 returns-clause-ok c =
     on_ok_weaker c.give.result
     (λ h. is_this _ _ _ _ h
-    (poked_plays (setting_in c.args.self.now) c.args.place (world_in c.args.self.now) c.args.message c.in_ok-ask.ask c.in_ok-answer.answer (c.in-Ask.is ∙ ap Asks (sym c.in_ok-ask.ensures)) c.in_ok-answer.ensures.answer _ (search rules)))
+    (poked_plays (setting_in c.args.self.now) c.args.place (world_in c.args.self.now) c.args.message.now c.in-Ask.ask c.in_ok-answer.answer c.in-Ask.is c.in_ok-answer.ensures.answer _ (search rules)))
     c.give.ensures.ok
