@@ -1,13 +1,16 @@
 -- Cells and seats that come back as they were, for a phase by locks.
 use Rattle.std.proofs.Common.{◌≡◌, ℕ, suc, List, [], ◌∷◌, map, refl, sym, ap, subst, ◌∙◌, arith, inl, inr}
-use Rattle.std.specs.Prelude.{◌⊎◌, All, false}
+use Rattle.std.specs.declared.option.Option.TheVariants.{Some}
+use Rattle.std.specs.Prelude.{◌⊎◌, All, false, slice_get}
 use Rattle.std.specs.List.{AllZip, Contains}
 use Rattle.quorum_rules.specs.Limits.{Numbers}
 use Rattle.crews.specs.Crews.{Beside}
 use Rattle.crews.proofs.Places.{place_of, contains_at, all_at, all_from, get_map, map_get}
 use Rattle.event_clock.specs.Passes.{ClockId}
+use Rattle.journals.specs.declared.node.NodeEntry.{NodeEntry}
+use Rattle.journals.specs.declared.desk.DeskAct.{DeskAct}
 use Rattle.journals.specs.declared.desk.DeskEntry.{DeskEntry}
-use Rattle.journals.specs.Steps.{IsOwn}
+use Rattle.journals.specs.Steps.{side, IsOwn}
 use Rattle.locked_nodes.specs.declared.slot.Slot.{Slot}
 use Rattle.locked_nodes.specs.Slots.{slot_of, slots_of, Cover}
 use Rattle.locked_nodes.specs.Cells.{CellView, rechartered}
@@ -15,7 +18,7 @@ use Rattle.client_desks.specs.Desks.{DeskView}
 use Rattle.phase_threads.specs.declared.duty.Seat.{Seat}
 use Rattle.phase_threads.specs.declared.phase.Left.{Left}
 use Rattle.phase_threads.specs.Phases.{MayPhase, HasPhased}
-use Rattle.run_journals.specs.Standing.{AreCells, IsCellOf, PairsStand, HasSideIn, HasWorked}
+use Rattle.run_journals.specs.Standing.{AreCells, IsCellOf, PairsStand, HasSideIn, HasSideOn, HasWorked}
 
 pub beside_map : {A B : Type 0} (f : A → B) (xs : List A) (ys : List B) → Beside (λ i x y. y ≡ f x) xs ys → ys ≡ map f xs
 beside_map f [] [] b = refl
@@ -45,13 +48,14 @@ worked_again (c ∷ cells) [] z = absurd z
 worked_again (c ∷ cells) (n ∷ new) z = (record { charter = z.0.charter; grew = z.0.grew }, worked_again cells new z.1)
 
 module _ (cells : List CellView) where
+  cell_again : (config : Numbers) (of : ClockId) (c : CellView) → c.pass.clock ≡ c.charter.pass.clock → IsCellOf config of c → IsCellOf config of (again c)
+  cell_again config of c ticks is = record { cluster = is.cluster; some = is.some; ticks = ticks ∙ is.ticks }
+
   cells_again : (config : Numbers) (of : ClockId) → All (λ (c : CellView). c.pass.clock ≡ c.charter.pass.clock) cells → AreCells config of cells → AreCells config of (map again cells)
   cells_again config of own are = record {
     each = all_from (IsCellOf config of) (map again cells) (λ k d at.
         let c = map_get again cells k d at in
-        let is = all_at (IsCellOf config of) cells k c.0 are.each c.1 in
-        let ticks = all_at (λ (x : CellView). x.pass.clock ≡ x.charter.pass.clock) cells k c.0 own c.1 in
-        subst (IsCellOf config of) c.2 (record { cluster = is.cluster; some = is.some; ticks = ticks ∙ is.ticks }));
+        subst (IsCellOf config of) c.2 (cell_again config of c.0 (all_at (λ (x : CellView). x.pass.clock ≡ x.charter.pass.clock) cells k c.0 own c.1) (all_at (IsCellOf config of) cells k c.0 are.each c.1)));
     cover = subst (Cover config.n) (sym (slots_again cells)) are.cover;
   }
 
@@ -61,12 +65,15 @@ module _ (cells : List CellView) where
       let place = place_of cells s.cell s.there in
       inr (record { cell = again s.cell; there = contains_at (map again cells) place.0 (again s.cell) (get_map again cells place.0 s.cell place.1); of = s.of; stands = s.stands; number = s.number; agree = s.agree })
 
+  called_again : (desks : List DeskView) → PairsStand cells desks → (k : ℕ) (old d : CellView) (n : NodeEntry) (c : ℕ) (act : DeskAct) → slice_get cells k ≡ Some old → again old ≡ d → Contains d.journal n → side n.act ≡ Some (c, act) → HasSideOn desks c n.number act
+  called_again desks pairs k old d n c act at same has is = pairs.called old n c act (contains_at cells k old at) (subst (λ (x : CellView). Contains x.journal n) (sym same) has) is
+
   pairs_again : (desks : List DeskView) → PairsStand cells desks → PairsStand (map again cells) desks
   pairs_again desks pairs = record {
     called = λ d n c act there has is.
         let place = place_of (map again cells) d there in
         let old = map_get again cells place.0 d place.1 in
-        pairs.called old.0 n c act (contains_at cells place.0 old.0 old.1) (subst (λ (x : CellView). Contains x.journal n) (sym old.2) has) is;
+        called_again desks pairs place.0 old.0 d n c act old.1 old.2 has is;
     answered = λ d e there has. side_again d.id e (pairs.answered d e there has);
   }
 

@@ -93,11 +93,17 @@ module _ {T P : Type 0} (count : ℕ) where
     each_of i k hand p b g (inr x) (inl y) = absurd (let lt = within boxes k b y in let n = so.full i g.was g.there in let e = x.0 in omega (arith, lt, n, e))
     each_of i k hand p b g (inr x) (inr y) = x.1 ∙ ap (λ (z : Taking T P). new_putter z.inbox i) (sym y.1)
 
+    each_in : (i k : ℕ) (hand : List (Putting T P)) (p : Putting T P) (b : Taking T P) → Got i hand → slice_get hand k ≡ Some p → slice_get (boxes ++ box ∷ []) k ≡ Some b → p ≡ new_putter b.inbox i
+    each_in i k hand p b g here there = each_of i k hand p b g (get_snoc g.was (new_putter box.inbox i) k p (ap (λ (l : List (Putting T P)). slice_get l k) (sym g.is) ∙ here)) (get_snoc boxes box k b there)
+
+    full_in : (i : ℕ) (hand : List (Putting T P)) → Got i hand → length hand ≡ length (boxes ++ box ∷ [])
+    full_in i hand g = ap length g.is ∙ length-append g.was (new_putter box.inbox i ∷ []) ∙ ap (λ (n : ℕ). n + 1) (so.full i g.was g.there) ∙ sym (length-append boxes (box ∷ []))
+
     pub spread_more : AreSpread count (boxes ++ box ∷ []) new
     spread_more = record {
       count = dealt.count ∙ so.count;
-      full = λ i hand at. let g = got i hand at in ap length g.is ∙ length-append g.was (new_putter box.inbox i ∷ []) ∙ ap (λ n. n + 1) (so.full i g.was g.there) ∙ sym (length-append boxes (box ∷ []));
-      each = λ i k hand p b at here there. let g = got i hand at in each_of i k hand p b g (get_snoc g.was (new_putter box.inbox i) k p (ap (λ l. slice_get l k) (sym g.is) ∙ here)) (get_snoc boxes box k b there);
+      full = λ i hand at. full_in i hand (got i hand at);
+      each = λ i k hand p b at here there. each_in i k hand p b (got i hand at) here there;
     }
 
 -- posts one after another

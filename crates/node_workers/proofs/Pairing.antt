@@ -1,5 +1,6 @@
 -- From what workers told and desks heard to what cells and desks say of each other.
-use Rattle.std.proofs.Common.{◌≡◌, ℕ, zero, suc, ◌<◌, List, [], ◌∷◌, length, map, refl, sym, ap, subst, ◌∙◌, arith, inl, inr, Bool, true, false, true≢false, cond}
+use Rattle.std.proofs.Common.{◌≡◌, ℕ, zero, suc, ◌<◌, List, [], ◌∷◌, ◌++◌, length, map, refl, sym, ap, subst, ◌∙◌, arith, inl, inr, Bool, true, false, true≢false, cond}
+use Rattle.std.specs.declared.option.Option.{Option}
 use Rattle.std.specs.declared.option.Option.TheVariants.{Some}
 use Rattle.std.specs.declared.result.Result.{Result}
 use Rattle.std.specs.declared.result.Result.TheVariants.{Ok, Err}
@@ -23,8 +24,8 @@ use Rattle.client_desks.specs.Later.{IsLater}
 use Rattle.crews.specs.Crews.{Beside}
 use Rattle.node_mail.specs.declared.answered.Answered.{Answered}
 use Rattle.desk_keys.specs.declared.mail.ByMail.{ByMail}
-use Rattle.desk_keys.specs.Keys.{AgreeByMail, HasAnswer}
-use Rattle.node_serving.specs.Workers.{Line, WasTold, HasAnswered}
+use Rattle.desk_keys.specs.Keys.{AgreeByMail, HasAnswer, call_told}
+use Rattle.node_serving.specs.Workers.{Line, Tells, TellsOf, WasTold, HasAnswered}
 use Rattle.node_serving.proofs.Answering.{none_in}
 use Rattle.run_journals.specs.Standing.{HasSideIn, HasSideOn, PairsStand}
 use Rattle.crews.proofs.Places.{at_place, same_at, place_of, contains_at, within, all_at, right_of, left_of}
@@ -108,110 +109,162 @@ pub record Phase (clients : List ℕ) (cells now : List CellView) (rows : List (
   pub desks : length olds ≡ length mails
   pub seats : length clients ≡ length mails
 
+-- the call that an answer tells, and the act of the entry of which it tells
+as_told : (found : Option (ℕ × DeskAct)) (id c m n : ℕ) (call act : DeskAct) (entries : List DeskEntry) → found ≡ Some (id, call) → found ≡ Some (c, act) → n ≡ m → Contains entries (desk_entry m call) → (id ≡ c) × Contains entries (desk_entry n act)
+as_told found id c m n call act entries one other number stands =
+    let both : (id, call) ≡ (c, act) = same_Some {A = ℕ × DeskAct} (id, call) (c, act) (sym one ∙ other) in (
+      ap (λ (p : ℕ × DeskAct). p.0) both,
+      subst (λ (a : DeskAct). Contains entries (desk_entry n a)) (ap (λ (p : ℕ × DeskAct). p.1) both) (subst (λ (k : ℕ). Contains entries (desk_entry k call)) (sym number) stands),
+    )
+
+told_as : (n : NodeEntry) (a : Answered) (t : Tells n a) (c : ℕ) (act : DeskAct) (entries : List DeskEntry) → side n.act ≡ Some (c, act) → Contains entries (call_told a t.told) → (a.ask.client ≡ c) × Contains entries (desk_entry n.number act)
+told_as n a t c act entries is stands = as_told (side n.act) a.ask.client c (number_of t.told) n.number (Call a.way a.ask (reply_told t.told)) act entries t.agree is t.number stands
+
+-- a journal that has entries more
+stays_in : (n : NodeEntry) (old more new : List NodeEntry) → new ≡ old ++ more → Contains old n → Contains new n
+stays_in n old more new grew has = subst (λ (l : List NodeEntry). Contains l n) (sym grew) (Contains-append_left old more n has)
+
+comes_in : (n : NodeEntry) (old more new : List NodeEntry) → new ≡ old ++ more → Contains more n → Contains new n
+comes_in n old more new grew has = subst (λ (l : List NodeEntry). Contains l n) (sym grew) (Contains-append_right old more n has)
+
+parts_in : (n : NodeEntry) (old more new : List NodeEntry) → new ≡ old ++ more → Contains new n → Contains old n ⊎ Contains more n
+parts_in n old more new grew has = Contains-append_cases old more n (subst (λ (l : List NodeEntry). Contains l n) grew has)
+
+-- what each step finds is a variable of the next one, so that no proof spells out how it was found
 module _ (clients : List ℕ) (cells now : List CellView) (rows : List (List Line)) (olds news : List DeskView) (mails : List ByMail) (phase : Phase clients cells now rows olds news mails) where
   -- what stood on a desk stands there
+  side_later : (c n : ℕ) (act : DeskAct) (old new : DeskView) → Contains news new → IsLater old new → old.id ≡ c → Contains old.entries (desk_entry n act) → HasSideOn news c n act
+  side_later c n act old new there later client stands = record {
+    desk = new;
+    there = there;
+    client = later.id ∙ client;
+    stands = subst (λ (l : List DeskEntry). Contains l (desk_entry n act)) (sym later.entries) (Contains-append_left old.entries later.more (desk_entry n act) stands);
+  }
+
+  side_heard : (k c n : ℕ) (act : DeskAct) (s : HasSideOn olds c n act) (mail : ByMail) (new : DeskView) → slice_get olds k ≡ Some s.desk → slice_get news k ≡ Some new → IsHeard clients olds rows k mail new → HasSideOn news c n act
+  side_heard k c n act s mail new was at heard =
+      side_later c n act s.desk new (contains_at news k new at) (subst (λ (d : DeskView). IsLater d new) (same_at olds k heard.old s.desk heard.there was) heard.later) s.client s.stands
+
+  on_later_at : (k c n : ℕ) (act : DeskAct) (s : HasSideOn olds c n act) → slice_get olds k ≡ Some s.desk → HasSideOn news c n act
+  on_later_at k c n act s was =
+      let mail = at_place mails k (subst (λ (m : ℕ). k < m) phase.desks (within olds k s.desk was)) in
+      let new = right_of (IsHeard clients olds rows) mails news k mail.0 phase.heard mail.1 in
+      side_heard k c n act s mail.0 new.0 was new.1 new.2
+
   on_later : (c n : ℕ) (act : DeskAct) → HasSideOn olds c n act → HasSideOn news c n act
-  on_later c n act s =
-      let place = place_of olds s.desk s.there in
-      let mail = at_place mails place.0 (subst (λ m. place.0 < m) phase.desks (within olds place.0 s.desk place.1)) in
-      let new = right_of (IsHeard clients olds rows) mails news place.0 mail.0 phase.heard mail.1 in
-      let same : new.2.old ≡ s.desk = same_at olds place.0 new.2.old s.desk new.2.there place.1 in
-      let later : IsLater s.desk new.0 = subst (λ d. IsLater d new.0) same new.2.later in
-      record {
-        desk = new.0;
-        there = contains_at news place.0 new.0 new.1;
-        client = later.id ∙ s.client;
-        stands = subst (λ l. Contains l (desk_entry n act)) (sym later.entries) (Contains-append_left s.desk.entries later.more (desk_entry n act) s.stands);
-      }
+  on_later c n act s = let place = place_of olds s.desk s.there in on_later_at place.0 c n act s place.1
 
   -- what stood in a cell stands there
+  side_served : (k c : ℕ) (e : DeskEntry) (s : HasSideIn cells c e) (row : List Line) (new : CellView) → slice_get cells k ≡ Some s.cell → slice_get now k ≡ Some new → IsServed clients cells k row new → HasSideIn now c e
+  side_served k c e s row new was at served = record {
+    cell = new;
+    there = contains_at now k new at;
+    of = s.of;
+    stands = stays_in s.of served.old.journal served.answered.more new.journal served.answered.grew (subst (λ (x : CellView). Contains x.journal s.of) (sym (same_at cells k served.old s.cell served.there was)) s.stands);
+    number = s.number;
+    agree = s.agree;
+  }
+
+  in_later_at : (k c : ℕ) (e : DeskEntry) (s : HasSideIn cells c e) → slice_get cells k ≡ Some s.cell → HasSideIn now c e
+  in_later_at k c e s was =
+      let row = at_place rows k (subst (λ (m : ℕ). k < m) phase.all (within cells k s.cell was)) in
+      let new = right_of (IsServed clients cells) rows now k row.0 phase.served row.1 in
+      side_served k c e s row.0 new.0 was new.1 new.2
+
   in_later : (c : ℕ) (e : DeskEntry) → HasSideIn cells c e → HasSideIn now c e
-  in_later c e s =
-      let place = place_of cells s.cell s.there in
-      let row = at_place rows place.0 (subst (λ m. place.0 < m) phase.all (within cells place.0 s.cell place.1)) in
-      let new = right_of (IsServed clients cells) rows now place.0 row.0 phase.served row.1 in
-      let same : new.2.old ≡ s.cell = same_at cells place.0 new.2.old s.cell new.2.there place.1 in
-      let old : Contains new.2.old.journal s.of = subst (λ (x : CellView). Contains x.journal s.of) (sym same) s.stands in
-      record {
-        cell = new.0;
-        there = contains_at now place.0 new.0 new.1;
-        of = s.of;
-        stands = subst (λ l. Contains l s.of) (sym new.2.answered.grew) (Contains-append_left new.2.old.journal new.2.answered.more s.of old);
-        number = s.number;
-        agree = s.agree;
-      }
+  in_later c e s = let place = place_of cells s.cell s.there in in_later_at place.0 c e s place.1
 
   -- what a worker told stands on the desk of the client that asked
-  told_on : (k : ℕ) (row : List Line) (n : NodeEntry) (c : ℕ) (act : DeskAct) → slice_get rows k ≡ Some row → side n.act ≡ Some (c, act) → WasTold clients row n → HasSideOn news c n.number act
-  told_on k row n c act here is w =
-      let mail = at_place mails w.seat (subst (λ m. w.seat < m) phase.seats (within clients w.seat w.answer.ask.client w.client)) in
-      let desk = right_of (IsHeard clients olds rows) mails news w.seat mail.0 phase.heard mail.1 in
-      let put : Contains (items_from w.line.number (took mail.0.answers)) w.answer = subst (λ l. Contains l w.answer) (sym (desk.2.items k row w.line here w.there)) w.put in
-      let told = w.tells.told in
-      let stands = desk.2.agree.heard w.line.number w.answer told (taken_of w.line.number (took mail.0.answers) w.answer put) w.tells.is in
-      let both : (w.answer.ask.client, Call w.answer.way w.answer.ask (reply_told told)) ≡ (c, act) = same_Some {A = ℕ × DeskAct} (w.answer.ask.client, Call w.answer.way w.answer.ask (reply_told told)) (c, act) (sym w.tells.agree ∙ is) in
-      let client : w.answer.ask.client ≡ c = ap (λ (p : ℕ × DeskAct). p.0) both in
-      let call : Call w.answer.way w.answer.ask (reply_told told) ≡ act = ap (λ (p : ℕ × DeskAct). p.1) both in
-      let id : desk.0.id ≡ w.answer.ask.client = same_at clients w.seat desk.0.id w.answer.ask.client desk.2.client w.client in
+  told_at : (k : ℕ) (row : List Line) (n : NodeEntry) (c : ℕ) (act : DeskAct) (w : WasTold clients row n) (mail : ByMail) (desk : DeskView) → slice_get rows k ≡ Some row → side n.act ≡ Some (c, act) → slice_get news w.seat ≡ Some desk → IsHeard clients olds rows w.seat mail desk → HasSideOn news c n.number act
+  told_at k row n c act w mail desk here is at heard =
+      let put : Contains (items_from w.line.number (took mail.answers)) w.answer = subst (λ (l : List Answered). Contains l w.answer) (sym (heard.items k row w.line here w.there)) w.put in
+      let both = told_as n w.answer w.tells c act desk.entries is (heard.agree.heard w.line.number w.answer w.tells.told (taken_of w.line.number (took mail.answers) w.answer put) w.tells.is) in
       record {
-        desk = desk.0;
-        there = contains_at news w.seat desk.0 desk.1;
-        client = id ∙ client;
-        stands = subst (λ a. Contains desk.0.entries (desk_entry n.number a)) call (subst (λ m. Contains desk.0.entries (desk_entry m (Call w.answer.way w.answer.ask (reply_told told)))) (sym w.tells.number) stands);
+        desk = desk;
+        there = contains_at news w.seat desk at;
+        client = same_at clients w.seat desk.id w.answer.ask.client heard.client w.client ∙ both.0;
+        stands = both.1;
       }
 
-  called_at : (k : ℕ) (row : List Line) (cell : CellView) (served : IsServed clients cells k row cell) (n : NodeEntry) (c : ℕ) (act : DeskAct) → PairsStand cells olds → slice_get rows k ≡ Some row → side n.act ≡ Some (c, act)
+  told_on : (k : ℕ) (row : List Line) (n : NodeEntry) (c : ℕ) (act : DeskAct) → slice_get rows k ≡ Some row → side n.act ≡ Some (c, act) → WasTold clients row n → HasSideOn news c n.number act
+  told_on k row n c act here is w =
+      let mail = at_place mails w.seat (subst (λ (m : ℕ). w.seat < m) phase.seats (within clients w.seat w.answer.ask.client w.client)) in
+      let desk = right_of (IsHeard clients olds rows) mails news w.seat mail.0 phase.heard mail.1 in
+      told_at k row n c act w mail.0 desk.0 here is desk.1 desk.2
+
+  called_of : (k : ℕ) (row : List Line) (cell : CellView) (served : IsServed clients cells k row cell) (n : NodeEntry) (c : ℕ) (act : DeskAct) → PairsStand cells olds → slice_get rows k ≡ Some row → side n.act ≡ Some (c, act)
       → Contains served.old.journal n ⊎ Contains served.answered.more n → HasSideOn news c n.number act
-  called_at k row cell served n c act pairs here is (inl has) = on_later c n.number act (pairs.called served.old n c act (contains_at cells k served.old served.there) has is)
-  called_at k row cell served n c act pairs here is (inr has) = told_on k row n c act here is (served.answered.told n c act has is)
+  called_of k row cell served n c act pairs here is (inl has) = on_later c n.number act (pairs.called served.old n c act (contains_at cells k served.old served.there) has is)
+  called_of k row cell served n c act pairs here is (inr has) = told_on k row n c act here is (served.answered.told n c act has is)
+
+  called_at : (k : ℕ) (row : List Line) (cell : CellView) → IsServed clients cells k row cell → (n : NodeEntry) (c : ℕ) (act : DeskAct) → PairsStand cells olds → slice_get rows k ≡ Some row → Contains cell.journal n → side n.act ≡ Some (c, act) → HasSideOn news c n.number act
+  called_at k row cell served n c act pairs here has is = called_of k row cell served n c act pairs here is (parts_in n served.old.journal served.answered.more cell.journal served.answered.grew has)
 
   called : PairsStand cells olds → (cell : CellView) (n : NodeEntry) (c : ℕ) (act : DeskAct) → Contains now cell → Contains cell.journal n → side n.act ≡ Some (c, act) → HasSideOn news c n.number act
   called pairs cell n c act there has is =
       let place = place_of now cell there in
       let row = left_of (IsServed clients cells) rows now place.0 cell phase.served place.1 in
-      called_at place.0 row.0 cell row.2 n c act pairs row.1 is (Contains-append_cases row.2.old.journal row.2.answered.more n (subst (λ l. Contains l n) row.2.answered.grew has))
+      called_at place.0 row.0 cell row.2 n c act pairs row.1 has is
 
   -- what a desk heard stands in the cell of the worker that told it
+  heard_of : (seat : ℕ) (mail : ByMail) (d : DeskView) (e : DeskEntry) → IsHeard clients olds rows seat mail d → (a : HasAnswer (took mail.answers) e) (row : List Line) (cell : CellView) → slice_get now a.from ≡ Some cell
+      → (served : IsServed clients cells a.from row cell) → TellsOf clients served.answered.more seat a.answer → HasSideIn now d.id e
+  heard_of seat mail d e heard a row cell at served of =
+      let told : of.tells.told ≡ a.told = same_ok a.answer.told of.tells.told a.told of.tells.is a.tells in
+      let client : a.answer.ask.client ≡ d.id = same_at clients seat a.answer.ask.client d.id of.client heard.client in
+      record {
+        cell = cell;
+        there = contains_at now a.from cell at;
+        of = of.entry;
+        stands = comes_in of.entry served.old.journal served.answered.more cell.journal served.answered.grew of.there;
+        number = of.tells.number ∙ ap number_of told ∙ sym (ap (λ (x : DeskEntry). x.number) a.is);
+        agree = of.tells.agree ∙ ap (λ (t : Told). Some (a.answer.ask.client, Call a.answer.way a.answer.ask (reply_told t))) told ∙ ap (λ (c : ℕ). Some (c, Call a.answer.way a.answer.ask (reply_told a.told))) client ∙ ap (λ (x : DeskEntry). Some (d.id, x.act)) (sym a.is);
+      }
+
+  heard_line : (seat : ℕ) (mail : ByMail) (d : DeskView) (e : DeskEntry) → IsHeard clients olds rows seat mail d → (a : HasAnswer (took mail.answers) e) (row : List Line) (cell : CellView) (first line : Line) → slice_get rows a.from ≡ Some row → slice_get now a.from ≡ Some cell
+      → (served : IsServed clients cells a.from row cell) → slice_get served.first seat ≡ Some first → slice_get row seat ≡ Some line → HasSideIn now d.id e
+  heard_line seat mail d e heard a row cell first line here at served was is =
+      let number : line.number ≡ a.from = (served.answered.same.each seat first line was is).number ∙ served.numbers seat first was in
+      let all : items_from a.from (took mail.answers) ≡ line.put = ap (λ (p : ℕ). items_from p (took mail.answers)) (sym number) ∙ heard.items a.from row line here is in
+      let put : Contains line.put a.answer = subst (λ (l : List Answered). Contains l a.answer) all (of_taken a.from (took mail.answers) a.answer a.there) in
+      heard_of seat mail d e heard a row cell at served (served.answered.done seat line a.answer a.told is put a.tells)
+
+  heard_at : (seat : ℕ) (mail : ByMail) (d : DeskView) (e : DeskEntry) → IsHeard clients olds rows seat mail d → (a : HasAnswer (took mail.answers) e) (row : List Line) (cell : CellView) → slice_get rows a.from ≡ Some row → slice_get now a.from ≡ Some cell
+      → IsServed clients cells a.from row cell → HasSideIn now d.id e
+  heard_at seat mail d e heard a row cell here at served =
+      let lt = within clients seat d.id heard.client in
+      let n = served.count in
+      let m = served.answered.same.count in
+      let first = at_place served.first seat (omega (arith, lt, n)) in
+      let line = at_place row seat (omega (arith, lt, n, m)) in
+      heard_line seat mail d e heard a row cell first.0 line.0 here at served first.1 line.1
+
   heard_in : (seat : ℕ) (mail : ByMail) (d : DeskView) (e : DeskEntry) → IsHeard clients olds rows seat mail d → HasAnswer (took mail.answers) e → HasSideIn now d.id e
   heard_in seat mail d e heard a =
       let place = place_of (took mail.answers) (a.from, a.answer) a.there in
       let below = all_at (λ (i : ℕ × Answered). i.0 < length rows) (took mail.answers) place.0 (a.from, a.answer) heard.senders place.1 in
       let row = at_place rows a.from below in
       let cell = right_of (IsServed clients cells) rows now a.from row.0 phase.served row.1 in
-      let lines = cell.2.answered.same in
-      let seated : seat < length row.0 = let lt = within clients seat d.id heard.client in let n = cell.2.count in let m = lines.count in omega (arith, lt, n, m) in
-      let line = at_place row.0 seat seated in
-      let first = at_place cell.2.first seat (let m = lines.count in omega (arith, seated, m)) in
-      let number : line.0.number ≡ a.from = (lines.each seat first.0 line.0 first.1 line.1).number ∙ cell.2.numbers seat first.0 first.1 in
-      let all : items_from a.from (took mail.answers) ≡ line.0.put = ap (λ p. items_from p (took mail.answers)) (sym number) ∙ heard.items a.from row.0 line.0 row.1 line.1 in
-      let put : Contains line.0.put a.answer = subst (λ l. Contains l a.answer) all (of_taken a.from (took mail.answers) a.answer a.there) in
-      let of = cell.2.answered.done seat line.0 a.answer a.told line.1 put a.tells in
-      let told : of.tells.told ≡ a.told = same_ok a.answer.told of.tells.told a.told of.tells.is a.tells in
-      let client : a.answer.ask.client ≡ d.id = same_at clients seat a.answer.ask.client d.id of.client heard.client in
-      record {
-        cell = cell.0;
-        there = contains_at now a.from cell.0 cell.1;
-        of = of.entry;
-        stands = subst (λ l. Contains l of.entry) (sym cell.2.answered.grew) (Contains-append_right cell.2.old.journal cell.2.answered.more of.entry of.there);
-        number = of.tells.number ∙ ap number_of told ∙ sym (ap (λ (x : DeskEntry). x.number) a.is);
-        agree = of.tells.agree ∙ ap (λ t. Some (a.answer.ask.client, Call a.answer.way a.answer.ask (reply_told t))) told ∙ ap (λ c. Some (c, Call a.answer.way a.answer.ask (reply_told a.told))) client ∙ ap (λ (x : DeskEntry). Some (d.id, x.act)) (sym a.is);
-      }
+      heard_at seat mail d e heard a row.0 cell.0 row.1 cell.1 cell.2
 
-  old_in : (seat : ℕ) (d old : DeskView) (e : DeskEntry) → old.id ≡ d.id → IsOwn e.act ⊎ HasSideIn cells old.id e → IsOwn e.act ⊎ HasSideIn now d.id e
-  old_in seat d old e same (inl own) = inl own
-  old_in seat d old e same (inr s) = inr (in_later d.id e (subst (λ c. HasSideIn cells c e) same s))
+  old_in : (d old : DeskView) (e : DeskEntry) → old.id ≡ d.id → IsOwn e.act ⊎ HasSideIn cells old.id e → IsOwn e.act ⊎ HasSideIn now d.id e
+  old_in d old e same (inl own) = inl own
+  old_in d old e same (inr s) = inr (in_later d.id e (subst (λ (c : ℕ). HasSideIn cells c e) same s))
 
   answered_by : PairsStand cells olds → (seat : ℕ) (mail : ByMail) (d : DeskView) (e : DeskEntry) → IsHeard clients olds rows seat mail d → IsOwn e.act ⊎ (Contains mail.answers.inbox.place.began.value.entries e ⊎ HasAnswer (took mail.answers) e) → IsOwn e.act ⊎ HasSideIn now d.id e
   answered_by pairs seat mail d e heard (inl own) = inl own
   answered_by pairs seat mail d e heard (inr (inl before)) =
-      old_in seat d heard.old e (sym heard.later.id) (pairs.answered heard.old e (contains_at olds seat heard.old heard.there) (subst (λ l. Contains l e) heard.began before))
+      old_in d heard.old e (sym heard.later.id) (pairs.answered heard.old e (contains_at olds seat heard.old heard.there) (subst (λ (l : List DeskEntry). Contains l e) heard.began before))
   answered_by pairs seat mail d e heard (inr (inr a)) = inr (heard_in seat mail d e heard a)
+
+  answered_at : PairsStand cells olds → (seat : ℕ) (mail : ByMail) (d : DeskView) (e : DeskEntry) → IsHeard clients olds rows seat mail d → Contains d.entries e → IsOwn e.act ⊎ HasSideIn now d.id e
+  answered_at pairs seat mail d e heard has = answered_by pairs seat mail d e heard (heard.agree.asked e has)
 
   answered : PairsStand cells olds → (d : DeskView) (e : DeskEntry) → Contains news d → Contains d.entries e → IsOwn e.act ⊎ HasSideIn now d.id e
   answered pairs d e there has =
       let place = place_of news d there in
       let mail = left_of (IsHeard clients olds rows) mails news place.0 d phase.heard place.1 in
-      answered_by pairs place.0 mail.0 d e mail.2 (mail.2.agree.asked e has)
+      answered_at pairs place.0 mail.0 d e mail.2 has
 
   pub pairs_stand : PairsStand cells olds → PairsStand now news
   pairs_stand pairs = record { called = called pairs; answered = answered pairs }

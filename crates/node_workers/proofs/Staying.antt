@@ -40,24 +40,30 @@ phased_as {T = T} done of cells seats now are is same r has =
 
 module _ {T : Type 0} (config : Numbers) (of : ClockId) (cells : List CellView) (seats : List (Seat T)) (boxes : List (Taking Answered ClientPlace)) (rows : List (List Line)) (hands : List (List (Putting Asked NodePlace))) (workers : List WorkerView) (clients : List (KeysView × T)) (floor : FloorView)
     (o : Opened config of cells seats boxes rows hands workers clients floor) where
+  goes_by_mail : (i : ℕ) (s : Seat T) (x : KeysView × T) → IsClientOf boxes hands i s x → IsSome x.0.mail
+  goes_by_mail i s x c = subst (λ (m : Option ByMail). IsSome m) (sym (ap (λ (ks : KeysView). ks.mail) c.keys)) refl
+
   pub all_by_mail : All (λ (x : KeysView × T). IsSome x.0.mail) clients
   all_by_mail = all_from (λ (x : KeysView × T). IsSome x.0.mail) clients (λ i x at.
       let c = left_of (IsClientOf boxes hands) seats clients i x o.seated at in
-      subst (λ (m : Option ByMail). IsSome m) (sym (ap (λ (ks : KeysView). ks.mail) c.2.keys)) refl)
+      goes_by_mail i c.0 x c.2)
+
+  cell_stays : (k : ℕ) (cell new : CellView) (w : WorkerView) → IsWorkerOf of (ids_of seats) rows k cell w → w.cell ≡ new → new ≡ again cell
+  cell_stays k cell new w worker is = sym is ∙ worker.is
 
   pub cells_stay : map (λ (w : WorkerView). w.cell) workers ≡ map again cells
   cells_stay = beside_map again cells (map (λ (w : WorkerView). w.cell) workers) (record {
     count = o.nodes.count ∙ sym (length-map workers (λ (w : WorkerView). w.cell));
-    each = λ k x y at to. let w = map_get (λ (v : WorkerView). v.cell) workers k y to in sym w.2 ∙ (o.nodes.each k x w.0 at w.1).is;
+    each = λ k x y at to. let w = map_get (λ (v : WorkerView). v.cell) workers k y to in cell_stays k x y w.0 (o.nodes.each k x w.0 at w.1) w.2;
   })
 
-  seat_stays : (i : ℕ) (s : Seat T) (x : KeysView × T) → IsClientOf boxes hands i s x → seat_of x ≡ s
-  seat_stays i s x c = let desk = ap (λ (ks : KeysView). ks.desk) c.keys in λ j. record { desk = desk j; duty = c.duty j }
+  seat_stays : (i : ℕ) (s t : Seat T) (x : KeysView × T) → IsClientOf boxes hands i s x → seat_of x ≡ t → t ≡ s
+  seat_stays i s t x c is = let desk = ap (λ (ks : KeysView). ks.desk) c.keys in sym is ∙ (λ j. record { desk = desk j; duty = c.duty j })
 
   pub seats_stay : map seat_of clients ≡ seats
   seats_stay = beside_map (λ (s : Seat T). s) seats (map seat_of clients) (record {
     count = o.seated.count ∙ sym (length-map clients seat_of);
-    each = λ k s y at to. let x = map_get seat_of clients k y to in sym x.2 ∙ seat_stays k s x.0 (o.seated.each k s x.0 at x.1);
+    each = λ k s y at to. let x = map_get seat_of clients k y to in seat_stays k s y x.0 (o.seated.each k s x.0 at x.1) x.2;
   }) ∙ map_id seats
 
   pub cells_own : All (λ (c : CellView). c.pass.clock ≡ c.charter.pass.clock) cells
