@@ -45,6 +45,8 @@ sender (Answers reply) m = Node m.node
 pub record Roles : Type 0 where
   -- who takes part in it, its lies aside
   pub takes_part : List Actor
+  -- who of them must not have crashed
+  pub up : List Actor
   -- who tells its lie
   pub lies : List Actor
   -- the node and the client of the lie's message
@@ -52,11 +54,11 @@ pub record Roles : Type 0 where
 
 -- these take part, and nobody lies
 abbrev pub honest : List Actor → Roles
-honest actors = record { takes_part = actors; lies = []; named = [] }
+honest actors = record { takes_part = actors; up = actors; lies = []; named = [] }
 
 -- these take part, and this one's lie goes between this node and this client
 abbrev pub lie_of : Actor → ℕ → ℕ → List Actor → Roles
-lie_of liar i c actors = record { takes_part = actors; lies = liar ∷ []; named = Node i ∷ Client c ∷ [] }
+lie_of liar i c actors = record { takes_part = actors; up = actors; lies = liar ∷ []; named = Node i ∷ Client c ∷ [] }
 
 -- the parts in each line
 abbrev pub roles : Line → Roles
@@ -76,7 +78,7 @@ roles (False c i rule) = lie_of (Node i) i c (Client c ∷ [])
 roles (Sound c i block time value) = lie_of (Client c) i c (Node i ∷ [])
 roles (Mix c i block time value other) = lie_of (Client c) i c (Node i ∷ [])
 roles (Prune i block) = honest (Node i ∷ [])
-roles (Back c) = honest (Client c ∷ [])
+roles (Back c) = record { takes_part = Client c ∷ []; up = []; lies = []; named = [] }
 roles (Restart i) = honest (Node i ∷ [])
 
 -- an ask to node i
@@ -108,6 +110,10 @@ does_something (Some task) = true
 abbrev pub is_at : ℕ → Option Task → Bool
 is_at block None = false
 is_at block (Some task) = task.block == block
+
+-- a life has room for 2^32-1 operations, and a client for 2^32 lives
+abbrev pub no_room : ℕ → Bool
+no_room n = nat_le (2 ^ 32 - 1) n
 
 -- there is no stamp
 abbrev pub is_missing : Option Stamp → Bool
@@ -248,74 +254,34 @@ module _ (s : Setting) where
     abbrev pub is_busy_at : ℕ → Bool
     is_busy_at block = nat_lt 0 (count 1001 (λ c. is_at block (under_way w c)))
 
-    -- the message isn't in the pool
-    abbrev pub no_such_message : Line → Bool
-    no_such_message (Give i k) = nat_le (length w.pool) k
-    no_such_message (Hear c k) = nat_le (length w.pool) k
-    no_such_message _ = false
-
-    -- the message isn't one for this node or client
-    abbrev pub wrong_receiver : Line → Bool
-    wrong_receiver (Give i k) = misgiven i (slice_get w.pool k)
-    wrong_receiver (Hear c k) = misheard c (slice_get w.pool k)
-    wrong_receiver (Tell m) = misheard m.client (Some m)
-    wrong_receiver (Poke m) = misgiven m.node (Some m)
-    wrong_receiver _ = false
-
-    -- the client has an operation already
-    abbrev pub busy : Line → Bool
-    busy (Write c block value) = does_something (w.task c)
-    busy (Read c block) = does_something (w.task c)
-    busy _ = false
-
-    -- someone who takes part has crashed
-    abbrev pub crashed : Line → Bool
-    crashed (Back c) = false
-    crashed line = some_of has_crashed (roles line).takes_part
-
-    -- the client has nothing to ask
-    abbrev pub idle : Line → Bool
-    idle (Resend c) = is_idle c
-    idle (Call c i) = is_idle c
-    idle (False c i rule) = is_idle c
-    idle _ = false
-
-    -- an operation on the block is under way
-    abbrev pub not_quiet : Line → Bool
-    not_quiet (Prune i block) = is_busy_at block
-    not_quiet _ = false
-
-    -- no read of the block has completed
-    abbrev pub no_read : Line → Bool
-    no_read (Prune i block) = is_missing (greatest_given block w.records)
-    no_read _ = false
-
-    -- a life has room for 2^32-1 operations, and a client for 2^32 lives
-    abbrev pub worn : Line → Bool
-    worn (Write c block value) = nat_le (2 ^ 32 - 1) (w.started c)
-    worn (Read c block) = nat_le (2 ^ 32 - 1) (w.started c)
-    worn (Back c) = nat_le (2 ^ 32 - 1) (w.life c)
-    worn _ = false
-
-    -- who is to come back hasn't crashed
-    abbrev pub not_crashed : Line → Bool
-    not_crashed (Back c) = not (w.client_crashed c)
-    not_crashed _ = false
+    -- what else each line needs, and when that isn't so
+    abbrev pub lacks : Line → StepFault → Bool
+    lacks (Write c block value) Busy = does_something (w.task c)
+    lacks (Write c block value) Worn = no_room (w.started c)
+    lacks (Read c block) Busy = does_something (w.task c)
+    lacks (Read c block) Worn = no_room (w.started c)
+    lacks (Resend c) Idle = is_idle c
+    lacks (Call c i) Idle = is_idle c
+    lacks (Give i k) NoSuchMessage = nat_le (length w.pool) k
+    lacks (Give i k) WrongReceiver = misgiven i (slice_get w.pool k)
+    lacks (Hear c k) NoSuchMessage = nat_le (length w.pool) k
+    lacks (Hear c k) WrongReceiver = misheard c (slice_get w.pool k)
+    lacks (Tell m) WrongReceiver = misheard m.client (Some m)
+    lacks (Poke m) WrongReceiver = misgiven m.node (Some m)
+    lacks (False c i rule) Idle = is_idle c
+    lacks (Prune i block) NotQuiet = is_busy_at block
+    lacks (Prune i block) NoRead = is_missing (greatest_given block w.records)
+    lacks (Back c) Worn = no_room (w.life c)
+    lacks (Back c) NotCrashed = not (w.client_crashed c)
+    lacks _ _ = false
 
     -- the line meets the fault
     abbrev pub meets : Line → StepFault → Bool
     meets line NoSuchActor = some_of (λ a. not (is_actor a)) ((roles line).takes_part ++ (roles line).named)
-    meets line NoSuchMessage = no_such_message line
-    meets line WrongReceiver = wrong_receiver line
-    meets line Busy = busy line
-    meets line Crashed = crashed line
+    meets line Crashed = some_of has_crashed (roles line).up
     meets line NotALiar = some_of (λ a. not (is_liar a)) (roles line).lies
-    meets line Idle = idle line
     meets line IsALiar = some_of is_liar (roles line).takes_part
-    meets line NotQuiet = not_quiet line
-    meets line NoRead = no_read line
-    meets line Worn = worn line
-    meets line NotCrashed = not_crashed line
+    meets line missing = lacks line missing
 
     -- why a line is refused: the first fault that it meets
     abbrev pub fault : Line → Option StepFault

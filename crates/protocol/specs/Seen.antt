@@ -1,5 +1,5 @@
 -- What contracts see of the code's states, as first-order data, and the states of the definitions that they show.
-use Rattle.std.specs.Prelude.{ℕ, ◌+◌, ◌-◌, ◌*◌, ◌^◌, Bool, false, if◌then◌else◌, not, ◌&&◌, ◌==◌, nat_lt, List, [], ◌∷◌, replicate, Option, slice_index_or, slice_set}
+use Rattle.std.specs.Prelude.{ℕ, ◌+◌, ◌*◌, ◌^◌, Bool, false, if◌then◌else◌, not, ◌&&◌, nat_lt, List, [], ◌∷◌, replicate, Option, slice_index_or, slice_set}
 use Rattle.std.specs.declared.option.Option.TheVariants.{None, Some}
 use Rattle.protocol.specs.Messages.{Stamp, Version, Message, Reply, Tag}
 use Rattle.wire_forms.specs.declared.first.First.{First}

@@ -1,10 +1,10 @@
 -- Which faults a line can meet.
-use Rattle.std.proofs.Common.{◌≡◌, ℕ, refl}
+use Rattle.std.proofs.Common.{◌≡◌, refl}
 use Rattle.std.specs.Prelude.{find}
-use Rattle.run_words.specs.declared.line.Line.TheVariants.{Write, Read, Call, Back}
+use Rattle.run_words.specs.declared.line.Line.TheVariants.{Write, Read, Call}
 use Rattle.protocol.specs.Setting.{Setting}
 use Rattle.protocol.specs.World.{World}
-use Rattle.protocol.specs.Lines.{Line, some_of, roles, has_crashed, crashed, meets, fault}
+use Rattle.protocol.specs.Lines.{Line, meets, fault}
 use Rattle.world_steps.specs.Faults.{possible_faults}
 
 -- a line meets no fault but those that are looked for in it
@@ -13,8 +13,3 @@ no_other_fault s w (Call c i) = refl
 no_other_fault s w (Write c block value) = refl
 no_other_fault s w (Read c block) = refl
 no_other_fault s w _ = refl
-
--- a line that brings nobody back meets a crash where someone who takes part has crashed
-pub crash_met : (s : Setting) (w : World) (line : Line) → ((c : ℕ) → line ≡ Back c → ⊥) → some_of (has_crashed s w) (roles line).takes_part ≡ crashed s w line
-crash_met s w (Back c) h = absurd (h c refl)
-crash_met s w _ h = refl

@@ -21,4 +21,4 @@ listed (Two a b) = actor_of a ∷ actor_of b ∷ []
 
 -- the parts, in the definitions' words
 abbrev pub roles_of : Roles → AnyRoles
-roles_of r = record { takes_part = listed r.takes_part; lies = listed r.lies; named = listed r.named }
+roles_of r = record { takes_part = listed r.takes_part; up = listed r.up; lies = listed r.lies; named = listed r.named }

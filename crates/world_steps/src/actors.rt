@@ -1,6 +1,7 @@
 //! Who a line speaks of.
 
 ghost use Rattle.std.specs.Prelude.{◌≡◌};
+ghost use Rattle.run_words.specs.declared.line.Line.TheVariants.{Back};
 ghost use Rattle.protocol.specs.Lines.{honest, lie_of, roles, sender};
 ghost use Rattle.world_steps.specs.Actors.{actor_of, listed, roles_of};
 
@@ -27,6 +28,8 @@ pub(crate) enum Actors {
 pub(crate) struct Roles {
     /// Who takes part in it, its lies aside.
     pub(crate) takes_part: Actors,
+    /// Who of them must not have crashed.
+    pub(crate) up: Actors,
     /// Who tells its lie.
     pub(crate) lies: Actors,
     /// The node and the client of the lie's message.
@@ -36,6 +39,7 @@ pub(crate) struct Roles {
 /// The parts in each line.
 pub(crate) fn roles_in(line: &Line) -> Roles
     ensures takes_part { listed result.takes_part ≡ (roles line.now).takes_part }
+    ensures up { listed result.up ≡ (roles line.now).up }
     ensures lies { listed result.lies ≡ (roles line.now).lies }
     ensures named { listed result.named ≡ (roles line.now).named }
 {
@@ -44,8 +48,7 @@ pub(crate) fn roles_in(line: &Line) -> Roles
         | Line::Read { client, .. }
         | Line::Resend { client }
         | Line::Hear { client, .. }
-        | Line::CrashClient { client }
-        | Line::Back { client } => honest(one_client(*client)),
+        | Line::CrashClient { client } => honest(one_client(*client)),
         Line::Give { node, .. }
         | Line::CrashNode { node }
         | Line::Prune { node, .. }
@@ -54,6 +57,7 @@ pub(crate) fn roles_in(line: &Line) -> Roles
             honest(Actors::Two(Actor::Client(*client), Actor::Node(*node)))
         }
         Line::Lost { .. } => honest(Actors::Nobody),
+        Line::Back { client } => coming_back(*client),
         Line::Lie { message } => lie_in(message.get(), Actors::Nobody),
         Line::Tell { message } => lie_in(message.get(), one_client(message.get().client)),
         Line::Poke { message } => lie_in(message.get(), one_node(message.get().node)),
@@ -72,6 +76,19 @@ fn honest(takes_part: Actors) -> Roles
 {
     Roles {
         takes_part,
+        up: takes_part,
+        lies: Actors::Nobody,
+        named: Actors::Nobody,
+    }
+}
+
+/// The client takes part, though it has crashed.
+fn coming_back(client: u32) -> Roles
+    ensures { roles_of result ≡ roles (Back client) }
+{
+    Roles {
+        takes_part: one_client(client),
+        up: Actors::Nobody,
         lies: Actors::Nobody,
         named: Actors::Nobody,
     }
@@ -83,6 +100,7 @@ fn lie_of(liar: Actor, node: u8, client: u32, takes_part: Actors) -> Roles
 {
     Roles {
         takes_part,
+        up: takes_part,
         lies: Actors::One(liar),
         named: Actors::Two(Actor::Node(node), Actor::Client(client)),
     }

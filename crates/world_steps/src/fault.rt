@@ -71,7 +71,7 @@ impl State {
             StepFault::NoSuchMessage => self.lacks_message(line),
             StepFault::WrongReceiver => self.has_wrong_receiver(line),
             StepFault::Busy => self.is_busy(line),
-            StepFault::Crashed => self.meets_crashed(line),
+            StepFault::Crashed => self.some_crashed(roles_in(line).up),
             StepFault::NotALiar => self.some_honest(roles_in(line).lies),
             StepFault::Idle => self.asks_nothing(line),
             StepFault::IsALiar => self.some_lying(roles_in(line).takes_part),
@@ -223,17 +223,6 @@ impl State {
             Line::Write { client, .. } | Line::Read { client, .. } => self.has_task(*client),
             _ => false,
         }
-    }
-
-    /// Whether someone who takes part has crashed, in a line other than the one that ends a crash.
-    fn meets_crashed(&self, line: &Line) -> bool
-        ensures { result ≡ meets (setting_in self.now)
-            (world_in self.now) line.now StepFault.Crashed }
-    {
-        if let Line::Back { .. } = line {
-            return false;
-        }
-        self.some_crashed(roles_in(line).takes_part)
     }
 
     /// Whether the line needs what a client asks for, and the client asks for nothing.
