@@ -1,1 +1,2 @@
 pub mod OnlyCounted
+pub mod AnswersHeard

@@ -11,7 +11,9 @@ use Rattle.protocol.specs.Instance.{setting}
 use Rattle.protocol.specs.Operations.{mail}
 use Rattle.protocol.specs.Seen.{SeenTask, SeenOperation, SeenClient, Hearing, task_at, seen_begun, hearing, ops_of, block_of, work_of}
 use Rattle.protocol.specs.Seen.Hearing.{Ignored, Counted, Begins, Ended}
-use Rattle.operation_core.specs.Counting.{hears_in}
+use Rattle.operation_core.specs.Counting.{hears_in, IsPhaseEnd}
+use Rattle.client_core.specs.declared.step.Step.{Step}
+use Rattle.client_core.specs.declared.step.Step.TheVariants.{Ignored as Unheard, Counts, EndsPhase}
 use Rattle.client_core.specs.declared.heard.Heard.{Heard}
 use Rattle.client_core.specs.declared.heard.Heard.TheVariants.{Unchanged, More, Send, Ended as EndedWith}
 
@@ -72,6 +74,12 @@ is_only_counted Ignored = false
 is_only_counted (Counted t) = true
 is_only_counted (Begins t) = false
 is_only_counted (Ended outcome) = false
+
+-- it is what the hearing of a message does to the client
+abbrev pub IsStep : ClientView → Hearing → Step → Type 0
+IsStep c h Unheard = h ≡ Ignored
+IsStep c h (Counts node tag reply) = (t : SeenTask) × (h ≡ Counted t) × (hears_answer c node tag reply ≡ Counted t)
+IsStep c h (EndsPhase end) = IsPhaseEnd (operation_of c) h end
 
 -- the answer says what the message did, and the client did it
 abbrev pub IsHeard : ClientView → ClientView → Message → Heard → Type 0

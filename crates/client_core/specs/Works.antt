@@ -4,14 +4,9 @@ use Rattle.std.specs.declared.option.Option.TheVariants.{None, Some}
 use Rattle.quorum_rules.specs.Limits.{Numbers}
 use Rattle.stamp_order.specs.declared.Stamp.{Stamp}
 use Rattle.wire_forms.specs.Firsts.{first_of}
-use Rattle.protocol.specs.Instance.{setting}
-use Rattle.protocol.specs.Operations.{mail as mail_of}
-use Rattle.protocol.specs.Seen.{SeenTask, SeenOperation, Hearing, task_at, with_task}
-use Rattle.protocol.specs.Seen.Hearing.{Ignored, Counted, Begins, Ended}
+use Rattle.protocol.specs.Seen.{SeenTask, SeenOperation}
 use Rattle.client_core.specs.declared.client.Work.{Work}
 use Rattle.client_core.specs.declared.client.Work.TheVariants.{Idle, Writing, Reading}
-use Rattle.client_core.specs.declared.heard.Heard.{Heard}
-use Rattle.client_core.specs.declared.heard.Heard.TheVariants.{Unchanged, More, Send, Ended as EndedWith}
 
 -- the operation under way, or none
 abbrev pub task_of : Work → Option SeenTask
@@ -38,13 +33,6 @@ pub record IsClient (config : Numbers) (first : Stamp) (id life started : ℕ) (
   pub lives : life < 2 ^ 32
   pub starts : started < 2 ^ 32
   pub own : IsWork config id work
-
--- what the answer did is said, and done
-abbrev pub IsTold : SeenOperation → SeenOperation → Hearing → Heard → Type 0
-IsTold old new h Unchanged = (h ≡ Ignored) × (new ≡ old)
-IsTold old new h More = (t : SeenTask) × (h ≡ Counted t) × (new ≡ with_task old (Some t))
-IsTold old new h (Send mail) = (t : SeenTask) × (h ≡ Begins t) × (new ≡ with_task old (Some t)) × (mail ≡ mail_of (setting old.config) old.client (task_at 0 t))
-IsTold old new h (EndedWith outcome) = (h ≡ Ended outcome) × (new ≡ with_task old None)
 
 -- this operation of the client has begun
 pub record HasBegun (config : Numbers) (id : ℕ) (t : SeenTask) (work : Work) : Type 0 where

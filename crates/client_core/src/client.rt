@@ -1,24 +1,24 @@
-ghost use Rattle.std.specs.Prelude.{◌≡◌, ◌↔◌, ◌<◌, ◌-◌, ◌^◌, IsTrue, IsSome, MatchOption, IfOk, OnOk, OnErr, Some, None, true};
-ghost use Rattle.std.specs.Option.{ForSome};
+ghost use Rattle.std.specs.Prelude.{◌≡◌, ◌↔◌, ◌<◌, ◌-◌, ◌^◌, IsTrue, MatchOption, IfOk, OnOk, OnErr, Some, None, true};
 ghost use Rattle.protocol.specs.Seen.{ops_of, block_of, work_of, has_answered, phase_of, chosen_of};
 ghost use Rattle.protocol.specs.World.{Fits};
 ghost use Rattle.protocol.specs.Instance.{setting};
 ghost use Rattle.wire_forms.specs.Firsts.{first_of};
-ghost use Rattle.operation_core.specs.Counting.{begun_task, first_mail, hears_in, outstanding_in};
-ghost use Rattle.client_core.specs.Works.{HasBegun, IsTold};
-ghost use Rattle.client_core.specs.Clients.{operation_of, idle_client, hears_answer, with_task, with_started, started, mail_of, is_only_counted, goes_to, IsHeard};
+ghost use Rattle.operation_core.specs.Stages.{stage_of};
+ghost use Rattle.operation_core.specs.Counting.{begun_task, first_mail, ends_in, next_task, outstanding_in, MayBegin, IsPhaseEnd};
+ghost use Rattle.client_core.specs.Works.{HasBegun};
+ghost use Rattle.client_core.specs.Clients.{operation_of, idle_client, hears, hears_answer, with_task, with_started, started, mail_of, is_only_counted, goes_to, IsStep, IsHeard};
 
 use crate::heard::Heard;
+use crate::step::Step;
 use lists::{Copied, NoMemory};
-use operation_core::Operation;
+use operation_core::{Operation, PhaseEnd, Stage};
 use quorum_rules::Config;
-use read_core::{Reader, Reading};
-use run_words::Outcome;
+use read_core::Reader;
 use stamp_order::Stamp;
 use std::alloc::Global;
 use std::marker::Model;
 use wire_forms::{Body, First, Mail, Message, Op, Reply, Tag};
-use write_core::{Writer, Writing};
+use write_core::Writer;
 
 /// How many numbers the operations of one life have.
 const LIFE: u64 = 4_294_967_296;
@@ -135,33 +135,35 @@ impl Client {
         ensures ok { IfOk result (IsHeard self.old self.new message.now) }
         ensures err { OnErr result (self.new ≡ self.old) }
     {
-        let Body::Answer(reply) = &message.body else {
-            return Ok(Heard::Unchanged);
-        };
-        if message.client != self.id {
-            return Ok(Heard::Unchanged);
+        match self.prepare(message)? {
+            Step::Ignored => Ok(Heard::Unchanged),
+            Step::Counts { node, tag, reply } => {
+                self.count(node, tag, reply);
+                Ok(Heard::More)
+            }
+            Step::EndsPhase(PhaseEnd::Begins(stage, mail)) => {
+                self.go_on(stage);
+                Ok(Heard::Send(mail))
+            }
+            Step::EndsPhase(PhaseEnd::Ends(outcome)) => {
+                self.end();
+                Ok(Heard::Ended(outcome))
+            }
         }
-        let heard = match &mut self.work {
-            Work::Idle => Heard::Unchanged,
-            Work::Writing(writer) => hear_write(writer, message.node, message.tag, reply)?,
-            Work::Reading(reader) => hear_read(reader, message.node, message.tag, reply)?,
-        };
-        if let Heard::Ended(_) = &heard {
-            self.work = Work::Idle;
-        }
-        Ok(heard)
     }
 
-    /// Whether an answer to this client is one that the phase under way counts, and then waits for more: `count` hears it
-    /// without memory.
-    pub fn only_counts(&self, node: u8, tag: Tag, reply: &Reply) -> bool
-        ensures { result ≡ is_only_counted (hears_answer self.now node tag reply.now) }
+    /// What a message would do to the client. It takes all memory that this needs, and changes nothing: `count`, `go_on` and
+    /// `end` do it.
+    pub fn prepare(&self, message: &Message) -> Result<Step, NoMemory>
+        requires { phase_of self.now.seen.task < 2 ^ 64 - 1 }
+        ensures { IfOk result (IsStep self.now
+            (hears self.now self.now.seen.task message.now)) }
     {
-        match self.operation() {
-            Some(operation) => {
-                operation.counts(node, tag, reply) && !operation.ends_phase(node, tag, reply)
+        match &message.body {
+            Body::Answer(reply) if message.client == self.id => {
+                self.step_by(message.node, message.tag, reply)
             }
-            None => false,
+            _ => Ok(Step::Ignored),
         }
     }
 
@@ -175,6 +177,26 @@ impl Client {
             Work::Writing(writer) => writer.count(node, tag, reply),
             Work::Reading(reader) => reader.count(node, tag, reply),
         }
+    }
+
+    /// Begins the next phase of the operation under way.
+    pub fn go_on(&mut self, stage: Stage)
+        requires { MayBegin (operation_of self.old) stage }
+        ensures { self.new ≡ with_task self.old
+            (next_task self.old.config self.old.seen.task (stage_of stage)) }
+    {
+        match &mut self.work {
+            Work::Idle => {}
+            Work::Writing(writer) => writer.go_on(stage),
+            Work::Reading(reader) => reader.go_on(stage),
+        }
+    }
+
+    /// Ends the operation under way.
+    pub fn end(&mut self)
+        ensures { self.new ≡ with_task self.old None }
+    {
+        self.work = Work::Idle;
     }
 
     /// The present phase's message to the node; None exactly where the client is idle or there is no such node.
@@ -245,6 +267,38 @@ impl Client {
         }
     }
 
+    // What an answer to the client would do to the operation under way.
+    fn step_by(&self, node: u8, tag: Tag, reply: &Reply) -> Result<Step, NoMemory>
+        requires { phase_of self.now.seen.task < 2 ^ 64 - 1 }
+        ensures { IfOk result (IsStep self.now (hears_answer self.now node tag reply.now)) }
+    {
+        let Some(operation) = self.operation() else {
+            return Ok(Step::Ignored);
+        };
+        if operation.ends_phase(node, tag, reply) {
+            return Ok(Step::EndsPhase(self.phase_end(node, tag, reply)?));
+        }
+        if !operation.counts(node, tag, reply) {
+            return Ok(Step::Ignored);
+        }
+        let reply = reply.copy()?;
+        Ok(Step::Counts { node, tag, reply })
+    }
+
+    // What the phase under way comes to with an answer that ends it.
+    fn phase_end(&self, node: u8, tag: Tag, reply: &Reply) -> Result<PhaseEnd, NoMemory>
+        requires ends { ends_in (operation_of self.now) node tag reply.now ≡ true }
+        requires phase { phase_of self.now.seen.task < 2 ^ 64 - 1 }
+        ensures { IfOk result (IsPhaseEnd (operation_of self.now)
+            (hears_answer self.now node tag reply.now)) }
+    {
+        match &self.work {
+            Work::Idle => unreachable!(),
+            Work::Writing(writer) => writer.phase_end(node, tag, reply),
+            Work::Reading(reader) => reader.phase_end(node, tag, reply),
+        }
+    }
+
     // The operation under way, if there is one.
     fn operation(&self) -> Option<&Operation>
         ensures { MatchOption result (self.now.seen.task ≡ None)
@@ -281,48 +335,6 @@ fn begin(
             let (writer, mail) = Writer::begin(alloc, config, id, number, *block, value)?;
             Ok((Work::Writing(writer), mail))
         }
-    }
-}
-
-/// Hears an answer in a write.
-fn hear_write(writer: &mut Writer, node: u8, tag: Tag, reply: &Reply) -> Result<Heard, NoMemory>
-    requires { IsSome writer.old.task }
-    ensures ok { IfOk result (IsTold writer.old writer.new
-        (hears_in writer.old node tag reply.now)) }
-    ensures err { OnErr result (writer.new ≡ writer.old) }
-{
-    if !writer.counts(node, tag, reply) {
-        return Ok(Heard::Unchanged);
-    }
-    match writer.hear(node, tag, reply)? {
-        Writing::More => Ok(Heard::More),
-        Writing::Send(mail) => Ok(Heard::Send(mail)),
-        Writing::Wrote(stamp) => Ok(Heard::Ended(Outcome::Wrote(stamp))),
-        Writing::Spent => Ok(Heard::Ended(Outcome::Spent)),
-    }
-}
-
-/// Hears an answer in a read.
-fn hear_read(reader: &mut Reader, node: u8, tag: Tag, reply: &Reply) -> Result<Heard, NoMemory>
-    requires { ForSome reader.old.task (λ t. t.phase < 2 ^ 64 - 1) }
-    ensures ok { IfOk result (IsTold reader.old reader.new
-        (hears_in reader.old node tag reply.now)) }
-    ensures err { OnErr result (reader.new ≡ reader.old) }
-{
-    if !reader.counts(node, tag, reply) {
-        return Ok(Heard::Unchanged);
-    }
-    let rounds = reader.rounds();
-    match reader.hear(node, tag, reply)? {
-        Reading::More => Ok(Heard::More),
-        Reading::Send(mail) => Ok(Heard::Send(mail)),
-        Reading::Got { stamp, value, how } => Ok(Heard::Ended(Outcome::Gave {
-            stamp,
-            value,
-            how,
-            rounds,
-        })),
-        Reading::Outvoted(nodes) => Ok(Heard::Ended(Outcome::Outvoted(nodes))),
     }
 }
 

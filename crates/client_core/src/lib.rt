@@ -3,7 +3,9 @@
 
 pub mod client;
 pub mod heard;
+pub mod step;
 
 pub use client::Client;
 pub use heard::Heard;
 pub use run_words::{How, Nodes, Outcome};
+pub use step::Step;

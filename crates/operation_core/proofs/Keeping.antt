@@ -1,10 +1,10 @@
 -- What is kept beside an operation's answers goes on to fit them.
-use Rattle.std.proofs.Common.{◌≡◌, ℕ, ◌+◌, ◌-◌, ◌<◌, ◌≤◌, true, false, not, ◌&&◌, List, length, replicate, Option, refl, sym, ◌∙◌, ap, inl, inr, arith, length-set, ltb}
+use Rattle.std.proofs.Common.{◌≡◌, ℕ, ◌+◌, ◌<◌, ◌≤◌, true, not, ◌&&◌, List, length, replicate, Option, refl, sym, ◌∙◌, ap, inl, inr, arith, length-set, ltb}
 use Rattle.std.specs.declared.option.Option.TheVariants.{None, Some}
 use Rattle.std.specs.Prelude.{slice_set, leb, ◌==◌}
 use Rattle.std.proofs.lemmas.Bool.{cases_lt}
 use Rattle.std.proofs.lemmas.Bool.Decides.{nat_tests}
-use Rattle.std.proofs.lemmas.List.{length-replicate, set-get_or, get_or-set_same, get_or_past}
+use Rattle.std.proofs.lemmas.List.{length-replicate, get_or-set_same, get_or_past}
 use Rattle.quorum_rules.specs.Limits.{Numbers, IsValid, wait_of}
 use Rattle.wire_forms.specs.declared.op.Op.{Op}
 use Rattle.protocol.specs.Messages.{Reply, Tag}
@@ -16,7 +16,7 @@ use Rattle.protocol.proofs.Seeing.{at_list, at_replicate}
 use Rattle.operation_core.specs.declared.stage.Stage.{Stage}
 use Rattle.operation_core.specs.declared.stage.Stage.TheVariants.{Times, Versions, Storing}
 use Rattle.operation_core.specs.Stages.{stage_of, FitsStage}
-use Rattle.operation_core.specs.Counting.{answer_at, task_in, IsOperation, forgotten_task}
+use Rattle.operation_core.specs.Counting.{answer_at, task_in, IsOperation}
 use Rattle.operation_core.proofs.Counts.{count_one_more, count_none, count_most}
 
 -- an operation that no node has answered
@@ -64,25 +64,6 @@ module _ (c : Numbers) (phase rounds : ℕ) (stage : Option Stage) (answers : Li
       fits = h.fits;
     }
 
-    module _ (was : is_answered (answer_at answers node) ≡ true) where
-      less : heard ≡ answered (setting c) (answer_at (slice_set answers node None)) + 1
-      less =
-          h.counted
-          ∙ count_one_more c.n node (λ i. is_answered (answer_at (slice_set answers node None) i)) (λ i. is_answered (answer_at answers i)) there
-          (ap is_answered (get_or-set_same answers node None None inside)) was (λ i apart. sym (others None i apart))
-
-      pub some_heard : 1 ≤ heard
-      some_heard = omega (arith, less)
-
-      pub forgotten_is : IsOperation c phase rounds stage (slice_set answers node None) (heard - 1)
-      forgotten_is = record {
-        valid = h.valid;
-        places = length-set answers node None ∙ h.places;
-        counted = omega (arith, less);
-        few = h.few;
-        fits = h.fits;
-      }
-
 not_answered : (o : Option Reply) → not (is_answered o) ≡ true → o ≡ None
 not_answered None e = refl
 not_answered (Some reply) e = absurd (cc)
@@ -116,22 +97,6 @@ module _ (c : Numbers) (number : ℕ) (op : Op) (phase rounds : ℕ) (answers : 
       let now = counted_once c phase rounds (Some stage) answers heard h node new.0 new.1 reply in
       let last : ends_phase (setting c) (task_in number op phase rounds (Some stage) answers) node tag reply ≡ not (ltb (heard + 1) (wait_of c)) = rw (e, now) refl in
       turned (heard + 1) (wait_of c) ∙ sym last
-
-pub forgotten_in_is : (number : ℕ) (op : Op) (phase rounds : ℕ) (answers : List (Option Reply)) (node : ℕ) (stage : Option Stage)
-    → task_in number op phase rounds stage (slice_set answers node None) ≡ forgotten_task (task_in number op phase rounds stage answers) node
-forgotten_in_is number op phase rounds answers node None = refl
-forgotten_in_is number op phase rounds answers node (Some stage) = refl
-
-unanswered : (o : Option Reply) → is_answered o ≡ false → o ≡ None
-unanswered None e = refl
-unanswered (Some reply) e = absurd (cc)
-
--- forgetting an answer that isn't there changes nothing
-pub nothing_forgotten : (number : ℕ) (op : Op) (phase rounds : ℕ) (answers : List (Option Reply)) (node : ℕ) (stage : Option Stage)
-    → is_answered (answer_at answers node) ≡ false → task_in number op phase rounds stage answers ≡ forgotten_task (task_in number op phase rounds stage answers) node
-nothing_forgotten number op phase rounds answers node stage e =
-    let same : slice_set answers node None ≡ answers = ap (λ o. slice_set answers node o) (sym (unanswered (answer_at answers node) e)) ∙ set-get_or answers node None in
-    ap (task_in number op phase rounds stage) (sym same) ∙ forgotten_in_is number op phase rounds answers node stage
 
 -- a further phase has at most one round more
 pub rounds_few : (stage : Stage) (rounds phase : ℕ) → rounds ≤ phase → rounds_after (stage_of stage) rounds ≤ phase + 1

@@ -1,3 +1,3 @@
 pub mod Counts
 pub mod Keeping
-pub mod Telling
+pub mod PhaseEnds

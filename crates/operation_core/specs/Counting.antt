@@ -1,17 +1,19 @@
 -- An operation as the code keeps it, and which answers it counts.
-use Rattle.std.specs.Prelude.{◌≡◌, ℕ, ◌≤◌, Bool, List, length, Option, IfSome, IsSome, slice_set, slice_index_or}
+use Rattle.std.specs.Prelude.{◌≡◌, ℕ, ◌-◌, ◌^◌, ◌<◌, ◌≤◌, Bool, List, length, Option, IfSome, IsSomeAnd, slice_index_or}
 use Rattle.std.specs.declared.option.Option.TheVariants.{None, Some}
 use Rattle.quorum_rules.specs.Limits.{Numbers, IsValid}
 use Rattle.wire_forms.specs.declared.op.Op.{Op}
 use Rattle.protocol.specs.Messages.{Reply, Tag}
-use Rattle.protocol.specs.Operations.{Stage as ModelStage, decide, answered, mail}
+use Rattle.protocol.specs.Operations.{Work, Stage as ModelStage, decide, answered, mail}
+use Rattle.protocol.specs.Operations.Work.{Reads, Writes}
+use Rattle.protocol.specs.Operations.Stage.{Times as AskTimes, Versions as AskVersions, Storing as Store}
 use Rattle.protocol.specs.Seen.{SeenTask, SeenOperation, Hearing, task_at, block_of, work_of, seen_begun, seen_counted, seen_goes_on, by_decision, counts_of, ends_phase, hears, outstanding_of, with_task}
-use Rattle.protocol.specs.Seen.Hearing.{Ignored as NotHeard, Counted as HeardOne}
+use Rattle.protocol.specs.Seen.Hearing.{Ignored as NotHeard, Begins as BeginsOne, Ended as EndedWith}
 use Rattle.protocol.specs.Messages.{Message}
 use Rattle.protocol.specs.Instance.{setting}
 use Rattle.operation_core.specs.declared.stage.Stage.{Stage}
-use Rattle.operation_core.specs.declared.operation.Counting.{Counting}
-use Rattle.operation_core.specs.declared.operation.Counting.TheVariants.{Ignored, Counted, Last}
+use Rattle.operation_core.specs.declared.phase_end.PhaseEnd.{PhaseEnd}
+use Rattle.operation_core.specs.declared.phase_end.PhaseEnd.TheVariants.{Begins, Ends}
 use Rattle.operation_core.specs.Stages.{stage_of, FitsStage}
 
 -- the operation under way in this stage, or none
@@ -73,15 +75,6 @@ counted_task (Some t) node reply = Some (seen_counted t node reply)
 abbrev pub counted_in : SeenOperation → ℕ → Reply → SeenOperation
 counted_in o node reply = with_task o (counted_task o.task node reply)
 
--- the operation without an answer of the node
-abbrev pub forgotten_task : Option SeenTask → ℕ → Option SeenTask
-forgotten_task None node = None
-forgotten_task (Some t) node =
-    Some (record { op = t.op; block = t.block; work = t.work; phase = t.phase; rounds = t.rounds; stage = t.stage; answers = slice_set t.answers node None })
-
-abbrev pub forgotten_in : SeenOperation → ℕ → SeenOperation
-forgotten_in o node = with_task o (forgotten_task o.task node)
-
 -- the operation in its next phase
 abbrev pub next_task : Numbers → Option SeenTask → ModelStage → Option SeenTask
 next_task c None stage = None
@@ -94,25 +87,30 @@ next_in o stage = with_task o (next_task o.config o.task stage)
 abbrev pub IsMail : SeenOperation → List Message → Type 0
 IsMail o messages = IfSome o.task (λ t. messages ≡ mail (setting o.config) o.client (task_at 0 t))
 
--- an answer was counted, and the phase goes on
-pub record IsOne (old new : SeenOperation) (node : ℕ) (tag : Tag) (reply : Reply) : Type 0 where
+-- a further phase of a read asks for versions or stores one, and that of a write stores its value
+abbrev pub FitsWork : ModelStage → Work → Type 0
+FitsWork AskTimes work = ⊥
+FitsWork (AskVersions bound) Reads = Unit {0}
+FitsWork (AskVersions bound) (Writes value) = ⊥
+FitsWork (Store stamp value) work = Unit {0}
+
+-- the operation may go on in this stage
+pub record MayBegin (o : SeenOperation) (stage : Stage) : Type 0 where
+  pub fits : FitsStage o.config stage
+  pub further : IsSomeAnd o.task (λ t. FitsWork (stage_of stage) t.work × (t.phase < 2 ^ 64 - 1))
+
+-- by the hearing of an answer the operation goes on in this stage, with these messages
+pub record IsBegun (o : SeenOperation) (h : Hearing) (stage : Stage) (messages : List Message) : Type 0 where
   pub task : SeenTask
-  pub goes_on : hears_in old node tag reply ≡ HeardOne task
-  pub now : new ≡ counted_in old node reply
-  pub is : new.task ≡ Some task
+  pub begins : h ≡ BeginsOne task
+  pub next : next_task o.config o.task (stage_of stage) ≡ Some task
+  pub may : MayBegin o stage
+  pub mail : messages ≡ mail (setting o.config) o.client (task_at 0 task)
 
--- an answer was counted, and the phase waits for no other; without the answer the operation is as before
-pub record IsLast (old new : SeenOperation) (node : ℕ) (tag : Tag) (reply : Reply) : Type 0 where
-  pub ends : hears_in old node tag reply ≡ end_in new
-  pub now : new ≡ counted_in old node reply
-  pub under_way : IsSome new.task
-  pub back : forgotten_in new node ≡ old
-
--- what is told of the answer is what it did
-abbrev pub IsTold : SeenOperation → SeenOperation → ℕ → Tag → Reply → Counting → Type 0
-IsTold old new node tag reply Ignored = (hears_in old node tag reply ≡ NotHeard) × (new ≡ old)
-IsTold old new node tag reply Counted = IsOne old new node tag reply
-IsTold old new node tag reply Last = IsLast old new node tag reply
+-- it is what the hearing of an answer that ends a phase does
+abbrev pub IsPhaseEnd : SeenOperation → Hearing → PhaseEnd → Type 0
+IsPhaseEnd o h (Begins stage messages) = IsBegun o h stage messages
+IsPhaseEnd o h (Ends outcome) = h ≡ EndedWith outcome
 
 -- the stage is that of the operation under way; there is none where none is
 abbrev pub IsStage : Option SeenTask → Option Stage → Type 0

@@ -4,7 +4,9 @@
 mod answers;
 mod mailing;
 pub mod operation;
+pub mod phase_end;
 pub mod stage;
 
-pub use operation::{Counting, Operation};
+pub use operation::Operation;
+pub use phase_end::PhaseEnd;
 pub use stage::{Stage, Storing};

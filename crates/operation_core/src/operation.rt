@@ -1,8 +1,8 @@
-ghost use Rattle.std.specs.Prelude.{◌≡◌, ◌<◌, ◌-◌, ◌^◌, ◌↔◌, true, length, option_copied, IsTrue, IsSomeAnd, IfSome, IfOk, OnOk, OnErr, Some, None};
+ghost use Rattle.std.specs.Prelude.{◌≡◌, ◌<◌, ◌↔◌, true, length, option_copied, IsTrue, IfSome, IfOk, Some, None};
 ghost use Rattle.quorum_rules.specs.Limits.{IsValid};
-ghost use Rattle.protocol.specs.Seen.{work_of, with_task, has_answered, phase_of, chosen_of};
-ghost use Rattle.operation_core.specs.Stages.{stage_of, FitsStage};
-ghost use Rattle.operation_core.specs.Counting.{begun_in, first_mail, counts_in, ends_in, outstanding_in, counted_in, forgotten_in, next_in, IsMail, IsTold, IsStage};
+ghost use Rattle.protocol.specs.Seen.{work_of, with_task, has_answered, phase_of, chosen_of, seen_counted};
+ghost use Rattle.operation_core.specs.Stages.{stage_of};
+ghost use Rattle.operation_core.specs.Counting.{begun_in, first_mail, counts_in, ends_in, outstanding_in, counted_in, next_in, MayBegin, IsMail, IsStage};
 
 use crate::answers::{clear, copied, is_kept, no_answers};
 use crate::mailing::{Head, mail, message};
@@ -13,17 +13,6 @@ use stamp_order::{Bound, Stamp};
 use std::alloc::Global;
 use std::marker::Model;
 use wire_forms::{Mail, Message, Op, Reply, Tag};
-
-/// What an answer did to an operation.
-#[derive(Clone, Copy, Debug, PartialEq, Eq)]
-pub enum Counting {
-    /// Nothing: it isn't one that the present phase counts.
-    Ignored,
-    /// It was counted, and the phase goes on.
-    Counted,
-    /// It was counted, and the phase waits for no other.
-    Last,
-}
 
 /// An operation of a client: its present phase, and the answers that the phase has counted. Contracts see the cluster's
 /// numbers, the client, and the task while the operation isn't over.
@@ -140,40 +129,27 @@ impl Operation {
         self.heard += 1;
     }
 
-    /// Hears an answer: it is counted if it is the node's first of the present phase, of the kind that the phase asks for.
-    pub fn hear(&mut self, node: u8, tag: Tag, reply: &Reply) -> Result<Counting, NoMemory>
-        ensures told { IfOk result (IsTold self.old self.new node tag reply.now) }
-        ensures err { OnErr result (self.new ≡ self.old) }
+    /// The answers that the present phase has counted, with this one, which ends it.
+    pub fn answers_with(
+        &self,
+        node: u8,
+        tag: Tag,
+        reply: &Reply,
+    ) -> Result<Vec<Option<Reply>>, NoMemory>
+        requires { ends_in self.now node tag reply.now ≡ true }
+        ensures answers { IfOk result (λ answers. IfSome self.now.task
+            (λ t. answers.items ≡ (seen_counted t node reply.now).answers)) }
+        ensures places { IfOk result (λ answers. length answers.items ≡ self.now.config.n) }
     {
-        if !self.counts(node, tag, reply) {
-            return Ok(Counting::Ignored);
-        }
-        let copy = reply.copy()?;
-        self.count(node, tag, copy);
-        if self.heard < self.config.wait() {
-            Ok(Counting::Counted)
-        } else {
-            Ok(Counting::Last)
-        }
+        let mut answers = copied(&self.answers)?;
+        answers[usize::from(node)] = Some(reply.copy()?);
+        Ok(answers)
     }
 
-    /// Takes a node's answer away again.
-    pub fn forget(&mut self, node: u8)
-        ensures { self.new ≡ forgotten_in self.old node }
-    {
-        if is_kept(self.answers.as_slice(), node) {
-            self.answers[usize::from(node)] = None;
-            self.heard -= 1;
-        }
-    }
-
-    /// Begins the next phase, with its messages.
-    pub fn go_on(&mut self, stage: Stage) -> Result<Mail, NoMemory>
-        requires fits { FitsStage self.old.config stage }
-        requires phase { IsSomeAnd self.old.task (λ t. t.phase < 2 ^ 64 - 1) }
-        ensures ok { OnOk result (self.new ≡ next_in self.old (stage_of stage)) }
-        ensures mail { IfOk result (IsMail self.new) }
-        ensures err { OnErr result (self.new ≡ self.old) }
+    /// The messages of a next phase in this stage.
+    pub fn mail_of(&self, stage: &Stage) -> Result<Mail, NoMemory>
+        requires { MayBegin self.now stage.now }
+        ensures { IfOk result (IsMail (next_in self.now (stage_of stage.now))) }
     {
         let head = Head {
             client: self.client,
@@ -183,13 +159,19 @@ impl Operation {
             },
             block: self.block(),
         };
-        let mail = mail(*self.answers.allocator(), &self.config, head, &stage)?;
+        mail(*self.answers.allocator(), &self.config, head, stage)
+    }
+
+    /// Begins the next phase. It takes no memory.
+    pub fn go_on(&mut self, stage: Stage)
+        requires { MayBegin self.old stage }
+        ensures { self.new ≡ next_in self.old (stage_of stage) }
+    {
         self.phase += 1;
         self.rounds = stage.rounds_after(self.rounds);
         self.stage = Some(stage);
         clear(&mut self.answers);
         self.heard = 0;
-        Ok(mail)
     }
 
     /// Ends the operation.

@@ -24,13 +24,13 @@ use Rattle.operation_core.specs.Counting.{answer_at}
 use Rattle.read_core.specs.Rounds.{IsRound}
 use Rattle.read_core.specs.Candidates.{carrier, shown_parts, CarryWhole}
 use Rattle.read_core.specs.Ends.{decision_of, IsNextIn, IsEnd}
-use Rattle.read_core.specs.declared.phase_end.PhaseEnd.{PhaseEnd}
-use Rattle.read_core.specs.declared.phase_end.PhaseEnd.TheVariants.{Outvoted, Gives, GoesOn}
+use Rattle.read_core.specs.declared.read_end.ReadEnd.{ReadEnd}
+use Rattle.read_core.specs.declared.read_end.ReadEnd.TheVariants.{Outvoted, Gives, GoesOn}
 use Rattle.read_core.proofs.Deciding.{too_few, first_is_given, little_is_lower, poison_is_below, complete_is_given, repairable_is_stored}
 use Rattle.read_core.proofs.Choosing.{support_is, sum_is, sum_length, decoded_is, parts_are, carry_whole as carries_whole}
 
 -- a round's end by its decision
-ended : (c : Numbers) (bound : Bound) (answers : List (Option Reply)) (end : PhaseEnd)
+ended : (c : Numbers) (bound : Bound) (answers : List (Option Reply)) (end : ReadEnd)
     → ((rounds : ℕ) → decision_of rounds end ≡ decide_pivot (setting c) (answer_at answers) bound rounds (pivot (setting c) (answer_at answers) bound)) → IsNextIn c end → IsEnd c (Versions bound) answers end
 ended c bound answers end decides new = record {
   decides = λ client task reads same. decides task.rounds ∙ ap (λ (f : ℕ → Option Reply). decide_pivot (setting c) f bound task.rounds (pivot (setting c) f bound)) (sym same);

@@ -1,41 +1,88 @@
--- What an answer does to a read.
-use Rattle.std.proofs.Common.{◌≡◌, ◌⊎◌, ℕ, Option, refl, sym, ◌∙◌, ap, inl, inr, subst}
+-- What an answer that ends a phase does to a read.
+use Rattle.std.proofs.Common.{◌≡◌, ℕ, ◌-◌, ◌^◌, ◌<◌, true, List, Option, refl, sym, ◌∙◌, ap}
 use Rattle.std.specs.declared.option.Option.TheVariants.{None, Some}
-use Rattle.protocol.specs.Messages.{Reply, Tag}
+use Rattle.std.specs.Prelude.{IfSome}
+use Rattle.std.specs.Option.{ForSome}
+use Rattle.stamp_order.specs.declared.Stamp.{Stamp}
+use Rattle.run_words.specs.declared.outcome.How.{How}
+use Rattle.run_words.specs.declared.outcome.Outcome.TheVariants.{Gave}
+use Rattle.protocol.specs.Messages.{Reply, Tag, Message}
+use Rattle.protocol.specs.Setting.{Setting}
 use Rattle.protocol.specs.Instance.{setting}
-use Rattle.protocol.specs.Seen.{SeenTask, SeenOperation, Hearing, with_task}
-use Rattle.protocol.specs.Seen.Hearing.{Ignored}
-use Rattle.operation_core.specs.Counting.{hears_in, end_in, counted_task, IsOne, IsLast, IsTold}
-use Rattle.operation_core.specs.declared.operation.Counting.{Counting}
-use Rattle.operation_core.specs.declared.operation.Counting.TheVariants.{Ignored as Unheard, Counted as One}
-use Rattle.read_core.specs.Readers.{rounds_of, IsReading, TellsIn, after_hearing}
-use Rattle.read_core.specs.declared.reading.Reading.{Reading}
-use Rattle.read_core.specs.declared.reading.Reading.TheVariants.{More}
+use Rattle.protocol.specs.Operations.{Work, Stage as ModelStage}
+use Rattle.protocol.specs.Operations.Work.{Reads}
+use Rattle.protocol.specs.Operations.Stage.{Times, Versions, Storing}
+use Rattle.protocol.specs.Seen.{SeenTask, SeenOperation, Hearing, task_at, by_decision, ends_phase, seen_counted, seen_goes_on, with_task}
+use Rattle.protocol.specs.Seen.Hearing.{Ended}
+use Rattle.operation_core.specs.declared.stage.Stage.{Stage}
+use Rattle.operation_core.specs.Stages.{stage_of}
+use Rattle.operation_core.specs.Counting.{ends_in, hears_in, ended_of, counted_task, counted_in, next_task, next_in, FitsWork, IsMail, IsBegun}
+use Rattle.operation_core.proofs.PhaseEnds.{hears_end}
+use Rattle.read_core.specs.declared.read_end.ReadEnd.{ReadEnd}
+use Rattle.read_core.specs.declared.read_end.ReadEnd.TheVariants.{Gives, GoesOn}
+use Rattle.read_core.specs.Ends.{IsReadStage, IsEnd, IsNext, decision_of}
+use Rattle.read_core.specs.Readers.{IsReader, EndsPhase, rounds_of, after_hearing}
 
-rounds_stay : (task : Option SeenTask) (node : ℕ) (reply : Reply) → rounds_of (counted_task task node reply) ≡ rounds_of task
-rounds_stay None node reply = refl
-rounds_stay (Some t) node reply = refl
+some_task : (s : Setting) (node : ℕ) (tag : Tag) (reply : Reply) (task : Option SeenTask) → ends_phase s task node tag reply ≡ true → (t : SeenTask) × (task ≡ Some t)
+some_task s node tag reply None e = absurd (cc)
+some_task s node tag reply (Some t) e = (t, refl)
 
-module _ (old new : SeenOperation) (node : ℕ) (tag : Tag) (reply : Reply) where
-  is_same : hears_in old node tag reply ≡ Ignored → new ≡ old → new ≡ after_hearing old (hears_in old node tag reply)
-  is_same e same = same ∙ sym (ap (after_hearing old) e)
+fits_work : (stage : ModelStage) (work : Work) → work ≡ Reads → IsReadStage stage → FitsWork stage work
+fits_work Times work reads h = h
+fits_work (Versions bound) work reads h = rw reads tt
+fits_work (Storing stamp value) work reads h = tt
 
-  tells_more : IsOne old new node tag reply → TellsIn old (hears_in old node tag reply) More
-  tells_more h = inr (h.task, h.goes_on)
+-- the rounds that an operation under way tells
+pub rounds_told : (task : Option SeenTask) (t : SeenTask) (k : ℕ) → task ≡ Some t → IfSome task (λ u. k ≡ u.rounds) → k ≡ t.rounds
+rounds_told task t k e h = rw e at h
 
-  is_more : IsOne old new node tag reply → new ≡ after_hearing old (hears_in old node tag reply)
-  is_more h =
-      let e : counted_task old.task node reply ≡ Some h.task = ap (λ (o : SeenOperation). o.task) (sym h.now) ∙ h.is in
-      h.now ∙ ap (with_task old) e ∙ sym (ap (after_hearing old) h.goes_on)
+module _ (o : SeenOperation) (first : Stamp) (reader : IsReader first o) (node : ℕ) (tag : Tag) (reply : Reply) (ends : ends_in o node tag reply ≡ true) (end : ReadEnd)
+    (is : EndsPhase (counted_in o node reply) end) where
+  pub under_way : (t : SeenTask) × (o.task ≡ Some t)
+  under_way = some_task (setting o.config) node tag reply o.task ends
 
-  -- an answer that ends no phase
-  pub goes_on : (told : Counting) → (told ≡ Unheard) ⊎ (told ≡ One) → IsTold old new node tag reply told → TellsIn old (hears_in old node tag reply) More × (new ≡ after_hearing old (hears_in old node tag reply))
-  goes_on told (inl e) is = let h = rw e at is in (inl h.0, is_same h.0 h.1)
-  goes_on told (inr e) is = let h = rw e at is in (tells_more h, is_more h)
+  abbrev task : SeenTask
+  task = under_way.0
 
-  module _ (h : IsLast old new node tag reply) where
-    pub tells_ended : (reading : Reading) → TellsIn new (end_in new) reading → TellsIn old (hears_in old node tag reply) reading
-    tells_ended reading is =
-        let here = subst (λ (o : SeenOperation). IsReading (setting o.config) o.client (rounds_of o.task) (end_in new) reading) h.now is in
-        let there = subst (λ (k : ℕ). IsReading (setting old.config) old.client k (end_in new) reading) (rounds_stay old.task node reply) here in
-        subst (λ (e : Hearing). IsReading (setting old.config) old.client (rounds_of old.task) e reading) (sym h.ends) there
+  -- the operation that has counted the answer
+  abbrev full : SeenTask
+  full = seen_counted task node reply
+
+  reads : task.work ≡ Reads
+  reads = let r = rw under_way.1 at reader.read in r.reads
+
+  ended : IsEnd o.config full.stage full.answers end
+  ended = rw under_way.1 at is
+
+  hears_by : hears_in o node tag reply ≡ by_decision (setting o.config) full (decision_of full.rounds end)
+  hears_by =
+      hears_end o node tag reply ends
+      ∙ ap (λ (t : Option SeenTask). ended_of o.config o.client (counted_task t node reply)) under_way.1
+      ∙ ap (by_decision (setting o.config) full) (sym (ended.decides o.client (task_at 0 full) reads refl))
+
+  -- it gives a value after the rounds that it took
+  pub gives : (stamp : Stamp) (value : List ℕ) (how : How) → end ≡ Gives stamp value how → hears_in o node tag reply ≡ Ended (Gave stamp value how task.rounds)
+  gives stamp value how e = hears_by ∙ ap (λ x. by_decision (setting o.config) full (decision_of full.rounds x)) e
+
+  pub rounds_are : rounds_of o.task ≡ task.rounds
+  rounds_are = ap rounds_of under_way.1
+
+  -- or goes on with a further phase
+  module _ (stage : Stage) (e : end ≡ GoesOn stage) where
+    further : IsNext o.config stage
+    further = rw e at ended.next
+
+    pub begun : ForSome o.task (λ t. t.phase < 2 ^ 64 - 1) → (messages : List Message) → IsMail (next_in o (stage_of stage)) messages → IsBegun o (hears_in o node tag reply) stage messages
+    begun few messages mail =
+        let next : next_task o.config o.task (stage_of stage) ≡ Some (seen_goes_on (setting o.config) task (stage_of stage)) = ap (λ (t : Option SeenTask). next_task o.config t (stage_of stage)) under_way.1 in
+        record {
+          task = seen_goes_on (setting o.config) task (stage_of stage);
+          begins = hears_by ∙ ap (λ x. by_decision (setting o.config) full (decision_of full.rounds x)) e;
+          next = next;
+          may = record { fits = further.fits; further = rw under_way.1 (fits_work (stage_of stage) task.work reads further.reads, few task under_way.1) };
+          mail = rw next at mail;
+        }
+
+-- the read is then as the answer leaves it
+pub begun_is : (o new : SeenOperation) (h : Hearing) (stage : Stage) (messages : List Message) → IsBegun o h stage messages → new ≡ next_in o (stage_of stage) → new ≡ after_hearing o h
+begun_is o new h stage messages b e = e ∙ ap (with_task o) b.next ∙ sym (ap (after_hearing o) b.begins)

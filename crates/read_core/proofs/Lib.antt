@@ -4,5 +4,5 @@ pub mod Deciding
 pub mod Choosing
 pub mod Ending
 pub mod Valid
-pub mod Hearing
 pub mod Outvoting
+pub mod Hearing

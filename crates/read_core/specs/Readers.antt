@@ -15,7 +15,7 @@ use Rattle.protocol.specs.Operations.Work.{Reads}
 use Rattle.protocol.specs.Seen.{SeenTask, SeenOperation, Hearing, answers_of, task_at, seen_counted, ends_phase, with_task}
 use Rattle.protocol.specs.Seen.Hearing.{Ignored, Counted, Begins, Ended}
 use Rattle.read_core.specs.Ends.{IsReadStage, IsEnd}
-use Rattle.read_core.specs.declared.phase_end.PhaseEnd.{PhaseEnd}
+use Rattle.read_core.specs.declared.read_end.ReadEnd.{ReadEnd}
 use Rattle.read_core.specs.declared.reading.Reading.{Reading}
 use Rattle.read_core.specs.declared.reading.Reading.TheVariants.{More, Send, Got, Outvoted}
 
@@ -61,7 +61,7 @@ abbrev pub IsOutvoted : Reading → Type 0
 IsOutvoted reading = (nodes : List ℕ) × (reading ≡ Outvoted nodes)
 
 -- it is what the phase of the read under way comes to
-abbrev pub EndsPhase : SeenOperation → PhaseEnd → Type 0
+abbrev pub EndsPhase : SeenOperation → ReadEnd → Type 0
 EndsPhase o end = IfSome o.task (λ t. IsEnd o.config t.stage t.answers end)
 
 -- fewer of a round's answers are valid than reach a pivot

@@ -2,7 +2,7 @@
 #![tactic(auto)]
 
 mod candidate;
-mod phase_end;
+mod read_end;
 mod reader;
 mod reading;
 mod round;

@@ -1,18 +1,19 @@
-ghost use Rattle.std.specs.Prelude.{◌≡◌, ◌<◌, ◌-◌, ◌^◌, ◌↔◌, IsTrue, true, false, IfOk, OnOk, OnErr, IsSome, IsSomeAnd, IfSome, None};
+ghost use Rattle.std.specs.Prelude.{◌≡◌, ◌<◌, ◌-◌, ◌^◌, ◌↔◌, IsTrue, true, false, IfOk, OnOk, OnErr, IfSome, None};
 ghost use Rattle.std.specs.Option.{ForSome};
 ghost use Rattle.wire_forms.specs.declared.op.Op.TheVariants.{Read as ReadOp};
-ghost use Rattle.protocol.specs.Seen.{has_answered};
-ghost use Rattle.operation_core.specs.Counting.{begun_in, first_mail, counts_in, ends_in, hears_in, end_in, outstanding_in};
+ghost use Rattle.protocol.specs.Seen.{with_task, has_answered};
+ghost use Rattle.operation_core.specs.Stages.{stage_of};
+ghost use Rattle.operation_core.specs.Counting.{begun_in, first_mail, counts_in, ends_in, hears_in, counted_in, next_in, outstanding_in, MayBegin, IsPhaseEnd};
 ghost use Rattle.read_core.specs.Readers.{TellsIn, after_hearing, IsOutvoted, EndsOutvoted, EndsPhase};
 ghost use Rattle.wire_forms.specs.Firsts.{first_of};
 
-use crate::phase_end::PhaseEnd;
+use crate::read_end::ReadEnd;
 use crate::reading::Reading;
 use crate::round::end_of_round;
 use lists::{Copied, NoMemory};
-use operation_core::{Counting, Operation, Stage};
+use operation_core::{Operation, PhaseEnd, Stage};
 use quorum_rules::Config;
-use run_words::How;
+use run_words::{How, Outcome};
 use stamp_order::Stamp;
 use std::alloc::Global;
 use std::marker::Model;
@@ -83,43 +84,82 @@ impl Reader {
             ≡ after_hearing self.old (hears_in self.old node tag reply.now)) }
         ensures err { OnErr result (self.new ≡ self.old) }
     {
-        match self.operation.hear(node, tag, reply)? {
-            Counting::Ignored | Counting::Counted => Ok(Reading::More),
-            Counting::Last => match self.end_phase() {
-                Ok(reading) => Ok(reading),
-                Err(error) => {
-                    // The phase ends only once there is memory for what comes next.
-                    self.operation.forget(node);
-                    Err(error)
-                }
-            },
+        if self.operation.ends_phase(node, tag, reply) {
+            return self.end_by(node, tag, reply);
+        }
+        if self.operation.counts(node, tag, reply) {
+            let reply = reply.copy()?;
+            self.operation.count(node, tag, reply);
+        }
+        Ok(Reading::More)
+    }
+
+    /// What the present phase comes to with an answer that ends it. It takes all memory that is needed, and changes nothing.
+    pub fn phase_end(&self, node: u8, tag: Tag, reply: &Reply) -> Result<PhaseEnd, NoMemory>
+        requires ends { ends_in self.now node tag reply.now ≡ true }
+        requires phase { ForSome self.now.task (λ t. t.phase < 2 ^ 64 - 1) }
+        ensures { IfOk result (IsPhaseEnd self.now (hears_in self.now node tag reply.now)) }
+    {
+        match self.decided(node, tag, reply)? {
+            ReadEnd::Outvoted(nodes) => Ok(PhaseEnd::Ends(Outcome::Outvoted(nodes))),
+            ReadEnd::Gives { stamp, value, how } => Ok(PhaseEnd::Ends(Outcome::Gave {
+                stamp,
+                value,
+                how,
+                rounds: self.operation.rounds(),
+            })),
+            ReadEnd::GoesOn(stage) => {
+                let mail = self.operation.mail_of(&stage)?;
+                Ok(PhaseEnd::Begins(stage, mail))
+            }
         }
     }
 
-    // Ends the phase: by a next one, or with the read.
-    fn end_phase(&mut self) -> Result<Reading, NoMemory>
-        requires { IsSomeAnd self.old.task (λ t. t.phase < 2 ^ 64 - 1) }
-        ensures reading { IfOk result (TellsIn self.old (end_in self.old)) }
-        ensures after { OnOk result (self.new ≡ after_hearing self.old (end_in self.old)) }
+    /// Begins the next phase.
+    pub fn go_on(&mut self, stage: Stage)
+        requires { MayBegin self.old stage }
+        ensures { self.new ≡ next_in self.old (stage_of stage) }
+    {
+        self.operation.go_on(stage);
+    }
+
+    /// Ends the read.
+    pub fn end(&mut self)
+        ensures { self.new ≡ with_task self.old None }
+    {
+        self.operation.end();
+    }
+
+    // Ends the phase with its last answer: by a next one, or with the read.
+    fn end_by(&mut self, node: u8, tag: Tag, reply: &Reply) -> Result<Reading, NoMemory>
+        requires ends { ends_in self.old node tag reply.now ≡ true }
+        requires phase { ForSome self.old.task (λ t. t.phase < 2 ^ 64 - 1) }
+        ensures reading { IfOk result (TellsIn self.old (hears_in self.old node tag reply.now)) }
+        ensures after { OnOk result (self.new
+            ≡ after_hearing self.old (hears_in self.old node tag reply.now)) }
         ensures err { OnErr result (self.new ≡ self.old) }
     {
-        match self.decided()? {
-            PhaseEnd::Outvoted(nodes) => {
-                self.operation.end();
+        match self.decided(node, tag, reply)? {
+            ReadEnd::Outvoted(nodes) => {
+                self.end();
                 Ok(Reading::Outvoted(nodes))
             }
-            PhaseEnd::Gives { stamp, value, how } => {
-                self.operation.end();
+            ReadEnd::Gives { stamp, value, how } => {
+                self.end();
                 Ok(Reading::Got { stamp, value, how })
             }
-            PhaseEnd::GoesOn(next) => Ok(Reading::Send(self.operation.go_on(next)?)),
+            ReadEnd::GoesOn(stage) => {
+                let mail = self.operation.mail_of(&stage)?;
+                self.go_on(stage);
+                Ok(Reading::Send(mail))
+            }
         }
     }
 
-    // What the phase comes to.
-    fn decided(&self) -> Result<PhaseEnd, NoMemory>
-        requires { IsSome self.now.task }
-        ensures { IfOk result (EndsPhase self.now) }
+    // What the phase comes to with this answer, which ends it.
+    fn decided(&self, node: u8, tag: Tag, reply: &Reply) -> Result<ReadEnd, NoMemory>
+        requires { ends_in self.now node tag reply.now ≡ true }
+        ensures { IfOk result (EndsPhase (counted_in self.now node reply.now)) }
     {
         let operation = &self.operation;
         match operation.stage() {
@@ -128,9 +168,9 @@ impl Reader {
                 operation.config(),
                 &self.first,
                 bound,
-                operation.answers(),
+                operation.answers_with(node, tag, reply)?.as_slice(),
             ),
-            Some(Stage::Storing(storing)) => Ok(PhaseEnd::Gives {
+            Some(Stage::Storing(storing)) => Ok(ReadEnd::Gives {
                 stamp: storing.stamp,
                 value: storing.value.copy()?,
                 how: How::Repaired,

@@ -10,7 +10,7 @@ ghost use Rattle.read_core.specs.Rounds.{FitsRound, HasPivot, support_in};
 ghost use Rattle.read_core.specs.Ends.{IsEnd, IsEndOf};
 
 use crate::candidate::{checked, invalid_nodes, known_parts, least_sum, parts_of};
-use crate::phase_end::PhaseEnd;
+use crate::read_end::ReadEnd;
 use candidate_class::{Class, class_of, pivot_of, support_of, valid_stamp};
 use cross_sum::Bytes;
 use frag_check::Checked;
@@ -42,7 +42,7 @@ pub(crate) fn end_of_round(
     first: &Stamp,
     bound: &Bound,
     answers: &[Option<Reply>],
-) -> Result<PhaseEnd, NoMemory>
+) -> Result<ReadEnd, NoMemory>
     requires first { first.now ≡ first_stamp (setting config.now) }
     requires places { length answers.now ≡ config.now.n }
     ensures { IfOk result (IsEnd config.now (Versions bound.now) answers.now) }
@@ -84,30 +84,30 @@ fn stamps_of(
 
 impl<'a> Round<'a> {
     // What the round comes to by the answers that it has heard.
-    fn end(&self, alloc: Global) -> Result<PhaseEnd, NoMemory>
+    fn end(&self, alloc: Global) -> Result<ReadEnd, NoMemory>
         requires { FitsRound self.now }
         ensures { IfOk result (IsEndOf self.now) }
     {
         let Some(pivot) = pivot_of(self.stamps, self.config.repairable()) else {
             let nodes = invalid_nodes(alloc, self.answers, self.stamps)?;
-            return Ok(PhaseEnd::Outvoted(nodes));
+            return Ok(ReadEnd::Outvoted(nodes));
         };
         if pivot.cmp(self.first).is_eq() {
-            return Ok(PhaseEnd::Gives {
+            return Ok(ReadEnd::Gives {
                 stamp: pivot,
                 value: Bytes::zeros(alloc, self.config.size() as usize)?,
                 how: How::Plain,
             });
         }
         match class_of(self.config, support_of(self.stamps, &pivot)) {
-            Class::Incomplete => Ok(PhaseEnd::GoesOn(Stage::Versions(Bound::AtMost(pivot)))),
+            Class::Incomplete => Ok(ReadEnd::GoesOn(Stage::Versions(Bound::AtMost(pivot)))),
             Class::Repairable => self.judged(alloc, pivot, false),
             Class::Complete => self.judged(alloc, pivot, true),
         }
     }
 
     // What the round comes to where enough valid answers carry its pivot, which isn't the first stamp.
-    fn judged(&self, alloc: Global, pivot: Stamp, is_complete: bool) -> Result<PhaseEnd, NoMemory>
+    fn judged(&self, alloc: Global, pivot: Stamp, is_complete: bool) -> Result<ReadEnd, NoMemory>
         requires fits { FitsRound self.now }
         requires pivot { HasPivot self.now pivot }
         requires enough { repairable_of self.now.config.now ≤ support_in self.now pivot }
@@ -120,16 +120,16 @@ impl<'a> Round<'a> {
         let sum = least_sum(alloc, answers, stamps, &pivot)?;
         let known = known_parts(alloc, answers, stamps, &pivot, &sum)?;
         match checked(alloc, self.config, &sum, parts.as_slice(), known.as_slice())? {
-            None => Ok(PhaseEnd::GoesOn(Stage::Versions(Bound::Below(pivot)))),
+            None => Ok(ReadEnd::GoesOn(Stage::Versions(Bound::Below(pivot)))),
             Some(Checked { block, shares }) => {
                 if is_complete {
-                    Ok(PhaseEnd::Gives {
+                    Ok(ReadEnd::Gives {
                         stamp: pivot,
                         value: block,
                         how: How::Plain,
                     })
                 } else {
-                    Ok(PhaseEnd::GoesOn(Stage::Storing(Storing {
+                    Ok(ReadEnd::GoesOn(Stage::Storing(Storing {
                         stamp: pivot,
                         value: block,
                         shares,

@@ -1,8 +1,7 @@
 -- Answers that a client counts in a phase that goes on.
-use Rattle.std.proofs.Common.{◌≡◌, ◌⊎◌, ℕ, ◌-◌, ◌≤◌, Bool, true, false, cond, get_or, Option, refl, sym, ◌∙◌, ap, inl, inr, eqb, ltb}
-use Rattle.std.specs.declared.option.Option.TheVariants.{None, Some}
-use Rattle.std.proofs.lemmas.Bool.Decides.{eqb_tells}
-use Rattle.protocol.specs.Messages.{Reply, Message, Tag}
+use Rattle.std.proofs.Common.{◌≡◌, ℕ, ◌-◌, ◌≤◌, Bool, true, false, cond, get_or, Option, refl, sym, ◌∙◌, ap, ltb}
+use Rattle.std.specs.declared.option.Option.TheVariants.{Some}
+use Rattle.protocol.specs.Messages.{Reply, Tag}
 use Rattle.protocol.specs.Setting.{Setting}
 use Rattle.protocol.specs.Instance.{setting}
 use Rattle.protocol.specs.Operations.{Decision, answered, decide}
@@ -10,15 +9,14 @@ use Rattle.protocol.specs.Operations.Decision.{GoesOn, Ends as EndsWith}
 use Rattle.protocol.specs.World.{chosen_stamp}
 use Rattle.protocol.specs.Seen.{SeenTask, Hearing, hearing, hears as hears_answer, task_at, seen_counted, is_counted, answers_of, by_decision, after_counting, chosen_of}
 use Rattle.protocol.specs.Seen.Hearing.{Ignored, Counted, Begins, Ended}
-use Rattle.client_core.specs.Clients.{ClientView, with_task, hears, told, goes_to, is_only_counted}
+use Rattle.client_core.specs.Clients.{ClientView, with_task, goes_to, is_only_counted}
 use Rattle.world_steps.specs.declared.client_slot.ClientSlot.{ClientSlot}
 use Rattle.world_steps.specs.declared.state.State.TheInside.{Inside}
 use Rattle.world_steps.specs.contracts.state.State.{the_view}
 use Rattle.world_steps.specs.Slots.{IsWorld}
-use Rattle.world_steps.specs.Steps.{client_in, IsAnswer}
-use Rattle.world_steps.specs.AnswerEffects.{answer_does, IsSame}
-use Rattle.world_steps.proofs.KeptWorlds.{client-within}
-use Rattle.world_steps.proofs.ClientSlots.{slot-client, client_slot-there}
+use Rattle.world_steps.specs.Steps.{client_in}
+use Rattle.world_steps.specs.AnswerEffects.{answer_does}
+use Rattle.world_steps.proofs.ChangedClients.{slot-is}
 
 -- it leaves an operation that goes on
 pub counted : (h : Hearing) → is_only_counted h ≡ true → (t : SeenTask) × (h ≡ Counted t)
@@ -44,45 +42,10 @@ module _ (s : Setting) (k : ℕ) (t u : SeenTask) (node : ℕ) (tag : Tag) (repl
       at true f = after (ltb (answered s (λ i. answers_of (seen_counted t node reply) i)) (s.n - s.t)) f
       at false f = absurd (cc)
 
--- an answer to the client is heard by its operation
-pub told-is : (c : ClientView) (m : Message) (answer : IsAnswer c.id m) (t : SeenTask) → hears c (Some t) m ≡ hearing (setting c.config) c.id t m.node m.tag answer.1
-told-is c m answer t = ap (told c t m) answer.2 ∙ mine (eqb_tells m.client c.id)
-  where
-    mine : ((eqb m.client c.id ≡ true) × (m.client ≡ c.id)) ⊎ ((eqb m.client c.id ≡ false) × (m.client ≡ c.id → ⊥))
-        → cond (eqb m.client c.id) (hearing (setting c.config) c.id t m.node m.tag answer.1) Ignored ≡ hearing (setting c.config) c.id t m.node m.tag answer.1
-    mine (inl h) = rw h.0 refl
-    mine (inr h) = absurd (h.1 answer.0)
-
--- and does what its reply does
-pub answer-is : (c : ClientView) (m : Message) (answer : IsAnswer c.id m) → hears c c.seen.task m ≡ answer_does c m.node m.tag answer.1
-answer-is c m answer = at c.seen.task
-  where
-    at : (o : Option SeenTask) → hears c o m ≡ hears_answer (setting c.config) c.id o m.node m.tag answer.1
-    at None = refl
-    at (Some t) = told-is c m answer t
-
 module _ (w : Inside) (good : IsWorld w.config w.node_slots.items w.client_slots.items w.records w.place) (k : ℕ) (l : k ≤ 1000) (slot : ClientSlot) (there : slot ≡ get_or w.client_slots.items k slot) where
-  -- the slot of a number has its client
-  pub slot-is : slot.client ≡ client_in (the_view w) k
-  slot-is =
-      let inside = client-within w good k l in
-      let is = good.client_slot k slot (client_slot-there w k inside slot there) in
-      λ i. record { config = is.config i; id = is.id i; seen = sym (slot-client w k inside slot there) i }
-
   module _ (node : ℕ) (tag : Tag) (reply : Reply) (new : ClientView) (e : new ≡ with_task slot.client (goes_to (answer_does slot.client node tag reply))) where
-    is-counted : new ≡ with_task (client_in (the_view w) k) (goes_to (answer_does (client_in (the_view w) k) node tag reply))
-    is-counted = e ∙ ap (λ (x : ClientView). with_task x (goes_to (answer_does x node tag reply))) slot-is
-
     pub task-counted : new.seen.task ≡ goes_to (answer_does (client_in (the_view w) k) node tag reply)
-    task-counted = ap (λ (x : ClientView). x.seen.task) is-counted
-
-    pub same-counted : IsSame (the_view w) k new
-    same-counted = record {
-      config = ap (λ (x : ClientView). x.config) is-counted;
-      id = ap (λ (x : ClientView). x.id) is-counted;
-      life = ap (λ (x : ClientView). x.seen.life) is-counted;
-      started = ap (λ (x : ClientView). x.seen.started) is-counted;
-    }
+    task-counted = ap (λ (x : ClientView). x.seen.task) e ∙ ap (λ (x : ClientView). goes_to (answer_does x node tag reply)) (slot-is w good k l slot there)
 
     pub still-chosen : is_only_counted (answer_does slot.client node tag reply) ≡ true → (t : SeenTask) → slot.client.seen.task ≡ Some t → chosen_of new.seen.task ≡ chosen_stamp t.work t.stage
     still-chosen only t busy =

@@ -14,7 +14,8 @@ use Rattle.protocol.specs.World.{World, heard, heard_by, with_record, chosen_sta
 use Rattle.protocol.specs.Seen.{SeenTask, record_of, phase_of, Hearing, new_client, client_at, task_at, started_task, seen_goes_on, seen_counted, is_counted, answers_of, by_decision, after_counting, hearing}
 use Rattle.protocol.specs.Seen.Hearing.{Ignored, Counted, Begins, Ended}
 use Rattle.protocol.proofs.Seeing.{length-goes_on, length-counted, after_hearing, heard_by-seen}
-use Rattle.client_core.specs.Clients.{ClientView, with_task, hears, goes_to, is_only_counted}
+use Rattle.operation_core.specs.Counting.{MayBegin}
+use Rattle.client_core.specs.Clients.{ClientView, operation_of, hears, goes_to, is_only_counted}
 use Rattle.world_steps.specs.declared.answer_effect.AnswerEffect.{AnswerEffect}
 use Rattle.world_steps.specs.declared.answer_effect.AnswerEffect.TheVariants.{Same, Counts, Goes, Ends}
 use Rattle.world_steps.specs.declared.client_slot.ClientSlot.{ClientSlot}
@@ -23,9 +24,9 @@ use Rattle.world_steps.specs.contracts.state.State.{the_view}
 use Rattle.world_steps.specs.Worlds.{WorldView, setting_in, world_in}
 use Rattle.world_steps.specs.Slots.{IsWorld, IsTaskOf}
 use Rattle.world_steps.specs.Steps.{client_in, IsAnswer}
-use Rattle.world_steps.specs.AnswerEffects.{IsEffect, next_mail, answer_does, IsSame, Becomes, MayApply, goes_on, applied}
+use Rattle.world_steps.specs.AnswerEffects.{IsEffect, next_mail, answer_does, next_of, Becomes, MayApply, goes_on, applied}
+use Rattle.client_core.proofs.AnswersHeard.{told_is}
 use Rattle.world_steps.proofs.ClientSlots.{slot-client}
-use Rattle.world_steps.proofs.CountedAnswers.{told-is}
 
 -- the operation u follows t
 record IsNext (n : ℕ) (t u : SeenTask) : Type 0 where
@@ -88,7 +89,7 @@ slot-fits w good k l = at (slice_get_cases w.client_slots.items k).1
 
 module _ (v : WorldView) (k place : ℕ) (m : Message) (answer : IsAnswer k m) (effect : AnswerEffect) where
   heard-as : (t : SeenTask) → hears (client_in v k) (Some t) m ≡ hearing (setting_in v) k t m.node m.tag answer.1
-  heard-as t = told-is (client_in v k) m answer t
+  heard-as t = told_is (client_in v k) m answer.1 answer.0 answer.2 t
 
   -- ---- the effect may be done to the client
   module _ (now : WorldView) (config : now.config ≡ v.config) (at_place : now.seen.place ≡ place) (later : v.seen.place < place) (clients : now.seen.clients ≡ v.seen.clients)
@@ -96,14 +97,6 @@ module _ (v : WorldView) (k place : ℕ) (m : Message) (answer : IsAnswer k m) (
     -- the client is as it was
     pub client-kept : client_in now k ≡ client_in v k
     client-kept = λ i. record { config = config i; id = k; seen = slice_index_or (clients i) k new_client }
-
-    same-client : (new : ClientView) (o : Option SeenTask) → new ≡ with_task (client_in v k) o → IsSame now k new
-    same-client new o e = record {
-      config = ap (λ (x : ClientView). x.config) e ∙ sym config;
-      id = ap (λ (x : ClientView). x.id) e;
-      life = ap (λ (x : ClientView). x.seen.life) e ∙ ap (λ (x : ClientView). x.seen.life) (sym client-kept);
-      started = ap (λ (x : ClientView). x.seen.started) e ∙ ap (λ (x : ClientView). x.seen.started) (sym client-kept);
-    }
 
     goes-on : (o : Option SeenTask) → Fits v.config.n v.seen.place o → (u : SeenTask) → goes_to (hears (client_in v k) o m) ≡ Some u → (n : ℕ) → Becomes now.config now.seen.place (started_task n o) (Some u)
     goes-on None fit u e n = absurd (cc)
@@ -128,11 +121,10 @@ module _ (v : WorldView) (k place : ℕ) (m : Message) (answer : IsAnswer k m) (
         at (Counts node tag reply) h =
             let counted : answer_does (client_in now k) node tag reply ≡ Counted h.0 = ap (λ (x : ClientView). answer_does x node tag reply) client-kept ∙ h.2 in
             (ap is_only_counted counted, rw (task, counted) (goes-on (client_at v.seen k).task fit h.0 (ap goes_to h.1) (slice_index_or v.seen.starts k 0)))
-        at (Goes new) h =
-            let e : new.value.seen.task ≡ Some h.0 = ap (λ (x : ClientView). x.seen.task) h.2 in
-            (same-client new.value (Some h.0) h.2, (h.0, e), rw (task, e) (goes-on (client_at v.seen k).task fit h.0 h.1 (slice_index_or v.seen.starts k 0)))
-        at (Ends new outcome) h =
-            (same-client new.value None h.1, ap (λ (x : ClientView). x.seen.task) h.1, rw task (ends (client_at v.seen k).task outcome h.0 (slice_index_or v.seen.starts k 0)))
+        at (Goes stage) h =
+            let next : next_of (client_in now k) stage ≡ Some h.0 = ap (λ (x : ClientView). next_of x stage) client-kept ∙ h.2 in
+            (subst (λ (x : ClientView). MayBegin (operation_of x) stage) (sym client-kept) h.3, rw (task, next) (goes-on (client_at v.seen k).task fit h.0 (ap goes_to h.1) (slice_index_or v.seen.starts k 0)))
+        at (Ends outcome) h = rw task (ends (client_at v.seen k).task outcome h (slice_index_or v.seen.starts k 0))
 
   -- ---- and then it heard the message
   module _ (w : World) (start : ℕ) where
@@ -182,15 +174,13 @@ module _ (v : WorldView) (k place : ℕ) (m : Message) (answer : IsAnswer k m) (
     takes t (Counted u) (Counts node tag reply) next is =
         let q : u ≡ is.0 = (let e = is.1 in cc) in
         ap (λ (o : Option SeenTask). goes_on (mailed (Counted u)) k (task_at start t) o) (ap goes_to is.2 ∙ ap Some (sym q)) ∙ stays t u (next u refl)
-    takes t Ignored (Goes new) next is = absurd (let e = is.1 in cc)
-    takes t (Ended outcome) (Goes new) next is = absurd (let e = is.1 in cc)
-    takes t (Counted u) (Goes new) next is =
+    takes t Ignored (Goes stage) next is = absurd (let e = is.1 in cc)
+    takes t (Ended outcome) (Goes stage) next is = absurd (let e = is.1 in cc)
+    takes t (Counted u) (Goes stage) next is = absurd (let e = is.1 in cc)
+    takes t (Begins u) (Goes stage) next is =
         let q : u ≡ is.0 = (let e = is.1 in cc) in
-        ap (λ (o : Option SeenTask). goes_on (mailed (Counted u)) k (task_at start t) o) (ap (λ (x : ClientView). x.seen.task) is.2 ∙ ap Some (sym q)) ∙ stays t u (next u refl)
-    takes t (Begins u) (Goes new) next is =
-        let q : u ≡ is.0 = (let e = is.1 in cc) in
-        ap (λ (o : Option SeenTask). goes_on (mailed (Begins u)) k (task_at start t) o) (ap (λ (x : ClientView). x.seen.task) is.2 ∙ ap Some (sym q)) ∙ begins t u (next u refl)
-    takes t h (Ends new outcome) next is = rw (is.0) refl
+        ap (λ (o : Option SeenTask). goes_on (mailed (Begins u)) k (task_at start t) o) (is.2 ∙ ap Some (sym q)) ∙ begins t u (next u refl)
+    takes t h (Ends outcome) next is = rw is refl
 
   pub heard-applied : (w : World) → w.task k ≡ (world_in v).task k → Fits v.config.n v.seen.place (client_at v.seen k).task → IsEffect (client_in v k) (hearing_of v k m) effect
       → (c : ClientView) → c ≡ client_in v k → (now : World) → now ≡ record w { pool = w.pool ++ next_mail (client_in v k) (hearing_of v k m); place = place } → applied now c (now.task k) effect ≡ heard (setting_in v) w place k m m.body

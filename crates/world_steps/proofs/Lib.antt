@@ -9,6 +9,7 @@ pub mod BlockUses
 pub mod NodeSlots
 pub mod SettledRecords
 pub mod SettledUses
+pub mod ChangedClients
 pub mod CountedAnswers
 pub mod HeardEffects
 pub mod StartedOperations

@@ -9,7 +9,10 @@ use Rattle.protocol.specs.Operations.{Task, Outcome}
 use Rattle.protocol.specs.World.{World, stamp_of_outcome, with_record}
 use Rattle.protocol.specs.Seen.{SeenTask, Hearing, client_at, started_task, chosen_of, hears as hears_answer}
 use Rattle.protocol.specs.Seen.Hearing.{Ignored, Counted, Begins, Ended}
-use Rattle.client_core.specs.Clients.{ClientView, with_task, mail_of, goes_to, is_only_counted}
+use Rattle.operation_core.specs.declared.stage.Stage.{Stage}
+use Rattle.operation_core.specs.Stages.{stage_of}
+use Rattle.operation_core.specs.Counting.{next_task, MayBegin}
+use Rattle.client_core.specs.Clients.{ClientView, operation_of, mail_of, goes_to, is_only_counted}
 use Rattle.world_steps.specs.declared.answer_effect.AnswerEffect.{AnswerEffect}
 use Rattle.world_steps.specs.declared.answer_effect.AnswerEffect.TheVariants.{Same, Counts, Goes, Ends}
 use Rattle.world_steps.specs.Worlds.{WorldView, world_in}
@@ -24,12 +27,16 @@ next_mail c _ = []
 abbrev pub answer_does : ClientView → ℕ → Tag → Reply → Hearing
 answer_does c node tag reply = hears_answer (setting c.config) c.id c.seen.task node tag reply
 
+-- the operation under way in its next phase
+abbrev pub next_of : ClientView → Stage → Option SeenTask
+next_of c stage = next_task c.config c.seen.task (stage_of stage)
+
 -- the effect is what the message does to the client
 abbrev pub IsEffect : ClientView → Hearing → AnswerEffect → Type 0
 IsEffect c h Same = h ≡ Ignored
 IsEffect c h (Counts node tag reply) = (u : SeenTask) × (h ≡ Counted u) × (answer_does c node tag reply ≡ Counted u)
-IsEffect c h (Goes new) = (u : SeenTask) × (goes_to h ≡ Some u) × (new.value ≡ with_task c (Some u))
-IsEffect c h (Ends new outcome) = (h ≡ Ended outcome) × (new.value ≡ with_task c None)
+IsEffect c h (Goes stage) = (u : SeenTask) × (h ≡ Begins u) × (next_of c stage ≡ Some u) × MayBegin (operation_of c) stage
+IsEffect c h (Ends outcome) = h ≡ Ended outcome
 
 -- the client of this number, with its life and its count of operations
 pub record IsSame (v : WorldView) (k : ℕ) (new : ClientView) : Type 0 where
@@ -55,8 +62,8 @@ Becomes c place (Some t) (Some u) = MayGoOn c place t u
 abbrev pub MayApply : WorldView → ℕ → AnswerEffect → Type 0
 MayApply v k Same = Unit {0}
 MayApply v k (Counts node tag reply) = (is_only_counted (answer_does (client_in v k) node tag reply) ≡ true) × Becomes v.config v.seen.place ((world_in v).task k) (goes_to (answer_does (client_in v k) node tag reply))
-MayApply v k (Goes new) = IsSame v k new.value × ((u : SeenTask) × (new.value.seen.task ≡ Some u)) × Becomes v.config v.seen.place ((world_in v).task k) new.value.seen.task
-MayApply v k (Ends new outcome) = IsSame v k new.value × (new.value.seen.task ≡ None) × Becomes v.config v.seen.place ((world_in v).task k) None
+MayApply v k (Goes stage) = MayBegin (operation_of (client_in v k)) stage × Becomes v.config v.seen.place ((world_in v).task k) (next_of (client_in v k) stage)
+MayApply v k (Ends outcome) = Becomes v.config v.seen.place ((world_in v).task k) None
 
 -- the world when the client's operation has become this one, and this is told of it
 abbrev pub settled : World → ℕ → Task → Option SeenTask → Option ℕ → Option Stamp → Option Outcome → World
@@ -74,5 +81,5 @@ abbrev pub applied : World → ClientView → Option Task → AnswerEffect → W
 applied w c None effect = w
 applied w c (Some t) Same = w
 applied w c (Some t) (Counts node tag reply) = goes_on w c.id t (goes_to (answer_does c node tag reply))
-applied w c (Some t) (Goes new) = goes_on w c.id t new.value.seen.task
-applied w c (Some t) (Ends new outcome) = settled w c.id t None (Some w.place) (stamp_of_outcome outcome) (Some outcome)
+applied w c (Some t) (Goes stage) = goes_on w c.id t (next_of c stage)
+applied w c (Some t) (Ends outcome) = settled w c.id t None (Some w.place) (stamp_of_outcome outcome) (Some outcome)

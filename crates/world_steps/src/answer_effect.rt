@@ -4,21 +4,20 @@ ghost use Rattle.world_steps.specs.Steps.{HasBecome, client_in};
 ghost use Rattle.world_steps.specs.AnswerEffects.{MayApply, applied};
 
 use crate::state::State;
-use client_core::Client;
+use operation_core::Stage;
 use run_words::Outcome;
-use std::boxed::Box;
 use wire_forms::{Reply, Tag};
 
-/// What a heard answer does to a client.
+/// What a heard answer does to a client. What it needs is at hand, so doing it takes no memory.
 pub(crate) enum AnswerEffect {
     /// Nothing changes.
     Same,
     /// Its operation counts an answer, and goes on in the present phase.
     Counts { node: u8, tag: Tag, reply: Reply },
-    /// Its operation goes on as this client does it. A client on the heap, since it is large and most answers are only counted.
-    Goes(Box<Client>),
-    /// Its operation has ended.
-    Ends(Box<Client>, Outcome),
+    /// Its operation goes on with a next phase, in this stage.
+    Goes(Stage),
+    /// Its operation ends.
+    Ends(Outcome),
 }
 
 impl Drop for AnswerEffect {
@@ -30,8 +29,8 @@ impl Drop for AnswerEffect {
                 tag: _tag,
                 reply: _reply,
             } => {}
-            AnswerEffect::Goes(_hearer) => {}
-            AnswerEffect::Ends(_hearer, _outcome) => {}
+            AnswerEffect::Goes(_stage) => {}
+            AnswerEffect::Ends(_outcome) => {}
         }
     }
 }
@@ -48,10 +47,8 @@ impl AnswerEffect {
         match self {
             AnswerEffect::Same => {}
             AnswerEffect::Counts { node, tag, reply } => state.count(client, node, tag, reply),
-            AnswerEffect::Goes(hearer) => state.go_on(client, Box::into_inner(hearer)),
-            AnswerEffect::Ends(hearer, outcome) => {
-                state.end(client, Box::into_inner(hearer), outcome)
-            }
+            AnswerEffect::Goes(stage) => state.go_on(client, stage),
+            AnswerEffect::Ends(outcome) => state.end(client, outcome),
         }
     }
 }

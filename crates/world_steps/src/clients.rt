@@ -10,22 +10,22 @@ ghost use Rattle.protocol.specs.Count.{collect};
 ghost use Rattle.protocol.specs.Instance.{setting};
 ghost use Rattle.world_steps.specs.Worlds.{setting_in, world_in};
 ghost use Rattle.run_words.specs.declared.record.Record.{Record as Told};
-ghost use Rattle.client_core.specs.Clients.{hears, goes_to, is_only_counted};
-ghost use Rattle.protocol.specs.Seen.Hearing.{Counted};
+ghost use Rattle.operation_core.specs.Counting.{MayBegin};
+ghost use Rattle.client_core.specs.Clients.{operation_of, hears, goes_to, is_only_counted};
 ghost use Rattle.world_steps.specs.Steps.{HasBecome, accepts_in, handles, client_in, IsAnswer};
-ghost use Rattle.world_steps.specs.AnswerEffects.{IsEffect, next_mail, answer_does, IsSame, Becomes, goes_on, settled};
+ghost use Rattle.world_steps.specs.AnswerEffects.{IsEffect, next_mail, answer_does, next_of, Becomes, goes_on, settled};
 
 use crate::answer_effect::AnswerEffect;
 use crate::block_use::{greater, leave, stamp_given};
 use crate::nodes::block_of;
 use crate::state::State;
-use client_core::{Client, Heard};
+use client_core::{Client, Step};
 use lists::{Copied, ItemList, NoMemory};
+use operation_core::{PhaseEnd, Stage};
 use quorum_rules::Config;
 use run_words::{Outcome, Record};
 use stamp_order::Stamp;
 use std::alloc::Global;
-use std::boxed::Box;
 use std::mem::replace;
 use wire_forms::{Ask, Body, Mail, Message, Op, Reply, Tag, Version};
 
@@ -85,7 +85,6 @@ impl State {
     /// What the message makes of the client, and the messages of the next phase if one begins.
     fn heard(&self, client: u32, message: &Message) -> Result<(AnswerEffect, Mail), NoMemory>
         requires client { client ≤ 1000 }
-        requires answer { IsAnswer client message.now }
         requires room { self.now.seen.place < 2 ^ 64 - 1 }
         ensures effect { IfOk result (λ r. IsEffect (client_in self.now client)
             (hears (client_in self.now client)
@@ -121,29 +120,26 @@ impl State {
         slot.client.count(node, tag, reply);
     }
 
-    /// A client's operation goes on.
-    pub(crate) fn go_on(&mut self, client: u32, hearer: Client)
+    /// A client's operation goes on with a next phase.
+    pub(crate) fn go_on(&mut self, client: u32, stage: Stage)
         requires client { client ≤ 1000 }
-        requires hearer { IsSame self.now client hearer }
-        requires busy { (u : SeenTask) × (hearer.seen.task ≡ Some u) }
+        requires stage { MayBegin (operation_of (client_in self.now client)) stage }
         requires task { Becomes self.now.config self.now.seen.place
-            ((world_in self.now).task client) hearer.seen.task }
+            ((world_in self.now).task client) (next_of (client_in self.now client) stage) }
         ensures { IfSome ((world_in self.old).task client) (λ t. HasBecome self.old self.new
-            (goes_on (world_in self.old) client t hearer.seen.task)) }
+            (goes_on (world_in self.old) client t (next_of (client_in self.old client) stage))) }
     {
-        let stamp = hearer.stamp();
         let slot = &mut self.client_slots[client as usize];
-        slot.client = hearer;
+        slot.client.go_on(stage);
+        let stamp = slot.client.stamp();
         let index = slot.index;
         tell(&mut self.records, index, None, stamp, None);
     }
 
     /// A client's operation ends.
-    pub(crate) fn end(&mut self, client: u32, hearer: Client, outcome: Outcome)
+    pub(crate) fn end(&mut self, client: u32, outcome: Outcome)
         requires client { client ≤ 1000 }
         requires awake { (world_in self.now).client_crashed client ≡ false }
-        requires hearer { IsSame self.now client hearer }
-        requires idle { hearer.seen.task ≡ None }
         requires task { Becomes self.now.config self.now.seen.place
             ((world_in self.now).task client) None }
         ensures { IfSome ((world_in self.old).task client)
@@ -151,7 +147,7 @@ impl State {
             (Some self.old.seen.place) (stamp_of_outcome outcome) (Some outcome))) }
     {
         let slot = &mut self.client_slots[client as usize];
-        slot.client = hearer;
+        slot.client.end();
         let index = slot.index;
         let block = block_told(&self.records, index);
         let block_use = &mut self.uses[block as usize];
@@ -259,22 +255,20 @@ impl State {
     }
 
     /// A client comes back: it does nothing, in its next life.
-    pub(crate) fn come_back(&mut self, place: u64, client: u32) -> Result<(), NoMemory>
+    pub(crate) fn come_back(&mut self, place: u64, client: u32)
         requires later { self.now.seen.place < place }
         requires client { client ≤ 1000 }
         requires crashed { (world_in self.now).client_crashed client ≡ true }
         requires lives { (client_at self.now.seen client).life < 2 ^ 32 - 1 }
-        ensures ok { OnOk result (HasBecome self.old self.new (happens (setting_in self.old)
-            (world_in self.old) place (ComesBack client))) }
-        ensures err { OnErr result (self.new ≡ self.old) }
+        ensures { HasBecome self.old self.new (happens (setting_in self.old)
+            (world_in self.old) place (ComesBack client)) }
     {
-        let life = self.client_slots[client as usize].client.life() + 1;
-        let again = Client::again(self.alloc, &self.config, client, life)?;
         let slot = &mut self.client_slots[client as usize];
+        let life = slot.client.life() + 1;
+        let again = slot.client.sibling(client, life);
         slot.client = again;
         slot.crashed = false;
         self.place = place;
-        Ok(())
     }
 }
 
@@ -299,62 +293,19 @@ fn effect_of(
     client: &Client,
     message: &Message,
 ) -> Result<(AnswerEffect, Mail), NoMemory>
-    requires answer { IsAnswer client.now.id message.now }
-    requires room { phase_of client.now.seen.task < 2 ^ 64 - 1 }
+    requires { phase_of client.now.seen.task < 2 ^ 64 - 1 }
     ensures effect { IfOk result
         (λ r. IsEffect client.now (hears client.now client.now.seen.task message.now) r.0) }
     ensures mail { IfOk result
         (λ r. r.1 ≡ next_mail client.now (hears client.now client.now.seen.task message.now)) }
 {
-    match counted_by(client, message)? {
-        Some(counted) => Ok((counted, ItemList::new(alloc))),
-        None => effect_on_copy(alloc, client, message),
+    let none = ItemList::new(alloc);
+    match client.prepare(message)? {
+        Step::Ignored => Ok((AnswerEffect::Same, none)),
+        Step::Counts { node, tag, reply } => Ok((AnswerEffect::Counts { node, tag, reply }, none)),
+        Step::EndsPhase(PhaseEnd::Begins(stage, mail)) => Ok((AnswerEffect::Goes(stage), mail)),
+        Step::EndsPhase(PhaseEnd::Ends(outcome)) => Ok((AnswerEffect::Ends(outcome), none)),
     }
-}
-
-/// What a message makes of a client, as a copy of it that hears the message shows.
-fn effect_on_copy(
-    alloc: Global,
-    client: &Client,
-    message: &Message,
-) -> Result<(AnswerEffect, Mail), NoMemory>
-    requires answer { IsAnswer client.now.id message.now }
-    requires room { phase_of client.now.seen.task < 2 ^ 64 - 1 }
-    ensures effect { IfOk result
-        (λ r. IsEffect client.now (hears client.now client.now.seen.task message.now) r.0) }
-    ensures mail { IfOk result
-        (λ r. r.1 ≡ next_mail client.now (hears client.now client.now.seen.task message.now)) }
-{
-    let mut hearer = Box::new(alloc, client.copy()?)?;
-    let heard = hearer.hear(message)?;
-    match heard {
-        Heard::Unchanged => Ok((AnswerEffect::Same, ItemList::new(alloc))),
-        Heard::More => Ok((AnswerEffect::Goes(hearer), ItemList::new(alloc))),
-        Heard::Send(mail) => Ok((AnswerEffect::Goes(hearer), mail)),
-        Heard::Ended(outcome) => Ok((AnswerEffect::Ends(hearer, outcome), ItemList::new(alloc))),
-    }
-}
-
-/// That the client counts the answer and its phase goes on, if it does so.
-fn counted_by(client: &Client, message: &Message) -> Result<Option<AnswerEffect>, NoMemory>
-    requires { IsAnswer client.now.id message.now }
-    ensures effect { IfOk result (λ r. IfSome r
-        (λ e. (t : SeenTask) × (hears client.now client.now.seen.task message.now ≡ Counted t)
-        × IsEffect client.now (Counted t) e)) }
-{
-    let Body::Answer(reply) = &message.body else {
-        return Ok(None);
-    };
-    let Message { node, tag, .. } = message;
-    if !client.only_counts(*node, *tag, reply) {
-        return Ok(None);
-    }
-    let reply = reply.copy()?;
-    Ok(Some(AnswerEffect::Counts {
-        node: *node,
-        tag: *tag,
-        reply,
-    }))
 }
 
 /// The message, and the others behind it.

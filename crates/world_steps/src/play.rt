@@ -1,7 +1,8 @@
 //! What lines make of the world.
 
-ghost use Rattle.std.specs.Prelude.{false, ◌≡◌, ◌≢◌, ◌<◌, ◌≤◌, OnOk, OnErr, IsErrOf, slice_get};
+ghost use Rattle.std.specs.Prelude.{false, ◌≡◌, ◌≢◌, ◌<◌, ◌≤◌, IfOk, OnOk, OnErr, IsErrOf, slice_get};
 ghost use Rattle.std.specs.declared.option.Option.TheVariants.{None, Some};
+ghost use Rattle.wire_forms.specs.declared.op.Op.TheVariants.{Write as WriteOp};
 ghost use Rattle.protocol.specs.Messages.{Message as Messages};
 ghost use Rattle.protocol.specs.Setting.{first_stamp};
 ghost use Rattle.protocol.specs.Lines.{fault, FitsLine};
@@ -12,6 +13,7 @@ ghost use Rattle.world_steps.specs.Steps.{IsPlayedBy, IsWorking, IsAskOf};
 
 use crate::refusal::StepRefusal;
 use crate::state::State;
+use cross_sum::Bytes;
 use lists::{Copied, NoMemory};
 use run_words::Line;
 use stamp_order::Stamp;
@@ -49,14 +51,7 @@ impl State {
                 client,
                 block,
                 value,
-            } => self.start(
-                place,
-                *client,
-                Op::Write {
-                    block: *block,
-                    value: value.copy()?,
-                },
-            ),
+            } => self.start(place, *client, write_of(*block, value)?),
             Line::Read { client, block } => self.start(place, *client, Op::Read { block: *block }),
             Line::Resend { client } => self.resend(place, *client),
             Line::Call { client, node } => self.call(place, *client, *node),
@@ -103,7 +98,10 @@ impl State {
                 self.poke(place, &message)
             }
             Line::Prune { node, block } => self.prune(place, *node, *block),
-            Line::Back { client } => self.come_back(place, *client),
+            Line::Back { client } => {
+                self.come_back(place, *client);
+                Ok(())
+            }
             Line::Restart { node } => self.restart(place, *node),
         }
     }
@@ -203,4 +201,14 @@ impl State {
     {
         &self.first.stamp
     }
+}
+
+/// The operation that writes a value to a block.
+fn write_of(block: u32, value: &Bytes) -> Result<Op, NoMemory>
+    ensures { IfOk result (λ op. op ≡ WriteOp block value.now) }
+{
+    Ok(Op::Write {
+        block,
+        value: value.copy()?,
+    })
 }

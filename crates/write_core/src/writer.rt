@@ -1,18 +1,19 @@
 ghost use Rattle.std.specs.Prelude.{◌≡◌, ◌<◌, ◌↔◌, true, false, IsTrue, IsSome, IsSomeAnd, IfSome, IfOk, OnOk, OnErr, Some, None};
 ghost use Rattle.wire_forms.specs.declared.op.Op.TheVariants.{Write as WriteOp};
 ghost use Rattle.protocol.specs.Operations.Stage.{Times};
-ghost use Rattle.protocol.specs.Seen.{has_answered, phase_of, chosen_of};
-ghost use Rattle.operation_core.specs.Stages.{IsEncoded};
-ghost use Rattle.operation_core.specs.Counting.{begun_in, first_mail, counts_in, ends_in, hears_in, end_in, outstanding_in};
+ghost use Rattle.protocol.specs.Seen.{Hearing, with_task, has_answered, phase_of, chosen_of};
+ghost use Rattle.operation_core.specs.Stages.{stage_of, IsEncoded};
+ghost use Rattle.operation_core.specs.Counting.{begun_in, first_mail, counts_in, ends_in, hears_in, next_in, outstanding_in, MayBegin, IsPhaseEnd};
 ghost use Rattle.write_core.specs.declared.writer.Writing.TheVariants.{More, Spent};
-ghost use Rattle.write_core.specs.Writers.{after_hearing, said_of, FindsLastTime, IsUnder};
+ghost use Rattle.write_core.specs.Writers.{after_hearing, said_of, ended_as, FindsLastTime, IsUnder};
 
 use crate::encoding::encoded;
 use crate::times::drawn;
 use cross_sum::Bytes;
 use lists::{Copied, NoMemory};
-use operation_core::{Counting, Operation, Stage, Storing};
+use operation_core::{Operation, PhaseEnd, Stage, Storing};
 use quorum_rules::Config;
+use run_words::Outcome;
 use stamp_order::Stamp;
 use std::alloc::Global;
 use std::marker::Model;
@@ -93,17 +94,15 @@ impl Writer {
             ≡ after_hearing self.old (hears_in self.old node tag reply.now)) }
         ensures err { OnErr result (self.new ≡ self.old) }
     {
-        match self.operation.hear(node, tag, reply)? {
-            Counting::Ignored | Counting::Counted => Ok(Writing::More),
-            Counting::Last => match self.end_phase() {
-                Ok(said) => Ok(said),
-                Err(error) => {
-                    // The phase ends only once there is memory for what comes next.
-                    self.operation.forget(node);
-                    Err(error)
-                }
-            },
+        if self.operation.ends_phase(node, tag, reply) {
+            let end = self.phase_end(node, tag, reply)?;
+            return Ok(self.enter(end));
         }
+        if self.counts(node, tag, reply) {
+            let reply = reply.copy()?;
+            self.count(node, tag, reply);
+        }
+        Ok(Writing::More)
     }
 
     /// Whether the present phase counts a node's answer with this tag.
@@ -127,6 +126,33 @@ impl Writer {
         ensures { self.new ≡ after_hearing self.old (hears_in self.old node tag reply) }
     {
         self.operation.count(node, tag, reply);
+    }
+
+    /// What the present phase comes to with an answer that ends it: a stamp that is chosen is stored; else the next time is
+    /// drawn, if there is one. It takes all memory that is needed, and changes nothing.
+    pub fn phase_end(&self, node: u8, tag: Tag, reply: &Reply) -> Result<PhaseEnd, NoMemory>
+        requires { ends_in self.now node tag reply.now ≡ true }
+        ensures { IfOk result (IsPhaseEnd self.now (hears_in self.now node tag reply.now)) }
+    {
+        match self.operation.chosen_stamp() {
+            Some(stamp) => Ok(PhaseEnd::Ends(Outcome::Wrote(stamp))),
+            None => self.drawn_end(node, tag, reply),
+        }
+    }
+
+    /// Begins the next phase.
+    pub fn go_on(&mut self, stage: Stage)
+        requires { MayBegin self.old stage }
+        ensures { self.new ≡ next_in self.old (stage_of stage) }
+    {
+        self.operation.go_on(stage);
+    }
+
+    /// Ends the write.
+    pub fn end(&mut self)
+        ensures { self.new ≡ with_task self.old None }
+    {
+        self.operation.end();
     }
 
     /// The operation that the write is.
@@ -178,40 +204,39 @@ impl Writer {
         self.operation.block()
     }
 
-    /// Ends the phase: a stamp that is chosen is stored; else the next time is drawn, if there is one.
-    fn end_phase(&mut self) -> Result<Writing, NoMemory>
-        requires { IsSome self.old.task }
-        ensures said { IfOk result (λ said. said ≡ said_of self.old (end_in self.old)) }
-        ensures ok { OnOk result (self.new ≡ after_hearing self.old (end_in self.old)) }
-        ensures err { OnErr result (self.new ≡ self.old) }
+    /// Does what the phase comes to, and says it.
+    fn enter(&mut self, end: PhaseEnd) -> Writing
+        requires { (h : Hearing) × IsPhaseEnd self.old h end }
+        ensures said { (h : Hearing) → IsPhaseEnd self.old h end → result ≡ said_of self.old h }
+        ensures new { (h : Hearing) → IsPhaseEnd self.old h end
+            → self.new ≡ after_hearing self.old h }
     {
-        match self.operation.chosen_stamp() {
-            Some(stamp) => {
-                self.operation.end();
-                Ok(Writing::Wrote(stamp))
+        match end {
+            PhaseEnd::Begins(stage, mail) => {
+                self.go_on(stage);
+                Writing::Send(mail)
             }
-            None => self.draw(),
+            PhaseEnd::Ends(outcome) => {
+                self.end();
+                ended_as(&outcome)
+            }
         }
     }
 
-    /// Draws the next time, and begins to store the value under it.
-    fn draw(&mut self) -> Result<Writing, NoMemory>
-        requires { IsSomeAnd self.old.task (λ t. t.stage ≡ Times) }
-        ensures said { IfOk result (λ said. said ≡ said_of self.old (end_in self.old)) }
-        ensures ok { OnOk result (self.new ≡ after_hearing self.old (end_in self.old)) }
-        ensures err { OnErr result (self.new ≡ self.old) }
+    /// Draws the next time, for a phase that asks for times and ends with this answer.
+    fn drawn_end(&self, node: u8, tag: Tag, reply: &Reply) -> Result<PhaseEnd, NoMemory>
+        requires ends { ends_in self.now node tag reply.now ≡ true }
+        requires asks { IsSomeAnd self.now.task (λ t. t.stage ≡ Times) }
+        ensures { IfOk result (IsPhaseEnd self.now (hears_in self.now node tag reply.now)) }
     {
-        let time = drawn(
-            self.operation.answers(),
-            self.operation.config().b() as usize + 1,
-        );
+        let answers = self.operation.answers_with(node, tag, reply)?;
+        let time = drawn(answers.as_slice(), self.operation.config().b() as usize + 1);
         if time == u64::MAX {
-            self.operation.end();
-            return Ok(Writing::Spent);
+            return Ok(PhaseEnd::Ends(Outcome::Spent));
         }
-        let storing = self.storing_under(time + 1)?;
-        let mail = self.operation.go_on(Stage::Storing(storing))?;
-        Ok(Writing::Send(mail))
+        let stage = Stage::Storing(self.storing_under(time + 1)?);
+        let mail = self.operation.mail_of(&stage)?;
+        Ok(PhaseEnd::Begins(stage, mail))
     }
 
     /// The value, encoded, under this time.
@@ -231,6 +256,18 @@ impl Writer {
             ),
             Op::Read { .. } => unreachable!(),
         }
+    }
+}
+
+/// How a writer tells that its write has ended.
+fn ended_as(outcome: &Outcome) -> Writing
+    ensures { result ≡ ended_as outcome.now }
+{
+    match outcome {
+        Outcome::Wrote(stamp) => Writing::Wrote(*stamp),
+        Outcome::Spent => Writing::Spent,
+        // A write ends in no other way.
+        Outcome::Gave { .. } | Outcome::Outvoted(_) => Writing::More,
     }
 }
 

@@ -1,7 +1,7 @@
 use Rattle.std.proofs.Common.{◌≤◌, ◌∙◌, ap, subst}
 use Rattle.protocol.specs.Seen.{client_at, phase_of}
 use Rattle.world_steps.specs.Steps.{client_in}
-use Rattle.world_steps.proofs.CountedAnswers.{slot-is}
+use Rattle.world_steps.proofs.ChangedClients.{slot-is}
 use Rattle.world_steps.proofs.HeardEffects.{slot-fits, fits-phase}
 use Rattle.world_steps.proofs.state.State.client_of.Goals as goal
 

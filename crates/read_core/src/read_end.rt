@@ -5,7 +5,7 @@ use stamp_order::Stamp;
 
 /// What a phase comes to when it has heard enough nodes.
 #[derive(Drop)]
-pub(crate) enum PhaseEnd {
+pub(crate) enum ReadEnd {
     /// Too few answers are valid, and those of these nodes aren't.
     Outvoted(Nodes),
     /// The read gives this value.
