@@ -1,6 +1,5 @@
 use lists::{Copied, ItemList, NoMemory};
 use std::alloc::Global;
-use std::test::Fail;
 
 fn list_of(alloc: Global, items: &[u32]) -> Result<ItemList<u32>, NoMemory> {
     let mut list = ItemList::new(alloc);
@@ -10,40 +9,61 @@ fn list_of(alloc: Global, items: &[u32]) -> Result<ItemList<u32>, NoMemory> {
     Ok(list)
 }
 
-#[test]
-fn items_come_back_in_order(rt: HostRuntime) -> Result<(), Fail> {
-    let mut list = list_of(rt.alloc(), &[7, 8, 9])?;
-    assert_eq!(rt; list.as_slice(), [7, 8, 9].as_slice());
-    assert_eq!(rt; list.get(2), Some(&9));
-    assert_eq!(rt; list.get(3), None);
-    assert_eq!(rt; list.pop(), Some(9));
-    assert_eq!(rt; list.len(), 2);
-    assert!(rt; !list.is_empty());
-    Ok(())
+/// Whether a list gives 7, 8 and 9, and then the last of them.
+fn gives_three(list: &mut ItemList<u32>) -> bool {
+    list.as_slice() == [7, 8, 9].as_slice()
+        && list.get(2) == Some(&9)
+        && list.get(3).is_none()
+        && list.pop() == Some(9)
+        && list.len() == 2
+        && !list.is_empty()
 }
 
 #[test]
-fn lists_are_moved_whole(rt: HostRuntime) -> Result<(), Fail> {
+fn items_come_back_in_order(rt: HostRuntime) -> Result<(), NoMemory> {
+    let mut list = list_of(rt.alloc(), &[7, 8, 9])?;
+    let holds = gives_three(&mut list);
+    assert!(rt; holds);
+    Ok(())
+}
+
+/// Whether one list's items go to the end of another's.
+fn are_joined(list: &mut ItemList<u32>, more: &mut ItemList<u32>) -> Result<bool, NoMemory> {
+    list.append(more)?;
+    Ok(list.as_slice() == [1, 2, 3, 4, 5].as_slice() && more.is_empty())
+}
+
+/// Whether the first item is 1, and the first two are 6 and 2 in a vector when 6 stands in its place.
+fn are_moved(alloc: Global, list: &mut ItemList<u32>) -> Result<bool, NoMemory> {
+    if list.is_empty() || list.replace(0, 6) != 1 {
+        return Ok(false);
+    }
+    list.truncate(2);
+    let mut room = Vec::with_capacity(alloc, 2)?;
+    list.move_to(&mut room);
+    let items = ItemList::from_vec(room).into_vec();
+    Ok(items.as_slice() == [6, 2].as_slice())
+}
+
+#[test]
+fn lists_are_moved_whole(rt: HostRuntime) -> Result<(), NoMemory> {
     let mut list = list_of(rt.alloc(), &[1, 2])?;
     let mut more = list_of(list.allocator(), &[3, 4, 5])?;
-    list.append(&mut more)?;
-    assert_eq!(rt; list.as_slice(), [1, 2, 3, 4, 5].as_slice());
-    assert!(rt; more.is_empty());
-    assert_eq!(rt; list.replace(0, 6), 1);
-    list.truncate(2);
-    let mut room = Vec::with_capacity(rt.alloc(), 2)?;
-    list.move_to(&mut room);
-    assert_eq!(rt;
-        ItemList::from_vec(room).into_vec().as_slice(),
-        [6, 2].as_slice()
-    );
+    let joined = are_joined(&mut list, &mut more);
+    let moved = are_moved(rt.alloc(), &mut list);
+    assert!(rt; joined == Ok(true) && moved == Ok(true));
     Ok(())
 }
 
+fn is_copied(list: &ItemList<u32>) -> Result<bool, NoMemory> {
+    let copy = list.copy()?;
+    Ok(copy.as_slice() == list.as_slice())
+}
+
 #[test]
-fn copies_are_equal(rt: HostRuntime) -> Result<(), Fail> {
+fn copies_are_equal(rt: HostRuntime) -> Result<(), NoMemory> {
     let list = list_of(rt.alloc(), &[1, 2])?;
-    assert_eq!(rt; list.copy()?.as_slice(), list.as_slice());
-    assert_eq!(rt; (3_u8.copy()?, 4_u64.copy()?), (3, 4));
+    let holds = is_copied(&list) == Ok(true) && 3_u8.copy() == Ok(3) && 4_u64.copy() == Ok(4);
+    assert!(rt; holds);
     Ok(())
 }

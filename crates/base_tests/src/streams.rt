@@ -7,53 +7,59 @@ use outside_io::{
 use std::alloc::Global;
 use std::io;
 use std::io::{ErrorKind, Read, Write};
-use std::test::Fail;
 
 fn calls(alloc: Global, numbers: &[u64]) -> Result<Calls, NoMemory> {
-    let mut list = Calls::new(alloc);
-    for number in numbers {
-        list.push(*number)?;
-    }
-    Ok(list)
+    let numbers = Vec::from_slice(alloc, numbers)?;
+    Ok(Calls::from_vec(numbers))
 }
 
-#[test]
-fn a_source_fails_at_the_listed_reads(rt: HostRuntime) -> Result<(), Fail> {
-    let alloc = rt.alloc();
-    let bytes = Bytes::of(alloc, b"abc")?;
-    let mut source = MemorySource::new(bytes, 2, calls(alloc, &[1, 9])?);
+/// What four reads give, and the first byte of the room after the third.
+fn reads(source: &mut MemorySource) -> ([Result<usize, Failed>; 4], u8) {
     let mut room = [0u8; 8];
-    assert_eq!(rt; source.read(&mut room), Ok(2));
-    assert_eq!(rt; source.read(&mut room), Err(Failed));
-    assert_eq!(rt; source.read(&mut room), Ok(1));
-    assert_eq!(rt; room[0], b'c');
-    assert_eq!(rt; source.read(&mut room), Ok(0));
-    Ok(())
+    let first = source.read(&mut room);
+    let second = source.read(&mut room);
+    let third = source.read(&mut room);
+    let byte = room[0];
+    ([first, second, third, source.read(&mut room)], byte)
 }
 
 #[test]
-fn a_sink_takes_three_bytes_in_three_writes(rt: HostRuntime) -> Result<(), Fail> {
-    let alloc = rt.alloc();
-    let mut sink = MemorySink::new(alloc, 1, calls(alloc, &[4])?);
-    assert_eq!(rt; sink.write(b"abc"), Ok(1));
-    assert_eq!(rt; sink.write(b"bc"), Ok(1));
-    assert_eq!(rt; sink.write(b"c"), Ok(1));
-    assert_eq!(rt; sink.flush(), Ok(()));
-    assert_eq!(rt; sink.flush(), Err(Failed));
-    assert_eq!(rt; sink.taken(), b"abc".as_slice());
+fn a_source_fails_at_the_listed_reads(rt: HostRuntime) -> Result<(), NoMemory> {
+    let bytes = Bytes::of(rt.alloc(), b"abc")?;
+    let mut source = MemorySource::new(bytes, 2, calls(rt.alloc(), &[1, 9])?);
+    let reads = reads(&mut source);
+    assert!(rt; reads == ([Ok(2), Err(Failed), Ok(1), Ok(0)], b'c'));
     Ok(())
 }
 
+/// Whether a sink takes three bytes, one at a time, and then fails at its second flush.
+fn takes_three(sink: &mut MemorySink) -> bool {
+    let writes = [sink.write(b"abc"), sink.write(b"bc"), sink.write(b"c")];
+    let flushes = [sink.flush(), sink.flush()];
+    writes == [Ok(1); 3] && flushes == [Ok(()), Err(Failed)] && sink.taken() == b"abc".as_slice()
+}
+
 #[test]
-fn a_calm_sink_keeps_what_fits(rt: HostRuntime) -> Result<(), Fail> {
-    let alloc = rt.alloc();
-    let bytes = Bytes::of(alloc, b"abcde")?;
-    let mut source = CalmSource::new(bytes, 2);
-    let input = read_all(alloc, &mut source)?;
-    let mut sink = CalmSink::new(alloc, 3)?;
-    assert!(rt; write_all(&mut sink, input.as_slice()).is_ok());
-    assert_eq!(rt; sink.taken(), b"abc".as_slice());
-    assert!(rt; !sink.is_whole());
+fn a_sink_takes_three_bytes_in_three_writes(rt: HostRuntime) -> Result<(), NoMemory> {
+    let fails = calls(rt.alloc(), &[4])?;
+    let mut sink = MemorySink::new(rt.alloc(), 1, fails);
+    let holds = takes_three(&mut sink);
+    assert!(rt; holds);
+    Ok(())
+}
+
+fn input(alloc: Global) -> Result<Bytes, ReadRefusal> {
+    let mut source = CalmSource::new(Bytes::of(alloc, b"abcde")?, 2);
+    read_all(alloc, &mut source)
+}
+
+#[test]
+fn a_calm_sink_keeps_what_fits(rt: HostRuntime) -> Result<(), ReadRefusal> {
+    let input = input(rt.alloc())?;
+    let mut sink = CalmSink::new(rt.alloc(), 3)?;
+    let is_taken = write_all(&mut sink, input.as_slice()).is_ok();
+    let is_kept = sink.taken() == b"abc".as_slice() && !sink.is_whole();
+    assert!(rt; is_taken && is_kept);
     Ok(())
 }
 
@@ -73,15 +79,17 @@ const BROKEN: Turn = Turn::Fails(ErrorKind::BrokenPipe);
 #[derive(Drop)]
 struct Stream {
     turns: &'static [Turn],
-    bytes: Vec<u8>,
+    bytes: [u8; 3],
+    count: usize,
     flushes: u64,
 }
 
 impl Stream {
-    fn new(alloc: Global, turns: &'static [Turn]) -> Stream {
+    fn new(turns: &'static [Turn]) -> Stream {
         Stream {
             turns,
-            bytes: Vec::new(alloc),
+            bytes: [0; 3],
+            count: 0,
             flushes: 0,
         }
     }
@@ -115,7 +123,10 @@ impl Write for Stream {
         if !self.turn()? || buf.is_empty() {
             return Ok(0);
         }
-        self.bytes.push(buf[0])?;
+        if let Some(room) = self.bytes.get_mut(self.count) {
+            *room = buf[0];
+        }
+        self.count = self.count.saturating_add(1);
         Ok(1)
     }
 
@@ -126,7 +137,7 @@ impl Write for Stream {
     }
 }
 
-const READS: [(&[Turn], Result<usize, ReadRefusal>); 5] = [
+const READS: &[(&[Turn], Result<usize, ReadRefusal>)] = &[
     (&[Turn::Goes, Turn::Goes], Ok(2)),
     (
         &[
@@ -149,18 +160,22 @@ const READS: [(&[Turn], Result<usize, ReadRefusal>); 5] = [
     ),
 ];
 
+fn read_len(alloc: Global, turns: &'static [Turn]) -> Result<usize, ReadRefusal> {
+    let mut source = StdSource::new(Stream::new(turns));
+    let input = read_all(alloc, &mut source)?;
+    Ok(input.len())
+}
+
 #[test]
-fn a_std_reader_is_read_again_after_an_interruption_alone(rt: HostRuntime) -> Result<(), Fail> {
+fn a_std_reader_is_read_again_after_an_interruption_alone(rt: HostRuntime) {
     for (turns, expected) in READS {
-        let mut source = StdSource::new(Stream::new(rt.alloc(), turns));
-        let read = read_all(rt.alloc(), &mut source).map(|input| input.len());
-        assert_eq!(rt; read, expected);
+        let read = read_len(rt.alloc(), turns);
+        assert!(rt; read == *expected, "{read:?} in place of {expected:?}");
     }
-    Ok(())
 }
 
 // Writes of two bytes: what the stream has then, how often it was flushed, and whether all went well.
-const WRITES: [(&[Turn], &[u8], u64, Result<(), Failed>); 6] = [
+const WRITES: &[(&[Turn], &[u8], u64, Result<(), Failed>)] = &[
     (&[Turn::Goes, Turn::Goes, Turn::Goes], b"xy", 1, Ok(())),
     (
         &[
@@ -181,14 +196,23 @@ const WRITES: [(&[Turn], &[u8], u64, Result<(), Failed>); 6] = [
     (&[Turn::Goes, Turn::Goes, BROKEN], b"xy", 0, Err(Failed)),
 ];
 
+/// Whether two bytes are written as expected, and the stream has these bytes then, and was flushed so often.
+fn is_written(
+    turns: &'static [Turn],
+    bytes: &[u8],
+    flushes: u64,
+    expected: Result<(), Failed>,
+) -> bool {
+    let mut stream = Stream::new(turns);
+    let written = write_all(&mut StdSink::new(&mut stream), b"xy");
+    let has_bytes = stream.count == bytes.len() && stream.bytes.starts_with(bytes);
+    written == expected && has_bytes && stream.flushes == flushes
+}
+
 #[test]
-fn a_std_writer_gets_all_bytes_and_one_flush(rt: HostRuntime) -> Result<(), Fail> {
+fn a_std_writer_gets_all_bytes_and_one_flush(rt: HostRuntime) {
     for (turns, bytes, flushes, expected) in WRITES {
-        let mut stream = Stream::new(rt.alloc(), turns);
-        let written = write_all(&mut StdSink::new(&mut stream), b"xy");
-        assert_eq!(rt; written, expected);
-        assert_eq!(rt; stream.bytes.as_slice(), bytes);
-        assert_eq!(rt; stream.flushes, flushes);
+        let is_written = is_written(turns, bytes, *flushes, *expected);
+        assert!(rt; is_written, "{bytes:?} and {expected:?}");
     }
-    Ok(())
 }

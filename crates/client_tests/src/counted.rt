@@ -222,19 +222,6 @@ fn stamp_of(reply: &Reply) -> Option<Stamp> {
     }
 }
 
-// The nodes whose answers aren't valid.
-fn invalid(alloc: Global, answers: &[Option<Told>; 16], most: u64) -> Result<Vec<u8>, Fail> {
-    let mut nodes = Vec::new(alloc);
-    for node in 0..16u8 {
-        if let Some(told) = answers[usize::from(node)] {
-            if time_of(told, most).is_none() {
-                nodes.push(node)?;
-            }
-        }
-    }
-    Ok(nodes)
-}
-
 fn class_by_count(config: &Config, support: u32) -> Class {
     if support >= config.qc() + config.b() {
         Class::Complete
@@ -245,17 +232,19 @@ fn class_by_count(config: &Config, support: u32) -> Class {
     }
 }
 
-// What the nodes told in a round, and the stamps of the valid answers.
+// What the nodes told in a round that asks for times up to `most`, and the stamps of the valid answers.
 #[derive(Clone, Copy)]
 struct Answers {
+    most: u64,
     told: [Option<Told>; 16],
     stamps: [Option<Stamp>; 16],
     counted: u32,
 }
 
 impl Answers {
-    fn new() -> Answers {
+    fn new(most: u64) -> Answers {
         Answers {
+            most,
             told: [None; 16],
             stamps: [None; 16],
             counted: 0,
@@ -263,14 +252,7 @@ impl Answers {
     }
 
     // Counts a node's first answer, and returns whether it ends the round.
-    fn add(
-        &mut self,
-        config: &Config,
-        node: u8,
-        told: Told,
-        stamp: Option<Stamp>,
-        most: u64,
-    ) -> bool
+    fn add(&mut self, config: &Config, node: u8, told: Told, stamp: Option<Stamp>) -> bool
         requires { node < 16 }
     {
         let i = usize::from(node);
@@ -278,26 +260,36 @@ impl Answers {
             return false;
         }
         self.told[i] = Some(told);
-        if time_of(told, most).is_some() {
+        if time_of(told, self.most).is_some() {
             self.stamps[i] = stamp;
         }
         self.counted = self.counted.saturating_add(1);
         self.counted >= config.n() - config.t()
     }
+
+    // Whether these are the nodes whose answers aren't valid, in order.
+    fn are_invalid(&self, nodes: &[u8]) -> bool {
+        let mut count = 0usize;
+        for node in 0..16u8 {
+            if let Some(told) = self.told[usize::from(node)] {
+                if time_of(told, self.most).is_none() {
+                    if nodes.get(count) != Some(&node) {
+                        return false;
+                    }
+                    count = count.saturating_add(1);
+                }
+            }
+        }
+        count == nodes.len()
+    }
 }
 
 // Whether a pivot's support and its class are those of the plain count.
-fn is_pivot_counted(
-    config: &Config,
-    answers: &Answers,
-    most: u64,
-    end: End,
-    pivot: &Stamp,
-) -> bool {
+fn is_pivot_counted(config: &Config, answers: &Answers, end: End, pivot: &Stamp) -> bool {
     let time = pivot.time;
     let support = support_of(answers.stamps.as_slice(), pivot);
     let class = class_of(config, support);
-    let is_support = support == count(answers.told.as_slice(), most, time, time);
+    let is_support = support == count(answers.told.as_slice(), answers.most, time, time);
     let is_class = class == class_by_count(config, support);
     let is_incomplete = class == Class::Incomplete;
     let asks_lower = end == End::AsksAtMost(time);
@@ -305,43 +297,28 @@ fn is_pivot_counted(
 }
 
 // The same of the pivot, which there is unless the round is outvoted.
-fn is_counted(config: &Config, answers: &Answers, most: u64, end: End) -> bool {
+fn is_counted(config: &Config, answers: &Answers, end: End) -> bool {
     match pivot_of(answers.stamps.as_slice(), config.repairable()) {
         None => end == End::Outvoted,
-        Some(pivot) => is_pivot_counted(config, answers, most, end, &pivot),
+        Some(pivot) => is_pivot_counted(config, answers, end, &pivot),
     }
 }
 
 // Whether what is given is the value of its time, and an outvoted round names the nodes whose answers aren't valid.
-fn says_what_was_told(
-    alloc: Global,
-    answers: &Answers,
-    most: u64,
-    reading: &Reading,
-) -> Result<bool, Fail> {
+fn says_what_was_told(answers: &Answers, reading: &Reading) -> bool {
     match reading {
-        Reading::Got { stamp, value, how } => Ok(*how == How::Plain && is_value(value, stamp.time)),
-        Reading::Outvoted(nodes) => {
-            let invalid = invalid(alloc, &answers.told, most)?;
-            Ok(nodes.as_slice() == invalid.as_slice())
-        }
-        _ => Ok(true),
+        Reading::Got { stamp, value, how } => *how == How::Plain && is_value(value, stamp.time),
+        Reading::Outvoted(nodes) => answers.are_invalid(nodes.as_slice()),
+        _ => true,
     }
 }
 
-fn ends_as_counted(
-    rt: &impl Abort,
-    alloc: Global,
-    config: &Config,
-    answers: &Answers,
-    most: u64,
-    reading: &Reading,
-) -> Result<End, Fail> {
-    let end = end_of(config, answers.told.as_slice(), most);
+fn ends_as_counted(rt: &impl Abort, config: &Config, answers: &Answers, reading: &Reading) -> End {
+    let end = end_of(config, answers.told.as_slice(), answers.most);
     assert!(rt; told_end(reading) == Some(end));
-    assert!(rt; is_counted(config, answers, most, end));
-    assert!(rt; says_what_was_told(alloc, answers, most, reading)?);
-    Ok(end)
+    assert!(rt; is_counted(config, answers, end));
+    assert!(rt; says_what_was_told(answers, reading));
+    end
 }
 
 fn heard(
@@ -356,21 +333,28 @@ fn heard(
     Ok(reader.hear(node, Tag { op: 1, phase }, reply)?)
 }
 
-// A node's answer with the tag of a phase: what the reader does, and the stamp that was told.
+// A node tells this with the tag of a phase. What the round comes to, if it is the present phase and this answer ends it.
 fn answered(
     rt: &impl Abort,
     alloc: Global,
     config: &Config,
     reader: &mut Reader,
+    answers: &mut Answers,
     node: u8,
     phase: u64,
     told: Told,
-) -> Result<(Reading, Option<Stamp>), Fail>
-    requires { node < config.now.n }
+) -> Result<Option<End>, Fail>
+    requires there { node < config.now.n }
+    requires few { node < 16 }
 {
+    let is_present = phase == reader.phase();
     let reply = reply(alloc, config, told, node)?;
     let reading = heard(rt, reader, node, phase, &reply)?;
-    Ok((reading, stamp_of(&reply)))
+    if is_present && answers.add(config, node, told, stamp_of(&reply)) {
+        return Ok(Some(ends_as_counted(rt, config, answers, &reading)));
+    }
+    assert!(rt; matches!(reading, Reading::More));
+    Ok(None)
 }
 
 // Nodes answer in some order, some again and some with the tag of an older phase, until the round ends.
@@ -382,18 +366,17 @@ fn round(
     reader: &mut Reader,
     most: u64,
 ) -> Result<End, Fail> {
-    let mut answers = Answers::new();
+    let mut answers = Answers::new(most);
     let phase = reader.phase();
     for _ in 0..1000 {
         let node = some_node(seed, config);
         let told = some_told(seed);
         let is_older = next(seed) % 8 == 0;
         let tag = if is_older { phase / 2 } else { phase };
-        let (reading, stamp) = answered(rt, alloc, config, reader, node, tag, told)?;
-        if !is_older && answers.add(config, node, told, stamp, most) {
-            return ends_as_counted(rt, alloc, config, &answers, most, &reading);
+        let end = answered(rt, alloc, config, reader, &mut answers, node, tag, told)?;
+        if let Some(end) = end {
+            return Ok(end);
         }
-        assert!(rt; matches!(reading, Reading::More));
     }
     Err(Fail::from("no round is so long"))
 }

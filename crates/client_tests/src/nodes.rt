@@ -10,121 +10,183 @@ use std::process::Abort;
 use std::test::Fail;
 use wire_forms::{Ask, First, Reason, Reply, Request, Version};
 
+// What a node replies.
+#[derive(Clone, Copy, Debug, PartialEq, Eq)]
+enum Said {
+    Acknowledges,
+    Refuses(Reason),
+    Found(Stamp),
+    Nothing,
+    TimeIs(u64),
+}
+
+// A version of client 1: its time, how many digests its cross checksum has, each of the byte 7, whether the stamp's verifier is that
+// of the cross checksum, and its fragment's only byte.
+#[derive(Clone, Copy)]
+struct Draft {
+    time: u64,
+    digests: usize,
+    is_verified: bool,
+    byte: u8,
+}
+
+// A version of this time that a node keeps.
+fn sound(time: u64) -> Draft {
+    Draft {
+        time,
+        digests: 5,
+        is_verified: true,
+        byte: 7,
+    }
+}
+
 // Five nodes, one of which may lie; blocks of two bytes in two fragments of one; two blocks.
 fn cluster(rt: &impl Abort) -> Config {
     Config::new(5, 1, 1, 3, 2, 2, 2).expect(rt, "valid")
 }
 
-// A version whose fragment at each node is one byte, and whose cross checksum has so many digests.
-fn version(alloc: Global, time: u64, digests: usize) -> Result<Version, NoMemory> {
+fn sum_of(alloc: Global, digests: usize) -> Result<CrossSum, NoMemory> {
     let mut hashes = Vec::new(alloc);
     for _ in 0..digests {
         hashes.push(sha(&[7]))?;
     }
-    let sum = CrossSum::of_hashes(alloc, hashes.as_slice())?;
+    CrossSum::of_hashes(alloc, hashes.as_slice())
+}
+
+fn version(alloc: Global, draft: Draft) -> Result<Version, NoMemory> {
+    let sum = sum_of(alloc, draft.digests)?;
+    let verifier = if draft.is_verified {
+        sum.verifier()
+    } else {
+        [0; 32]
+    };
     Ok(Version {
         stamp: Stamp {
-            time,
+            time: draft.time,
             client: 1,
-            verifier: sum.verifier(),
+            verifier,
         },
         sum,
-        fragment: Bytes::of(alloc, &[7])?,
+        fragment: Bytes::of(alloc, &[draft.byte])?,
     })
 }
 
-fn write(block: u32, version: Version) -> Ask {
-    Ask {
-        block,
-        request: Request::Write(version),
+fn stamp_of(alloc: Global, draft: Draft) -> Result<Stamp, NoMemory> {
+    Ok(version(alloc, draft)?.stamp)
+}
+
+fn said_by(reply: &Reply) -> Said {
+    match reply {
+        Reply::Ack => Said::Acknowledges,
+        Reply::Refused(reason) => Said::Refuses(*reason),
+        Reply::Found(version) => Said::Found(version.stamp),
+        Reply::Nothing => Said::Nothing,
+        Reply::TimeIs(time) => Said::TimeIs(*time),
     }
 }
 
-// The times of block 0's versions, in order of acceptance.
-fn times(alloc: Global, node: &Node) -> Result<Vec<u64>, NoMemory>
+// What the node replies to a write of a version, which it then keeps if it acknowledges it.
+fn written(alloc: Global, node: &mut Node, block: u32, draft: Draft) -> Result<Said, NoMemory>
+    ensures { node.new.config ≡ node.old.config }
+{
+    let ask = Ask {
+        block,
+        request: Request::Write(version(alloc, draft)?),
+    };
+    Ok(said_by(&node.handle(&ask)?))
+}
+
+// What the node replies to a read.
+fn read(node: &Node, block: u32, bound: Bound) -> Result<Said, NoMemory> {
+    let ask = Ask {
+        block,
+        request: Request::Read(bound),
+    };
+    Ok(said_by(&node.reply_to(&ask)?))
+}
+
+// Whether the versions of block 0 have these times, in order of acceptance.
+fn has_times(node: &Node, times: &[u64]) -> Result<bool, NoMemory>
     requires { 0 < node.now.config.blocks }
 {
     let stamps = node.versions(0)?;
-    let mut times = Vec::new(alloc);
-    for stamp in stamps.as_slice() {
-        times.push(stamp.time)?;
-    }
-    Ok(times)
+    Ok(are_at(stamps.as_slice(), times))
+}
+
+fn are_at(stamps: &[Stamp], times: &[u64]) -> bool {
+    stamps.len() == times.len()
+        && stamps
+            .iter()
+            .zip(times)
+            .all(|(stamp, time)| stamp.time == *time)
 }
 
 #[test]
 fn refuses_by_the_first_fault(rt: HostRuntime) -> Result<(), Fail> {
-    let alloc = rt.alloc();
-    let mut node = Node::new(alloc, &cluster(&rt), 0).expect(&rt, "memory");
-    let no_block = node.handle(&write(2, version(alloc, 0, 4).expect(&rt, "memory")));
-    assert!(rt; matches!(no_block, Ok(Reply::Refused(Reason::BadBlock))));
-    let four = node.handle(&write(0, version(alloc, 0, 4).expect(&rt, "memory")));
-    assert!(rt; matches!(four, Ok(Reply::Refused(Reason::BadLength))));
-    let zero = node.handle(&write(0, version(alloc, 0, 5).expect(&rt, "memory")));
-    assert!(rt; matches!(zero, Ok(Reply::Refused(Reason::TimeZero))));
-    let mut foreign = version(alloc, 1, 5).expect(&rt, "memory");
-    foreign.stamp = Stamp {
-        time: 1,
-        client: 1,
-        verifier: [0; 32],
-    };
-    let verifier = node.handle(&write(0, foreign));
-    assert!(rt; matches!(verifier, Ok(Reply::Refused(Reason::BadVerifier))));
-    let mut damaged = version(alloc, 1, 5).expect(&rt, "memory");
-    damaged.fragment = Bytes::of(alloc, &[8]).expect(&rt, "memory");
-    let digest = node.handle(&write(0, damaged));
-    assert!(rt; matches!(digest, Ok(Reply::Refused(Reason::BadDigest))));
+    let mut node = Node::new(rt.alloc(), &cluster(&rt), 0)?;
+    for (block, time, digests, is_verified, byte, reason) in [
+        (2, 0, 4, true, 7, Reason::BadBlock),
+        (0, 0, 4, true, 7, Reason::BadLength),
+        (0, 0, 5, true, 7, Reason::TimeZero),
+        (0, 1, 5, false, 7, Reason::BadVerifier),
+        (0, 1, 5, true, 8, Reason::BadDigest),
+    ] {
+        let draft = Draft {
+            time,
+            digests,
+            is_verified,
+            byte,
+        };
+        let said = written(rt.alloc(), &mut node, block, draft);
+        assert_eq!(rt; said, Ok(Said::Refuses(reason)));
+    }
     Ok(())
 }
 
 #[test]
 fn finds_nothing_below_the_first_version(rt: HostRuntime) -> Result<(), Fail> {
-    let alloc = rt.alloc();
     let config = cluster(&rt);
-    let node = Node::new(alloc, &config, 0).expect(&rt, "memory");
-    let first = First::of(alloc, &config).expect(&rt, "memory");
-    let below = node.reply_to(&Ask {
-        block: 0,
-        request: Request::Read(Bound::Below(first.stamp)),
-    });
-    assert!(rt; matches!(below, Ok(Reply::Nothing)));
-    let all = node.reply_to(&Ask {
-        block: 1,
-        request: Request::Read(Bound::All),
-    });
-    assert!(rt; matches!(&all, Ok(Reply::Found(found)) if found.stamp == first.stamp));
+    let first = First::of(rt.alloc(), &config)?.stamp;
+    let node = Node::new(rt.alloc(), &config, 0)?;
+    let below = read(&node, 0, Bound::Below(first));
+    let all = read(&node, 1, Bound::All);
+    assert_eq!(rt; (below, all), (Ok(Said::Nothing), Ok(Said::Found(first))));
     Ok(())
 }
 
 #[test]
 fn keeps_one_version_of_a_stamp(rt: HostRuntime) -> Result<(), Fail> {
-    let alloc = rt.alloc();
-    let mut node = Node::new(alloc, &cluster(&rt), 0).expect(&rt, "memory");
-    let accepted = version(alloc, 3, 5).expect(&rt, "memory");
-    let stamp = accepted.stamp;
-    assert!(rt; !node.keeps(0, &stamp));
-    let ask = write(0, accepted);
-    assert!(rt; matches!(node.handle(&ask), Ok(Reply::Ack)));
-    assert!(rt; matches!(node.handle(&ask), Ok(Reply::Ack)));
-    assert!(rt; node.keeps(0, &stamp));
-    let kept = times(alloc, &node).expect(&rt, "memory");
-    assert_eq!(rt; kept.as_slice(), [0, 3].as_slice());
-    assert_eq!(rt; node.greatest_time(0), 3);
+    let stamp = stamp_of(rt.alloc(), sound(3))?;
+    let mut node = Node::new(rt.alloc(), &cluster(&rt), 0)?;
+    let before = node.keeps(0, &stamp);
+    let first = written(rt.alloc(), &mut node, 0, sound(3));
+    let second = written(rt.alloc(), &mut node, 0, sound(3));
+    let after = node.keeps(0, &stamp);
+    let has_one = has_times(&node, &[0, 3]);
+    let greatest = node.greatest_time(0);
+    assert_eq!(rt;
+        (first, second),
+        (Ok(Said::Acknowledges), Ok(Said::Acknowledges))
+    );
+    assert_eq!(rt;
+        (before, after, has_one, greatest),
+        (false, true, Ok(true), 3)
+    );
     Ok(())
 }
 
 #[test]
 fn prunes_below_the_greatest_up_to_a_stamp(rt: HostRuntime) -> Result<(), Fail> {
-    let alloc = rt.alloc();
-    let mut node = Node::new(alloc, &cluster(&rt), 0).expect(&rt, "memory");
-    let one = write(0, version(alloc, 1, 5).expect(&rt, "memory"));
-    let second = version(alloc, 2, 5).expect(&rt, "memory");
-    let stamp = second.stamp;
-    let two = write(0, second);
-    assert!(rt; node.handle(&one).is_ok());
-    assert!(rt; node.handle(&two).is_ok());
+    let stamp = stamp_of(rt.alloc(), sound(2))?;
+    let mut node = Node::new(rt.alloc(), &cluster(&rt), 0)?;
+    let first = written(rt.alloc(), &mut node, 0, sound(1));
+    let second = written(rt.alloc(), &mut node, 0, sound(2));
     node.prune(0, &stamp);
-    let kept = times(alloc, &node).expect(&rt, "memory");
-    assert_eq!(rt; kept.as_slice(), [0, 2].as_slice());
+    let has_second = has_times(&node, &[0, 2]);
+    assert_eq!(rt;
+        (first, second),
+        (Ok(Said::Acknowledges), Ok(Said::Acknowledges))
+    );
+    assert_eq!(rt; has_second, Ok(true));
     Ok(())
 }

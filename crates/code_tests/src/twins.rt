@@ -3,10 +3,10 @@ ghost use Rattle.gf_field.specs.Fragments.{AreParts};
 ghost use Rattle.cross_sum.specs.Parts.{numbers, strings};
 ghost use Rattle.gf_field.specs.Fragments.{string_len};
 
-use cross_sum::{Bytes, NoMemory, Part};
+use crate::vectors::both_decode;
+use cross_sum::{Bytes, NoMemory, Part, Shares};
 use lists::{Copied, ItemList};
 use std::alloc::Global;
-use std::test::Fail;
 
 /// The shares of these numbers as parts: none unless the numbers are `m` ascending ones below `n`,
 /// each of a share of `len` bytes.
@@ -70,77 +70,128 @@ fn block_of(alloc: Global, size: usize) -> Result<Bytes, NoMemory>
     Bytes::shared(bytes)
 }
 
-/// How many choices of `m` shares give back the block, by both codes, and how many there are.
-fn decoded(alloc: Global, n: u8, m: u8, size: usize) -> Result<(u32, u32), NoMemory> {
-    let mut good = 0u32;
-    let mut all = 0u32;
-    let (Some(plain), Some(lanes)) = (
-        ida_code::Code::new(n as u32, m as u32),
-        ida_lanes::Code::new(n as u32, m as u32),
-    ) else {
-        return Ok((good, all));
-    };
-    let block = block_of(alloc, size)?;
-    let shares = lanes.encode(alloc, &block)?;
-    for mask in 0..64u32 {
-        let chosen = bits(alloc, mask)?;
-        let len = size.div_ceil(m as usize);
-        if let Some(parts) = parts_of(alloc, n, m, len, chosen.as_slice(), shares.as_slice())? {
-            all = all.wrapping_add(1);
-            let first = plain.decode(alloc, size, parts.as_slice())?;
-            let second = lanes.decode(alloc, size, parts.as_slice())?;
-            if first.same(&block) && second.same(&block) {
-                good = good.wrapping_add(1);
-            }
-        }
+/// Whether the shares of a mask's numbers give the block by both codes: none where these are not `m` of the shares.
+fn decodes(
+    alloc: Global,
+    n: u8,
+    m: u8,
+    mask: u32,
+    block: &Bytes,
+    shares: &[Bytes],
+) -> Result<Option<bool>, NoMemory> {
+    if m == 0 {
+        return Ok(None);
     }
-    Ok((good, all))
+    let chosen = bits(alloc, mask)?;
+    let len = block.len().div_ceil(m as usize);
+    let Some(parts) = parts_of(alloc, n, m, len, chosen.as_slice(), shares)? else {
+        return Ok(None);
+    };
+    let decodes = both_decode(
+        alloc,
+        n as u32,
+        m as u32,
+        parts.as_slice(),
+        block.as_slice(),
+    )?;
+    Ok(Some(decodes))
 }
 
-#[test]
-fn every_choice_of_fragments_gives_the_block(rt: HostRuntime) -> Result<(), Fail> {
-    let mut total = 0u32;
+/// How many choices of `m` shares give back the block, and how many do not.
+fn counted(
+    alloc: Global,
+    n: u8,
+    m: u8,
+    block: &Bytes,
+    shares: &[Bytes],
+) -> Result<(u32, u32), NoMemory> {
+    let mut good = 0u32;
+    let mut bad = 0u32;
+    for mask in 0..64u32 {
+        match decodes(alloc, n, m, mask, block, shares)? {
+            Some(true) => good = good.wrapping_add(1),
+            Some(false) => bad = bad.wrapping_add(1),
+            None => {}
+        }
+    }
+    Ok((good, bad))
+}
+
+fn lanes_shares(alloc: Global, n: u8, m: u8, block: &Bytes) -> Result<Shares, NoMemory> {
+    match ida_lanes::Code::new(n as u32, m as u32) {
+        Some(code) => code.encode(alloc, block),
+        None => Ok(Shares::new(alloc)),
+    }
+}
+
+/// The same of a block of this size.
+fn decoded(alloc: Global, n: u8, m: u8, size: usize) -> Result<(u32, u32), NoMemory> {
+    let block = block_of(alloc, size)?;
+    let shares = lanes_shares(alloc, n, m, &block)?;
+    counted(alloc, n, m, &block, shares.as_slice())
+}
+
+/// The same of blocks of up to 40 bytes and of up to six shares.
+fn all_decoded(alloc: Global) -> Result<(u32, u32), NoMemory> {
+    let mut total = (0u32, 0u32);
     for n in 1..=6u8 {
         for m in 1..=n {
             for size in 1..=40usize {
-                let (good, all) = decoded(rt.alloc(), n, m, size)?;
-                assert_eq!(rt; good, all);
-                total = total.wrapping_add(all);
+                let (good, bad) = decoded(alloc, n, m, size)?;
+                total = (total.0.wrapping_add(good), total.1.wrapping_add(bad));
             }
         }
     }
-    // 2^n - 1 choices of some of n fragments, for n from 1 to 6, and 40 sizes.
-    assert_eq!(rt; total, 120 * 40);
-    Ok(())
-}
-
-/// Whether both codes give the same shares of a block.
-fn same_shares(alloc: Global, n: u8, m: u8, size: usize) -> Result<bool, NoMemory> {
-    let (Some(plain), Some(lanes)) = (
-        ida_code::Code::new(n as u32, m as u32),
-        ida_lanes::Code::new(n as u32, m as u32),
-    ) else {
-        return Ok(false);
-    };
-    let block = block_of(alloc, size)?;
-    let first = plain.encode(alloc, &block)?;
-    let second = lanes.encode(alloc, &block)?;
-    for (one, other) in first.as_slice().iter().zip(second.as_slice()) {
-        if !one.same(other) {
-            return Ok(false);
-        }
-    }
-    Ok(first.len() == n as usize && second.len() == n as usize)
+    Ok(total)
 }
 
 #[test]
-fn both_codes_give_the_same_shares(rt: HostRuntime) -> Result<(), Fail> {
+fn every_choice_of_fragments_gives_the_block(rt: HostRuntime) {
+    // 2^n - 1 choices of some of n fragments, for n from 1 to 6, and 40 sizes.
+    assert_eq!(rt; all_decoded(rt.alloc()), Ok((120 * 40, 0)));
+}
+
+fn plain_shares(alloc: Global, n: u8, m: u8, block: &Bytes) -> Result<Shares, NoMemory> {
+    match ida_code::Code::new(n as u32, m as u32) {
+        Some(code) => code.encode(alloc, block),
+        None => Ok(Shares::new(alloc)),
+    }
+}
+
+fn are_same(shares: &[Bytes], others: &[Bytes]) -> bool {
+    for (share, other) in shares.iter().zip(others) {
+        if !share.same(other) {
+            return false;
+        }
+    }
+    shares.len() == others.len()
+}
+
+/// Whether both codes give the same shares of a block, as many as there are to be.
+fn same_shares(alloc: Global, n: u8, m: u8, size: usize) -> Result<bool, NoMemory> {
+    let block = block_of(alloc, size)?;
+    let plain = plain_shares(alloc, n, m, &block)?;
+    let lanes = lanes_shares(alloc, n, m, &block)?;
+    Ok(plain.len() == n as usize && are_same(plain.as_slice(), lanes.as_slice()))
+}
+
+/// How many blocks of up to 130 bytes have the same shares, for up to five shares.
+fn same_count(alloc: Global) -> Result<u32, NoMemory> {
+    let mut count = 0u32;
     for n in 1..=5u8 {
         for m in 1..=n {
             for size in 1..=130usize {
-                assert!(rt; same_shares(rt.alloc(), n, m, size)?);
+                if same_shares(alloc, n, m, size)? {
+                    count = count.wrapping_add(1);
+                }
             }
         }
     }
-    Ok(())
+    Ok(count)
+}
+
+#[test]
+fn both_codes_give_the_same_shares(rt: HostRuntime) {
+    // 15 pairs of a number of shares and how many of them give the block, and 130 sizes.
+    assert_eq!(rt; same_count(rt.alloc()), Ok(15 * 130));
 }

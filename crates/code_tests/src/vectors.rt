@@ -1,69 +1,153 @@
 ghost use Rattle.std.specs.Prelude.{◌≡◌, IfOk, length};
+ghost use Rattle.gf_field.specs.Fragments.{AreParts, string_len};
+ghost use Rattle.cross_sum.specs.Parts.{numbers, strings};
 
-use cross_sum::{Bytes, Part, Shares};
+use cross_sum::{Bytes, NoMemory, Part};
 use std::alloc::Global;
-use std::process::Abort;
-use std::test::Fail;
 
-fn part(alloc: Global, number: u8, bytes: &[u8]) -> Result<Part, Fail>
+pub fn part(alloc: Global, number: u8, bytes: &[u8]) -> Result<Part, NoMemory>
     ensures number { IfOk result (λ part. part.number ≡ number) }
     ensures bytes { IfOk result (λ part. part.bytes ≡ bytes.now) }
 {
-    match Bytes::of(alloc, bytes) {
-        Ok(bytes) => Ok(Part { number, bytes }),
-        Err(_) => Err(Fail::from("memory")),
-    }
+    let bytes = Bytes::of(alloc, bytes)?;
+    Ok(Part { number, bytes })
 }
 
-fn are_these(rt: &impl Abort, shares: &Shares, expected: &[&[u8]]) {
-    assert_eq!(rt; shares.len(), expected.len());
-    for (share, bytes) in shares.as_slice().iter().zip(expected) {
-        assert_eq!(rt; share.as_slice(), *bytes);
+fn are_these(shares: &[Bytes], expected: &[&[u8]]) -> bool {
+    for (share, bytes) in shares.iter().zip(expected) {
+        if share.as_slice() != *bytes {
+            return false;
+        }
     }
+    shares.len() == expected.len()
+}
+
+/// How many fragments there are and how many of them give the block, blocks, and their fragments. The last row of the last block
+/// is padded.
+const BLOCKS: &[(u32, u32, &[u8], &[&[u8]])] = &[
+    (
+        5,
+        2,
+        &[0x01, 0x00],
+        &[&[0x01], &[0x00], &[0x03], &[0x02], &[0x05]],
+    ),
+    (
+        5,
+        2,
+        &[0x80, 0x00],
+        &[&[0x80], &[0x00], &[0x9d], &[0x1d], &[0xba]],
+    ),
+    (3, 2, &[1, 2, 3], &[&[1, 2], &[3, 0], &[5, 6]]),
+];
+
+fn plain_gives(
+    alloc: Global,
+    n: u32,
+    m: u32,
+    block: &Bytes,
+    expected: &[&[u8]],
+) -> Result<bool, NoMemory> {
+    let Some(code) = ida_code::Code::new(n, m) else {
+        return Ok(false);
+    };
+    let shares = code.encode(alloc, block)?;
+    Ok(are_these(shares.as_slice(), expected))
+}
+
+fn lanes_give(
+    alloc: Global,
+    n: u32,
+    m: u32,
+    block: &Bytes,
+    expected: &[&[u8]],
+) -> Result<bool, NoMemory> {
+    let Some(code) = ida_lanes::Code::new(n, m) else {
+        return Ok(false);
+    };
+    let shares = code.encode(alloc, block)?;
+    Ok(are_these(shares.as_slice(), expected))
+}
+
+fn both_give(
+    alloc: Global,
+    n: u32,
+    m: u32,
+    block: &[u8],
+    expected: &[&[u8]],
+) -> Result<bool, NoMemory> {
+    let block = Bytes::of(alloc, block)?;
+    Ok(plain_gives(alloc, n, m, &block, expected)? && lanes_give(alloc, n, m, &block, expected)?)
 }
 
 #[test]
-fn five_fragments_of_which_two_give_the_block(rt: HostRuntime) -> Result<(), Fail> {
-    let alloc = rt.alloc();
-    let plain = ida_code::Code::new(5, 2).ok_or("shape")?;
-    let lanes = ida_lanes::Code::new(5, 2).ok_or("shape")?;
-    for (block, expected) in [
-        ([0x01u8, 0x00], [[0x01u8], [0x00], [0x03], [0x02], [0x05]]),
-        ([0x80, 0x00], [[0x80], [0x00], [0x9d], [0x1d], [0xba]]),
-    ] {
-        let block = Bytes::of(alloc, &block)?;
-        let [a, b, c, d, e] = &expected;
-        let expected = [
-            a.as_slice(),
-            b.as_slice(),
-            c.as_slice(),
-            d.as_slice(),
-            e.as_slice(),
-        ];
-        are_these(&rt, &plain.encode(alloc, &block)?, &expected);
-        are_these(&rt, &lanes.encode(alloc, &block)?, &expected);
+fn blocks_have_their_fragments(rt: HostRuntime) {
+    for (n, m, block, expected) in BLOCKS {
+        let both_give = both_give(rt.alloc(), *n, *m, block, expected);
+        assert!(rt; both_give == Ok(true), "{block:?}");
     }
+}
+
+fn plain_decodes(
+    alloc: Global,
+    n: u32,
+    m: u32,
+    parts: &[Part],
+    block: &[u8],
+) -> Result<bool, NoMemory>
+    requires { AreParts n m (string_len m (length block.now)) (numbers parts.now)
+        (strings parts.now) }
+{
+    let Some(code) = ida_code::Code::new(n, m) else {
+        return Ok(false);
+    };
+    let found = code.decode(alloc, block.len(), parts)?;
+    Ok(found.as_slice() == block)
+}
+
+fn lanes_decode(
+    alloc: Global,
+    n: u32,
+    m: u32,
+    parts: &[Part],
+    block: &[u8],
+) -> Result<bool, NoMemory>
+    requires { AreParts n m (string_len m (length block.now)) (numbers parts.now)
+        (strings parts.now) }
+{
+    let Some(code) = ida_lanes::Code::new(n, m) else {
+        return Ok(false);
+    };
+    let found = code.decode(alloc, block.len(), parts)?;
+    Ok(found.as_slice() == block)
+}
+
+/// Whether the parts decode to the block by both codes.
+pub fn both_decode(
+    alloc: Global,
+    n: u32,
+    m: u32,
+    parts: &[Part],
+    block: &[u8],
+) -> Result<bool, NoMemory>
+    requires { AreParts n m (string_len m (length block.now)) (numbers parts.now)
+        (strings parts.now) }
+{
+    Ok(plain_decodes(alloc, n, m, parts, block)? && lanes_decode(alloc, n, m, parts, block)?)
+}
+
+fn two_of_five_decode(alloc: Global) -> Result<bool, NoMemory> {
     let parts = [part(alloc, 3, &[0x1d])?, part(alloc, 4, &[0xba])?];
-    let back = plain.decode(alloc, 2, &parts)?;
-    assert_eq!(rt; back.as_slice(), [0x80, 0x00].as_slice());
-    let back = lanes.decode(alloc, 2, &parts)?;
-    assert_eq!(rt; back.as_slice(), [0x80, 0x00].as_slice());
-    Ok(())
+    both_decode(alloc, 5, 2, &parts, &[0x80, 0x00])
+}
+
+fn padded_rows_decode(alloc: Global) -> Result<bool, NoMemory> {
+    let parts = [part(alloc, 2, &[5, 6])?, part(alloc, 0, &[1, 2])?];
+    both_decode(alloc, 3, 2, &parts, &[1, 2, 3])
 }
 
 #[test]
-fn the_last_row_is_padded(rt: HostRuntime) -> Result<(), Fail> {
-    let alloc = rt.alloc();
-    let plain = ida_code::Code::new(3, 2).ok_or("shape")?;
-    let lanes = ida_lanes::Code::new(3, 2).ok_or("shape")?;
-    let block = Bytes::of(alloc, &[1, 2, 3])?;
-    let expected = [[1u8, 2].as_slice(), [3, 0].as_slice(), [5, 6].as_slice()];
-    are_these(&rt, &plain.encode(alloc, &block)?, &expected);
-    are_these(&rt, &lanes.encode(alloc, &block)?, &expected);
-    let parts = [part(alloc, 2, &[5, 6])?, part(alloc, 0, &[1, 2])?];
-    let back = plain.decode(alloc, 3, &parts)?;
-    assert_eq!(rt; back.as_slice(), [1, 2, 3].as_slice());
-    let back = lanes.decode(alloc, 3, &parts)?;
-    assert_eq!(rt; back.as_slice(), [1, 2, 3].as_slice());
-    Ok(())
+fn two_fragments_give_the_block(rt: HostRuntime) {
+    let two_of_five = two_of_five_decode(rt.alloc());
+    let padded = padded_rows_decode(rt.alloc());
+    assert!(rt; two_of_five == Ok(true) && padded == Ok(true));
 }
