@@ -2,8 +2,8 @@
 //! words.
 #![tactic(auto)]
 
+use call_statuses::Status;
 use outside_io::{StdSink, StdSource};
-use pasis_shell::Status;
 use run_pictures::{PictureStatus, draw};
 use std::env;
 use std::process::ExitCode;

@@ -6,7 +6,7 @@ pub mod laws;
 pub mod top;
 
 pub use call_statuses::{Refusal, Status};
-pub use client_threads::{Edge, Gate, OpenGate};
 pub use command_texts::Answer;
 pub use command_words::{Command, Serving};
+pub use plan_commands::{Edge, Gate, OpenGate};
 pub use top::{alone, pasis};

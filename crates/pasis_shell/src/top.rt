@@ -13,13 +13,12 @@ ghost use Rattle.pasis_shell.specs.Calls.{StopsFor, Ends};
 ghost use Rattle.device_sessions.specs.Sessions.{Serves};
 
 use call_statuses::Status;
-use client_threads::Gate;
 use command_texts::{Answer, text_of};
 use command_words::{Command, command_of, nbd_of};
 use cross_sum::Bytes;
 use device_sessions::serve_device;
 use outside_io::{LIMIT, Sink, Source, read_all, write_all};
-use plan_commands::text_in_threads;
+use plan_commands::{Gate, text_in_threads};
 use std::alloc::Global;
 use std::sync::Wait;
 use std::thread::Threads;

@@ -4,4 +4,5 @@
 pub mod laws;
 pub mod planned;
 
+pub use client_threads::{Edge, Gate, OpenGate};
 pub use planned::text_in_threads;

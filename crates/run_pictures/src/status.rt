@@ -2,8 +2,8 @@
 ghost use Rattle.std.specs.Prelude.{◌≡◌, ◌↔◌, IsTrue};
 ghost use Rattle.run_pictures.specs.declared.status.PictureRefusal.TheVariants as refusals;
 
+use call_statuses::{Refusal, Status};
 use lists::NoMemory;
-use pasis_shell::{Refusal, Status};
 use std::fmt;
 
 /// How many event lines are drawn at most.

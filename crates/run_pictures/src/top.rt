@@ -4,16 +4,16 @@ ghost use Rattle.wire_forms.specs.Liars.{AreLiars};
 ghost use Rattle.line_forms.specs.declared.cause.Cause.{Cause};
 ghost use Rattle.outside_io.specs.Causes.{Rose};
 ghost use Rattle.command_texts.specs.Replays.{IsScript};
-ghost use Rattle.command_texts.specs.Texts.{Refuses, IsRefusedFor};
+ghost use Rattle.command_texts.specs.Texts.{Refuses};
 ghost use Rattle.call_statuses.specs.declared.refusal.Refusal.{Refusal as Refusals};
 ghost use Rattle.command_words.specs.declared.words.Command.TheVariants.{Replay as TheReplay};
-ghost use Rattle.run_pictures.specs.Stops.{CanStop};
+ghost use Rattle.run_pictures.specs.Stops.{CanStop, IsBadScript};
 
 use crate::status::{MOST_LINES, PictureRefusal, PictureStatus};
 use crate::telling::told;
+use call_statuses::{Refusal, Status};
 use cross_sum::Bytes;
 use outside_io::{Sink, Source, read_all, write_all};
-use pasis_shell::{Refusal, Status};
 use picture_svg::{Picture, svg_of};
 use run_reports::history_of;
 use script_run::{World, perform};
@@ -62,8 +62,9 @@ pub fn picture_of(alloc: Global, input: &Bytes) -> Result<Picture, PictureRefusa
 
 /// The text of the picture of what a source gives.
 fn text_of<S: Source>(alloc: Global, source: &mut S) -> Result<String, PictureStatus>
-    ensures bad_script { (line : ℕ) (cause : Cause) → IsErrOf result (PictureStatus.Replay (Status.BadScript line cause))
-        → IsRefusedFor TheReplay (S.left source.old) (S.left source.new) (Refusals.BadScript (record { line = line; cause = cause })) }
+    ensures bad_script { (line : ℕ) (cause : Cause)
+        → IsErrOf result (PictureStatus.Replay (Status.BadScript line cause))
+        → IsBadScript (S.left source.old) (S.left source.new) line cause }
     ensures too_many { (lines : ℕ) → IsErrOf result (PictureStatus.TooManyLines lines) → MOST_LINES
         < lines }
     ensures read_fault { IsErrOf result (PictureStatus.Replay Status.ReadFault)
@@ -97,8 +98,9 @@ fn drawn(alloc: Global, input: &Bytes) -> Result<String, PictureRefusal>
 
 /// Reads a script to its end, makes its whole picture, and only then writes and flushes it.
 pub fn draw<S: Source, K: Sink>(alloc: Global, source: &mut S, sink: &mut K) -> PictureStatus
-    ensures bad_script { (line : ℕ) (cause : Cause) → result ≡ PictureStatus.Replay (Status.BadScript line cause)
-        → IsRefusedFor TheReplay (S.left source.old) (S.left source.new) (Refusals.BadScript (record { line = line; cause = cause })) }
+    ensures bad_script { (line : ℕ) (cause : Cause)
+        → result ≡ PictureStatus.Replay (Status.BadScript line cause)
+        → IsBadScript (S.left source.old) (S.left source.new) line cause }
     ensures too_many { (lines : ℕ) → result ≡ PictureStatus.TooManyLines lines → MOST_LINES
         < lines }
     ensures read_fault { result ≡ PictureStatus.Replay Status.ReadFault
