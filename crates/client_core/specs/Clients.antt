@@ -11,7 +11,9 @@ use Rattle.protocol.specs.Instance.{setting}
 use Rattle.protocol.specs.Operations.{mail}
 use Rattle.protocol.specs.Seen.{SeenTask, SeenOperation, SeenClient, Hearing, task_at, seen_begun, hearing, ops_of, block_of, work_of}
 use Rattle.protocol.specs.Seen.Hearing.{Ignored, Counted, Begins, Ended}
-use Rattle.operation_core.specs.Counting.{hears_in, IsPhaseEnd}
+use Rattle.operation_core.specs.declared.stage.Stage.{Stage}
+use Rattle.operation_core.specs.Stages.{stage_of}
+use Rattle.operation_core.specs.Counting.{hears_in, next_task, IsPhaseEnd}
 use Rattle.client_core.specs.declared.step.Step.{Step}
 use Rattle.client_core.specs.declared.step.Step.TheVariants.{Ignored as Unheard, Counts, EndsPhase}
 use Rattle.client_core.specs.declared.heard.Heard.{Heard}
@@ -38,6 +40,10 @@ hears_answer c node tag reply = hears_in (operation_of c) node tag reply
 -- the client with this operation under way, or none
 abbrev pub with_task : ClientView → Option SeenTask → ClientView
 with_task c task = record { config = c.config; id = c.id; seen = record { life = c.seen.life; started = c.seen.started; task = task } }
+
+-- the operation under way in its next phase, which this stage begins
+abbrev pub next_of : ClientView → Stage → Option SeenTask
+next_of c stage = next_task c.config c.seen.task (stage_of stage)
 
 -- the client after it started one more operation
 abbrev pub with_started : ClientView → SeenTask → ClientView

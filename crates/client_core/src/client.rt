@@ -3,10 +3,9 @@ ghost use Rattle.protocol.specs.Seen.{ops_of, block_of, work_of, has_answered, p
 ghost use Rattle.protocol.specs.World.{Fits};
 ghost use Rattle.protocol.specs.Instance.{setting};
 ghost use Rattle.wire_forms.specs.Firsts.{first_of};
-ghost use Rattle.operation_core.specs.Stages.{stage_of};
-ghost use Rattle.operation_core.specs.Counting.{begun_task, first_mail, ends_in, next_task, outstanding_in, MayBegin, IsPhaseEnd};
+ghost use Rattle.operation_core.specs.Counting.{begun_task, first_mail, ends_in, outstanding_in, MayBegin, IsPhaseEnd};
 ghost use Rattle.client_core.specs.Works.{HasBegun};
-ghost use Rattle.client_core.specs.Clients.{operation_of, idle_client, hears, hears_answer, with_task, with_started, started, mail_of, is_only_counted, goes_to, IsStep, IsHeard};
+ghost use Rattle.client_core.specs.Clients.{operation_of, idle_client, hears, hears_answer, with_task, with_started, next_of, started, mail_of, is_only_counted, goes_to, IsStep, IsHeard};
 
 use crate::heard::Heard;
 use crate::step::Step;
@@ -182,8 +181,7 @@ impl Client {
     /// Begins the next phase of the operation under way.
     pub fn go_on(&mut self, stage: Stage)
         requires { MayBegin (operation_of self.old) stage }
-        ensures { self.new ≡ with_task self.old
-            (next_task self.old.config self.old.seen.task (stage_of stage)) }
+        ensures { self.new ≡ with_task self.old (next_of self.old stage) }
     {
         match &mut self.work {
             Work::Idle => {}

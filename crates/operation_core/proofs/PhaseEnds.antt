@@ -30,10 +30,6 @@ module _ (o : SeenOperation) (node : ℕ) (tag : Tag) (reply : Reply) where
   one None e f = absurd (cc)
   one (Some t) e f = (seen_counted t node reply, by_one (is_counted (setting o.config) t node tag reply) _ (seen_counted t node reply) _ e f, refl)
 
-  none : (task : Option SeenTask) → counts_in (with_one task) node tag reply ≡ false → hears_in (with_one task) node tag reply ≡ Ignored
-  none None e = refl
-  none (Some t) e = rw e refl
-
   -- it ends the phase as the operation ends it that has counted it
   pub hears_end : ends_in o node tag reply ≡ true → hears_in o node tag reply ≡ end_in (counted_in o node reply)
   hears_end = ends o.task
@@ -41,7 +37,3 @@ module _ (o : SeenOperation) (node : ℕ) (tag : Tag) (reply : Reply) where
   -- it is counted, and the phase goes on
   pub hears_one : counts_in o node tag reply ≡ true → ends_in o node tag reply ≡ false → (t : SeenTask) × (hears_in o node tag reply ≡ Counted t) × (counted_task o.task node reply ≡ Some t)
   hears_one = one o.task
-
-  -- it does nothing
-  pub hears_none : counts_in o node tag reply ≡ false → hears_in o node tag reply ≡ Ignored
-  hears_none = none o.task

@@ -87,7 +87,7 @@ next_in o stage = with_task o (next_task o.config o.task stage)
 abbrev pub IsMail : SeenOperation → List Message → Type 0
 IsMail o messages = IfSome o.task (λ t. messages ≡ mail (setting o.config) o.client (task_at 0 t))
 
--- a further phase of a read asks for versions or stores one, and that of a write stores its value
+-- a further phase of a read asks for versions or stores one, and that of a write stores one
 abbrev pub FitsWork : ModelStage → Work → Type 0
 FitsWork AskTimes work = ⊥
 FitsWork (AskVersions bound) Reads = Unit {0}

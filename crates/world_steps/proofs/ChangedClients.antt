@@ -6,14 +6,14 @@ use Rattle.protocol.specs.Seen.{SeenTask, seen_goes_on}
 use Rattle.operation_core.specs.declared.stage.Stage.{Stage}
 use Rattle.operation_core.specs.Stages.{stage_of}
 use Rattle.operation_core.specs.Counting.{next_task}
-use Rattle.client_core.specs.Clients.{ClientView, with_task}
+use Rattle.client_core.specs.Clients.{ClientView, with_task, next_of}
 use Rattle.world_steps.specs.declared.client_slot.ClientSlot.{ClientSlot}
 use Rattle.world_steps.specs.declared.state.State.TheInside.{Inside}
 use Rattle.world_steps.specs.contracts.state.State.{the_view}
 use Rattle.world_steps.specs.Worlds.{WorldView, world_in}
 use Rattle.world_steps.specs.Slots.{IsWorld}
 use Rattle.world_steps.specs.Steps.{client_in}
-use Rattle.world_steps.specs.AnswerEffects.{IsSame, Becomes, next_of}
+use Rattle.world_steps.specs.AnswerEffects.{IsSame, Becomes}
 use Rattle.world_steps.proofs.KeptWorlds.{client-within}
 use Rattle.world_steps.proofs.ClientSlots.{slot-client, client_slot-there}
 

@@ -15,7 +15,7 @@ use Rattle.protocol.specs.Seen.{SeenTask, record_of, phase_of, Hearing, new_clie
 use Rattle.protocol.specs.Seen.Hearing.{Ignored, Counted, Begins, Ended}
 use Rattle.protocol.proofs.Seeing.{length-goes_on, length-counted, after_hearing, heard_by-seen}
 use Rattle.operation_core.specs.Counting.{MayBegin}
-use Rattle.client_core.specs.Clients.{ClientView, operation_of, hears, goes_to, is_only_counted}
+use Rattle.client_core.specs.Clients.{ClientView, operation_of, hears, goes_to, is_only_counted, next_of}
 use Rattle.world_steps.specs.declared.answer_effect.AnswerEffect.{AnswerEffect}
 use Rattle.world_steps.specs.declared.answer_effect.AnswerEffect.TheVariants.{Same, Counts, Goes, Ends}
 use Rattle.world_steps.specs.declared.client_slot.ClientSlot.{ClientSlot}
@@ -24,7 +24,7 @@ use Rattle.world_steps.specs.contracts.state.State.{the_view}
 use Rattle.world_steps.specs.Worlds.{WorldView, setting_in, world_in}
 use Rattle.world_steps.specs.Slots.{IsWorld, IsTaskOf}
 use Rattle.world_steps.specs.Steps.{client_in, IsAnswer}
-use Rattle.world_steps.specs.AnswerEffects.{IsEffect, next_mail, answer_does, next_of, Becomes, MayApply, goes_on, applied}
+use Rattle.world_steps.specs.AnswerEffects.{IsEffect, next_mail, answer_does, Becomes, MayApply, goes_on, applied}
 use Rattle.client_core.proofs.AnswersHeard.{told_is}
 use Rattle.world_steps.proofs.ClientSlots.{slot-client}
 

@@ -10,9 +10,8 @@ use Rattle.protocol.specs.World.{World, stamp_of_outcome, with_record}
 use Rattle.protocol.specs.Seen.{SeenTask, Hearing, client_at, started_task, chosen_of, hears as hears_answer}
 use Rattle.protocol.specs.Seen.Hearing.{Ignored, Counted, Begins, Ended}
 use Rattle.operation_core.specs.declared.stage.Stage.{Stage}
-use Rattle.operation_core.specs.Stages.{stage_of}
-use Rattle.operation_core.specs.Counting.{next_task, MayBegin}
-use Rattle.client_core.specs.Clients.{ClientView, operation_of, mail_of, goes_to, is_only_counted}
+use Rattle.operation_core.specs.Counting.{MayBegin}
+use Rattle.client_core.specs.Clients.{ClientView, operation_of, mail_of, goes_to, is_only_counted, next_of}
 use Rattle.world_steps.specs.declared.answer_effect.AnswerEffect.{AnswerEffect}
 use Rattle.world_steps.specs.declared.answer_effect.AnswerEffect.TheVariants.{Same, Counts, Goes, Ends}
 use Rattle.world_steps.specs.Worlds.{WorldView, world_in}
@@ -26,10 +25,6 @@ next_mail c _ = []
 -- what a node's answer with this tag does to the client
 abbrev pub answer_does : ClientView → ℕ → Tag → Reply → Hearing
 answer_does c node tag reply = hears_answer (setting c.config) c.id c.seen.task node tag reply
-
--- the operation under way in its next phase
-abbrev pub next_of : ClientView → Stage → Option SeenTask
-next_of c stage = next_task c.config c.seen.task (stage_of stage)
 
 -- the effect is what the message does to the client
 abbrev pub IsEffect : ClientView → Hearing → AnswerEffect → Type 0

@@ -11,9 +11,9 @@ ghost use Rattle.protocol.specs.Instance.{setting};
 ghost use Rattle.world_steps.specs.Worlds.{setting_in, world_in};
 ghost use Rattle.run_words.specs.declared.record.Record.{Record as Told};
 ghost use Rattle.operation_core.specs.Counting.{MayBegin};
-ghost use Rattle.client_core.specs.Clients.{operation_of, hears, goes_to, is_only_counted};
+ghost use Rattle.client_core.specs.Clients.{operation_of, hears, goes_to, is_only_counted, next_of};
 ghost use Rattle.world_steps.specs.Steps.{HasBecome, accepts_in, handles, client_in, IsAnswer};
-ghost use Rattle.world_steps.specs.AnswerEffects.{IsEffect, next_mail, answer_does, next_of, Becomes, goes_on, settled};
+ghost use Rattle.world_steps.specs.AnswerEffects.{IsEffect, next_mail, answer_does, Becomes, goes_on, settled};
 
 use crate::answer_effect::AnswerEffect;
 use crate::block_use::{greater, leave, stamp_given};

@@ -6,11 +6,11 @@ use Rattle.protocol.specs.Instance.{setting}
 use Rattle.protocol.specs.Seen.{seen_goes_on}
 use Rattle.operation_core.specs.Stages.{stage_of}
 use Rattle.operation_core.specs.Counting.{next_task, MayBegin}
-use Rattle.client_core.specs.Clients.{operation_of}
+use Rattle.client_core.specs.Clients.{operation_of, next_of}
 use Rattle.world_steps.specs.Worlds.{world_in}
 use Rattle.world_steps.specs.contracts.state.State.{the_view}
 use Rattle.world_steps.specs.Steps.{HasBecome, client_in}
-use Rattle.world_steps.specs.AnswerEffects.{next_of, settled, goes_on}
+use Rattle.world_steps.specs.AnswerEffects.{settled, goes_on}
 use Rattle.world_steps.proofs.KeptWorlds.{client-within}
 use Rattle.world_steps.proofs.ChangedClients.{slot-is, same-client, becomes, next-is, next-some}
 use Rattle.world_steps.proofs.SettledRecords.{task-there, settle-within, settle-kept, settle-world}
