@@ -57,17 +57,16 @@ fn draw_ask(
     let got = layout.y(arrow.got) - LANE;
     match arrow.fate {
         Fate::NeverGiven => {
-            let end = at(node - SHORT, sent + LATER);
-            svg.line(class, at(client, sent + LATER), end)?;
-            svg.circle("ring", end, Px(3))
+            let leave = sent + LATER;
+            draw_unheard(svg, class, at(client, leave), at(node - SHORT, leave))
         }
-        Fate::Lost => lose(svg, class, at(client, got), at(node - SHORT, got)),
+        Fate::Lost => draw_lost(svg, class, at(client, got), at(node - SHORT, got)),
         Fate::Arrived | Fate::Stale if arrow.sent == arrow.got => {
             svg.line(class, at(client, got), at(node - Px(1), got))
         }
         Fate::Arrived | Fate::Stale => {
             let leave = sent + LATER;
-            let bend = at(layout.channel, leave);
+            let bend = at(layout.columns.channel, leave);
             svg.path(class, &[at(client, leave), bend, at(node - Px(1), got)])
         }
     }
@@ -86,21 +85,27 @@ fn draw_answer(
     match arrow.fate {
         Fate::NeverGiven => {
             let end = at(node - SHORT - SHORT, sent);
-            svg.line(class, at(node, sent), end)?;
-            svg.circle("ring", end, Px(3))
+            draw_unheard(svg, class, at(node, sent), end)
         }
-        Fate::Lost => lose(svg, class, at(node, got), at(client + SHORT, got)),
+        Fate::Lost => draw_lost(svg, class, at(node, got), at(client + SHORT, got)),
         Fate::Arrived | Fate::Stale if arrow.sent == arrow.got => {
             svg.line(class, at(node, got), at(client, got))
         }
         Fate::Arrived | Fate::Stale => {
-            let bend = at(layout.channel, got);
+            let bend = at(layout.columns.channel, got);
             svg.path(class, &[at(node, sent), bend, at(client, got)])
         }
     }
 }
 
-fn lose(svg: &mut Svg, class: &str, from: Point, to: Point) -> Result<(), NoMemory> {
+/// Draws a message that was lost at a point.
+pub fn draw_lost(svg: &mut Svg, class: &str, from: Point, to: Point) -> Result<(), NoMemory> {
     svg.line(class, from, to)?;
     svg.cross("cross", to, Px(4))
+}
+
+/// Draws a message that came to a point and was never given or heard.
+pub fn draw_unheard(svg: &mut Svg, class: &str, from: Point, to: Point) -> Result<(), NoMemory> {
+    svg.line(class, from, to)?;
+    svg.circle("ring", to, Px(3))
 }

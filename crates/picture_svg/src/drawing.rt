@@ -4,7 +4,7 @@ use crate::bars::draw_stretch;
 use crate::layout::{LABEL_GAP, LINE, Layout, MARGIN, ROW, width_of_text};
 use crate::legend::Legend;
 use crate::marks::{draw_lifelines, draw_mark};
-use crate::picture::{Actor, Label, Picture, Row};
+use crate::picture::{Actor, Label, Lifeline, Picture, Row};
 use crate::px::{Px, at, width_of};
 use crate::svg::{Anchor, Svg};
 use lists::NoMemory;
@@ -18,37 +18,85 @@ const STAMPS: &str =
 pub fn svg_of(alloc: Global, picture: &Picture) -> Result<String, NoMemory> {
     let layout = Layout::of(alloc, picture)?;
     let width = width_of_picture(picture, &layout);
-    let report = layout.end + LINE * 2;
-    let stamps = report + LINE.times(picture.report.len()) + LINE * 2;
-    let legend = Legend::of(alloc, picture, at(MARGIN, stamps + LINE), width, LINE)?;
+    let top = at(MARGIN, height_of_stamps(picture, &layout) + LINE);
+    let legend = Legend::of(alloc, picture, top, width, LINE)?;
+    drawn(alloc, picture, &layout, &legend, width)
+}
+
+/// The text of a picture that is laid out so, of this width.
+fn drawn(
+    alloc: Global,
+    picture: &Picture,
+    layout: &Layout,
+    legend: &Legend,
+    width: Px,
+) -> Result<String, NoMemory> {
     let mut svg = Svg::new(alloc, width, legend.end() + MARGIN)?;
-    draw_caption(&mut svg, picture)?;
-    draw_rows(&mut svg, &layout, picture, width)?;
-    draw_heads(&mut svg, &layout, picture)?;
-    draw_lifelines(&mut svg, alloc, &layout, picture)?;
-    draw_between(&mut svg, &layout, picture)?;
-    draw_report(&mut svg, picture, report)?;
-    svg.text("", Anchor::Start, at(MARGIN, stamps), STAMPS)?;
-    legend.draw(&mut svg)?;
+    draw_run(&mut svg, alloc, layout, picture, width)?;
+    draw_below(&mut svg, layout, picture, legend)?;
     svg.into_text()
+}
+
+/// Draws the caption and the run.
+fn draw_run(
+    svg: &mut Svg,
+    alloc: Global,
+    layout: &Layout,
+    picture: &Picture,
+    width: Px,
+) -> Result<(), NoMemory> {
+    draw_lines(svg, &picture.caption, MARGIN + LINE.half())?;
+    draw_rows(svg, layout, picture, width)?;
+    draw_heads(svg, layout, picture)?;
+    draw_lifelines(svg, alloc, layout, picture)?;
+    draw_between(svg, layout, picture)
+}
+
+/// Draws the report, and what explains the picture.
+fn draw_below(
+    svg: &mut Svg,
+    layout: &Layout,
+    picture: &Picture,
+    legend: &Legend,
+) -> Result<(), NoMemory> {
+    draw_report(svg, picture, height_of_report(layout))?;
+    svg.plain(at(MARGIN, height_of_stamps(picture, layout)), STAMPS)?;
+    legend.draw(svg)
 }
 
 /// How wide a picture is: as wide as the widest of its parts.
 fn width_of_picture(picture: &Picture, layout: &Layout) -> Px {
-    let mut width = layout.width.max(width_of(STAMPS.len()) + MARGIN * 2);
-    for line in &picture.caption {
-        width = width.max(width_of_text(line) + MARGIN * 2);
-    }
-    for line in &picture.report {
+    layout
+        .width
+        .max(width_of(STAMPS.len()) + MARGIN * 2)
+        .max(width_of_lines(&picture.caption))
+        .max(width_of_lines(&picture.report))
+}
+
+/// How wide lines are with their margins.
+fn width_of_lines(lines: &[String]) -> Px {
+    let mut width = Px(0);
+    for line in lines {
         width = width.max(width_of_text(line) + MARGIN * 2);
     }
     width
 }
 
-fn draw_caption(svg: &mut Svg, picture: &Picture) -> Result<(), NoMemory> {
-    let mut y = MARGIN + LINE.half();
-    for line in &picture.caption {
-        svg.text("", Anchor::Start, at(MARGIN, y), line.as_str())?;
+/// The height of the report's title.
+fn height_of_report(layout: &Layout) -> Px {
+    layout.end + LINE * 2
+}
+
+/// The height of the line about stamps.
+fn height_of_stamps(picture: &Picture, layout: &Layout) -> Px {
+    height_of_report(layout) + LINE.times(picture.report.len()) + LINE * 2
+}
+
+/// Draws lines one below the other, the first at this height.
+fn draw_lines(svg: &mut Svg, lines: &[String], top: Px) -> Result<(), NoMemory> {
+    let mut y = top;
+    for line in lines {
+        svg.plain(at(MARGIN, y), line.as_str())?;
         y = y + LINE;
     }
     Ok(())
@@ -74,11 +122,11 @@ fn draw_row(
     y: Px,
 ) -> Result<(), NoMemory> {
     svg.number(at(layout.place, y), number.saturating_add(1))?;
-    svg.text("", Anchor::Start, at(layout.line, y), row.line.as_str())?;
+    svg.plain(at(layout.line, y), row.line.as_str())?;
     if let Some(label) = &row.label {
         draw_label(svg, layout, label, y)?;
     }
-    svg.text("", Anchor::Start, at(layout.note, y), row.note.as_str())
+    svg.plain(at(layout.note, y), row.note.as_str())
 }
 
 /// Draws a label beside its client's bar, its two lines above and below the row's text.
@@ -104,17 +152,18 @@ fn draw_label(svg: &mut Svg, layout: &Layout, label: &Label, y: Px) -> Result<()
 /// Draws the names of those who take part.
 fn draw_heads(svg: &mut Svg, layout: &Layout, picture: &Picture) -> Result<(), NoMemory> {
     for lifeline in &picture.lifelines {
-        let x = layout.x(lifeline.actor);
-        let y = layout.top - Px(6);
-        svg.name(at(x, y), lifeline.actor)?;
-        if lifeline.is_liar {
-            svg.text(
-                "lying",
-                Anchor::Middle,
-                at(x, y - LINE.half() - Px(4)),
-                "lies",
-            )?;
-        }
+        draw_head(svg, layout, lifeline)?;
+    }
+    Ok(())
+}
+
+fn draw_head(svg: &mut Svg, layout: &Layout, lifeline: &Lifeline) -> Result<(), NoMemory> {
+    let x = layout.x(lifeline.actor);
+    let y = layout.top - Px(6);
+    svg.name(at(x, y), lifeline.actor)?;
+    if lifeline.is_liar {
+        let above = at(x, y - LINE.half() - Px(4));
+        return svg.text("lying", Anchor::Middle, above, "lies");
     }
     Ok(())
 }
@@ -136,10 +185,5 @@ fn draw_between(svg: &mut Svg, layout: &Layout, picture: &Picture) -> Result<(),
 /// Draws the report of the run.
 fn draw_report(svg: &mut Svg, picture: &Picture, top: Px) -> Result<(), NoMemory> {
     svg.text("strong", Anchor::Start, at(MARGIN, top), "report")?;
-    let mut y = top;
-    for line in &picture.report {
-        y = y + LINE;
-        svg.text("", Anchor::Start, at(MARGIN, y), line.as_str())?;
-    }
-    Ok(())
+    draw_lines(svg, &picture.report, top + LINE)
 }

@@ -1,9 +1,10 @@
 //! The legend: what the signs of a picture mean, for those that it has.
+use crate::arrows::{draw_lost, draw_unheard};
 use crate::bars;
 use crate::marks::draw_sign;
-use crate::picture::{Actor, Arrow, Fate, Picture, Sign, Work};
+use crate::picture::{Actor, Arrow, Fate, Mark, Picture, Sign, Stretch, Work};
 use crate::px::{Point, Px, at, width_of};
-use crate::svg::{Anchor, Svg};
+use crate::svg::Svg;
 use lists::NoMemory;
 use std::alloc::Global;
 
@@ -75,43 +76,73 @@ fn has_arrived(arrow: &Arrow) -> bool {
 
 /// Whether a picture has what the item explains.
 fn is_in(picture: &Picture, item: Item) -> bool {
-    let arrows = &picture.arrows;
+    picture
+        .arrows
+        .iter()
+        .any(|arrow| explains_arrow(item, arrow))
+        || picture
+            .stretches
+            .iter()
+            .any(|stretch| explains_stretch(item, stretch))
+        || picture.marks.iter().any(|mark| explains_mark(item, mark))
+}
+
+/// Whether an item explains an arrow.
+fn explains_arrow(item: Item, arrow: &Arrow) -> bool {
     match item {
-        Item::Ask => arrows.iter().any(|a| has_arrived(a) && is_ask(a)),
-        Item::Answer => arrows.iter().any(|a| has_arrived(a) && !is_ask(a)),
-        Item::Lie => arrows.iter().any(|a| a.is_lie),
-        Item::Stale => arrows.iter().any(|a| matches!(a.fate, Fate::Stale)),
-        Item::Lost => arrows.iter().any(|a| matches!(a.fate, Fate::Lost)),
-        Item::NeverGiven => arrows.iter().any(|a| matches!(a.fate, Fate::NeverGiven)),
-        Item::Phase(work) => picture.stretches.iter().any(|s| s.work == work),
-        Item::Unended => picture.stretches.iter().any(|s| s.is_open),
-        Item::Sign(sign) => picture.marks.iter().any(|m| m.sign == sign),
+        Item::Ask => has_arrived(arrow) && is_ask(arrow),
+        Item::Answer => has_arrived(arrow) && !is_ask(arrow),
+        Item::Lie => arrow.is_lie,
+        Item::Stale => matches!(arrow.fate, Fate::Stale),
+        Item::Lost => matches!(arrow.fate, Fate::Lost),
+        Item::NeverGiven => matches!(arrow.fate, Fate::NeverGiven),
+        Item::Phase(_) | Item::Unended | Item::Sign(_) => false,
+    }
+}
+
+/// Whether it explains a stretch of a bar.
+fn explains_stretch(item: Item, stretch: &Stretch) -> bool {
+    match item {
+        Item::Phase(work) => stretch.work == work,
+        Item::Unended => stretch.is_open,
+        _ => false,
+    }
+}
+
+/// Whether it explains a mark.
+fn explains_mark(item: Item, mark: &Mark) -> bool {
+    match item {
+        Item::Sign(sign) => mark.sign == sign,
+        _ => false,
     }
 }
 
 /// Draws what an item looks like, in so much room.
 fn draw_sample(svg: &mut Svg, item: Item, point: Point) -> Result<(), NoMemory> {
     let Point { x, y } = point;
-    let right = x + Px(34);
-    let middle = at(x + Px(17), y);
-    let corner = at(x + Px(12), y - Px(6));
+    let right = at(x + Px(34), y);
     match item {
-        Item::Ask => svg.line("ask", point, at(right, y)),
-        Item::Answer => svg.line("answer", at(right, y), point),
-        Item::Lie => svg.line("answer lie", at(right, y), point),
-        Item::Stale => svg.line("stale", at(right, y), point),
-        Item::Lost => {
-            svg.line("lost", point, at(right - Px(4), y))?;
-            svg.cross("cross", at(right - Px(4), y), Px(4))
-        }
-        Item::NeverGiven => {
-            svg.line("never", point, at(right - Px(3), y))?;
-            svg.circle("ring", at(right - Px(3), y), Px(3))
-        }
-        Item::Phase(work) => svg.rect(bars::class_of(work, false), corner, Px(10), Px(12)),
-        Item::Unended => svg.rect("store open", corner, Px(10), Px(12)),
-        Item::Sign(sign) => draw_sign(svg, sign, middle),
+        Item::Ask => svg.line("ask", point, right),
+        Item::Answer => svg.line("answer", right, point),
+        Item::Lie => svg.line("answer lie", right, point),
+        Item::Stale => svg.line("stale", right, point),
+        Item::Lost => draw_lost(svg, "lost", point, at(right.x - Px(4), y)),
+        Item::NeverGiven => draw_unheard(svg, "never", point, at(right.x - Px(3), y)),
+        Item::Phase(work) => draw_bar(svg, bars::class_of(work, false), point),
+        Item::Unended => draw_bar(svg, "store open", point),
+        Item::Sign(sign) => draw_sign(svg, sign, at(x + Px(17), y)),
     }
+}
+
+/// Draws a piece of a bar in the room of a sample.
+fn draw_bar(svg: &mut Svg, class: &str, point: Point) -> Result<(), NoMemory> {
+    let corner = at(point.x + Px(12), point.y - Px(6));
+    svg.rect(class, corner, Px(10), Px(12))
+}
+
+/// How wide an item is, with what is left free beside it.
+fn width_of_item(item: Item) -> Px {
+    SAMPLE + width_of(words_of(item).len()) + GAP
 }
 
 /// The items of a picture, each where it stands.
@@ -130,20 +161,35 @@ impl Legend {
         right: Px,
         line: Px,
     ) -> Result<Legend, NoMemory> {
-        let mut items = Vec::new(alloc);
-        let Point { mut x, mut y } = from;
-        for item in ITEMS {
-            if is_in(picture, item) {
-                let width = SAMPLE + width_of(words_of(item).len()) + GAP;
-                if x + width > right && x > from.x {
-                    x = from.x;
-                    y = y + line;
+        let mut legend = Legend {
+            items: Vec::new(alloc),
+            end: from.y,
+        };
+        legend.add_items(picture, from.x, right, line)?;
+        Ok(legend)
+    }
+
+    /// Adds the items that a picture has, between the left and the right.
+    fn add_items(
+        &mut self,
+        picture: &Picture,
+        left: Px,
+        right: Px,
+        line: Px,
+    ) -> Result<(), NoMemory> {
+        let mut x = left;
+        for item in &ITEMS {
+            if is_in(picture, *item) {
+                let width = width_of_item(*item);
+                if x + width > right && x > left {
+                    x = left;
+                    self.end = self.end + line;
                 }
-                items.push((item, at(x, y)))?;
+                self.items.push((*item, at(x, self.end)))?;
                 x = x + width;
             }
         }
-        Ok(Legend { items, end: y })
+        Ok(())
     }
 
     /// The height of its last line.
@@ -155,7 +201,7 @@ impl Legend {
         for (item, point) in &self.items {
             draw_sample(svg, *item, at(point.x, point.y - Px(4)))?;
             let beside = at(point.x + SAMPLE, point.y);
-            svg.text("", Anchor::Start, beside, words_of(*item))?;
+            svg.plain(beside, words_of(*item))?;
         }
         Ok(())
     }

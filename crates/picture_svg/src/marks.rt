@@ -7,6 +7,9 @@ use lists::NoMemory;
 use std::alloc::Global;
 use std::collections::BTreeMap;
 
+/// Who is alive, and the height from which on.
+type Alive = BTreeMap<Actor, Px>;
+
 /// Draws the lifelines. Who crashes has none until it is back.
 pub fn draw_lifelines(
     svg: &mut Svg,
@@ -14,46 +17,65 @@ pub fn draw_lifelines(
     layout: &Layout,
     picture: &Picture,
 ) -> Result<(), NoMemory> {
-    let mut alive = BTreeMap::new(alloc);
+    let mut alive = Alive::new(alloc);
+    draw_lives(svg, layout, picture, &mut alive)
+}
+
+fn draw_lives(
+    svg: &mut Svg,
+    layout: &Layout,
+    picture: &Picture,
+    alive: &mut Alive,
+) -> Result<(), NoMemory> {
     for lifeline in &picture.lifelines {
         if lifeline.is_liar {
-            let x = layout.x(lifeline.actor);
-            svg.line("liar", at(x, layout.top), at(x, layout.end))?;
+            draw_life(svg, layout, "liar", lifeline.actor, layout.top, layout.end)?;
         } else {
             alive.insert(lifeline.actor, layout.top)?;
         }
     }
     for mark in &picture.marks {
-        let y = layout.y(mark.row);
-        match mark.sign {
-            Sign::Crash => {
-                if let Some(from) = alive.remove(&mark.actor) {
-                    draw_life(svg, layout, mark.actor, from, y)?;
-                }
-            }
-            Sign::Back => {
-                if !alive.contains_key(&mark.actor) {
-                    alive.insert(mark.actor, y)?;
-                }
-            }
-            Sign::Prune | Sign::Holds => {}
-        }
+        follow_mark(svg, layout, mark, alive)?;
     }
     for (actor, from) in alive.iter() {
-        draw_life(svg, layout, *actor, *from, layout.end)?;
+        draw_life(svg, layout, "life", *actor, *from, layout.end)?;
     }
     Ok(())
+}
+
+/// Draws the life that a mark ends, or begins one.
+fn follow_mark(
+    svg: &mut Svg,
+    layout: &Layout,
+    mark: &Mark,
+    alive: &mut Alive,
+) -> Result<(), NoMemory> {
+    let y = layout.y(mark.row);
+    match mark.sign {
+        Sign::Crash => match alive.remove(&mark.actor) {
+            Some(from) => draw_life(svg, layout, "life", mark.actor, from, y),
+            None => Ok(()),
+        },
+        Sign::Back => {
+            if !alive.contains_key(&mark.actor) {
+                alive.insert(mark.actor, y)?;
+            }
+            Ok(())
+        }
+        Sign::Prune | Sign::Holds => Ok(()),
+    }
 }
 
 fn draw_life(
     svg: &mut Svg,
     layout: &Layout,
+    class: &str,
     actor: Actor,
     from: Px,
     to: Px,
 ) -> Result<(), NoMemory> {
     let x = layout.x(actor);
-    svg.line("life", at(x, from), at(x, to))
+    svg.line(class, at(x, from), at(x, to))
 }
 
 /// Draws a sign on its lifeline.
@@ -68,9 +90,15 @@ pub fn draw_sign(svg: &mut Svg, sign: Sign, point: Point) -> Result<(), NoMemory
         Sign::Crash => svg.cross("crash", point, Px(6)),
         Sign::Back => svg.circle("back", point, Px(6)),
         Sign::Prune => {
-            svg.line("prune", at(x - Px(7), y - Px(3)), at(x + Px(7), y - Px(3)))?;
-            svg.line("prune", at(x - Px(7), y + Px(3)), at(x + Px(7), y + Px(3)))
+            draw_dash(svg, "prune", at(x, y - Px(3)))?;
+            draw_dash(svg, "prune", at(x, y + Px(3)))
         }
         Sign::Holds => svg.rect("holds", at(x - Px(3), y - Px(3)), Px(7), Px(7)),
     }
+}
+
+/// Draws a short level line round a point.
+fn draw_dash(svg: &mut Svg, class: &str, center: Point) -> Result<(), NoMemory> {
+    let Point { x, y } = center;
+    svg.line(class, at(x - Px(7), y), at(x + Px(7), y))
 }

@@ -57,6 +57,29 @@ pub enum Anchor {
     End,
 }
 
+impl Anchor {
+    fn word(self) -> &'static str {
+        match self {
+            Anchor::Start => "start",
+            Anchor::Middle => "middle",
+            Anchor::End => "end",
+        }
+    }
+}
+
+/// What stands for a letter in a text of XML, where not the letter itself. One that XML has no text for is a question mark.
+fn stand_in(letter: char) -> Option<&'static str> {
+    match letter {
+        '&' => Some("&amp;"),
+        '<' => Some("&lt;"),
+        '>' => Some("&gt;"),
+        '"' => Some("&quot;"),
+        '…' => Some("&#8230;"),
+        ' '..='~' => None,
+        _ => Some("?"),
+    }
+}
+
 /// The text of a picture.
 #[derive(Drop)]
 pub struct Svg {
@@ -66,15 +89,19 @@ pub struct Svg {
 impl Svg {
     /// The beginning of a picture of this size.
     pub fn new(alloc: Global, width: Px, height: Px) -> Result<Svg, NoMemory> {
-        let mut text = String::new(alloc);
-        write!(
-            text,
-            "<svg xmlns=\"http://www.w3.org/2000/svg\" width=\"{width}\" height=\"{height}\" "
-        )?;
-        write!(text, "viewBox=\"0 0 {width} {height}\">\n")?;
-        text.push_str(STYLE)?;
-        text.push_str(MARKERS)?;
-        Ok(Svg { text })
+        let mut svg = Svg {
+            text: String::new(alloc),
+        };
+        svg.begin(width, height)?;
+        Ok(svg)
+    }
+
+    fn begin(&mut self, width: Px, height: Px) -> Result<(), NoMemory> {
+        self.add("<svg xmlns=\"http://www.w3.org/2000/svg\"")?;
+        self.add_lengths(&[("width", width), ("height", height)])?;
+        write!(self.text, " viewBox=\"0 0 {width} {height}\">\n")?;
+        self.add(STYLE)?;
+        self.add(MARKERS)
     }
 
     /// The whole text.
@@ -82,6 +109,35 @@ impl Svg {
         self.text.push_str("</svg>\n")?;
         let Svg { text } = self;
         Ok(text)
+    }
+
+    /// Markup as it is written here.
+    fn add(&mut self, markup: &str) -> Result<(), NoMemory> {
+        self.text.push_str(markup)?;
+        Ok(())
+    }
+
+    /// The beginning of an element: its name, its class, and lengths by their names.
+    fn begin_element(
+        &mut self,
+        element: &str,
+        class: &str,
+        lengths: &[(&str, Px)],
+    ) -> Result<(), NoMemory> {
+        write!(self.text, "<{element} class=\"{class}\"")?;
+        self.add_lengths(lengths)
+    }
+
+    fn add_lengths(&mut self, lengths: &[(&str, Px)]) -> Result<(), NoMemory> {
+        for (name, length) in lengths {
+            self.add_length(name, *length)?;
+        }
+        Ok(())
+    }
+
+    fn add_length(&mut self, name: &str, length: Px) -> Result<(), NoMemory> {
+        write!(self.text, " {name}=\"{length}\"")?;
+        Ok(())
     }
 
     /// A text beside its point.
@@ -99,6 +155,11 @@ impl Svg {
         self.end_text()
     }
 
+    /// A text of no class, which begins at its point.
+    pub fn plain(&mut self, point: Point, words: &str) -> Result<(), NoMemory> {
+        self.text("", Anchor::Start, point, words)
+    }
+
     /// A number, which ends at its point.
     pub fn number(&mut self, point: Point, number: usize) -> Result<(), NoMemory> {
         self.begin_text("", Anchor::End, point)?;
@@ -114,32 +175,21 @@ impl Svg {
     }
 
     fn begin_text(&mut self, class: &str, anchor: Anchor, point: Point) -> Result<(), NoMemory> {
-        let Point { x, y } = point;
-        let anchor = match anchor {
-            Anchor::Start => "start",
-            Anchor::Middle => "middle",
-            Anchor::End => "end",
-        };
-        write!(self.text, "<text class=\"{class}\" x=\"{x}\" y=\"{y}\" ")?;
-        write!(self.text, "text-anchor=\"{anchor}\">")?;
+        self.begin_element("text", class, &[("x", point.x), ("y", point.y)])?;
+        let anchor = anchor.word();
+        write!(self.text, " text-anchor=\"{anchor}\">")?;
         Ok(())
     }
 
     fn end_text(&mut self) -> Result<(), NoMemory> {
-        self.text.push_str("</text>\n")?;
-        Ok(())
+        self.add("</text>\n")
     }
 
-    /// A letter as text of XML. One that XML has no text for is a question mark.
+    /// A letter as text of XML.
     fn add_letter(&mut self, letter: char) -> Result<(), NoMemory> {
-        match letter {
-            '&' => self.text.push_str("&amp;")?,
-            '<' => self.text.push_str("&lt;")?,
-            '>' => self.text.push_str("&gt;")?,
-            '"' => self.text.push_str("&quot;")?,
-            '…' => self.text.push_str("&#8230;")?,
-            ' '..='~' => self.text.push(letter)?,
-            _ => self.text.push('?')?,
+        match stand_in(letter) {
+            Some(markup) => self.text.push_str(markup)?,
+            None => self.text.push(letter)?,
         }
         Ok(())
     }
@@ -152,12 +202,27 @@ impl Svg {
     pub fn path(&mut self, class: &str, points: &[Point]) -> Result<(), NoMemory> {
         write!(self.text, "<path class=\"{class}\" d=\"")?;
         for (i, point) in points.iter().enumerate() {
-            let step = if i == 0 { 'M' } else { 'L' };
-            let Point { x, y } = *point;
-            write!(self.text, "{step}{x} {y}")?;
+            self.add_step(if i == 0 { 'M' } else { 'L' }, *point)?;
         }
-        self.text.push_str("\"/>\n")?;
+        self.add("\"/>\n")
+    }
+
+    /// A step of a path: the letter of its kind, and the point to which it leads.
+    fn add_step(&mut self, letter: char, to: Point) -> Result<(), NoMemory> {
+        let Point { x, y } = to;
+        write!(self.text, "{letter}{x} {y}")?;
         Ok(())
+    }
+
+    /// A shape without points of its own: an element with its class and lengths.
+    fn shape(
+        &mut self,
+        element: &str,
+        class: &str,
+        lengths: &[(&str, Px)],
+    ) -> Result<(), NoMemory> {
+        self.begin_element(element, class, lengths)?;
+        self.add("/>\n")
     }
 
     pub fn rect(
@@ -168,18 +233,16 @@ impl Svg {
         height: Px,
     ) -> Result<(), NoMemory> {
         let Point { x, y } = corner;
-        write!(self.text, "<rect class=\"{class}\" x=\"{x}\" y=\"{y}\" ")?;
-        write!(self.text, "width=\"{width}\" height=\"{height}\"/>\n")?;
-        Ok(())
+        self.shape(
+            "rect",
+            class,
+            &[("x", x), ("y", y), ("width", width), ("height", height)],
+        )
     }
 
     pub fn circle(&mut self, class: &str, center: Point, radius: Px) -> Result<(), NoMemory> {
         let Point { x, y } = center;
-        write!(
-            self.text,
-            "<circle class=\"{class}\" cx=\"{x}\" cy=\"{y}\" r=\"{radius}\"/>\n"
-        )?;
-        Ok(())
+        self.shape("circle", class, &[("cx", x), ("cy", y), ("r", radius)])
     }
 
     /// Two lines that cross.
