@@ -5,7 +5,7 @@ use crate::layout::{LABEL_GAP, LINE, Layout, MARGIN, ROW, width_of_text};
 use crate::legend::Legend;
 use crate::marks::{draw_lifelines, draw_mark};
 use crate::picture::{Actor, Label, Lifeline, Picture, Row};
-use crate::px::{Px, at, width_of};
+use crate::px::{Point, Px, at, width_of};
 use crate::svg::{Anchor, Svg};
 use lists::NoMemory;
 use std::alloc::Global;
@@ -133,20 +133,15 @@ fn draw_row(
 fn draw_label(svg: &mut Svg, layout: &Layout, label: &Label, y: Px) -> Result<(), NoMemory> {
     let x = layout.x(Actor::Client(label.client)) - LABEL_GAP;
     if label.second.is_empty() {
-        return svg.text("strong", Anchor::End, at(x, y), label.first.as_str());
+        return draw_strong(svg, at(x, y), &label.first);
     }
-    svg.text(
-        "strong",
-        Anchor::End,
-        at(x, y - Px(7)),
-        label.first.as_str(),
-    )?;
-    svg.text(
-        "strong",
-        Anchor::End,
-        at(x, y + Px(7)),
-        label.second.as_str(),
-    )
+    draw_strong(svg, at(x, y - Px(7)), &label.first)?;
+    draw_strong(svg, at(x, y + Px(7)), &label.second)
+}
+
+/// Draws a strong text, which ends at its point.
+fn draw_strong(svg: &mut Svg, point: Point, words: &String) -> Result<(), NoMemory> {
+    svg.text("strong", Anchor::End, point, words.as_str())
 }
 
 /// Draws the names of those who take part.

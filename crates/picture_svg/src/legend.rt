@@ -76,15 +76,22 @@ fn has_arrived(arrow: &Arrow) -> bool {
 
 /// Whether a picture has what the item explains.
 fn is_in(picture: &Picture, item: Item) -> bool {
-    picture
-        .arrows
-        .iter()
-        .any(|arrow| explains_arrow(item, arrow))
-        || picture
-            .stretches
-            .iter()
-            .any(|stretch| explains_stretch(item, stretch))
-        || picture.marks.iter().any(|mark| explains_mark(item, mark))
+    for arrow in &picture.arrows {
+        if explains_arrow(item, arrow) {
+            return true;
+        }
+    }
+    for stretch in &picture.stretches {
+        if explains_stretch(item, stretch) {
+            return true;
+        }
+    }
+    for mark in &picture.marks {
+        if explains_mark(item, mark) {
+            return true;
+        }
+    }
+    false
 }
 
 /// Whether an item explains an arrow.

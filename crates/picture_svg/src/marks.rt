@@ -27,6 +27,20 @@ fn draw_lives(
     picture: &Picture,
     alive: &mut Alive,
 ) -> Result<(), NoMemory> {
+    begin_lives(svg, layout, picture, alive)?;
+    for mark in &picture.marks {
+        follow_mark(svg, layout, mark, alive)?;
+    }
+    end_lives(svg, layout, alive)
+}
+
+/// Draws the lifelines of those who lie, and begins the lives of the others.
+fn begin_lives(
+    svg: &mut Svg,
+    layout: &Layout,
+    picture: &Picture,
+    alive: &mut Alive,
+) -> Result<(), NoMemory> {
     for lifeline in &picture.lifelines {
         if lifeline.is_liar {
             draw_life(svg, layout, "liar", lifeline.actor, layout.top, layout.end)?;
@@ -34,9 +48,11 @@ fn draw_lives(
             alive.insert(lifeline.actor, layout.top)?;
         }
     }
-    for mark in &picture.marks {
-        follow_mark(svg, layout, mark, alive)?;
-    }
+    Ok(())
+}
+
+/// Draws the lives that last to the end.
+fn end_lives(svg: &mut Svg, layout: &Layout, alive: &Alive) -> Result<(), NoMemory> {
     for (actor, from) in alive.iter() {
         draw_life(svg, layout, "life", *actor, *from, layout.end)?;
     }

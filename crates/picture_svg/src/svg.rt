@@ -93,6 +93,8 @@ impl Svg {
             text: String::new(alloc),
         };
         svg.begin(width, height)?;
+        svg.add(STYLE)?;
+        svg.add(MARKERS)?;
         Ok(svg)
     }
 
@@ -100,8 +102,7 @@ impl Svg {
         self.add("<svg xmlns=\"http://www.w3.org/2000/svg\"")?;
         self.add_lengths(&[("width", width), ("height", height)])?;
         write!(self.text, " viewBox=\"0 0 {width} {height}\">\n")?;
-        self.add(STYLE)?;
-        self.add(MARKERS)
+        Ok(())
     }
 
     /// The whole text.
@@ -201,8 +202,10 @@ impl Svg {
     /// A path from point to point.
     pub fn path(&mut self, class: &str, points: &[Point]) -> Result<(), NoMemory> {
         write!(self.text, "<path class=\"{class}\" d=\"")?;
-        for (i, point) in points.iter().enumerate() {
-            self.add_step(if i == 0 { 'M' } else { 'L' }, *point)?;
+        let mut letter = 'M';
+        for point in points {
+            self.add_step(letter, *point)?;
+            letter = 'L';
         }
         self.add("\"/>\n")
     }
