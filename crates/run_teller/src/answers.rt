@@ -1,7 +1,9 @@
 //! What nodes answer, in words.
 use crate::teller::{Step, Teller};
+use crate::words::add_words;
 use lists::NoMemory;
 use stamp_order::Stamp;
+use std::fmt::Write;
 use wire_forms::{Ask, Body, Message, Reason, Reply, Request};
 
 /// Why a node refuses, in a word of the formats.
@@ -33,19 +35,19 @@ pub fn stored_by(step: &Step<'_>, number: usize) -> Option<(u32, Stamp)> {
 }
 
 impl<'a> Teller<'a> {
-    /// What the message of this number answers, and whether it counted.
-    pub(crate) fn answer_words(
+    /// Adds what the message of this number answers, and whether it counted.
+    pub(crate) fn add_answer(
         &self,
+        note: &mut String,
         step: &Step<'_>,
         number: usize,
         counts: bool,
-    ) -> Result<String, NoMemory> {
-        let alloc = self.run.alloc;
+    ) -> Result<(), NoMemory> {
         let Some(message) = step.message(number) else {
-            return Ok(String::new(alloc));
+            return Ok(());
         };
         let Body::Answer(reply) = &message.body else {
-            return Ok(String::new(alloc));
+            return Ok(());
         };
         let node = message.node;
         let says = if self.run.liars.node(node) {
@@ -53,50 +55,57 @@ impl<'a> Teller<'a> {
         } else {
             ""
         };
-        let change = if counts {
-            ""
-        } else {
-            ", which changes nothing"
-        };
-        let words = self.reply_words(step, message, reply)?;
-        Ok(format!(in alloc; "node {node}{says}: {words}{change}")?)
+        write!(note, "node {node}{says}: ")?;
+        self.add_reply(note, step, message, reply)?;
+        add_words(
+            note,
+            if counts {
+                ""
+            } else {
+                ", which changes nothing"
+            },
+        )
     }
 
-    fn reply_words(
+    fn add_reply(
         &self,
+        note: &mut String,
         step: &Step<'_>,
         message: &Message,
         reply: &Reply,
-    ) -> Result<String, NoMemory> {
-        let alloc = self.run.alloc;
+    ) -> Result<(), NoMemory> {
         match reply {
-            Reply::TimeIs(time) => Ok(format!(in alloc; "time {time}")?),
+            Reply::TimeIs(time) => Ok(write!(note, "time {time}")?),
             Reply::Found(version) => {
+                add_words(note, "found ")?;
                 let block = self.block_of(step, message);
-                let name = self.run.stamps.name_of(block, &version.stamp)?;
-                Ok(format!(in alloc; "found {name}")?)
+                self.run.stamps.add_name(note, block, &version.stamp)
             }
-            Reply::Nothing => Ok(String::from_str(alloc, "found nothing")?),
-            Reply::Ack => self.ack_words(step, message),
+            Reply::Nothing => add_words(note, "found nothing"),
+            Reply::Ack => self.add_ack(note, step, message),
             Reply::Refused(reason) => {
-                let word = reason_word(*reason);
-                Ok(format!(in alloc; "refused, {word}")?)
+                add_words(note, "refused, ")?;
+                add_words(note, reason_word(*reason))
             }
         }
     }
 
-    fn ack_words(&self, step: &Step<'_>, message: &Message) -> Result<String, NoMemory> {
-        let alloc = self.run.alloc;
+    fn add_ack(
+        &self,
+        note: &mut String,
+        step: &Step<'_>,
+        message: &Message,
+    ) -> Result<(), NoMemory> {
         let stored = match self.post.ask_of(message) {
             Some(ask) => stored_by(step, ask),
             None => None,
         };
         match stored {
             Some((block, stamp)) => {
-                let name = self.run.stamps.name_of(block, &stamp)?;
-                Ok(format!(in alloc; "holds {name}")?)
+                add_words(note, "holds ")?;
+                self.run.stamps.add_name(note, block, &stamp)
             }
-            None => Ok(String::from_str(alloc, "ack")?),
+            None => add_words(note, "ack"),
         }
     }
 

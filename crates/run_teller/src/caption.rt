@@ -6,9 +6,14 @@ use std::alloc::Global;
 /// Two lines about a cluster.
 pub fn caption_of(alloc: Global, config: &Config) -> Result<Vec<String>, NoMemory> {
     let mut caption = Vec::new(alloc);
+    add_lines(&mut caption, alloc, config)?;
+    Ok(caption)
+}
+
+fn add_lines(caption: &mut Vec<String>, alloc: Global, config: &Config) -> Result<(), NoMemory> {
     caption.push(nodes_line(alloc, config)?)?;
     caption.push(answers_line(alloc, config)?)?;
-    Ok(caption)
+    Ok(())
 }
 
 fn nodes_line(alloc: Global, config: &Config) -> Result<String, NoMemory> {

@@ -1,11 +1,12 @@
 //! The phases of operations: the stretches of a client's bar, and what is written beside them.
 use crate::stamps::block_of;
 use crate::teller::{Step, Teller};
-use crate::words::value_words;
+use crate::words::{add_value, add_words};
 use lists::NoMemory;
 use picture_svg::{Label, Stretch, Work};
 use run_words::{How, Outcome, Record};
 use stamp_order::Bound;
+use std::fmt::Write;
 use wire_forms::{Ask, Body, Liars, Message, Op, Reply, Request, Tag};
 
 /// A phase of a client's operation that is under way.
@@ -64,72 +65,85 @@ fn first_ask<'m>(sent: &'m [Message], liars: &Liars) -> Option<&'m Message> {
 }
 
 impl<'a> Teller<'a> {
-    /// Begins the phase whose asks were sent in a row, and tells what it does. Asks that are sent again begin none.
+    /// Begins the phase whose asks were sent in a row, and tells in the label what it does. Asks that are sent again begin none.
     pub(crate) fn begin_phase(
         &mut self,
         step: &Step<'_>,
         row: usize,
         place: u64,
-    ) -> Result<Option<Label>, NoMemory> {
+        label: &mut Option<Label>,
+    ) -> Result<(), NoMemory> {
         let Some(message) = first_ask(step.sent(), self.run.liars) else {
-            return Ok(None);
+            return Ok(());
         };
-        let client = message.client;
-        let tag = message.tag;
         let Body::Ask(ask) = &message.body else {
-            return Ok(None);
+            return Ok(());
         };
-        let old = self.phases.get(&client).copied();
-        let number = match old {
-            Some(phase) if phase.tag == tag => return Ok(None),
-            Some(phase) => Some(phase.record),
-            None => self.run.started_at(place),
+        let Some((phase, record)) = self.begun(message, ask, row, place) else {
+            return Ok(());
         };
-        let Some(number) = number else {
-            return Ok(None);
+        *label = Some(self.phase_label(message.client, record, ask, phase.tag)?);
+        self.enter(message.client, phase)
+    }
+
+    /// The phase that an ask begins in a row, with the record of its operation.
+    fn begun(
+        &self,
+        message: &Message,
+        ask: &Ask,
+        row: usize,
+        place: u64,
+    ) -> Option<(Phase, &'a Record)> {
+        let tag = message.tag;
+        let number = match self.phases.get(&message.client) {
+            Some(phase) if phase.tag == tag => return None,
+            Some(phase) => phase.record,
+            None => self.run.started_at(place)?,
         };
-        let Some(record) = self.run.record(number) else {
-            return Ok(None);
-        };
-        let label = self.phase_label(client, record, ask, tag)?;
-        let work = work_of(&record.op, &ask.request);
-        if let Some(old) = old {
-            self.picture
-                .stretches
-                .push(old.stretch(client, row, false))?;
-        }
+        let record = self.run.record(number)?;
         let phase = Phase {
             tag,
-            work,
+            work: work_of(&record.op, &ask.request),
             record: number,
             row,
         };
-        self.phases.insert(client, phase)?;
-        Ok(Some(label))
+        Some((phase, record))
     }
 
-    /// Ends the operation that ends in a row, and tells how.
-    pub(crate) fn end_phase(&mut self, row: usize, place: u64) -> Result<Option<Label>, NoMemory> {
-        let Some(record) = self.run.ended_at(place) else {
-            return Ok(None);
-        };
-        let client = record.client;
+    /// Ends the phase of a client that was under way, and begins this one.
+    fn enter(&mut self, client: u32, phase: Phase) -> Result<(), NoMemory> {
+        self.leave(client, phase.row, false)?;
+        self.phases.insert(client, phase)?;
+        Ok(())
+    }
+
+    /// Ends the phase of a client that was under way, if there is one.
+    fn leave(&mut self, client: u32, row: usize, is_open: bool) -> Result<(), NoMemory> {
         if let Some(phase) = self.phases.remove(&client) {
-            self.picture
-                .stretches
-                .push(phase.stretch(client, row, false))?;
+            let stretch = phase.stretch(client, row, is_open);
+            self.picture.stretches.push(stretch)?;
         }
-        Ok(Some(self.end_label(record)?))
+        Ok(())
+    }
+
+    /// Ends the operation that ends in a row, and tells how in the label.
+    pub(crate) fn end_phase(
+        &mut self,
+        row: usize,
+        place: u64,
+        label: &mut Option<Label>,
+    ) -> Result<(), NoMemory> {
+        let Some(record) = self.run.ended_at(place) else {
+            return Ok(());
+        };
+        self.leave(record.client, row, false)?;
+        *label = Some(self.end_label(record)?);
+        Ok(())
     }
 
     /// Breaks off a client's operation, if one is under way.
     pub(crate) fn break_off(&mut self, client: u32, row: usize) -> Result<(), NoMemory> {
-        if let Some(phase) = self.phases.remove(&client) {
-            self.picture
-                .stretches
-                .push(phase.stretch(client, row, true))?;
-        }
-        Ok(())
+        self.leave(client, row, true)
     }
 
     /// Adds the stretches of the phases that are still under way.
@@ -143,27 +157,13 @@ impl<'a> Teller<'a> {
         Ok(())
     }
 
-    /// An operation, with its value, and its block where the cluster has several.
-    fn op_label(&self, client: u32, op: &Op) -> Result<Label, NoMemory> {
-        let alloc = self.run.alloc;
-        let first = match op {
-            Op::Read { .. } => String::from_str(alloc, "read")?,
-            Op::Write { value, .. } => {
-                let value = value_words(alloc, value.as_slice())?;
-                format!(in alloc; "write {value}")?
-            }
-        };
-        let block = block_of(op);
-        let second = if self.run.config.blocks() > 1 {
-            format!(in alloc; "block {block}")?
-        } else {
-            String::new(alloc)
-        };
-        Ok(Label {
+    /// A label of a client that says nothing yet.
+    fn empty_label(&self, client: u32) -> Label {
+        Label {
             client,
-            first,
-            second,
-        })
+            first: String::new(self.run.alloc),
+            second: String::new(self.run.alloc),
+        }
     }
 
     /// What a phase does: the operation, for its first one.
@@ -174,84 +174,109 @@ impl<'a> Teller<'a> {
         ask: &Ask,
         tag: Tag,
     ) -> Result<Label, NoMemory> {
-        let alloc = self.run.alloc;
-        let first = match (&ask.request, &record.op) {
-            (Request::Read(bound), _) if tag.phase > 1 => {
-                return self.round_label(client, ask.block, bound, tag.phase);
-            }
-            (Request::Write(_), Op::Write { .. }) => String::from_str(alloc, "stores as")?,
-            (Request::Write(_), Op::Read { .. }) => String::from_str(alloc, "repairs")?,
-            (Request::Time | Request::Read(_), _) => return self.op_label(client, &record.op),
-        };
-        let second = match &ask.request {
-            Request::Write(version) => self.run.stamps.name_of(ask.block, &version.stamp)?,
-            Request::Time | Request::Read(_) => String::new(alloc),
-        };
-        Ok(Label {
-            client,
-            first,
-            second,
-        })
+        let mut label = self.empty_label(client);
+        self.tell_phase(&mut label, record, ask, tag.phase)?;
+        Ok(label)
     }
 
-    fn round_label(
+    fn tell_phase(
         &self,
-        client: u32,
+        label: &mut Label,
+        record: &Record,
+        ask: &Ask,
+        round: u64,
+    ) -> Result<(), NoMemory> {
+        match &ask.request {
+            Request::Read(bound) if round > 1 => self.tell_round(label, ask.block, bound, round),
+            Request::Write(version) => {
+                add_words(&mut label.first, store_words(&record.op))?;
+                let stamps = &self.run.stamps;
+                stamps.add_name(&mut label.second, ask.block, &version.stamp)
+            }
+            Request::Time | Request::Read(_) => self.tell_op(label, &record.op),
+        }
+    }
+
+    /// Tells an operation, with its value, and its block where the cluster has several.
+    fn tell_op(&self, label: &mut Label, op: &Op) -> Result<(), NoMemory> {
+        add_op(&mut label.first, op)?;
+        if self.run.config.blocks() > 1 {
+            let block = block_of(op);
+            write!(label.second, "block {block}")?;
+        }
+        Ok(())
+    }
+
+    /// Tells which stamps of a block a later round of a read asks for.
+    fn tell_round(
+        &self,
+        label: &mut Label,
         block: u32,
         bound: &Bound,
         round: u64,
-    ) -> Result<Label, NoMemory> {
-        let second = self.bound_words(block, bound)?;
-        Ok(Label {
-            client,
-            first: format!(in self.run.alloc; "round {round}")?,
-            second,
-        })
-    }
-
-    /// Which stamps of a block a read asks for.
-    fn bound_words(&self, block: u32, bound: &Bound) -> Result<String, NoMemory> {
+    ) -> Result<(), NoMemory> {
+        write!(label.first, "round {round}")?;
         let (word, stamp) = match bound {
-            Bound::All => return Ok(String::new(self.run.alloc)),
-            Bound::AtMost(stamp) => ("up to", stamp),
-            Bound::Below(stamp) => ("below", stamp),
+            Bound::All => return Ok(()),
+            Bound::AtMost(stamp) => ("up to ", stamp),
+            Bound::Below(stamp) => ("below ", stamp),
         };
-        let name = self.run.stamps.name_of(block, stamp)?;
-        Ok(format!(in self.run.alloc; "{word} {name}")?)
+        add_words(&mut label.second, word)?;
+        self.run.stamps.add_name(&mut label.second, block, stamp)
     }
 
     /// How an operation ended.
     fn end_label(&self, record: &Record) -> Result<Label, NoMemory> {
-        let alloc = self.run.alloc;
-        let first = match &record.outcome {
-            Some(Outcome::Wrote(_)) => String::from_str(alloc, "wrote")?,
-            Some(Outcome::Gave { value, .. }) => {
-                let value = value_words(alloc, value.as_slice())?;
-                format!(in alloc; "gives {value}")?
-            }
-            Some(Outcome::Spent) => String::from_str(alloc, "spent")?,
-            Some(Outcome::Outvoted(_)) => String::from_str(alloc, "outvoted")?,
-            None => String::new(alloc),
-        };
-        Ok(Label {
-            client: record.client,
-            first,
-            second: self.stamp_words(record)?,
-        })
+        let mut label = self.empty_label(record.client);
+        add_outcome(&mut label.first, record)?;
+        self.add_stamp(&mut label.second, record)?;
+        Ok(label)
     }
 
-    /// The stamp under which an operation ended, and whether it repaired.
-    fn stamp_words(&self, record: &Record) -> Result<String, NoMemory> {
-        let alloc = self.run.alloc;
+    /// Adds the stamp under which an operation ended, and whether it repaired.
+    fn add_stamp(&self, words: &mut String, record: &Record) -> Result<(), NoMemory> {
         let (stamp, note) = match &record.outcome {
             Some(Outcome::Wrote(stamp)) => (stamp, ""),
             Some(Outcome::Gave { stamp, how, .. }) => (stamp, how_words(*how)),
-            Some(Outcome::Spent) => return Ok(String::from_str(alloc, "no time is left")?),
-            Some(Outcome::Outvoted(_)) | None => return Ok(String::new(alloc)),
+            Some(Outcome::Spent) => return add_words(words, "no time is left"),
+            Some(Outcome::Outvoted(_)) | None => return Ok(()),
         };
-        let mut name = self.run.stamps.name_of(block_of(&record.op), stamp)?;
-        name.push_str(note)?;
-        Ok(name)
+        let block = block_of(&record.op);
+        self.run.stamps.add_name(words, block, stamp)?;
+        add_words(words, note)
+    }
+}
+
+/// What an operation does when it stores a version.
+fn store_words(op: &Op) -> &'static str {
+    match op {
+        Op::Write { .. } => "stores as",
+        Op::Read { .. } => "repairs",
+    }
+}
+
+/// Adds an operation, with its value.
+fn add_op(words: &mut String, op: &Op) -> Result<(), NoMemory> {
+    match op {
+        Op::Read { .. } => add_words(words, "read"),
+        Op::Write { value, .. } => {
+            add_words(words, "write ")?;
+            add_value(words, value.as_slice())
+        }
+    }
+}
+
+/// Adds how an operation ended.
+fn add_outcome(words: &mut String, record: &Record) -> Result<(), NoMemory> {
+    match &record.outcome {
+        Some(Outcome::Wrote(_)) => add_words(words, "wrote"),
+        Some(Outcome::Gave { value, .. }) => {
+            add_words(words, "gives ")?;
+            add_value(words, value.as_slice())
+        }
+        Some(Outcome::Spent) => add_words(words, "spent"),
+        Some(Outcome::Outvoted(_)) => add_words(words, "outvoted"),
+        None => Ok(()),
     }
 }
 

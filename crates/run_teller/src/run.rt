@@ -9,7 +9,6 @@ use std::collections::BTreeMap;
 use wire_forms::Liars;
 
 /// The cluster, who lies, the records, and which of them start and end at a place.
-#[derive(Drop)]
 pub struct Run<'a> {
     pub(crate) alloc: Global,
     pub(crate) config: &'a Config,
@@ -18,6 +17,21 @@ pub struct Run<'a> {
     records: &'a [Record],
     starts: BTreeMap<u64, usize>,
     ends: BTreeMap<u64, usize>,
+}
+
+// By hand, since a derived drop is proved anew wherever a run is let go.
+impl<'a> Drop for Run<'a> {
+    fn drop(self) {
+        let Run {
+            alloc: _alloc,
+            config: _config,
+            liars: _liars,
+            stamps: _stamps,
+            records: _records,
+            starts: _starts,
+            ends: _ends,
+        } = self;
+    }
 }
 
 impl<'a> Run<'a> {
@@ -31,24 +45,28 @@ impl<'a> Run<'a> {
         first: Stamp,
         marks: &BTreeMap<u64, u32>,
     ) -> Result<Run<'a>, NoMemory> {
-        let stamps = Stamps::of(alloc, first, records, marks)?;
-        let mut starts = BTreeMap::new(alloc);
-        let mut ends = BTreeMap::new(alloc);
-        for (number, record) in records.iter().enumerate() {
-            starts.insert(record.start, number)?;
-            if let Some(end) = record.end {
-                ends.insert(end, number)?;
-            }
-        }
-        Ok(Run {
+        let mut run = Run {
             alloc,
             config,
             liars,
-            stamps,
+            stamps: Stamps::of(alloc, first, records, marks)?,
             records,
-            starts,
-            ends,
-        })
+            starts: BTreeMap::new(alloc),
+            ends: BTreeMap::new(alloc),
+        };
+        run.add_places()?;
+        Ok(run)
+    }
+
+    /// Adds where the operations start and end.
+    fn add_places(&mut self) -> Result<(), NoMemory> {
+        for (number, record) in self.records.iter().enumerate() {
+            self.starts.insert(record.start, number)?;
+            if let Some(end) = record.end {
+                self.ends.insert(end, number)?;
+            }
+        }
+        Ok(())
     }
 
     /// The number of the operation that starts at a place.

@@ -87,12 +87,23 @@ impl Sent {
 }
 
 /// All messages that were sent so far, and the last ones of each kind.
-#[derive(Drop)]
 pub struct Post {
     sent: Vec<Sent>,
     questions: BTreeMap<Question, usize>,
     asks: BTreeMap<Pair, usize>,
     answers: BTreeMap<Pair, usize>,
+}
+
+// By hand, since a derived drop is proved anew wherever a post is let go.
+impl Drop for Post {
+    fn drop(self) {
+        let Post {
+            sent: _sent,
+            questions: _questions,
+            asks: _asks,
+            answers: _answers,
+        } = self;
+    }
 }
 
 impl Post {

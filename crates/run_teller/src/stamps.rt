@@ -18,7 +18,6 @@ struct Known {
 /// The stamps that the report of a run has.
 #[derive(Drop)]
 pub struct Stamps {
-    alloc: Global,
     first: Stamp,
     known: Vec<Known>,
 }
@@ -38,21 +37,26 @@ impl Stamps {
         records: &[Record],
         marks: &BTreeMap<u64, u32>,
     ) -> Result<Stamps, NoMemory> {
-        let mut known = Vec::new(alloc);
-        for record in records {
-            if let (Some(stamp), Some(mark)) = (record.stamp, marks.get(&record.start)) {
-                known.push(Known {
-                    block: block_of(&record.op),
-                    stamp,
-                    mark: *mark,
-                })?;
-            }
-        }
-        Ok(Stamps {
-            alloc,
+        let mut stamps = Stamps {
             first,
-            known,
-        })
+            known: Vec::new(alloc),
+        };
+        for record in records {
+            stamps.add(record, marks)?;
+        }
+        Ok(stamps)
+    }
+
+    /// Adds the stamp of a record's operation, if the report gives it a mark.
+    fn add(&mut self, record: &Record, marks: &BTreeMap<u64, u32>) -> Result<(), NoMemory> {
+        if let (Some(stamp), Some(mark)) = (record.stamp, marks.get(&record.start)) {
+            self.known.push(Known {
+                block: block_of(&record.op),
+                stamp,
+                mark: *mark,
+            })?;
+        }
+        Ok(())
     }
 
     /// The mark that the report gives a stamp of a block.
@@ -68,9 +72,9 @@ impl Stamps {
         }
     }
 
-    /// Time, client and mark of a stamp; for one that the report hasn't, the first digits of its verifier in place of the mark.
-    pub fn name_of(&self, block: u32, stamp: &Stamp) -> Result<String, NoMemory> {
-        let mut name = String::new(self.alloc);
+    /// Adds time, client and mark of a stamp; for one that the report hasn't, the first digits of its verifier in place of the
+    /// mark.
+    pub fn add_name(&self, name: &mut String, block: u32, stamp: &Stamp) -> Result<(), NoMemory> {
         let Stamp { time, client, .. } = *stamp;
         write!(name, "{time}.{client}")?;
         match self.mark_of(block, stamp) {
@@ -80,6 +84,6 @@ impl Stamps {
                 write!(name, "#{a:02x}{b:02x}")?;
             }
         }
-        Ok(name)
+        Ok(())
     }
 }

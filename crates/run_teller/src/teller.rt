@@ -4,11 +4,12 @@ use crate::caption::caption_of;
 use crate::phases::Phase;
 use crate::run::Run;
 use crate::sent::{Pair, Post, pair_of};
-use crate::words::short_line;
+use crate::words::{add_words, short_line};
 use lists::NoMemory;
-use picture_svg::{Actor, Fate, Lifeline, Mark, Picture, Row, Sign};
+use picture_svg::{Actor, Arrow, Fate, Lifeline, Mark, Picture, Row, Sign};
 use run_words::{Line, Record};
 use std::collections::{BTreeMap, BTreeSet};
+use std::fmt::Write;
 use std::mem::replace;
 use wire_forms::{Body, Message, Reply, Tag};
 
@@ -85,21 +86,27 @@ impl<'a> Teller<'a> {
 
     /// Tells the next line of the script.
     pub fn tell(&mut self, step: &Step<'_>) -> Result<(), NoMemory> {
-        let row = self.picture.rows.len();
-        let place = (row as u64).saturating_add(1);
-        self.add_sent(step, row)?;
-        let note = match step.line {
-            Some(line) => self.note_of(step, line, row)?,
-            None => String::new(self.run.alloc),
+        let number = self.picture.rows.len();
+        let alloc = self.run.alloc;
+        let mut row = Row {
+            line: short_line(alloc, step.text)?,
+            label: None,
+            note: String::new(alloc),
         };
-        let begun = self.begin_phase(step, row, place)?;
-        let ended = self.end_phase(row, place)?;
-        self.picture.rows.push(Row {
-            line: short_line(self.run.alloc, step.text)?,
-            label: ended.or(begun),
-            note,
-        })?;
+        self.tell_row(&mut row, step, number)?;
+        self.picture.rows.push(row)?;
         Ok(())
+    }
+
+    /// Tells in the row of this number what a line does and what came of it.
+    fn tell_row(&mut self, row: &mut Row, step: &Step<'_>, number: usize) -> Result<(), NoMemory> {
+        let place = (number as u64).saturating_add(1);
+        self.add_sent(step, number)?;
+        if let Some(line) = step.line {
+            self.add_note(&mut row.note, step, line, number)?;
+        }
+        self.begin_phase(step, number, place, &mut row.label)?;
+        self.end_phase(number, place, &mut row.label)
     }
 
     /// The whole picture but for the report, when all lines are told.
@@ -151,78 +158,92 @@ impl<'a> Teller<'a> {
         Ok(())
     }
 
-    /// Adds what a line does between those who take part, and tells what came of it.
-    fn note_of(&mut self, step: &Step<'_>, line: &Line, row: usize) -> Result<String, NoMemory> {
+    /// Adds what a line does between those who take part, and tells in the note what came of it.
+    fn add_note(
+        &mut self,
+        note: &mut String,
+        step: &Step<'_>,
+        line: &Line,
+        row: usize,
+    ) -> Result<(), NoMemory> {
         let first = step.before;
         match line {
-            Line::Write { .. } | Line::Read { .. } => Ok(String::new(self.run.alloc)),
-            Line::Resend { .. } => self.said("asks again"),
-            Line::Call { .. } | Line::False { .. } => self.call(step, row),
-            Line::Give { message, .. } => self.give(step, *message as usize, first, row),
-            Line::Hear { message, .. } => self.hear(step, *message as usize, row),
-            Line::Lie { .. } => self.said("told, and not given yet"),
-            Line::Tell { .. } => self.hear(step, first, row),
+            Line::Write { .. } | Line::Read { .. } => Ok(()),
+            Line::Resend { .. } => add_words(note, "asks again"),
+            Line::Call { .. } | Line::False { .. } => self.call(note, step, row),
+            Line::Give { message, .. } => self.give(note, step, *message as usize, first, row),
+            Line::Hear { message, .. } => self.hear(note, step, *message as usize, row),
+            Line::Lie { .. } => add_words(note, "told, and not given yet"),
+            Line::Tell { .. } => self.hear(note, step, first, row),
             Line::Poke { .. } | Line::Sound { .. } | Line::Mix { .. } => {
-                self.give(step, first, first.saturating_add(1), row)
+                self.give(note, step, first, first.saturating_add(1), row)
             }
-            Line::Lost { client, node } => self.lose(*client, *node, row),
-            Line::CrashNode { node } => self.mark(Actor::Node(*node), Sign::Crash, row),
-            Line::CrashClient { client } => self.crash_client(*client, row),
-            Line::Prune { node, .. } => self.mark(Actor::Node(*node), Sign::Prune, row),
-            Line::Back { client } => self.mark(Actor::Client(*client), Sign::Back, row),
-            Line::Restart { node } => self.mark(Actor::Node(*node), Sign::Back, row),
+            Line::Lost { client, node } => self.lose(note, *client, *node, row),
+            Line::CrashNode { node } => self.mark(note, Actor::Node(*node), Sign::Crash, row),
+            Line::CrashClient { client } => self.crash_client(note, *client, row),
+            Line::Prune { node, .. } => self.mark(note, Actor::Node(*node), Sign::Prune, row),
+            Line::Back { client } => self.mark(note, Actor::Client(*client), Sign::Back, row),
+            Line::Restart { node } => self.mark(note, Actor::Node(*node), Sign::Back, row),
         }
     }
 
-    fn said(&self, words: &str) -> Result<String, NoMemory> {
-        Ok(String::from_str(self.run.alloc, words)?)
+    /// Adds an arrow, if there is one.
+    fn add_arrow(&mut self, arrow: Option<Arrow>) -> Result<(), NoMemory> {
+        if let Some(arrow) = arrow {
+            self.picture.arrows.push(arrow)?;
+        }
+        Ok(())
     }
 
     /// A client's ask to a node and the node's answer, which the client hears.
-    fn call(&mut self, step: &Step<'_>, row: usize) -> Result<String, NoMemory> {
+    fn call(&mut self, note: &mut String, step: &Step<'_>, row: usize) -> Result<(), NoMemory> {
         let answer = step.before;
         let ask = match step.message(answer) {
             Some(message) => self.post.ask_of(message),
             None => None,
         };
         if let Some(ask) = ask {
-            if let Some(arrow) = self.post.settle_call(ask, row) {
-                self.picture.arrows.push(arrow)?;
-            }
+            let arrow = self.post.settle_call(ask, row);
+            self.add_arrow(arrow)?;
             self.hold(step, ask, answer, row)?;
         }
-        self.hear(step, answer, row)
+        self.hear(note, step, answer, row)
     }
 
     /// An ask that a node is given, and the node's answer, which nobody hears yet.
     fn give(
         &mut self,
+        note: &mut String,
         step: &Step<'_>,
         ask: usize,
         answer: usize,
         row: usize,
-    ) -> Result<String, NoMemory> {
-        if let Some(arrow) = self.post.settle(ask, row, Fate::Arrived) {
-            self.picture.arrows.push(arrow)?;
-        }
+    ) -> Result<(), NoMemory> {
+        let arrow = self.post.settle(ask, row, Fate::Arrived);
+        self.add_arrow(arrow)?;
         self.hold(step, ask, answer, row)?;
-        self.answer_words(step, answer, true)
+        self.add_answer(note, step, answer, true)
     }
 
     /// An answer that a client hears.
-    fn hear(&mut self, step: &Step<'_>, answer: usize, row: usize) -> Result<String, NoMemory> {
+    fn hear(
+        &mut self,
+        note: &mut String,
+        step: &Step<'_>,
+        answer: usize,
+        row: usize,
+    ) -> Result<(), NoMemory> {
         let Some(message) = step.message(answer) else {
-            return Ok(String::new(self.run.alloc));
+            return Ok(());
         };
         let counts = self.counts(message);
         if counts {
             self.counted.insert(pair_of(message), message.tag)?;
         }
         let fate = if counts { Fate::Arrived } else { Fate::Stale };
-        if let Some(arrow) = self.post.settle(answer, row, fate) {
-            self.picture.arrows.push(arrow)?;
-        }
-        self.answer_words(step, answer, counts)
+        let arrow = self.post.settle(answer, row, fate);
+        self.add_arrow(arrow)?;
+        self.add_answer(note, step, answer, counts)
     }
 
     /// Whether an answer is the first of its node to the client's phase under way, and of the kind that this asks for.
@@ -261,29 +282,47 @@ impl<'a> Teller<'a> {
         Ok(())
     }
 
-    fn lose(&mut self, client: u32, node: u8, row: usize) -> Result<String, NoMemory> {
+    fn lose(
+        &mut self,
+        note: &mut String,
+        client: u32,
+        node: u8,
+        row: usize,
+    ) -> Result<(), NoMemory> {
         let arrow = self.post.lose(Pair { client, node }, row);
         self.clients.insert(client)?;
         self.picture.arrows.push(arrow)?;
-        self.said("lost")
+        add_words(note, "lost")
     }
 
-    fn mark(&mut self, actor: Actor, sign: Sign, row: usize) -> Result<String, NoMemory> {
+    fn mark(
+        &mut self,
+        note: &mut String,
+        actor: Actor,
+        sign: Sign,
+        row: usize,
+    ) -> Result<(), NoMemory> {
         if let Actor::Client(client) = actor {
             self.clients.insert(client)?;
         }
         self.picture.marks.push(Mark { actor, row, sign })?;
-        let what = match sign {
-            Sign::Crash => "crashes",
-            Sign::Back => "is back",
-            Sign::Prune => "drops old versions",
-            Sign::Holds => "holds a version",
-        };
-        Ok(format!(in self.run.alloc; "{actor} {what}")?)
+        let what = sign_words(sign);
+        write!(note, "{actor} {what}")?;
+        Ok(())
     }
 
-    fn crash_client(&mut self, client: u32, row: usize) -> Result<String, NoMemory> {
+    fn crash_client(&mut self, note: &mut String, client: u32, row: usize) -> Result<(), NoMemory> {
         self.break_off(client, row)?;
-        self.mark(Actor::Client(client), Sign::Crash, row)
+        self.mark(note, Actor::Client(client), Sign::Crash, row)
+    }
+}
+
+/// What happens to one who has a sign.
+fn sign_words(sign: Sign) -> &'static str {
+    match sign {
+        Sign::Crash => "crashes",
+        Sign::Back => "is back",
+        Sign::Prune => "drops old versions",
+        Sign::Holds => "holds a version",
     }
 }
