@@ -1,4 +1,5 @@
 //! The phases of operations: the stretches of a client's bar, and what is written beside them.
+use crate::run::Run;
 use crate::stamps::block_of;
 use crate::teller::{Step, Teller};
 use crate::words::{add_value, add_words};
@@ -6,6 +7,7 @@ use lists::NoMemory;
 use picture_svg::{Label, Stretch, Work};
 use run_words::{How, Outcome, Record};
 use stamp_order::Bound;
+use std::collections::BTreeMap;
 use std::fmt::Write;
 use wire_forms::{Ask, Body, Liars, Message, Op, Reply, Request, Tag};
 
@@ -52,12 +54,12 @@ fn work_of(op: &Op, request: &Request) -> Work {
     }
 }
 
-/// The first ask of a client that isn't declared lying.
-fn first_ask<'m>(sent: &'m [Message], liars: &Liars) -> Option<&'m Message> {
+/// The first message with an ask of a client that isn't declared lying.
+fn first_ask<'m>(sent: &'m [Message], liars: &Liars) -> Option<(&'m Message, &'m Ask)> {
     for message in sent {
-        if let Body::Ask(_) = message.body {
+        if let Body::Ask(ask) = &message.body {
             if !liars.client(message.client) {
-                return Some(message);
+                return Some((message, ask));
             }
         }
     }
@@ -73,16 +75,16 @@ impl<'a> Teller<'a> {
         place: u64,
         label: &mut Option<Label>,
     ) -> Result<(), NoMemory> {
-        let Some(message) = first_ask(step.sent(), self.run.liars) else {
-            return Ok(());
-        };
-        let Body::Ask(ask) = &message.body else {
+        let Some((message, ask)) = first_ask(step.sent(), self.run.liars) else {
             return Ok(());
         };
         let Some((phase, record)) = self.begun(message, ask, row, place) else {
             return Ok(());
         };
-        *label = Some(self.phase_label(message.client, record, ask, phase.tag)?);
+        *label = Some(
+            self.run
+                .phase_label(message.client, record, ask, phase.tag)?,
+        );
         self.enter(message.client, phase)
     }
 
@@ -137,7 +139,7 @@ impl<'a> Teller<'a> {
             return Ok(());
         };
         self.leave(record.client, row, false)?;
-        *label = Some(self.end_label(record)?);
+        *label = Some(self.run.end_label(record)?);
         Ok(())
     }
 
@@ -149,20 +151,29 @@ impl<'a> Teller<'a> {
     /// Adds the stretches of the phases that are still under way.
     pub(crate) fn add_open_phases(&mut self) -> Result<(), NoMemory> {
         let last = self.picture.rows.len();
-        for (client, phase) in self.phases.iter() {
-            self.picture
-                .stretches
-                .push(phase.stretch(*client, last, true))?;
-        }
-        Ok(())
+        add_open_stretches(&mut self.picture.stretches, &self.phases, last)
     }
+}
 
+/// Adds the stretches of phases that are still under way in the last row.
+fn add_open_stretches(
+    stretches: &mut Vec<Stretch>,
+    phases: &BTreeMap<u32, Phase>,
+    last: usize,
+) -> Result<(), NoMemory> {
+    for (client, phase) in phases.iter() {
+        stretches.push(phase.stretch(*client, last, true))?;
+    }
+    Ok(())
+}
+
+impl<'a> Run<'a> {
     /// A label of a client that says nothing yet.
     fn empty_label(&self, client: u32) -> Label {
         Label {
             client,
-            first: String::new(self.run.alloc),
-            second: String::new(self.run.alloc),
+            first: String::new(self.alloc),
+            second: String::new(self.alloc),
         }
     }
 
@@ -190,8 +201,8 @@ impl<'a> Teller<'a> {
             Request::Read(bound) if round > 1 => self.tell_round(label, ask.block, bound, round),
             Request::Write(version) => {
                 add_words(&mut label.first, store_words(&record.op))?;
-                let stamps = &self.run.stamps;
-                stamps.add_name(&mut label.second, ask.block, &version.stamp)
+                self.stamps
+                    .add_name(&mut label.second, ask.block, &version.stamp)
             }
             Request::Time | Request::Read(_) => self.tell_op(label, &record.op),
         }
@@ -200,7 +211,7 @@ impl<'a> Teller<'a> {
     /// Tells an operation, with its value, and its block where the cluster has several.
     fn tell_op(&self, label: &mut Label, op: &Op) -> Result<(), NoMemory> {
         add_op(&mut label.first, op)?;
-        if self.run.config.blocks() > 1 {
+        if self.config.blocks() > 1 {
             let block = block_of(op);
             write!(label.second, "block {block}")?;
         }
@@ -222,7 +233,7 @@ impl<'a> Teller<'a> {
             Bound::Below(stamp) => ("below ", stamp),
         };
         add_words(&mut label.second, word)?;
-        self.run.stamps.add_name(&mut label.second, block, stamp)
+        self.stamps.add_name(&mut label.second, block, stamp)
     }
 
     /// How an operation ended.
@@ -242,7 +253,7 @@ impl<'a> Teller<'a> {
             Some(Outcome::Outvoted(_)) | None => return Ok(()),
         };
         let block = block_of(&record.op);
-        self.run.stamps.add_name(words, block, stamp)?;
+        self.stamps.add_name(words, block, stamp)?;
         add_words(words, note)
     }
 }

@@ -7,11 +7,12 @@ use crate::sent::{Pair, Post, pair_of};
 use crate::words::{add_words, short_line};
 use lists::NoMemory;
 use picture_svg::{Actor, Arrow, Fate, Lifeline, Mark, Picture, Row, Sign};
+use quorum_rules::Config;
 use run_words::{Line, Record};
 use std::collections::{BTreeMap, BTreeSet};
 use std::fmt::Write;
 use std::mem::replace;
-use wire_forms::{Body, Message, Reply, Tag};
+use wire_forms::{Body, Liars, Message, Reply, Tag};
 
 /// A line that took place.
 #[derive(Clone, Copy)]
@@ -130,23 +131,9 @@ impl<'a> Teller<'a> {
 
     /// Adds the clients that took part or are declared lying, and the nodes.
     fn add_lifelines(&mut self) -> Result<(), NoMemory> {
-        for client in 1..1001 {
-            let is_liar = self.run.liars.client(client);
-            if is_liar || self.clients.contains(&client) {
-                self.add_lifeline(Actor::Client(client), is_liar)?;
-            }
-        }
-        for node in 0..16 {
-            if u32::from(node) < self.run.config.n() {
-                self.add_lifeline(Actor::Node(node), self.run.liars.node(node))?;
-            }
-        }
-        Ok(())
-    }
-
-    fn add_lifeline(&mut self, actor: Actor, is_liar: bool) -> Result<(), NoMemory> {
-        self.picture.lifelines.push(Lifeline { actor, is_liar })?;
-        Ok(())
+        let lifelines = &mut self.picture.lifelines;
+        add_clients(lifelines, &self.clients, self.run.liars)?;
+        add_nodes(lifelines, self.run.config, self.run.liars)
     }
 
     /// Adds the messages that a line sends.
@@ -166,33 +153,15 @@ impl<'a> Teller<'a> {
         line: &Line,
         row: usize,
     ) -> Result<(), NoMemory> {
-        let first = step.before;
-        match line {
-            Line::Write { .. } | Line::Read { .. } => Ok(()),
-            Line::Resend { .. } => add_words(note, "asks again"),
-            Line::Call { .. } | Line::False { .. } => self.call(note, step, row),
-            Line::Give { message, .. } => self.give(note, step, *message as usize, first, row),
-            Line::Hear { message, .. } => self.hear(note, step, *message as usize, row),
-            Line::Lie { .. } => add_words(note, "told, and not given yet"),
-            Line::Tell { .. } => self.hear(note, step, first, row),
-            Line::Poke { .. } | Line::Sound { .. } | Line::Mix { .. } => {
-                self.give(note, step, first, first.saturating_add(1), row)
-            }
-            Line::Lost { client, node } => self.lose(note, *client, *node, row),
-            Line::CrashNode { node } => self.mark(note, Actor::Node(*node), Sign::Crash, row),
-            Line::CrashClient { client } => self.crash_client(note, *client, row),
-            Line::Prune { node, .. } => self.mark(note, Actor::Node(*node), Sign::Prune, row),
-            Line::Back { client } => self.mark(note, Actor::Client(*client), Sign::Back, row),
-            Line::Restart { node } => self.mark(note, Actor::Node(*node), Sign::Back, row),
+        match Event::of(line, step.before) {
+            Event::Said(words) => add_words(note, words),
+            Event::Called => self.call(note, step, row),
+            Event::Given { ask, answer } => self.give(note, step, ask, answer, row),
+            Event::Heard { answer } => self.hear(note, step, answer, row),
+            Event::Lost(pair) => self.lose(note, pair, row),
+            Event::Signed { actor, sign } => self.mark(note, actor, sign, row),
+            Event::Crashed { client } => self.crash_client(note, client, row),
         }
-    }
-
-    /// Adds an arrow, if there is one.
-    fn add_arrow(&mut self, arrow: Option<Arrow>) -> Result<(), NoMemory> {
-        if let Some(arrow) = arrow {
-            self.picture.arrows.push(arrow)?;
-        }
-        Ok(())
     }
 
     /// A client's ask to a node and the node's answer, which the client hears.
@@ -204,7 +173,7 @@ impl<'a> Teller<'a> {
         };
         if let Some(ask) = ask {
             let arrow = self.post.settle_call(ask, row);
-            self.add_arrow(arrow)?;
+            add_arrow(&mut self.picture.arrows, arrow)?;
             self.hold(step, ask, answer, row)?;
         }
         self.hear(note, step, answer, row)
@@ -220,7 +189,7 @@ impl<'a> Teller<'a> {
         row: usize,
     ) -> Result<(), NoMemory> {
         let arrow = self.post.settle(ask, row, Fate::Arrived);
-        self.add_arrow(arrow)?;
+        add_arrow(&mut self.picture.arrows, arrow)?;
         self.hold(step, ask, answer, row)?;
         self.add_answer(note, step, answer, true)
     }
@@ -242,7 +211,7 @@ impl<'a> Teller<'a> {
         }
         let fate = if counts { Fate::Arrived } else { Fate::Stale };
         let arrow = self.post.settle(answer, row, fate);
-        self.add_arrow(arrow)?;
+        add_arrow(&mut self.picture.arrows, arrow)?;
         self.add_answer(note, step, answer, counts)
     }
 
@@ -273,24 +242,19 @@ impl<'a> Teller<'a> {
         let is_ack = matches!(message.body, Body::Answer(Reply::Ack));
         let is_store = stored_by(step, ask).is_some();
         if is_ack && is_store && !self.run.liars.node(message.node) {
-            self.picture.marks.push(Mark {
+            let mark = Mark {
                 actor: Actor::Node(message.node),
                 row,
                 sign: Sign::Holds,
-            })?;
+            };
+            return add_mark(&mut self.picture.marks, mark);
         }
         Ok(())
     }
 
-    fn lose(
-        &mut self,
-        note: &mut String,
-        client: u32,
-        node: u8,
-        row: usize,
-    ) -> Result<(), NoMemory> {
-        let arrow = self.post.lose(Pair { client, node }, row);
-        self.clients.insert(client)?;
+    fn lose(&mut self, note: &mut String, pair: Pair, row: usize) -> Result<(), NoMemory> {
+        let arrow = self.post.lose(pair, row);
+        self.clients.insert(pair.client)?;
         self.picture.arrows.push(arrow)?;
         add_words(note, "lost")
     }
@@ -302,19 +266,128 @@ impl<'a> Teller<'a> {
         sign: Sign,
         row: usize,
     ) -> Result<(), NoMemory> {
-        if let Actor::Client(client) = actor {
-            self.clients.insert(client)?;
-        }
-        self.picture.marks.push(Mark { actor, row, sign })?;
-        let what = sign_words(sign);
-        write!(note, "{actor} {what}")?;
-        Ok(())
+        add_client(&mut self.clients, actor)?;
+        add_mark(&mut self.picture.marks, Mark { actor, row, sign })?;
+        add_sign_words(note, actor, sign)
     }
 
     fn crash_client(&mut self, note: &mut String, client: u32, row: usize) -> Result<(), NoMemory> {
         self.break_off(client, row)?;
         self.mark(note, Actor::Client(client), Sign::Crash, row)
     }
+}
+
+/// What takes place between those who take part.
+#[derive(Clone, Copy)]
+enum Event {
+    /// Nothing but these words.
+    Said(&'static str),
+    Called,
+    Given { ask: usize, answer: usize },
+    Heard { answer: usize },
+    Lost(Pair),
+    Signed { actor: Actor, sign: Sign },
+    Crashed { client: u32 },
+}
+
+impl Event {
+    /// What a line does, whose first message has this number.
+    fn of(line: &Line, first: usize) -> Event {
+        match line {
+            Line::Write { .. } | Line::Read { .. } => Event::Said(""),
+            Line::Resend { .. } => Event::Said("asks again"),
+            Line::Lie { .. } => Event::Said("told, and not given yet"),
+            Line::Call { .. } | Line::False { .. } => Event::Called,
+            Line::Give { message, .. } => Event::Given {
+                ask: *message as usize,
+                answer: first,
+            },
+            Line::Poke { .. } | Line::Sound { .. } | Line::Mix { .. } => Event::Given {
+                ask: first,
+                answer: first.saturating_add(1),
+            },
+            Line::Hear { message, .. } => Event::Heard {
+                answer: *message as usize,
+            },
+            Line::Tell { .. } => Event::Heard { answer: first },
+            Line::Lost { client, node } => Event::Lost(Pair {
+                client: *client,
+                node: *node,
+            }),
+            Line::CrashClient { client } => Event::Crashed { client: *client },
+            Line::CrashNode { node } => signed(Actor::Node(*node), Sign::Crash),
+            Line::Prune { node, .. } => signed(Actor::Node(*node), Sign::Prune),
+            Line::Back { client } => signed(Actor::Client(*client), Sign::Back),
+            Line::Restart { node } => signed(Actor::Node(*node), Sign::Back),
+        }
+    }
+}
+
+fn signed(actor: Actor, sign: Sign) -> Event {
+    Event::Signed { actor, sign }
+}
+
+/// Adds the clients that took part or are declared lying.
+fn add_clients(
+    lifelines: &mut Vec<Lifeline>,
+    clients: &BTreeSet<u32>,
+    liars: &Liars,
+) -> Result<(), NoMemory> {
+    for client in 1..1001 {
+        let is_liar = liars.client(client);
+        if is_liar || clients.contains(&client) {
+            lifelines.push(Lifeline {
+                actor: Actor::Client(client),
+                is_liar,
+            })?;
+        }
+    }
+    Ok(())
+}
+
+/// Adds the nodes of a cluster.
+fn add_nodes(
+    lifelines: &mut Vec<Lifeline>,
+    config: &Config,
+    liars: &Liars,
+) -> Result<(), NoMemory> {
+    for node in 0..16 {
+        if u32::from(node) < config.n() {
+            lifelines.push(Lifeline {
+                actor: Actor::Node(node),
+                is_liar: liars.node(node),
+            })?;
+        }
+    }
+    Ok(())
+}
+
+/// Adds an arrow, if there is one.
+fn add_arrow(arrows: &mut Vec<Arrow>, arrow: Option<Arrow>) -> Result<(), NoMemory> {
+    if let Some(arrow) = arrow {
+        arrows.push(arrow)?;
+    }
+    Ok(())
+}
+
+/// Adds one who takes part to the clients, if it is a client.
+fn add_client(clients: &mut BTreeSet<u32>, actor: Actor) -> Result<(), NoMemory> {
+    if let Actor::Client(client) = actor {
+        clients.insert(client)?;
+    }
+    Ok(())
+}
+
+fn add_mark(marks: &mut Vec<Mark>, mark: Mark) -> Result<(), NoMemory> {
+    marks.push(mark)?;
+    Ok(())
+}
+
+/// Adds who has a sign, and what it says.
+fn add_sign_words(note: &mut String, actor: Actor, sign: Sign) -> Result<(), NoMemory> {
+    let what = sign_words(sign);
+    write!(note, "{actor} {what}")?;
+    Ok(())
 }
 
 /// What happens to one who has a sign.
