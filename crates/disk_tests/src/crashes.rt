@@ -1,6 +1,6 @@
 ghost use Rattle.std.specs.Prelude.{◌≡◌, ◌≤◌, ◌<◌, ◌+◌, ◌^◌, IfOk};
 
-use crate::nodes::{calls, cluster, opened, times, version, write};
+use crate::nodes::{cluster, failing_at, holding, times_on, version, write};
 use disk_model::{Disk, MemoryDisk};
 use lists::NoMemory;
 use std::alloc::Global;
@@ -84,15 +84,18 @@ fn pruned(alloc: Global, times: &[u64], most: u64) -> Result<Vec<u64>, NoMemory>
     Ok(left)
 }
 
+fn are_expected(alloc: Global, kept: &[u64], deeds: u64) -> Result<bool, NoMemory>
+    requires { deeds < 100 }
+{
+    Ok(kept == expected(alloc, deeds)?.as_slice())
+}
+
 // Whether a disk, opened again, holds what the node had after so many deeds, or after one more.
 fn holds(rt: &impl Abort, alloc: Global, disk: MemoryDisk, done: u64) -> Result<bool, NoMemory>
     requires { done < 99 }
 {
-    let again = opened(rt, alloc, disk)?;
-    let kept = times(alloc, &again, 0)?;
-    let before = expected(alloc, done)?;
-    let after = expected(alloc, done + 1)?;
-    Ok(kept.as_slice() == before.as_slice() || kept.as_slice() == after.as_slice())
+    let kept = times_on(rt, alloc, disk)?;
+    Ok(are_expected(alloc, &kept, done)? || are_expected(alloc, &kept, done + 1)?)
 }
 
 // Opening makes five calls, each deed four.
@@ -101,9 +104,8 @@ fn a_failed_call_leaves_the_state_before_or_after(rt: HostRuntime) -> Result<(),
     let alloc = rt.alloc();
     for call in 0..97u64 {
         for lose in [true, false] {
-            let disk = MemoryDisk::new(alloc, calls(alloc, &[call])?);
-            let (done, left) = stopped(&rt, alloc, disk)?;
-            assert_eq!(rt; done, call.saturating_sub(5) / 4);
+            let (done, left) = stopped(&rt, alloc, failing_at(alloc, call)?)?;
+            assert!(rt; done == call.saturating_sub(5) / 4);
             assert!(rt; holds(&rt, alloc, left.crash(lose), done)?);
         }
     }
@@ -114,12 +116,10 @@ fn a_failed_call_leaves_the_state_before_or_after(rt: HostRuntime) -> Result<(),
 #[test]
 fn all_deeds_are_there_where_no_call_fails(rt: HostRuntime) -> Result<(), Fail> {
     let alloc = rt.alloc();
-    let disk = MemoryDisk::new(alloc, calls(alloc, &[97])?);
-    let (done, left) = stopped(&rt, alloc, disk)?;
-    assert_eq!(rt; done, 23);
-    let again = opened(&rt, alloc, left.crash(true))?;
-    let kept = times(alloc, &again, 0)?;
-    assert_eq!(rt; kept.as_slice(), [0, 13, 17, 19, 21, 23].as_slice());
+    let (done, left) = stopped(&rt, alloc, failing_at(alloc, 97)?)?;
+    assert!(rt; done == 23);
+    let kept = times_on(&rt, alloc, left.crash(true))?;
+    assert!(rt; kept.as_slice() == [0, 13, 17, 19, 21, 23].as_slice());
     Ok(())
 }
 
@@ -151,7 +151,7 @@ fn torn(
     at: usize,
     count: usize,
     draws: &mut Draws,
-) -> Result<MemoryDisk, NoMemory>
+) -> Result<Vec<u8>, NoMemory>
     requires { at + count < 2 ^ 32 }
 {
     let mut left = Vec::new(alloc);
@@ -163,14 +163,31 @@ fn torn(
     for _ in 0..draws.below(more.saturating_add(1)) {
         left.push(draws.byte())?;
     }
-    let mut disk = MemoryDisk::new(alloc, calls(alloc, &[])?);
-    match disk.write_at(0, &left) {
-        Ok(()) => Ok(disk),
-        Err(_) => Err(NoMemory),
-    }
+    Ok(left)
 }
 
-// A body and the gate behind it may be torn by the first two calls of a deed, its own gate by the last two.
+// A body and the gate behind it may be torn by the first two calls of a deed, its own gate by the last two. Whether the state before
+// or after is left then.
+fn holds_torn(
+    rt: &impl Abort,
+    alloc: Global,
+    bytes: &[u8],
+    call: u64,
+    done: u64,
+    draws: &mut Draws,
+) -> Result<bool, NoMemory>
+    requires { done ≤ 23 }
+{
+    let gate = done as usize * 211;
+    let (at, count) = if call % 4 == 1 || call % 4 == 2 {
+        (gate + 1, 211)
+    } else {
+        (gate, 1)
+    };
+    let left = torn(alloc, bytes, at, count, draws)?;
+    holds(rt, alloc, holding(alloc, &left)?, done)
+}
+
 #[test]
 fn any_bytes_in_a_written_range_leave_the_state_before_or_after(
     rt: HostRuntime,
@@ -178,18 +195,11 @@ fn any_bytes_in_a_written_range_leave_the_state_before_or_after(
     let alloc = rt.alloc();
     let mut draws = Draws { random: 59 };
     for call in 5..97u64 {
-        let disk = MemoryDisk::new(alloc, calls(alloc, &[call])?);
-        let (done, left) = stopped(&rt, alloc, disk)?;
-        let gate = done as usize * 211;
-        let (at, count) = if call % 4 == 1 || call % 4 == 2 {
-            (gate + 1, 211)
-        } else {
-            (gate, 1)
-        };
+        let (done, left) = stopped(&rt, alloc, failing_at(alloc, call)?)?;
         let synced = left.crash(true);
         for _ in 0..4 {
-            let disk = torn(alloc, synced.bytes(), at, count, &mut draws)?;
-            assert!(rt; holds(&rt, alloc, disk, done)?);
+            let holds = holds_torn(&rt, alloc, synced.bytes(), call, done, &mut draws);
+            assert!(rt; holds == Ok(true));
         }
     }
     Ok(())

@@ -1,15 +1,15 @@
-ghost use Rattle.std.specs.Prelude.{◌≤◌, ◌<◌, IfOk};
+ghost use Rattle.std.specs.Prelude.{◌≡◌, ◌≤◌, ◌<◌, IfOk};
 
 use cross_sum::{Bytes, CrossSum, sha};
-use disk_model::Disk;
+use disk_model::{Disk, MemoryDisk};
 use lists::{ItemList, NoMemory};
 use outside_io::Calls;
 use quorum_rules::Config;
 use stamp_order::Stamp;
 use std::alloc::Global;
 use std::process::Abort;
-use version_disk::StoredNode;
-use wire_forms::{Ask, Request, Version};
+use version_disk::{StoreRefusal, StoredNode};
+use wire_forms::{Ask, Reply, Request, Version};
 
 /// Five nodes, one of which may lie; blocks of two bytes in two fragments of one; two blocks.
 pub(crate) fn cluster(rt: &impl Abort) -> Config {
@@ -39,6 +39,18 @@ pub(crate) fn write(alloc: Global, block: u32, time: u64) -> Result<Ask, NoMemor
     })
 }
 
+/// Lets a node answer a write of this time at block 0. Whether it acknowledges it, or why it doesn't take it.
+pub(crate) fn written<D: Disk>(
+    alloc: Global,
+    node: &mut StoredNode<D>,
+    time: u64,
+) -> Result<bool, StoreRefusal>
+    ensures { node.new.node.config ≡ node.old.node.config }
+{
+    let ask = write(alloc, 0, time)?;
+    Ok(matches!(node.handle(&ask)?, Reply::Ack))
+}
+
 /// Node 0 on this disk.
 pub(crate) fn opened<D: Disk + Drop>(
     rt: &impl Abort,
@@ -54,27 +66,39 @@ pub(crate) fn opened<D: Disk + Drop>(
     }
 }
 
-/// The numbers of calls that are to fail.
-pub(crate) fn calls(alloc: Global, numbers: &[u64]) -> Result<Calls, NoMemory> {
-    let mut list = Calls::new(alloc);
-    for number in numbers {
-        list.push(*number)?;
-    }
-    Ok(list)
+/// An empty disk that fails at this call.
+pub(crate) fn failing_at(alloc: Global, call: u64) -> Result<MemoryDisk, NoMemory> {
+    let mut calls = Calls::new(alloc);
+    calls.push(call)?;
+    Ok(MemoryDisk::new(alloc, calls))
 }
 
-/// The times of the versions that a node keeps of a block, in order of acceptance.
-pub(crate) fn times<D: Disk>(
-    alloc: Global,
-    node: &StoredNode<D>,
-    block: u32,
-) -> Result<Vec<u64>, NoMemory>
-    requires { block < node.now.node.config.blocks }
+/// A disk that holds these bytes.
+pub(crate) fn holding(alloc: Global, bytes: &[u8]) -> Result<MemoryDisk, NoMemory> {
+    let mut disk = MemoryDisk::new(alloc, Calls::new(alloc));
+    match disk.write_at(0, bytes) {
+        Ok(()) => Ok(disk),
+        Err(_) => Err(NoMemory),
+    }
+}
+
+/// The times of the versions that a node keeps of block 0, in order of acceptance.
+pub(crate) fn times<D: Disk>(alloc: Global, node: &StoredNode<D>) -> Result<Vec<u64>, NoMemory>
+    requires { 0 < node.now.node.config.blocks }
 {
-    let stamps = node.versions(block)?;
+    let stamps = node.versions(0)?;
     let mut times = Vec::new(alloc);
     for stamp in stamps.as_slice() {
         times.push(stamp.time)?;
     }
     Ok(times)
+}
+
+/// The same of node 0, opened on this disk.
+pub(crate) fn times_on(
+    rt: &impl Abort,
+    alloc: Global,
+    disk: MemoryDisk,
+) -> Result<Vec<u64>, NoMemory> {
+    times(alloc, &opened(rt, alloc, disk)?)
 }
