@@ -35,21 +35,31 @@ fn act<D: Disk>(alloc: Global, node: &mut StoredNode<D>, deed: u64) -> Result<()
     Ok(())
 }
 
-// Opens a node and lets it do its deeds until one fails. How many it did, and the disk that it leaves.
-fn stopped(rt: &impl Abort, alloc: Global, disk: MemoryDisk) -> Result<(u64, MemoryDisk), NoMemory>
-    ensures { IfOk result (λ r. r.0 ≤ 23) }
+// Lets the node do its deeds until one fails. How many it did.
+fn done_by<D: Disk>(alloc: Global, node: &mut StoredNode<D>) -> u64
+    requires { 0 < node.old.node.config.blocks }
+    ensures { result ≤ 23 }
 {
-    let mut node = match StoredNode::open(alloc, &cluster(rt), 0, disk) {
-        Ok(node) => node,
-        Err(OpenRefusal::DiskFault(disk)) => return Ok((0, disk)),
-        Err(_) => return Err(NoMemory),
-    };
     for deed in 0..DEEDS {
-        if act(alloc, &mut node, deed).is_err() {
-            return Ok((deed, node.into_disk()));
+        if act(alloc, node, deed).is_err() {
+            return deed;
         }
     }
-    Ok((DEEDS, node.into_disk()))
+    DEEDS
+}
+
+// Opens a node on a disk that fails at this call, and lets it do its deeds. How many it did, and the disk that it leaves.
+fn stopped(rt: &impl Abort, alloc: Global, call: u64) -> Result<(u64, MemoryDisk), NoMemory>
+    ensures { IfOk result (λ r. r.0 ≤ 23) }
+{
+    match StoredNode::open(alloc, &cluster(rt), 0, failing_at(alloc, call)?) {
+        Ok(mut node) => {
+            let done = done_by(alloc, &mut node);
+            Ok((done, node.into_disk()))
+        }
+        Err(OpenRefusal::DiskFault(disk)) => Ok((0, disk)),
+        Err(_) => Err(NoMemory),
+    }
 }
 
 // The times that are kept of block 0 after so many deeds, told from the rules: a prune keeps the first version, the greatest time up
@@ -104,7 +114,7 @@ fn a_failed_call_leaves_the_state_before_or_after(rt: HostRuntime) -> Result<(),
     let alloc = rt.alloc();
     for call in 0..97u64 {
         for lose in [true, false] {
-            let (done, left) = stopped(&rt, alloc, failing_at(alloc, call)?)?;
+            let (done, left) = stopped(&rt, alloc, call)?;
             assert!(rt; done == call.saturating_sub(5) / 4);
             assert!(rt; holds(&rt, alloc, left.crash(lose), done)?);
         }
@@ -116,7 +126,7 @@ fn a_failed_call_leaves_the_state_before_or_after(rt: HostRuntime) -> Result<(),
 #[test]
 fn all_deeds_are_there_where_no_call_fails(rt: HostRuntime) -> Result<(), Fail> {
     let alloc = rt.alloc();
-    let (done, left) = stopped(&rt, alloc, failing_at(alloc, 97)?)?;
+    let (done, left) = stopped(&rt, alloc, 97)?;
     assert!(rt; done == 23);
     let kept = times_on(&rt, alloc, left.crash(true))?;
     assert!(rt; kept.as_slice() == [0, 13, 17, 19, 21, 23].as_slice());
@@ -195,7 +205,7 @@ fn any_bytes_in_a_written_range_leave_the_state_before_or_after(
     let alloc = rt.alloc();
     let mut draws = Draws { random: 59 };
     for call in 5..97u64 {
-        let (done, left) = stopped(&rt, alloc, failing_at(alloc, call)?)?;
+        let (done, left) = stopped(&rt, alloc, call)?;
         let synced = left.crash(true);
         for _ in 0..4 {
             let holds = holds_torn(&rt, alloc, synced.bytes(), call, done, &mut draws);

@@ -35,6 +35,12 @@ fn a_write_is_one_slot(rt: HostRuntime) -> Result<(), Fail> {
     Ok(())
 }
 
+// Whether a write meets a fault of the disk, after which the node is broken.
+fn breaks(alloc: Global, node: &mut StoredNode<MemoryDisk>) -> bool {
+    written(alloc, node, 1) == Err(StoreRefusal::DiskFault)
+        && written(alloc, node, 1) == Err(StoreRefusal::Broken)
+}
+
 // How many versions are there after a crash, where a write was stopped at this call of the disk.
 fn kept_of_stopped(
     rt: &impl Abort,
@@ -43,8 +49,7 @@ fn kept_of_stopped(
     lose: bool,
 ) -> Result<usize, NoMemory> {
     let mut node = opened(rt, alloc, failing_at(alloc, call)?)?;
-    assert!(rt; written(alloc, &mut node, 1) == Err(StoreRefusal::DiskFault));
-    assert!(rt; written(alloc, &mut node, 1) == Err(StoreRefusal::Broken));
+    assert!(rt; breaks(alloc, &mut node));
     let kept = times_on(rt, alloc, node.into_disk().crash(lose))?;
     Ok(kept.len())
 }
@@ -62,16 +67,15 @@ fn a_stopped_write_is_whole_or_not_there(rt: HostRuntime) -> Result<(), Fail> {
     Ok(())
 }
 
-// A node with writes of the times 1 and 2, pruned by the second.
-fn pruned(rt: &impl Abort, alloc: Global) -> Result<StoredNode<CalmDisk>, NoMemory>
-    ensures { IfOk result (λ s. 0 < s.node.config.blocks) }
+// Whether a node takes writes of the times 1 and 2, and a prune by the second.
+fn takes_prune(alloc: Global, node: &mut StoredNode<CalmDisk>) -> Result<bool, StoreRefusal>
+    requires { 0 < node.old.node.config.blocks }
+    ensures { node.new.node.config ≡ node.old.node.config }
 {
     let second = version(alloc, 2)?.stamp;
-    let mut node = on_empty(rt, alloc, 4096)?;
-    assert!(rt; written(alloc, &mut node, 1) == Ok(true));
-    assert!(rt; written(alloc, &mut node, 2) == Ok(true));
-    assert!(rt; node.prune(0, &second).is_ok());
-    Ok(node)
+    let are_written = written(alloc, node, 1)? && written(alloc, node, 2)?;
+    node.prune(0, &second)?;
+    Ok(are_written)
 }
 
 // Whether a node keeps versions of the times 0 and 2 alone.
@@ -81,15 +85,22 @@ fn keeps_second(alloc: Global, node: &StoredNode<CalmDisk>) -> Result<bool, NoMe
     Ok(times(alloc, node)?.as_slice() == [0, 2].as_slice())
 }
 
+// The same of a node that is opened on this disk.
+fn holds_second(rt: &impl Abort, alloc: Global, disk: CalmDisk) -> Result<bool, NoMemory>
+    requires { 1 ≤ disk.room }
+{
+    let node = opened(rt, alloc, disk)?;
+    Ok(node.greatest_time(0) == 2 && keeps_second(alloc, &node)?)
+}
+
 #[test]
 fn a_prune_is_one_slot(rt: HostRuntime) -> Result<(), Fail> {
     let alloc = rt.alloc();
-    let node = pruned(&rt, alloc)?;
+    let mut node = on_empty(&rt, alloc, 4096)?;
+    assert!(rt; takes_prune(alloc, &mut node) == Ok(true));
     assert!(rt; node.disk().bytes().len() == 634);
     assert!(rt; keeps_second(alloc, &node) == Ok(true));
-    let again = opened(&rt, alloc, node.into_disk())?;
-    assert!(rt; keeps_second(alloc, &again) == Ok(true));
-    assert!(rt; again.greatest_time(0) == 2);
+    assert!(rt; holds_second(&rt, alloc, node.into_disk()) == Ok(true));
     Ok(())
 }
 
@@ -113,20 +124,21 @@ fn with_bad_slot(alloc: Global, gate: u8) -> Result<MemoryDisk, NoMemory> {
     holding(alloc, &bytes)
 }
 
-fn is_damaged(rt: &impl Abort, alloc: Global, disk: MemoryDisk) -> bool {
-    matches!(
-        StoredNode::open(alloc, &cluster(rt), 0, disk),
-        Err(OpenRefusal::Damaged { slot: 0, .. })
-    )
+// The first bad slot of a disk, where it isn't opened for that.
+fn bad_slot(rt: &impl Abort, alloc: Global, disk: MemoryDisk) -> Option<u64> {
+    match StoredNode::open(alloc, &cluster(rt), 0, disk) {
+        Err(OpenRefusal::Damaged { slot, .. }) => Some(slot),
+        _ => None,
+    }
 }
 
 // A slot that isn't open isn't looked at.
 #[test]
 fn a_bad_slot_is_told_where_it_is_open(rt: HostRuntime) -> Result<(), Fail> {
     let alloc = rt.alloc();
-    for (gate, damaged) in [(1, true), (0, false)] {
+    for (gate, bad) in [(1, Some(0)), (0, None)] {
         let disk = with_bad_slot(alloc, gate)?;
-        assert!(rt; is_damaged(&rt, alloc, disk) == damaged);
+        assert!(rt; bad_slot(&rt, alloc, disk) == bad);
     }
     Ok(())
 }

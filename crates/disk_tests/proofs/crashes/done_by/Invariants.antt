@@ -1,5 +1,5 @@
 use Rattle.std.proofs.Common.{◌<◌}
-use Rattle.disk_tests.proofs.crashes.stopped.Given as goal
+use Rattle.disk_tests.proofs.crashes.done_by.Given as goal
 
 abbrev pub invariant-loop-deed : goal.invariant-loop-deed
 invariant-loop-deed g l = 0 < l.node.node.config.blocks
