@@ -1,7 +1,7 @@
 ghost use Rattle.std.specs.Prelude.{◌≡◌, ◌≤◌, ◌<◌, IfOk};
 
 use crate::nodes::{cluster, failing_at, holding, opened, times, times_on, version, written};
-use disk_model::{CalmDisk, MemoryDisk};
+use disk_model::{CalmDisk, Disk, MemoryDisk};
 use lists::NoMemory;
 use std::alloc::Global;
 use std::process::Abort;
@@ -79,15 +79,15 @@ fn takes_prune(alloc: Global, node: &mut StoredNode<CalmDisk>) -> Result<bool, S
 }
 
 // Whether a node keeps versions of the times 0 and 2 alone.
-fn keeps_second(alloc: Global, node: &StoredNode<CalmDisk>) -> Result<bool, NoMemory>
+fn keeps_second<D: Disk>(alloc: Global, node: &StoredNode<D>) -> Result<bool, NoMemory>
     requires { 0 < node.now.node.config.blocks }
 {
     Ok(times(alloc, node)?.as_slice() == [0, 2].as_slice())
 }
 
 // The same of a node that is opened on this disk.
-fn holds_second(rt: &impl Abort, alloc: Global, disk: CalmDisk) -> Result<bool, NoMemory>
-    requires { 1 ≤ disk.room }
+fn holds_second<D: Disk + Drop>(rt: &impl Abort, alloc: Global, disk: D) -> Result<bool, NoMemory>
+    requires { 1 ≤ D.most disk }
 {
     let node = opened(rt, alloc, disk)?;
     Ok(node.greatest_time(0) == 2 && keeps_second(alloc, &node)?)
@@ -125,7 +125,9 @@ fn with_bad_slot(alloc: Global, gate: u8) -> Result<MemoryDisk, NoMemory> {
 }
 
 // The first bad slot of a disk, where it isn't opened for that.
-fn bad_slot(rt: &impl Abort, alloc: Global, disk: MemoryDisk) -> Option<u64> {
+fn bad_slot<D: Disk + Drop>(rt: &impl Abort, alloc: Global, disk: D) -> Option<u64>
+    requires { 1 ≤ D.most disk }
+{
     match StoredNode::open(alloc, &cluster(rt), 0, disk) {
         Err(OpenRefusal::Damaged { slot, .. }) => Some(slot),
         _ => None,
