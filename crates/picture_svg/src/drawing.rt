@@ -133,15 +133,15 @@ fn draw_row(
 fn draw_label(svg: &mut Svg, layout: &Layout, label: &Label, y: Px) -> Result<(), NoMemory> {
     let x = layout.x(Actor::Client(label.client)) - LABEL_GAP;
     if label.second.is_empty() {
-        return draw_strong(svg, at(x, y), &label.first);
+        return draw_strong(svg, at(x, y), label.first.as_str());
     }
-    draw_strong(svg, at(x, y - Px(7)), &label.first)?;
-    draw_strong(svg, at(x, y + Px(7)), &label.second)
+    draw_strong(svg, at(x, y - Px(7)), label.first.as_str())?;
+    draw_strong(svg, at(x, y + Px(7)), label.second.as_str())
 }
 
 /// Draws a strong text, which ends at its point.
-fn draw_strong(svg: &mut Svg, point: Point, words: &String) -> Result<(), NoMemory> {
-    svg.text("strong", Anchor::End, point, words.as_str())
+fn draw_strong(svg: &mut Svg, point: Point, words: &str) -> Result<(), NoMemory> {
+    svg.text("strong", Anchor::End, point, words)
 }
 
 /// Draws the names of those who take part.
