@@ -9,11 +9,10 @@ use operation_core::PhaseEnd;
 use quorum_rules::Config;
 use std::alloc::Global;
 use std::process::Abort;
-use std::test::Fail;
 use wire_forms::{Body, Mail, Message, Op, Reply, Request, Tag};
 
 // What a message does to a client, or would do.
-#[derive(Clone, Copy, Debug, PartialEq, Eq)]
+#[derive(Clone, Copy, PartialEq, Eq)]
 enum Said {
     Unchanged,
     More,
@@ -36,18 +35,18 @@ fn cluster(rt: &impl Abort) -> Config
 fn reading(rt: &impl Abort, alloc: Global) -> Client {
     let mut client = Client::new(alloc, &cluster(rt), 7).expect(rt, "memory");
     let asks = client.start(&Op::Read { block: 0 }).expect(rt, "memory");
-    assert_eq!(rt; asks.len(), 3);
+    assert!(rt; asks.len() == 3);
     client
 }
 
 // A client in its first life that writes 1, 0.
 fn writing(rt: &impl Abort, alloc: Global) -> Client {
     let value = Bytes::of(alloc, &[1, 0]).expect(rt, "memory");
-    assert_eq!(rt; value.as_slice().len(), 2);
+    assert!(rt; value.len() == 2);
     let mut client = Client::new(alloc, &cluster(rt), 7).expect(rt, "memory");
     let write = Op::Write { block: 0, value };
     let asks = client.start(&write).expect(rt, "memory");
-    assert_eq!(rt; (asks.len(), client.ops()), (3, 1));
+    assert!(rt; asks.len() == 3 && client.ops() == 1);
     client
 }
 
@@ -106,16 +105,20 @@ fn heard(rt: &impl Abort, client: &mut Client, node: u8, phase: u64, reply: Repl
     client.hear(&message).expect(rt, "memory")
 }
 
+fn told(rt: &impl Abort, client: &mut Client, node: u8, phase: u64, reply: Reply) -> Said {
+    said_by(&heard(rt, client, node, phase, reply))
+}
+
 fn told_nothing(rt: &impl Abort, client: &mut Client, node: u8, phase: u64) -> Said {
-    said_by(&heard(rt, client, node, phase, Reply::Nothing))
+    told(rt, client, node, phase, Reply::Nothing)
 }
 
 fn told_time(rt: &impl Abort, client: &mut Client, node: u8, time: u64) -> Said {
-    said_by(&heard(rt, client, node, 1, Reply::TimeIs(time)))
+    told(rt, client, node, 1, Reply::TimeIs(time))
 }
 
 fn acked(rt: &impl Abort, client: &mut Client, node: u8) -> Said {
-    said_by(&heard(rt, client, node, 2, Reply::Ack))
+    told(rt, client, node, 2, Reply::Ack)
 }
 
 // The version that a message asks to keep, as an answer.
@@ -130,14 +133,14 @@ fn found(rt: &impl Abort, message: &Message) -> Reply {
 }
 
 fn told_kept(rt: &impl Abort, client: &mut Client, message: &Message) -> Said {
-    said_by(&heard(rt, client, message.node, 1, found(rt, message)))
+    told(rt, client, message.node, 1, found(rt, message))
 }
 
 // A read in the client's next life, of what the messages asked to keep.
 fn reads(rt: &impl Abort, alloc: Global, mail: &Mail) {
     let mut client = Client::again(alloc, &cluster(rt), 7, 1).expect(rt, "memory");
     let asks = client.start(&Op::Read { block: 0 }).expect(rt, "memory");
-    assert_eq!(rt; (asks.len(), client.ops()), (3, 4_294_967_297));
+    assert!(rt; asks.len() == 3 && client.ops() == 4_294_967_297);
     let gave = Said::Gave {
         time: 5,
         how: How::Plain,
@@ -145,33 +148,36 @@ fn reads(rt: &impl Abort, alloc: Global, mail: &Mail) {
     };
     for message in mail.as_slice() {
         let said = told_kept(rt, &mut client, message);
-        assert_eq!(rt; said, if message.node == 2 { gave } else { Said::More });
+        assert!(rt; said == if message.node == 2 { gave } else { Said::More });
     }
     assert!(rt; client.is_idle());
 }
 
 #[test]
-fn counts_the_first_answer_of_a_node_in_the_present_phase(rt: HostRuntime) -> Result<(), Fail> {
-    let mut idle = Client::new(rt.alloc(), &cluster(&rt), 7)?;
-    assert_eq!(rt; told_nothing(&rt, &mut idle, 0, 1), Said::Unchanged);
+fn hears_nothing_while_idle(rt: HostRuntime) {
+    let mut idle = Client::new(rt.alloc(), &cluster(&rt), 7).expect(&rt, "memory");
+    assert!(rt; told_nothing(&rt, &mut idle, 0, 1) == Said::Unchanged);
+}
+
+#[test]
+fn counts_the_first_answer_of_a_node_in_the_present_phase(rt: HostRuntime) {
     let mut client = reading(&rt, rt.alloc());
     for (node, phase, said) in [
         (0, 1, Said::More),
         (0, 1, Said::Unchanged),
         (1, 9, Said::Unchanged),
     ] {
-        assert_eq!(rt; told_nothing(&rt, &mut client, node, phase), said);
+        assert!(rt; told_nothing(&rt, &mut client, node, phase) == said);
     }
     assert!(rt; client.answered(0) && !client.answered(1));
     assert!(rt; matches!(client.outstanding(1), Ok(Some(_))));
     assert!(rt; matches!(client.outstanding(3), Ok(None)));
-    Ok(())
 }
 
 // Lets the client hear three times, and reads what it then asks the nodes to keep.
 fn draws(rt: &impl Abort, alloc: Global, client: &mut Client) {
     for (node, time) in [(0, 0), (1, 4)] {
-        assert_eq!(rt; told_time(rt, client, node, time), Said::More);
+        assert!(rt; told_time(rt, client, node, time) == Said::More);
     }
     match heard(rt, client, 2, 1, Reply::TimeIs(2)) {
         Heard::Send(mail) => reads(rt, alloc, &mail),
@@ -180,17 +186,20 @@ fn draws(rt: &impl Abort, alloc: Global, client: &mut Client) {
 }
 
 #[test]
-fn reads_what_was_written(rt: HostRuntime) -> Result<(), Fail> {
+fn reads_what_was_written(rt: HostRuntime) {
     let mut client = writing(&rt, rt.alloc());
     draws(&rt, rt.alloc(), &mut client);
     assert!(rt; matches!(client.stamp(), Some(stamp) if stamp.time == 5 && stamp.client == 7));
-    let mut client = client.copy()?;
+    ends_at_three(&rt, &mut client.copy().expect(&rt, "memory"));
+}
+
+// The write ends where the third node acknowledges it.
+fn ends_at_three(rt: &impl Abort, client: &mut Client) {
     for (node, said) in [(0, Said::More), (1, Said::More), (2, Said::Wrote(5))] {
-        assert_eq!(rt; acked(&rt, &mut client, node), said);
+        assert!(rt; acked(rt, client, node) == said);
     }
     assert!(rt; client.is_idle());
-    assert_eq!(rt; client.phase(), 0);
-    Ok(())
+    assert!(rt; client.phase() == 0);
 }
 
 // The phase, and which nodes have answered it.
@@ -205,12 +214,12 @@ fn prepared(rt: &impl Abort, client: &mut Client, to: u32, node: u8) -> (Said, S
     assert!(rt; client.phase() < u64::MAX);
     let before = state(client);
     let would = would_say(&client.prepare(&message).expect(rt, "memory"));
-    assert_eq!(rt; state(client), before);
+    assert!(rt; state(client) == before);
     (would, said_by(&client.hear(&message).expect(rt, "memory")))
 }
 
 #[test]
-fn prepares_what_is_then_done(rt: HostRuntime) -> Result<(), Fail> {
+fn prepares_what_is_then_done(rt: HostRuntime) {
     let mut client = writing(&rt, rt.alloc());
     for (to, node, said) in [
         (8, 0, Said::Unchanged),
@@ -218,7 +227,6 @@ fn prepares_what_is_then_done(rt: HostRuntime) -> Result<(), Fail> {
         (7, 1, Said::More),
         (7, 2, Said::Sends),
     ] {
-        assert_eq!(rt; prepared(&rt, &mut client, to, node), (said, said));
+        assert!(rt; prepared(&rt, &mut client, to, node) == (said, said));
     }
-    Ok(())
 }

@@ -4,7 +4,7 @@ ghost use Rattle.std.specs.Prelude.{◌≡◌, ◌<◌, IfOk, length};
 use candidate_class::{Class, class_of, pivot_of, support_of};
 use cross_sum::Bytes;
 use liar_rules::{mix_ask, sound_ask};
-use lists::Copied;
+use lists::{Copied, NoMemory};
 use quorum_rules::Config;
 use read_core::{How, Reader, Reading};
 use stamp_order::{Bound, Stamp};
@@ -145,26 +145,26 @@ fn asked_end(request: &Request) -> Option<End> {
     }
 }
 
-fn block_of(alloc: Global, config: &Config, byte: u8) -> Result<Bytes, Fail>
+fn block_of(alloc: Global, config: &Config, byte: u8) -> Result<Bytes, NoMemory>
     ensures { IfOk result (λ b. length b ≡ config.now.size) }
 {
-    Ok(Bytes::shared(vec![in alloc; byte; config.size() as usize]?)?)
+    Bytes::shared(vec![in alloc; byte; config.size() as usize]?)
 }
 
 // The version that a node is asked to keep.
-fn asked_version(message: &Message) -> Result<Version, Fail> {
+fn asked_version(rt: &impl Abort, message: &Message) -> Result<Version, NoMemory> {
     match &message.body {
         Body::Ask(
             Ask {
                 request: Request::Write(version),
                 ..
             },
-        ) => Ok(version.copy()?),
-        _ => Err(Fail::from("the message is a write")),
+        ) => version.copy(),
+        _ => panic!(rt; "the message is a write"),
     }
 }
 
-fn first_version(alloc: Global, config: &Config) -> Result<Version, Fail> {
+fn first_version(alloc: Global, config: &Config) -> Result<Version, NoMemory> {
     let First {
         stamp,
         sum,
@@ -177,41 +177,76 @@ fn first_version(alloc: Global, config: &Config) -> Result<Version, Fail> {
     })
 }
 
-// A node's version of a write of a block of one byte at this time.
-fn written(alloc: Global, config: &Config, node: u8, time: u64, byte: u8) -> Result<Version, Fail>
+// Asks a node to keep its part of a block of one byte, at this time.
+fn write_of(
+    alloc: Global,
+    config: &Config,
+    node: u8,
+    time: u64,
+    byte: u8,
+) -> Result<Message, NoMemory>
     requires { node < config.now.n }
 {
     let value = block_of(alloc, config, byte)?;
-    asked_version(&sound_ask(alloc, config, 9, node, 0, time, &value)?)
+    sound_ask(alloc, config, 9, node, 0, time, &value)
 }
 
-fn mixed(alloc: Global, config: &Config, node: u8) -> Result<Version, Fail>
+// A node's version of such a write.
+fn written(
+    rt: &impl Abort,
+    alloc: Global,
+    config: &Config,
+    node: u8,
+    time: u64,
+    byte: u8,
+) -> Result<Version, NoMemory>
+    requires { node < config.now.n }
+{
+    let message = write_of(alloc, config, node, time, byte)?;
+    asked_version(rt, &message)
+}
+
+// Asks a node to keep its part of two blocks at once.
+fn mix_of(alloc: Global, config: &Config, node: u8) -> Result<Message, NoMemory>
     requires { node < config.now.n }
 {
     let ten = block_of(alloc, config, 10)?;
     let eleven = block_of(alloc, config, 11)?;
-    asked_version(&mix_ask(alloc, config, 9, node, 0, 3, &ten, &eleven)?)
+    mix_ask(alloc, config, 9, node, 0, 3, &ten, &eleven)
 }
 
-fn damaged(alloc: Global, config: &Config, node: u8) -> Result<Version, Fail>
+fn mixed(rt: &impl Abort, alloc: Global, config: &Config, node: u8) -> Result<Version, NoMemory>
     requires { node < config.now.n }
 {
-    let mut version = written(alloc, config, node, 1, 10)?;
+    let message = mix_of(alloc, config, node)?;
+    asked_version(rt, &message)
+}
+
+fn damaged(rt: &impl Abort, alloc: Global, config: &Config, node: u8) -> Result<Version, NoMemory>
+    requires { node < config.now.n }
+{
+    let mut version = written(rt, alloc, config, node, 1, 10)?;
     version.fragment = Bytes::zeros(alloc, version.fragment.len())?;
     Ok(version)
 }
 
 // The reply of a node that tells this.
-fn reply(alloc: Global, config: &Config, told: Told, node: u8) -> Result<Reply, Fail>
+fn reply(
+    rt: &impl Abort,
+    alloc: Global,
+    config: &Config,
+    told: Told,
+    node: u8,
+) -> Result<Reply, NoMemory>
     requires { node < config.now.n }
 {
     Ok(match told {
         Told::Nothing => Reply::Nothing,
         Told::First => Reply::Found(first_version(alloc, config)?),
-        Told::One => Reply::Found(written(alloc, config, node, 1, 10)?),
-        Told::Two => Reply::Found(written(alloc, config, node, 2, 11)?),
-        Told::Mixed => Reply::Found(mixed(alloc, config, node)?),
-        Told::Damaged => Reply::Found(damaged(alloc, config, node)?),
+        Told::One => Reply::Found(written(rt, alloc, config, node, 1, 10)?),
+        Told::Two => Reply::Found(written(rt, alloc, config, node, 2, 11)?),
+        Told::Mixed => Reply::Found(mixed(rt, alloc, config, node)?),
+        Told::Damaged => Reply::Found(damaged(rt, alloc, config, node)?),
     })
 }
 
@@ -327,10 +362,24 @@ fn heard(
     node: u8,
     phase: u64,
     reply: &Reply,
-) -> Result<Reading, Fail> {
-    let present = reader.phase();
-    assert!(rt; present < u64::MAX);
-    Ok(reader.hear(node, Tag { op: 1, phase }, reply)?)
+) -> Result<Reading, NoMemory> {
+    assert!(rt; reader.phase() < u64::MAX);
+    reader.hear(node, Tag { op: 1, phase }, reply)
+}
+
+// What the round comes to, if this answer ended it.
+fn end_told(
+    rt: &impl Abort,
+    config: &Config,
+    answers: &Answers,
+    reading: &Reading,
+    is_last: bool,
+) -> Option<End> {
+    if is_last {
+        return Some(ends_as_counted(rt, config, answers, reading));
+    }
+    assert!(rt; matches!(reading, Reading::More));
+    None
 }
 
 // A node tells this with the tag of a phase. What the round comes to, if it is the present phase and this answer ends it.
@@ -343,18 +392,15 @@ fn answered(
     node: u8,
     phase: u64,
     told: Told,
-) -> Result<Option<End>, Fail>
+) -> Result<Option<End>, NoMemory>
     requires there { node < config.now.n }
     requires few { node < 16 }
 {
     let is_present = phase == reader.phase();
-    let reply = reply(alloc, config, told, node)?;
+    let reply = reply(rt, alloc, config, told, node)?;
+    let is_last = is_present && answers.add(config, node, told, stamp_of(&reply));
     let reading = heard(rt, reader, node, phase, &reply)?;
-    if is_present && answers.add(config, node, told, stamp_of(&reply)) {
-        return Ok(Some(ends_as_counted(rt, config, answers, &reading)));
-    }
-    assert!(rt; matches!(reading, Reading::More));
-    Ok(None)
+    Ok(end_told(rt, config, answers, &reading, is_last))
 }
 
 // Nodes answer in some order, some again and some with the tag of an older phase, until the round ends.
@@ -459,8 +505,8 @@ fn rounds(
 
 // A whole read.
 fn read(rt: &impl Abort, alloc: Global, config: &Config, seed: &mut u64) -> Result<(), Fail> {
-    let first = First::of(alloc, config)?;
-    let (mut reader, _asks) = Reader::begin(alloc, config, &first.stamp, 1, 1, 0)?;
+    let first = First::of(alloc, config)?.stamp;
+    let (mut reader, _) = Reader::begin(alloc, config, &first, 1, 1, 0)?;
     rounds(rt, alloc, config, seed, &mut reader)
 }
 

@@ -11,7 +11,7 @@ use std::test::Fail;
 use wire_forms::{Ask, First, Reason, Reply, Request, Version};
 
 // What a node replies.
-#[derive(Clone, Copy, Debug, PartialEq, Eq)]
+#[derive(Clone, Copy, PartialEq, Eq)]
 enum Said {
     Acknowledges,
     Refuses(Reason),
@@ -121,9 +121,16 @@ fn are_at(stamps: &[Stamp], times: &[u64]) -> bool {
             .all(|(stamp, time)| stamp.time == *time)
 }
 
+// Node 0, which keeps the first version alone.
+fn new(rt: &impl Abort, alloc: Global) -> Node
+    ensures { 0 < result.config.blocks }
+{
+    Node::new(alloc, &cluster(rt), 0).expect(rt, "memory")
+}
+
 #[test]
-fn refuses_by_the_first_fault(rt: HostRuntime) -> Result<(), Fail> {
-    let mut node = Node::new(rt.alloc(), &cluster(&rt), 0)?;
+fn refuses_by_the_first_fault(rt: HostRuntime) {
+    let mut node = new(&rt, rt.alloc());
     for (block, time, digests, is_verified, byte, reason) in [
         (2, 0, 4, true, 7, Reason::BadBlock),
         (0, 0, 4, true, 7, Reason::BadLength),
@@ -138,55 +145,47 @@ fn refuses_by_the_first_fault(rt: HostRuntime) -> Result<(), Fail> {
             byte,
         };
         let said = written(rt.alloc(), &mut node, block, draft);
-        assert_eq!(rt; said, Ok(Said::Refuses(reason)));
+        assert!(rt; said == Ok(Said::Refuses(reason)));
     }
-    Ok(())
 }
 
 #[test]
-fn finds_nothing_below_the_first_version(rt: HostRuntime) -> Result<(), Fail> {
-    let config = cluster(&rt);
-    let first = First::of(rt.alloc(), &config)?.stamp;
-    let node = Node::new(rt.alloc(), &config, 0)?;
-    let below = read(&node, 0, Bound::Below(first));
-    let all = read(&node, 1, Bound::All);
-    assert_eq!(rt; (below, all), (Ok(Said::Nothing), Ok(Said::Found(first))));
-    Ok(())
+fn finds_nothing_below_the_first_version(rt: HostRuntime) {
+    let first = First::of(rt.alloc(), &cluster(&rt))
+        .expect(&rt, "memory")
+        .stamp;
+    let node = new(&rt, rt.alloc());
+    assert!(rt; read(&node, 0, Bound::Below(first)) == Ok(Said::Nothing));
+    assert!(rt; read(&node, 1, Bound::All) == Ok(Said::Found(first)));
+}
+
+// Whether the node acknowledges a write of this time at block 0.
+fn is_written(alloc: Global, node: &mut Node, time: u64) -> bool
+    ensures { node.new.config ≡ node.old.config }
+{
+    written(alloc, node, 0, sound(time)) == Ok(Said::Acknowledges)
 }
 
 #[test]
 fn keeps_one_version_of_a_stamp(rt: HostRuntime) -> Result<(), Fail> {
     let stamp = stamp_of(rt.alloc(), sound(3))?;
-    let mut node = Node::new(rt.alloc(), &cluster(&rt), 0)?;
-    let before = node.keeps(0, &stamp);
-    let first = written(rt.alloc(), &mut node, 0, sound(3));
-    let second = written(rt.alloc(), &mut node, 0, sound(3));
-    let after = node.keeps(0, &stamp);
-    let has_one = has_times(&node, &[0, 3]);
-    let greatest = node.greatest_time(0);
-    assert_eq!(rt;
-        (first, second),
-        (Ok(Said::Acknowledges), Ok(Said::Acknowledges))
-    );
-    assert_eq!(rt;
-        (before, after, has_one, greatest),
-        (false, true, Ok(true), 3)
-    );
+    let mut node = new(&rt, rt.alloc());
+    assert!(rt; !node.keeps(0, &stamp));
+    assert!(rt; is_written(rt.alloc(), &mut node, 3));
+    assert!(rt; is_written(rt.alloc(), &mut node, 3));
+    assert!(rt; node.keeps(0, &stamp));
+    assert!(rt; has_times(&node, &[0, 3]) == Ok(true));
+    assert!(rt; node.greatest_time(0) == 3);
     Ok(())
 }
 
 #[test]
 fn prunes_below_the_greatest_up_to_a_stamp(rt: HostRuntime) -> Result<(), Fail> {
     let stamp = stamp_of(rt.alloc(), sound(2))?;
-    let mut node = Node::new(rt.alloc(), &cluster(&rt), 0)?;
-    let first = written(rt.alloc(), &mut node, 0, sound(1));
-    let second = written(rt.alloc(), &mut node, 0, sound(2));
+    let mut node = new(&rt, rt.alloc());
+    assert!(rt; is_written(rt.alloc(), &mut node, 1));
+    assert!(rt; is_written(rt.alloc(), &mut node, 2));
     node.prune(0, &stamp);
-    let has_second = has_times(&node, &[0, 2]);
-    assert_eq!(rt;
-        (first, second),
-        (Ok(Said::Acknowledges), Ok(Said::Acknowledges))
-    );
-    assert_eq!(rt; has_second, Ok(true));
+    assert!(rt; has_times(&node, &[0, 2]) == Ok(true));
     Ok(())
 }

@@ -3,7 +3,6 @@ use quorum_rules::Config;
 use stamp_order::Bound;
 use std::alloc::Global;
 use std::process::Abort;
-use std::test::Fail;
 use wire_forms::{Message, Op, Reply, Tag};
 
 const FIRST: Tag = Tag { op: 3, phase: 1 };
@@ -20,8 +19,8 @@ fn begun(rt: &impl Abort, alloc: Global) -> Operation {
     let read = Op::Read { block: 1 };
     let begun = Operation::begin(alloc, &cluster(rt), 7, 3, read);
     let (operation, asks) = begun.expect(rt, "memory");
-    let numbers = (asks.len(), operation.phase(), operation.rounds());
-    assert_eq!(rt; numbers, (5, 1, 1));
+    assert!(rt; asks.len() == 5);
+    assert!(rt; operation.phase() == 1 && operation.rounds() == 1);
     operation
 }
 
@@ -57,7 +56,7 @@ fn answered_with_last(rt: &impl Abort, operation: &Operation) -> (bool, bool, bo
 }
 
 #[test]
-fn an_answer_counts_once(rt: HostRuntime) -> Result<(), Fail> {
+fn an_answer_counts_once(rt: HostRuntime) {
     let mut operation = begun(&rt, rt.alloc());
     for (node, tag, time, counts) in [
         (0, FIRST, None, true),
@@ -68,12 +67,10 @@ fn an_answer_counts_once(rt: HostRuntime) -> Result<(), Fail> {
         (4, FIRST, None, true),
         (2, FIRST, None, true),
     ] {
-        assert_eq!(rt; counted(&mut operation, node, tag, time), counts);
+        assert!(rt; counted(&mut operation, node, tag, time) == counts);
     }
-    let answered = answered_with_last(&rt, &operation);
-    assert_eq!(rt; answered, (true, false, true, true));
+    assert!(rt; answered_with_last(&rt, &operation) == (true, false, true, true));
     assert!(rt; operation.has_answered(2) && !operation.has_answered(3));
-    Ok(())
 }
 
 fn are_second(asks: &[Message]) -> bool {
@@ -102,12 +99,11 @@ fn awaits(rt: &impl Abort, operation: &Operation) -> (bool, bool) {
 }
 
 #[test]
-fn a_phase_follows_until_the_end(rt: HostRuntime) -> Result<(), Fail> {
+fn a_phase_follows_until_the_end(rt: HostRuntime) {
     let mut operation = in_second_round(&rt, rt.alloc());
-    assert_eq!(rt; (operation.phase(), operation.rounds()), (2, 2));
-    assert_eq!(rt; awaits(&rt, &operation), (true, true));
+    assert!(rt; operation.phase() == 2 && operation.rounds() == 2);
+    assert!(rt; awaits(&rt, &operation) == (true, true));
     operation.end();
-    assert_eq!(rt; (operation.is_over(), operation.phase()), (true, 0));
-    assert_eq!(rt; awaits(&rt, &operation), (false, false));
-    Ok(())
+    assert!(rt; operation.is_over() && operation.phase() == 0);
+    assert!(rt; awaits(&rt, &operation) == (false, false));
 }

@@ -3,11 +3,10 @@ use read_core::{How, Reader, Reading};
 use stamp_order::Stamp;
 use std::alloc::Global;
 use std::process::Abort;
-use std::test::Fail;
 use wire_forms::{First, Reply, Tag, Version};
 
 // What a reader says to an answer.
-#[derive(Clone, Copy, Debug, PartialEq, Eq)]
+#[derive(Clone, Copy, PartialEq, Eq)]
 enum Said {
     More,
     Sends,
@@ -27,10 +26,10 @@ fn cluster(rt: &impl Abort) -> Config {
 // A read that has asked five nodes.
 fn begun(rt: &impl Abort, alloc: Global) -> Reader {
     let config = cluster(rt);
-    let first = First::of(alloc, &config).expect(rt, "memory");
-    let begun = Reader::begin(alloc, &config, &first.stamp, 1, 1, 0);
+    let first = First::of(alloc, &config).expect(rt, "memory").stamp;
+    let begun = Reader::begin(alloc, &config, &first, 1, 1, 0);
     let (reader, mail) = begun.expect(rt, "memory");
-    assert_eq!(rt; mail.len(), 5);
+    assert!(rt; mail.len() == 5);
     reader
 }
 
@@ -83,26 +82,24 @@ fn heard_first(rt: &impl Abort, alloc: Global, reader: &mut Reader, node: u8) ->
 }
 
 #[test]
-fn too_few_valid_answers_outvote_a_read(rt: HostRuntime) -> Result<(), Fail> {
+fn too_few_valid_answers_outvote_a_read(rt: HostRuntime) {
     let mut reader = begun(&rt, rt.alloc());
     for node in 0..3 {
-        assert_eq!(rt; heard_nothing(&rt, &mut reader, node), Said::More);
+        assert!(rt; heard_nothing(&rt, &mut reader, node) == Said::More);
         assert!(rt; reader.has_answered(node));
     }
-    assert_eq!(rt; heard_nothing(&rt, &mut reader, 3), Said::OutvotedByFour);
+    assert!(rt; heard_nothing(&rt, &mut reader, 3) == Said::OutvotedByFour);
     assert!(rt; reader.is_over());
-    Ok(())
 }
 
 #[test]
-fn the_first_version_is_a_block_of_zeros(rt: HostRuntime) -> Result<(), Fail> {
+fn the_first_version_is_a_block_of_zeros(rt: HostRuntime) {
     let mut reader = begun(&rt, rt.alloc());
     for node in [0, 1, 2, 2] {
         let (said, _) = heard_first(&rt, rt.alloc(), &mut reader, node);
-        assert_eq!(rt; said, Said::More);
+        assert!(rt; said == Said::More);
     }
     let (said, stamp) = heard_first(&rt, rt.alloc(), &mut reader, 3);
-    assert_eq!(rt; said, Said::Zeros(stamp, How::Plain));
-    assert_eq!(rt; reader.rounds(), 1);
-    Ok(())
+    assert!(rt; said == Said::Zeros(stamp, How::Plain));
+    assert!(rt; reader.rounds() == 1);
 }

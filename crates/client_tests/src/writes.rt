@@ -5,7 +5,6 @@ use lists::Copied;
 use quorum_rules::Config;
 use std::alloc::Global;
 use std::process::Abort;
-use std::test::Fail;
 use wire_forms::{Body, Message, Reply, Request, Tag};
 use write_core::{Writer, Writing};
 
@@ -14,7 +13,7 @@ const ASKING: Tag = Tag { op: 1, phase: 1 };
 const STORING: Tag = Tag { op: 1, phase: 2 };
 
 // What a writer says to an answer.
-#[derive(Clone, Copy, Debug, PartialEq, Eq)]
+#[derive(Clone, Copy, PartialEq, Eq)]
 enum Said {
     More,
     // Writes to five nodes in order, all under this time.
@@ -36,7 +35,7 @@ fn begun(rt: &impl Abort, alloc: Global, block: u32) -> Writer {
     let value = Bytes::of(alloc, &[1, 0]).expect(rt, "memory");
     let begun = Writer::begin(alloc, &cluster(rt), 7, 1, block, &value);
     let (writer, asks) = begun.expect(rt, "memory");
-    assert_eq!(rt; asks.len(), 5);
+    assert!(rt; asks.len() == 5);
     writer
 }
 
@@ -101,7 +100,7 @@ fn acked(rt: &impl Abort, writer: &mut Writer, node: u8) -> Said {
 }
 
 #[test]
-fn writes_one_above_the_second_highest_time(rt: HostRuntime) -> Result<(), Fail> {
+fn writes_one_above_the_second_highest_time(rt: HostRuntime) {
     let mut writer = begun(&rt, rt.alloc(), 0);
     for (node, time, said) in [
         (0, 1, Said::More),
@@ -110,14 +109,13 @@ fn writes_one_above_the_second_highest_time(rt: HostRuntime) -> Result<(), Fail>
         (2, 0, Said::More),
         (3, 0, Said::Stores(1)),
     ] {
-        assert_eq!(rt; told(&rt, &mut writer, node, time), said);
+        assert!(rt; told(&rt, &mut writer, node, time) == said);
     }
-    assert_eq!(rt; writer.phase(), 2);
-    Ok(())
+    assert!(rt; writer.phase() == 2);
 }
 
 #[test]
-fn is_spent_at_the_last_time(rt: HostRuntime) -> Result<(), Fail> {
+fn is_spent_at_the_last_time(rt: HostRuntime) {
     let mut writer = begun(&rt, rt.alloc(), 0);
     for (node, time, said) in [
         (0, u64::MAX, Said::More),
@@ -125,10 +123,9 @@ fn is_spent_at_the_last_time(rt: HostRuntime) -> Result<(), Fail> {
         (2, 0, Said::More),
         (3, 0, Said::Spent),
     ] {
-        assert_eq!(rt; told(&rt, &mut writer, node, time), said);
+        assert!(rt; told(&rt, &mut writer, node, time) == said);
     }
     assert!(rt; writer.is_over());
-    Ok(())
 }
 
 // A write that stores its value under time 5.
@@ -140,20 +137,19 @@ fn storing(rt: &impl Abort, alloc: Global) -> Writer {
         (3, Said::More),
         (4, Said::Stores(5)),
     ] {
-        assert_eq!(rt; told(rt, &mut writer, node, 4), said);
+        assert!(rt; told(rt, &mut writer, node, 4) == said);
     }
     writer
 }
 
 #[test]
-fn is_stored_at_four_acknowledgements(rt: HostRuntime) -> Result<(), Fail> {
-    let mut copy = storing(&rt, rt.alloc()).copy()?;
+fn is_stored_at_four_acknowledgements(rt: HostRuntime) {
+    let mut copy = storing(&rt, rt.alloc()).copy().expect(&rt, "memory");
     for node in 0..3u8 {
-        assert_eq!(rt; acked(&rt, &mut copy, node), Said::More);
+        assert!(rt; acked(&rt, &mut copy, node) == Said::More);
     }
     assert!(rt; copy.has_answered(2) && !copy.has_answered(4));
     assert!(rt; matches!(copy.outstanding(4), Ok(Some(_))));
     let stored = Said::Wrote { time: 5, client: 7 };
-    assert_eq!(rt; acked(&rt, &mut copy, 4), stored);
-    Ok(())
+    assert!(rt; acked(&rt, &mut copy, 4) == stored);
 }
