@@ -11,8 +11,12 @@ use std::alloc::Global;
 /// What the text of a seed is read as by the tables, and by `plan_text`.
 pub fn verdicts(alloc: Global, seed: u64) -> Result<(Verdict, Verdict), NoMemory> {
     let text = made_text(alloc, seed)?;
-    let plain = read_plainly(alloc, text.as_str())?;
-    Ok((plain, verdict(alloc, text.as_str())?))
+    both(alloc, text.as_str())
+}
+
+fn both(alloc: Global, text: &str) -> Result<(Verdict, Verdict), NoMemory> {
+    let plain = read_plainly(alloc, text)?;
+    Ok((plain, verdict(alloc, text)?))
 }
 
 fn verdict(alloc: Global, text: &str) -> Result<Verdict, NoMemory> {
@@ -28,11 +32,20 @@ fn verdict(alloc: Global, text: &str) -> Result<Verdict, NoMemory> {
 }
 
 fn plan_of(plan: &Plan) -> Verdict {
-    let clients = (1..=1000).filter(|client| plan.liars.client(*client));
     Verdict::Plan {
         rules: plan.rules.len() as u64,
         jobs: plan.work.len() as u64,
         nodes: plan.liars.nodes() as u64,
-        clients: clients.count() as u64,
+        clients: lying_clients(plan),
     }
+}
+
+fn lying_clients(plan: &Plan) -> u64 {
+    let mut clients = 0u64;
+    for client in 1..1001 {
+        if plan.liars.client(client) {
+            clients = clients.wrapping_add(1);
+        }
+    }
+    clients
 }

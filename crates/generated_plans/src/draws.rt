@@ -1,8 +1,5 @@
 //! Numbers at random.
 
-use lists::NoMemory;
-use std::alloc::Global;
-
 /// The same numbers are drawn for a seed each time.
 #[derive(Drop)]
 pub struct Draws {
@@ -31,16 +28,5 @@ impl Draws {
     pub fn word(&mut self, words: &[&'static str]) -> &'static str {
         let at = self.below(words.len() as u64);
         words.get(at as usize).copied().unwrap_or("")
-    }
-
-    /// The text of a value of so many bytes.
-    pub fn value(&mut self, alloc: Global, size: u64) -> Result<String, NoMemory> {
-        let byte = self.below(256);
-        let byte = format!(in alloc; "{byte:02x}")?;
-        let mut value = String::from_str(alloc, "x")?;
-        for _ in 0..size {
-            value.push_str(byte.as_str())?;
-        }
-        Ok(value)
     }
 }

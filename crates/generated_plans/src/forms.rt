@@ -1,7 +1,7 @@
 //! The table of a plan's lines.
 
 /// What a line is.
-#[derive(Clone, Copy, Debug, PartialEq, Eq)]
+#[derive(Clone, Copy, PartialEq, Eq)]
 pub enum Kind {
     LiarNode,
     LiarClient,

@@ -2,6 +2,7 @@
 
 use crate::draws::Draws;
 use crate::mutated::mutate;
+use crate::pieces::{push_value, push_words};
 use lists::NoMemory;
 use std::alloc::Global;
 
@@ -90,14 +91,11 @@ pub struct Text {
 }
 
 impl Text {
-    // A plan that fits.
-    fn fitting(
-        alloc: Global,
-        cluster: &'static Cluster,
-        mut draws: Draws,
-    ) -> Result<Text, NoMemory> {
-        let count = draws.below(cluster.lines.wrapping_add(1));
-        let mut text = Text {
+    // No lines yet, for one of the clusters.
+    fn new(alloc: Global, seed: u64) -> Text {
+        let mut draws = Draws::new(seed);
+        let cluster = drawn_cluster(&mut draws);
+        Text {
             alloc,
             draws,
             cluster,
@@ -108,168 +106,188 @@ impl Text {
             drops: 0,
             holds: 0,
             floods: 0,
-        };
-        for _ in 0..count {
-            let line = text.line()?;
-            text.lines.push(line)?;
         }
-        Ok(text)
     }
 
-    fn line(&mut self) -> Result<String, NoMemory> {
+    // Lines that fit, and then mutations.
+    fn make(&mut self) -> Result<(), NoMemory> {
+        let count = self.draws.below(self.cluster.lines.wrapping_add(1));
+        for _ in 0..count {
+            self.add_line()?;
+        }
+        let mutations = self.draws.below(5).min(2);
+        for _ in 0..mutations {
+            mutate(self)?;
+        }
+        Ok(())
+    }
+
+    fn add_line(&mut self) -> Result<(), NoMemory> {
+        let mut line = String::new(self.alloc);
+        self.push_line(&mut line)?;
+        self.lines.push(line)?;
+        Ok(())
+    }
+
+    fn push_line(&mut self, line: &mut String) -> Result<(), NoMemory> {
         match self.draws.below(24) {
-            0..=1 => self.liar_node(),
-            2..=3 => self.crash_node(),
-            4..=5 => self.foist(),
-            6 => self.flood(),
-            7 => self.crash_client(),
-            8..=9 => self.drop_line(),
-            10..=11 => self.hold(),
-            12 => Ok(String::from_str(self.alloc, "phase")?),
-            client => self.work(client.wrapping_sub(12)),
+            0..=1 => self.push_liar_node(line),
+            2..=3 => self.push_crash_node(line),
+            4..=5 => self.push_liar_client(line),
+            6 => self.push_next_flood(line),
+            7 => self.push_crash_client(line),
+            8..=9 => self.push_drop(line),
+            10..=11 => self.push_hold(line),
+            12 => push_words(line, "phase", &[]),
+            client => self.push_work(line, client.wrapping_sub(12)),
         }
     }
 
     /// Work of a client.
-    pub fn work(&mut self, client: u64) -> Result<String, NoMemory> {
+    pub fn push_work(&mut self, line: &mut String, client: u64) -> Result<(), NoMemory> {
         let block = self.draws.below(self.cluster.blocks);
+        let (offset, length) = self.range();
+        match self.draws.below(4) {
+            0 => push_words(line, "read", &[client, block]),
+            1 => {
+                push_words(line, "write", &[client, block])?;
+                self.push_value(line, self.cluster.size)
+            }
+            2 => {
+                push_words(line, "put", &[client, offset])?;
+                self.push_value(line, length)
+            }
+            _ => push_words(line, "get", &[client, offset, length]),
+        }
+    }
+
+    // Where a range of the device begins, and its length.
+    fn range(&mut self) -> (u64, u64) {
         let length = self.draws.below(self.cluster.size.wrapping_mul(2).min(64));
         let length = length.wrapping_add(1);
         let bytes = self.cluster.size.wrapping_mul(self.cluster.blocks);
         let offset = bytes.wrapping_sub(length).wrapping_add(1);
-        let offset = self.draws.below(offset);
-        let alloc = self.alloc;
-        match self.draws.below(4) {
-            0 => Ok(format!(in alloc; "read {client} {block}")?),
-            1 => {
-                let value = self.draws.value(alloc, self.cluster.size)?;
-                Ok(format!(in alloc; "write {client} {block} {value}")?)
-            }
-            2 => {
-                let value = self.draws.value(alloc, length)?;
-                Ok(format!(in alloc; "put {client} {offset} {value}")?)
-            }
-            _ => Ok(format!(in alloc; "get {client} {offset} {length}")?),
-        }
+        (self.draws.below(offset), length)
     }
 
-    fn spare_work(&mut self) -> Result<String, NoMemory> {
+    // A value of so many bytes.
+    fn push_value(&mut self, line: &mut String, size: u64) -> Result<(), NoMemory> {
+        let byte = self.draws.below(256);
+        push_value(self.alloc, line, byte, size)
+    }
+
+    fn push_spare_work(&mut self, line: &mut String) -> Result<(), NoMemory> {
         let client = self.draws.below(4).wrapping_add(1);
-        self.work(client)
+        self.push_work(line, client)
     }
 
     // The last nodes lie, and the first ones crash.
-    fn liar_node(&mut self) -> Result<String, NoMemory> {
+    fn push_liar_node(&mut self, line: &mut String) -> Result<(), NoMemory> {
         let faulty = self.liars.wrapping_add(self.crashes);
         if self.cluster.lying <= self.liars || self.cluster.faulty <= faulty {
-            return self.spare_work();
+            return self.push_spare_work(line);
         }
         self.liars = self.liars.wrapping_add(1);
         let node = self.cluster.nodes.wrapping_sub(self.liars);
-        let rule = self.draws.word(&["silent", "old", "top", "bad"]);
-        Ok(format!(in self.alloc; "liar node {node} {rule}")?)
+        let rule = self.draws.word(&[" silent", " old", " top", " bad"]);
+        push_words(line, "liar node", &[node])?;
+        push_words(line, rule, &[])
     }
 
-    fn crash_node(&mut self) -> Result<String, NoMemory> {
+    fn push_crash_node(&mut self, line: &mut String) -> Result<(), NoMemory> {
         let node = self.crashes;
         if self.cluster.faulty <= self.liars.wrapping_add(node) {
-            return self.spare_work();
+            return self.push_spare_work(line);
         }
         self.crashes = node.wrapping_add(1);
         let count = self.draws.below(1001);
-        Ok(format!(in self.alloc; "crash node {node} {count}")?)
+        push_words(line, "crash node", &[node, count])
     }
 
     // The client 20 or 21 lies.
-    fn foist(&mut self) -> Result<String, NoMemory> {
+    fn push_liar_client(&mut self, line: &mut String) -> Result<(), NoMemory> {
         let client = self.draws.below(2).wrapping_add(20);
-        self.foist_of(client)
+        self.push_foist(line, client)
     }
 
     /// What a client that lies sends.
-    pub fn foist_of(&mut self, client: u64) -> Result<String, NoMemory> {
-        let alloc = self.alloc;
+    pub fn push_foist(&mut self, line: &mut String, client: u64) -> Result<(), NoMemory> {
         let block = self.draws.below(self.cluster.blocks);
         let time = self.draws.below(100);
         let count = self.draws.below(self.cluster.nodes.wrapping_add(1));
-        let value = self.draws.value(alloc, self.cluster.size)?;
-        if self.draws.below(2) == 0 {
-            return Ok(format!(in alloc;
-                "liar client {client} sound {block} {time} {value} {count}"
-            )?);
+        let byte = self.draws.below(256);
+        let mixes = self.draws.below(2) != 0;
+        push_words(line, "liar client", &[client])?;
+        push_words(line, if mixes { " mix" } else { " sound" }, &[block, time])?;
+        push_value(self.alloc, line, byte, self.cluster.size)?;
+        if mixes {
+            self.push_value(line, self.cluster.size)?;
         }
-        let other = self.draws.value(alloc, self.cluster.size)?;
-        Ok(format!(in alloc; "liar client {client} mix {block} {time} {value} {other} {count}")?)
+        push_words(line, "", &[count])
     }
 
-    fn flood(&mut self) -> Result<String, NoMemory> {
+    fn push_next_flood(&mut self, line: &mut String) -> Result<(), NoMemory> {
         if 8 <= self.floods {
-            return self.spare_work();
+            return self.push_spare_work(line);
         }
         self.floods = self.floods.wrapping_add(1);
-        self.flood_line()
+        self.push_flood(line)
     }
 
     /// A flood.
-    pub fn flood_line(&mut self) -> Result<String, NoMemory> {
-        let alloc = self.alloc;
+    pub fn push_flood(&mut self, line: &mut String) -> Result<(), NoMemory> {
         let block = self.draws.below(self.cluster.blocks);
         let time = self.draws.below(400);
         let count = self.draws.below(time.min(250).wrapping_add(1));
-        let value = self.draws.value(alloc, self.cluster.size)?;
-        let other = self.draws.value(alloc, self.cluster.size)?;
-        Ok(format!(in alloc; "liar client 21 flood {block} {time} {value} {other} {count}")?)
+        push_words(line, "liar client 21 flood", &[block, time])?;
+        self.push_value(line, self.cluster.size)?;
+        self.push_value(line, self.cluster.size)?;
+        push_words(line, "", &[count])
     }
 
-    fn crash_client(&mut self) -> Result<String, NoMemory> {
+    fn push_crash_client(&mut self, line: &mut String) -> Result<(), NoMemory> {
         self.client_crashes = self.client_crashes.wrapping_add(1);
         let client = self.client_crashes;
         if 10 < client {
-            return self.spare_work();
+            return self.push_spare_work(line);
         }
         let count = self.draws.below(1001);
-        Ok(format!(in self.alloc; "crash client {client} {count}")?)
+        push_words(line, "crash client", &[client, count])
     }
 
     // Each drop is of another client.
-    fn drop_line(&mut self) -> Result<String, NoMemory> {
+    fn push_drop(&mut self, line: &mut String) -> Result<(), NoMemory> {
         self.drops = self.drops.wrapping_add(1);
         let client = self.drops;
         if 10 < client {
-            return self.spare_work();
+            return self.push_spare_work(line);
         }
         let node = self.draws.below(self.cluster.nodes);
         let count = self.draws.below(1001);
-        Ok(format!(in self.alloc; "drop {client} {node} {count}")?)
+        push_words(line, "drop", &[client, node, count])
     }
 
-    fn hold(&mut self) -> Result<String, NoMemory> {
+    fn push_hold(&mut self, line: &mut String) -> Result<(), NoMemory> {
         let node = self.holds;
         if self.cluster.nodes <= node {
-            return self.spare_work();
+            return self.push_spare_work(line);
         }
         self.holds = node.wrapping_add(1);
         let client = self.draws.below(10).wrapping_add(1);
         let count = self.draws.below(1001);
-        Ok(format!(in self.alloc; "hold {client} {node} {count}")?)
+        push_words(line, "hold", &[client, node, count])
     }
 
     // The text of the lines, which may lack its last newline.
-    fn whole(&self, cut: bool) -> Result<String, NoMemory> {
+    fn whole(&mut self) -> Result<String, NoMemory> {
+        let cut = self.draws.below(20) == 0;
         let mut text = String::from_str(self.alloc, self.cluster.head)?;
-        for (at, line) in self.lines.iter().enumerate() {
-            text.push_str(line.as_str())?;
-            if !cut || at.wrapping_add(1) < self.lines.len() {
-                text.push('\n')?;
-            }
-        }
+        push_all(&mut text, self.lines.as_slice(), cut)?;
         Ok(text)
     }
 }
 
-/// The text of a seed.
-pub fn made_text(alloc: Global, seed: u64) -> Result<String, NoMemory> {
-    let mut draws = Draws::new(seed);
+fn drawn_cluster(draws: &mut Draws) -> &'static Cluster {
     let number = match draws.below(20) {
         0..=5 => 0,
         6..=11 => 1,
@@ -277,15 +295,26 @@ pub fn made_text(alloc: Global, seed: u64) -> Result<String, NoMemory> {
         16..=18 => 3,
         _ => 4,
     };
-    let cluster = match CLUSTERS.get(number) {
+    match CLUSTERS.get(number) {
         Some(cluster) => cluster,
         None => &CLUSTERS[0],
-    };
-    let mut text = Text::fitting(alloc, cluster, draws)?;
-    let mutations = text.draws.below(5).min(2);
-    for _ in 0..mutations {
-        mutate(&mut text)?;
     }
-    let cut = text.draws.below(20) == 0;
-    text.whole(cut)
+}
+
+// Lines with a newline after each, but for the last one where it is cut.
+fn push_all(text: &mut String, lines: &[String], cut: bool) -> Result<(), NoMemory> {
+    for (at, line) in lines.iter().enumerate() {
+        text.push_str(line.as_str())?;
+        if !cut || at.wrapping_add(1) < lines.len() {
+            text.push('\n')?;
+        }
+    }
+    Ok(())
+}
+
+/// The text of a seed.
+pub fn made_text(alloc: Global, seed: u64) -> Result<String, NoMemory> {
+    let mut text = Text::new(alloc, seed);
+    text.make()?;
+    text.whole()
 }

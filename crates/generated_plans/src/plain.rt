@@ -316,25 +316,49 @@ fn next_line(cluster: &Cluster, earlier: &[Line], text: &str) -> Result<Line, Fa
     }
 }
 
-/// What a text is read as whose head lines have no fault.
-pub fn read_plainly(alloc: Global, text: &str) -> Result<Verdict, NoMemory> {
+// Adds a line, or tells its first cause.
+fn add_line(
+    lines: &mut Vec<Line>,
+    cluster: &Cluster,
+    text: &str,
+) -> Result<Option<Fault>, NoMemory> {
+    match next_line(cluster, lines.as_slice(), text) {
+        Ok(line) => {
+            lines.push(line)?;
+            Ok(None)
+        }
+        Err(fault) => Ok(Some(fault)),
+    }
+}
+
+// Adds the lines up to the first that has a fault, if one has: then how the text is refused.
+fn add_lines(lines: &mut Vec<Line>, text: &str) -> Result<Option<Verdict>, NoMemory> {
     let mut cluster = Cluster::of("");
-    let mut lines = Vec::new(alloc);
     for (at, row) in text.split_inclusive('\n').enumerate() {
         let number = (at as u64).wrapping_add(1);
         let Some(row) = row.strip_suffix('\n') else {
-            return Ok(refused(number, (2, None)));
+            return Ok(Some(refused(number, (2, None))));
         };
         match number {
             1 => {}
             2 => cluster = Cluster::of(row),
-            _ => match next_line(&cluster, lines.as_slice(), row) {
-                Ok(line) => lines.push(line)?,
-                Err(fault) => return Ok(refused(number, fault)),
-            },
+            _ => {
+                if let Some(fault) = add_line(lines, &cluster, row)? {
+                    return Ok(Some(refused(number, fault)));
+                }
+            }
         }
     }
-    Ok(plan_of(lines.as_slice()))
+    Ok(None)
+}
+
+/// What a text is read as whose head lines have no fault.
+pub fn read_plainly(alloc: Global, text: &str) -> Result<Verdict, NoMemory> {
+    let mut lines = Vec::new(alloc);
+    match add_lines(&mut lines, text)? {
+        Some(refusal) => Ok(refusal),
+        None => Ok(plan_of(lines.as_slice())),
+    }
 }
 
 fn refused(line: u64, (cause, fault): Fault) -> Verdict {
