@@ -1,4 +1,4 @@
-ghost use Rattle.std.specs.Prelude.{◌≡◌, IfOk};
+ghost use Rattle.std.specs.Prelude.{◌≡◌, ◌++◌, ◌∷◌, [], IfOk, OnOk};
 
 use crate::list::ItemList;
 use crate::memory::NoMemory;
@@ -14,10 +14,17 @@ impl<T: Copied + Drop> Copied for ItemList<T> {
     fn copy(&self) -> Result<Self, NoMemory> {
         let mut copy = ItemList::new(self.allocator());
         for item in self.as_slice() {
-            copy.push(item.copy()?)?;
+            push_copy(&mut copy, item)?;
         }
         Ok(copy)
     }
+}
+
+// A step of its own, in which few values are live: so the loop is cheap to prove.
+fn push_copy<T: Copied + Drop>(list: &mut ItemList<T>, item: &T) -> Result<(), NoMemory>
+    ensures { OnOk result (list.new ≡ list.old ++ item.now ∷ []) }
+{
+    list.push(item.copy()?)
 }
 
 impl Copied for u8 {
