@@ -61,7 +61,7 @@ impl Drop for Client {
 
 impl Model for Client {
     ghost use Rattle.client_core.specs.Clients.{ClientView};
-    ghost use Rattle.operation_core.specs.Counting.{begun_task, first_mail, hears_in, outstanding_in};
+    ghost use Rattle.operation_core.specs.Counting.{begun_task, first_mail, outstanding_in};
     ghost use Rattle.client_core.specs.Works.{task_of, IsClient};
 
     ghost Value = { ClientView };

@@ -1,5 +1,3 @@
-ghost use Rattle.std.specs.Prelude.{IsSome};
-
 use cross_sum::Bytes;
 use lists::Copied;
 use quorum_rules::Config;

@@ -1,5 +1,5 @@
 //! What a client's reads gave.
-ghost use Rattle.std.specs.Prelude.{◌≡◌, ◌<◌, ◌∷◌, ◌++◌, IfOk, OnOk, length, All};
+ghost use Rattle.std.specs.Prelude.{◌≡◌, ◌<◌, IfOk, length, All};
 ghost use Rattle.client_work.specs.Work.{latest_given};
 
 use cross_sum::Bytes;

@@ -1,7 +1,6 @@
 ghost use Rattle.std.specs.Prelude.{◌≡◌, ◌<◌, IfOk, IfSome, length};
 ghost use Rattle.gf_field.specs.Fragments.{AreParts};
 ghost use Rattle.cross_sum.specs.Parts.{numbers, strings};
-ghost use Rattle.gf_field.specs.Fragments.{string_len};
 
 use crate::vectors::both_decode;
 use cross_sum::{Bytes, NoMemory, Part, Shares};

@@ -1,6 +1,6 @@
-ghost use Rattle.std.specs.Prelude.{◌≡◌, ◌<◌, ◌↔◌, [], length, map, replicate, slice_get, IfOk, IsTrue, Some, All};
+ghost use Rattle.std.specs.Prelude.{◌≡◌, ◌<◌, ◌↔◌, [], length, map, replicate, slice_get, IfOk, IsTrue, Some};
 ghost use Rattle.std.specs.List.{AllByRecursion};
-ghost use Rattle.cross_sum.specs.Digest.{digest, flat, verifier};
+ghost use Rattle.cross_sum.specs.Digest.{digest, verifier};
 ghost use Rattle.cross_sum.specs.HowKept.{HaveDigests};
 
 use crate::bytes::Bytes;

@@ -1,5 +1,5 @@
 //! A client's way to nodes that run in threads of their own.
-ghost use Rattle.std.specs.Prelude.{◌≡◌, ◌≤◌, ◌<◌, ◌+◌, ℕ, Some, true, IfOk, OnOk, OnErr, length, slice_get};
+ghost use Rattle.std.specs.Prelude.{◌≡◌, ◌≤◌, ◌<◌, ◌+◌, Some, true, IfOk, OnOk, OnErr, length, slice_get};
 ghost use Rattle.protocol.specs.Messages.{IsFormedBody, Message as AnyMessage};
 ghost use Rattle.inboxes.specs.Sides.{took, Putting};
 ghost use Rattle.locked_nodes.specs.Cells.{number_of};

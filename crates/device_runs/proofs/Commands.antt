@@ -1,5 +1,5 @@
 -- Puts and gets in the history of a run.
-use Rattle.std.proofs.Common.{◌≡◌, ℕ, zero, suc, zero-mul, ◌+◌, ◌*◌, ◌%◌, ◌<◌, ◌≤◌, ◌⊎◌, Bool, true, false, cond, List, [], ◌∷◌, map, length, Option, refl, sym, ap, ◌∙◌, subst, inl, inr, arith}
+use Rattle.std.proofs.Common.{◌≡◌, ℕ, zero, suc, zero-mul, ◌+◌, ◌*◌, ◌%◌, ◌<◌, ◌≤◌, Bool, true, false, cond, List, [], ◌∷◌, map, length, Option, refl, sym, ap, ◌∙◌, inl, inr, arith}
 use Rattle.std.specs.declared.option.Option.TheVariants.{None, Some}
 use Rattle.std.specs.List.{Contains, concat, flat_map, slice_range}
 use Rattle.std.proofs.lemmas.Bool.{ltb-false, eqb-false}
@@ -8,7 +8,6 @@ use Rattle.quorum_rules.specs.Limits.{Numbers}
 use Rattle.wire_forms.specs.declared.device.DeviceOp.{DeviceOp}
 use Rattle.wire_forms.specs.declared.device.DeviceOp.TheVariants.{Get, Put}
 use Rattle.line_forms.specs.declared.cause.DeviceFault.{DeviceFault}
-use Rattle.block_device.specs.declared.steps.BlockStep.{BlockStep}
 use Rattle.block_device.specs.Ranges.{fault_of, touched, start_of, len_of}
 use Rattle.block_device.specs.Steps.{steps_in, steps_of}
 use Rattle.block_device.specs.Device.{Device, merged, after, reads, bytes_of, AreBlocks, IsWritten}
@@ -22,8 +21,8 @@ use Rattle.protocol.specs.Laws.{HistoriesAreLegal, HistoriesAreInTime, ValuesAre
 use Rattle.protocol.proofs.Lists.{Contains-head, Contains-rest}
 use Rattle.protocol.proofs.Entries.{start_made, end_made}
 use Rattle.device_runs.specs.Moments.{values_at, array_of, IsQuiet}
-use Rattle.device_runs.specs.Commands.{IsDone, bytes_given}
-use Rattle.device_runs.specs.Laws.{InEachHistory, PutsGoIn, PutsAreMerged, GetsGiveTheirRange, GetsGiveWhatWasPut, array_at}
+use Rattle.device_runs.specs.Commands.{IsDone}
+use Rattle.device_runs.specs.Laws.{GetsGiveTheirRange, GetsGiveWhatWasPut, array_at}
 use Rattle.device_runs.proofs.Values.{length_values}
 use Rattle.device_runs.proofs.Moments.{IsOrderly}
 use Rattle.device_runs.proofs.Following.{AreReads, own_late, steps_leave, reads_give}

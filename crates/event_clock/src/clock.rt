@@ -1,4 +1,4 @@
-ghost use Rattle.std.specs.Prelude.{◌≡◌, ℕ, ◌+◌, ◌^◌, ◌<◌, ◌≤◌, [], ◌∷◌, length, map, All, Some, slice_get, IfOk};
+ghost use Rattle.std.specs.Prelude.{◌≡◌, ◌+◌, ◌^◌, ◌<◌, ◌≤◌, [], ◌∷◌, length, map, All, Some, IfOk};
 ghost use Rattle.event_clock.specs.Views.{IsDrawnOnce, IsEachPass, drawn_count, first_view, only, other_shares, with_shares};
 ghost use Rattle.event_clock.specs.Passes.{clock_id, unused, IsUnused, left_of, drew, met, heeded, sight_of, sight_at, IsNote, share_of, holder};
 

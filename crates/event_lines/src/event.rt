@@ -1,10 +1,9 @@
 //! Reading an event line.
 
-ghost use Rattle.std.specs.Prelude.{◌≡◌, ◌∷◌, [], ℕ, List, length, true, false, IfOk};
-ghost use Rattle.std.specs.List.{AllByRecursion, list_any};
+ghost use Rattle.std.specs.Prelude.{◌≡◌, ◌∷◌, [], ℕ, true, false};
+ghost use Rattle.std.specs.List.{list_any};
 ghost use Rattle.quorum_rules.specs.Limits.{Numbers};
 ghost use Rattle.text_lines.specs.Lines.{fields_of, texts};
-ghost use Rattle.line_forms.specs.Kinds.{Kind};
 ghost use Rattle.line_forms.specs.Kinds.Kind.{word as fixed, number as whole};
 ghost use Rattle.line_forms.specs.Tables.{Gives};
 ghost use Rattle.event_lines.specs.Forms.{fields_cause, forms_of, in_two, has_its_words, event_cause};

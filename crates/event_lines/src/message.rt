@@ -5,7 +5,7 @@ ghost use Rattle.line_forms.specs.Tables.{Gives};
 ghost use Rattle.message_texts.specs.Texts.{IsMessage, message_fields};
 ghost use Rattle.event_lines.specs.Forms.{message_cause, messages_of};
 ghost use Rattle.event_lines.specs.Lines.{IsSpelled};
-ghost use Rattle.event_lines.specs.Messages.{ask_forms, answer_forms, is_ask, is_answer};
+ghost use Rattle.event_lines.specs.Messages.{ask_forms, answer_forms};
 ghost use Rattle.event_lines.specs.Rests.{fields_after};
 ghost use Rattle.event_lines.specs.Words.{speech_text};
 ghost use Rattle.quorum_rules.specs.Limits.{Numbers};

@@ -1,7 +1,7 @@
 //! The text of an event line, written from its front to its end.
 #![tactic(auto, using(message_texts::proofs::Printed::joining))]
 
-ghost use Rattle.std.specs.Prelude.{◌≡◌, ◌++◌, ◌∷◌, [], codes, decimal, OnOk};
+ghost use Rattle.std.specs.Prelude.{◌≡◌, ◌++◌, ◌∷◌, codes, decimal, OnOk};
 ghost use Rattle.text_lines.specs.Fields.{value_text};
 ghost use Rattle.text_lines.specs.Lines.{line_of_fields};
 ghost use Rattle.message_texts.specs.Texts.{HasLimits, text_of};

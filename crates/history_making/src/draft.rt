@@ -1,9 +1,9 @@
-ghost use Rattle.std.specs.Prelude.{◌≡◌, ◌↔◌, ◌<◌, ◌^◌, IsTrue, true, IfOk, option_map};
+ghost use Rattle.std.specs.Prelude.{◌≡◌, ◌↔◌, ◌<◌, IsTrue, IfOk, option_map};
 ghost use Rattle.stamp_order.specs.Stamps.{same_stamp};
 ghost use Rattle.protocol.specs.Seen.{record_of};
 ghost use Rattle.protocol.specs.History.{entry_cmp};
 ghost use Rattle.protocol.specs.Report.{AreRivals};
-ghost use Rattle.history_making.specs.Tellings.{told_entry, told_with};
+ghost use Rattle.history_making.specs.Tellings.{told_with};
 ghost use Rattle.history_entries.specs.Numbers.{HasNumbers};
 ghost use Rattle.history_making.specs.Drafts.{entry_of, candidate, is_of_version, foreign_of, is_reading, in_block_cmp, in_version_cmp};
 

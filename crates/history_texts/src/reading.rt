@@ -1,8 +1,8 @@
 //! Texts of histories, read back.
 #![tactic(auto, using(text_lines::proofs::Spelled::spelled, std::proofs::lemmas::Grind::common_steps))]
 
-ghost use Rattle.std.specs.Prelude.{◌≡◌, ◌↔◌, ℕ, List, false, true, slice_get, ◌∷◌, [], ◌++◌, ◌+◌, ◌<◌, ◌≤◌, ◌^◌, ◌==◌, Bool, not, codes, length, count_by, is_none, option_copied, unwrap_or, IsTrue, IfOk, IfErr, OnOk, Some};
-ghost use Rattle.text_lines.specs.Fields.{value_of, value_text, IsBytes};
+ghost use Rattle.std.specs.Prelude.{◌≡◌, ℕ, List, false, true, slice_get, ◌∷◌, [], ◌+◌, ◌<◌, ◌^◌, ◌==◌, not, codes, length, is_none, IfOk, IfErr, OnOk, Some};
+ghost use Rattle.text_lines.specs.Fields.{value_of};
 ghost use Rattle.text_lines.specs.Lines.{fields_of, texts};
 ghost use Rattle.line_forms.specs.Tables.{Gives, first_of};
 ghost use Rattle.line_forms.specs.Texts.{IsFault, IsFaultless, IsRefusal, ReadsTo};

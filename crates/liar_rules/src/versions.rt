@@ -1,5 +1,5 @@
 //! Versions of blocks, as a liar makes them.
-ghost use Rattle.std.specs.Prelude.{◌≡◌, ◌<◌, length, slice_index_or, [], IfOk};
+ghost use Rattle.std.specs.Prelude.{◌≡◌, ◌<◌, length, IfOk};
 ghost use Rattle.gf_field.specs.Fragments.{fragments_of};
 ghost use Rattle.stamp_order.specs.declared.Stamp.{Stamp};
 ghost use Rattle.protocol.specs.Instance.{setting};

@@ -1,7 +1,7 @@
 //! The second line of a script: the numbers of the cluster.
 #![tactic(auto, using(text_lines::proofs::Spelled::spelled, std::proofs::lemmas::Grind::common_steps))]
 
-ghost use Rattle.std.specs.Prelude.{◌≡◌, ◌∷◌, true, false, length, map, OnOk, IfErr};
+ghost use Rattle.std.specs.Prelude.{◌≡◌, true, false, length, map, OnOk, IfErr};
 ghost use Rattle.std.specs.List.{list_any};
 ghost use Rattle.quorum_rules.specs.Limits.{IsValid};
 ghost use Rattle.text_lines.specs.Lines.{fields_of, texts};

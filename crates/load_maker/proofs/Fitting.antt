@@ -1,5 +1,5 @@
 -- The plan that a number makes can be run.
-use Rattle.std.proofs.Common.{◌≡◌, ℕ, zero, suc, ◌+◌, ◌*◌, ◌/◌, ◌%◌, ◌^◌, ◌<◌, ◌≤◌, Bool, true, false, ◌||◌, List, [], ◌∷◌, ◌++◌, length, map, None, refl, sym, ap, subst, ◌∙◌, ◌⊎◌, inl, inr, arith}
+use Rattle.std.proofs.Common.{◌≡◌, ℕ, zero, suc, ◌+◌, ◌/◌, ◌%◌, ◌<◌, ◌≤◌, Bool, true, false, ◌||◌, List, [], ◌∷◌, ◌++◌, length, map, None, refl, sym, ap, subst, ◌∙◌, inl, inr, arith}
 use Rattle.std.specs.Prelude.{nat_eq, nat_le, ◌==◌, if◌then◌else◌, count_by, sum_by, slice_index}
 use Rattle.std.specs.List.{AllByRecursion, IsDistinct, range_with_len, filter_map}
 use Rattle.std.specs.Set.{is_member, distinct_count}
@@ -14,14 +14,13 @@ use Rattle.quorum_rules.specs.Limits.{Numbers, IsValid}
 use Rattle.event_lines.specs.Lines.{IsNode, IsBlock, IsValue}
 use Rattle.wire_forms.specs.Liars.{Liars, IsClientNumber}
 use Rattle.wire_forms.specs.declared.rule.Rule.TheVariants.{Bad}
-use Rattle.wire_forms.specs.declared.op.Op.{Op}
 use Rattle.wire_forms.specs.declared.op.Op.TheVariants.{Read, Write}
 use Rattle.plan_words.specs.declared.fault.Fault.{Fault}
 use Rattle.plan_words.specs.declared.fault.Fault.TheVariants.{LiarNode, Drop, Hold}
 use Rattle.plan_words.specs.declared.job.Job.{Job}
 use Rattle.plan_words.specs.declared.plan.Plan.{Plan}
 use Rattle.plan_words.specs.Named.{clients, asking_clients, lying_clients, lying_nodes, faulty_nodes, troubled_client, job_client, is_phase, is_flood, liars_of}
-use Rattle.plan_words.specs.Plans.{IsFault, IsOp, IsJob, device_fault, step_count, step_limit, NameOnce, AreFew, AreApart, AreFitting, Fits}
+use Rattle.plan_words.specs.Plans.{IsFault, IsOp, IsJob, device_fault, step_count, step_limit, NameOnce, AreApart, AreFitting, Fits}
 use Rattle.load_maker.proofs.Blocks.{block_there}
 use Rattle.load_maker.specs.Loads.{cluster, rules_of, generator, word_at, value_from, block_of, op_of, job_of, work_of, plan_of}
 

@@ -1,5 +1,5 @@
 -- The blocks of a device as parts of its array.
-use Rattle.std.proofs.Common.{◌≡◌, ℕ, zero, suc, ◌+◌, ◌-◌, ◌*◌, ◌<◌, ◌≤◌, List, [], ◌∷◌, ◌++◌, length, take, drop, refl, sym, ◌∙◌, ap, arith, flat_map, slice_range, slice_set, slice_index_or}
+use Rattle.std.proofs.Common.{◌≡◌, ℕ, zero, suc, ◌+◌, ◌-◌, ◌*◌, ◌<◌, ◌≤◌, List, [], ◌∷◌, ◌++◌, length, take, drop, refl, sym, ◌∙◌, ap, arith, slice_range, slice_set, slice_index_or}
 use Rattle.std.proofs.lemmas.List.{append_assoc, append-nil, length-append, length-drop, drop-drop, take-append-le, drop-append-le, drop_all, take-append-drop}
 use Rattle.std.proofs.Math.Seq.{take-append-add, drop-append-add, take-length, take-add}
 use Rattle.std.proofs.Math.Nat.{suc-mul}

@@ -1,5 +1,5 @@
 -- Devices in order, after reads and writes.
-use Rattle.std.proofs.Common.{◌≡◌, ℕ, zero, suc, ◌+◌, ◌-◌, ◌*◌, ◌^◌, ◌<◌, ◌≤◌, true, List, [], ◌++◌, length, take, replicate, refl, sym, ◌∙◌, ap, subst, arith, inl, inr, slice_range, slice_set}
+use Rattle.std.proofs.Common.{◌≡◌, ℕ, ◌+◌, ◌-◌, ◌*◌, ◌^◌, ◌<◌, ◌≤◌, List, length, take, refl, sym, ◌∙◌, ap, arith, inl, inr, slice_range, slice_set}
 use Rattle.std.proofs.lemmas.Bool.{cases_eq}
 use Rattle.std.proofs.lemmas.List.{take_all, get_or-set_same, get_or-set_other, length-set}
 use Rattle.std.proofs.Math.Nat.{mul_comm}
@@ -8,11 +8,11 @@ use Rattle.quorum_rules.specs.declared.Edition.{Edition}
 use Rattle.quorum_rules.specs.declared.Edition.TheVariants.{One, Two}
 use Rattle.quorum_rules.specs.Limits.{Numbers, IsValid, most_size}
 use Rattle.block_device.specs.Device.{merged}
-use Rattle.protocol.specs.Setting.{IsBlock, zeros}
+use Rattle.protocol.specs.Setting.{IsBlock}
 use Rattle.protocol.specs.Instance.{setting}
 use Rattle.node_device.specs.Held.{Held, held_at, unwritten, rewritten}
 use Rattle.node_device.specs.Devices.{SeenDevice}
-use Rattle.nbd_front.specs.Arrays.{array_of, IsInOrder, IsWrittenUpTo, HasRead, HasWritten}
+use Rattle.nbd_front.specs.Arrays.{array_of, IsInOrder, HasRead, HasWritten}
 use Rattle.nbd_front.proofs.Blocks.{Parts, parts, array_len, middle, merged_middle}
 
 module _ (d : SeenDevice) (o : IsInOrder d) where

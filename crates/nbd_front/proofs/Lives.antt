@@ -1,12 +1,10 @@
 -- Servers that have served one more request.
-use Rattle.std.proofs.Common.{◌≡◌, ℕ, zero, suc, true, ◌++◌, ◌+◌, ◌*◌, ◌^◌, ◌<◌, ◌≤◌, List, length, replicate, refl, sym, ◌∙◌, ap, subst, arith, slice_range, Result, Ok, Err, IfOk}
+use Rattle.std.proofs.Common.{◌≡◌, ℕ, zero, suc, true, ◌++◌, ◌+◌, ◌*◌, ◌<◌, ◌≤◌, List, replicate, refl, ◌∙◌, ap, arith, Result, Ok, Err, IfOk}
 use Rattle.std.proofs.lemmas.List.{get_or-replicate, length-replicate, replicate-append-replicate}
 use Rattle.std.proofs.Math.Nat.{mul-suc}
 use Rattle.protocol.specs.Messages.{IsBytes}
 use Rattle.quorum_rules.specs.Limits.{Numbers, IsValid}
-use Rattle.protocol.specs.Setting.{zeros}
-use Rattle.protocol.specs.Instance.{setting}
-use Rattle.node_device.specs.Held.{Held, held_at, unwritten}
+use Rattle.node_device.specs.Held.{held_at, unwritten}
 use Rattle.node_device.specs.Devices.{SeenDevice}
 use Rattle.nbd_front.specs.Arrays.{array_of, IsInOrder, IsWrittenUpTo, HasRead, HasWritten}
 use Rattle.nbd_front.specs.Answers.{most_steps}

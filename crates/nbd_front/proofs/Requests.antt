@@ -1,7 +1,7 @@
 -- Requests that were read in parts, and sessions that end within one.
-use Rattle.std.proofs.Common.{◌≡◌, ◌≢◌, ℕ, ◌+◌, ◌*◌, ◌^◌, ◌<◌, ◌≤◌, List, [], ◌++◌, length, take, drop, refl, sym, ◌∙◌, ap, subst, arith, inl, inr, Option, Some, None, Result, Ok, Err}
-use Rattle.std.proofs.lemmas.List.{length-append, take-append-le, drop-append-le, drop_at, length-drop, append-nil}
-use Rattle.std.specs.Io.KnownBytes.{Consumes, IsAtEnd}
+use Rattle.std.proofs.Common.{◌≡◌, ◌≢◌, ℕ, ◌+◌, ◌<◌, ◌≤◌, List, ◌++◌, length, take, drop, refl, sym, ◌∙◌, ap, subst, arith, Option}
+use Rattle.std.proofs.lemmas.List.{length-append, take-append-le, drop-append-le, drop_at, length-drop}
+use Rattle.std.specs.Io.KnownBytes.{Consumes}
 use Rattle.std.specs.Int.{w32, from_be_bytes}
 use Rattle.outside_io.specs.Given.{GaveAtMost}
 use Rattle.outside_io.proofs.Known.{Consumes-then}
@@ -10,11 +10,10 @@ use Rattle.nbd_words.specs.declared.filling.TakeRefusal.{TakeRefusal}
 use Rattle.nbd_words.specs.declared.filling.TakeRefusal.TheVariants as refusals
 use Rattle.nbd_words.specs.Requests.{request_magic, magic_of, head_len, request_of, fields_of, data_len}
 use Rattle.nbd_words.specs.Arrivals.{HasBegun, GaveFewer}
-use Rattle.nbd_front.specs.declared.ending.Served.TheVariants.{Next, Over}
 use Rattle.nbd_front.specs.declared.ending.SessionEnd.{SessionEnd}
 use Rattle.nbd_front.specs.declared.ending.SessionEnd.TheVariants.{NoMemory, ReadFault, WriteFault, BadMagic, CutRequest, TooManyRequests}
 use Rattle.nbd_front.specs.Ends.{end_of}
-use Rattle.nbd_front.specs.Sessions.{leave_kind, most_requests, IsRequest, IsLeave, IsPart, IsEnd}
+use Rattle.nbd_front.specs.Sessions.{leave_kind, most_requests, IsRequest, IsPart}
 use Rattle.nbd_front.specs.Answers.{HasStopped}
 use Rattle.nbd_front.specs.Servers.{HasNotCome}
 

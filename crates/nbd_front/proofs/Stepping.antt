@@ -1,8 +1,8 @@
 -- Sessions that go on by a call of the server, or end by it.
-use Rattle.std.proofs.Common.{◌≡◌, ◌≢◌, ℕ, List, [], subst, Option, Some, None, Result, Ok, Err, OnOk, IfErr}
+use Rattle.std.proofs.Common.{◌≡◌, ◌≢◌, ℕ, List, [], subst, Option, Result, Ok, Err, OnOk, IfErr}
 use Rattle.outside_io.specs.Written.{Adds}
 use Rattle.nbd_front.specs.declared.ending.Served.{Served}
-use Rattle.nbd_front.specs.declared.ending.Served.TheVariants.{Next, Over}
+use Rattle.nbd_front.specs.declared.ending.Served.TheVariants.{Next}
 use Rattle.nbd_front.specs.declared.ending.SessionEnd.{SessionEnd}
 use Rattle.nbd_front.specs.declared.ending.SessionEnd.TheVariants.{NoMemory, ReadFault, WriteFault, BadMagic, CutRequest, TooManyRequests}
 use Rattle.nbd_front.specs.Sessions.{IsSession}

@@ -7,7 +7,7 @@ use Rattle.quorum_rules.specs.Limits.{Numbers}
 use Rattle.block_device.specs.Device.{merged}
 use Rattle.protocol.specs.Setting.{IsBlock}
 use Rattle.protocol.specs.Instance.{setting}
-use Rattle.node_device.specs.Held.{Held, held_at, rewritten}
+use Rattle.node_device.specs.Held.{held_at, rewritten}
 use Rattle.node_device.specs.Devices.{SeenDevice}
 use Rattle.nbd_front.specs.Arrays.{array_of, IsInOrder, IsWrittenUpTo, HasRead}
 use Rattle.nbd_front.proofs.Blocks.{merged_then, parts_then, start_then}

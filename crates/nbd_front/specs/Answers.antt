@@ -1,5 +1,5 @@
 -- How one request is answered, when its bytes before the data have been read.
-use Rattle.std.specs.Prelude.{◌≡◌, ℕ, ◌+◌, ◌<◌, List, length, Option}
+use Rattle.std.specs.Prelude.{◌≡◌, ℕ, ◌<◌, List, length, Option}
 use Rattle.std.specs.Io.KnownBytes.{Consumes, IsAtEnd}
 use Rattle.node_device.specs.Devices.{SeenDevice}
 use Rattle.outside_io.specs.Given.{GaveAtMost}

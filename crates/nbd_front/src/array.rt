@@ -1,5 +1,5 @@
 //! Spans of a device's bytes, read and written block by block.
-ghost use Rattle.std.specs.Prelude.{◌≡◌, ◌+◌, ◌-◌, ◌*◌, ◌^◌, ◌<◌, ◌≤◌, ◌++◌, min, max, length, slice_range, IfOk, OnOk};
+ghost use Rattle.std.specs.Prelude.{◌≡◌, ◌+◌, ◌-◌, ◌*◌, ◌^◌, ◌<◌, ◌≤◌, ◌++◌, min, length, slice_range, IfOk, OnOk};
 ghost use Rattle.block_device.specs.Device.{merged};
 ghost use Rattle.protocol.specs.Messages.{IsBytes};
 ghost use Rattle.protocol.specs.Setting.{IsBlock};

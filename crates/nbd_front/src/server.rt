@@ -1,5 +1,4 @@
-ghost use Rattle.std.specs.Prelude.{◌≡◌, ◌≢◌, ◌⊎◌, ◌≤◌, ◌+◌, ◌*◌, ◌^◌, ◌<◌, Ok, Err, None, true, [], replicate, length, slice_range, List, ℕ, OnOk, OnErr, IfOk, IfErr, IfSome, IsErrOf};
-ghost use Rattle.std.specs.Io.KnownBytes.{Consumes, IsAtEnd};
+ghost use Rattle.std.specs.Prelude.{◌≡◌, ◌≢◌, ◌⊎◌, ◌≤◌, ◌+◌, ◌*◌, ◌<◌, Ok, Err, true, [], replicate, slice_range, OnOk, OnErr, IfOk, IfErr, IsErrOf};
 ghost use Rattle.outside_io.specs.Causes.{Rose};
 ghost use Rattle.outside_io.specs.Written.{Adds, AllFlushed, TakesPrefix};
 ghost use Rattle.quorum_rules.specs.Limits.{wait_of};

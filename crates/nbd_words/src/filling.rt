@@ -1,4 +1,4 @@
-ghost use Rattle.std.specs.Prelude.{◌≡◌, ◌≢◌, ◌≤◌, ◌↔◌, IsTrue, Err, IfOk, OnOk, OnErr, IsErrOf, take, length, List, ℕ};
+ghost use Rattle.std.specs.Prelude.{◌≡◌, ◌≢◌, ◌≤◌, ◌↔◌, IsTrue, Err, IfOk, OnOk, OnErr, IsErrOf, length, List, ℕ};
 ghost use Rattle.outside_io.specs.Causes.{Rose};
 ghost use Rattle.outside_io.specs.Given.{GaveAtMost};
 ghost use Rattle.nbd_words.specs.Arrivals.{GaveUpTo, GaveFewer};

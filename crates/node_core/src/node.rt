@@ -1,7 +1,5 @@
-ghost use Rattle.std.specs.Prelude.{◌≡◌, ◌≢◌, ◌<◌, ◌≤◌, ◌↔◌, IsTrue, [], ◌∷◌, ◌++◌, map, replicate, length, OnOk, OnErr, IfOk, IfSome, None, is_some};
-ghost use Rattle.quorum_rules.specs.Limits.{IsValid};
-ghost use Rattle.protocol.specs.Nodes.{refusal, acknowledged, found, greatest_in, greatest_time, pruned, added, keeps, first_version};
-ghost use Rattle.protocol.specs.Count.{one_more};
+ghost use Rattle.std.specs.Prelude.{◌≡◌, ◌<◌, map, OnOk, OnErr, IfOk, None, is_some};
+ghost use Rattle.protocol.specs.Nodes.{refusal, acknowledged, found, greatest_in, greatest_time, pruned, added, keeps};
 ghost use Rattle.protocol.specs.Instance.{setting};
 ghost use Rattle.node_core.specs.Seen.{SeenNode, versions_in, with_versions, new_node, reply_of, after_of, accepts_of};
 

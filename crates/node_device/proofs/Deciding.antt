@@ -1,5 +1,5 @@
 -- How a phase ends in which each node that is asked gives the answer of the same block.
-use Rattle.std.proofs.Common.{◌≡◌, ℕ, zero, suc, ◌+◌, ◌-◌, ◌^◌, ◌<◌, ◌≤◌, Bool, true, false, cond, not, ◌&&◌, ◌==◌, List, [], ◌∷◌, length, map, take, Option, refl, sym, ◌∙◌, ap, subst, ◌⊎◌, inl, inr, arith, eqb, leb, ltb}
+use Rattle.std.proofs.Common.{◌≡◌, ℕ, ◌+◌, ◌-◌, ◌^◌, ◌<◌, ◌≤◌, true, false, List, [], ◌∷◌, length, map, Option, refl, sym, ◌∙◌, ap, ◌⊎◌, inl, inr, arith, eqb, leb, ltb}
 use Rattle.std.specs.declared.option.Option.TheVariants.{None, Some}
 use Rattle.std.specs.List.{Contains, range_with_len}
 use Rattle.std.proofs.lemmas.Bool.Decides.{nat_tests}
@@ -7,20 +7,20 @@ use Rattle.std.proofs.lemmas.List.{length-map}
 use Rattle.std.proofs.lemmas.List.FromFn.{length-map-range_with_len}
 use Rattle.stamp_order.specs.declared.Stamp.{Stamp}
 use Rattle.stamp_order.specs.declared.Bound.TheVariants.{All as Every}
-use Rattle.stamp_order.specs.Stamps.{up_to, same_stamp}
+use Rattle.stamp_order.specs.Stamps.{up_to}
 use Rattle.quorum_rules.specs.Limits.{Numbers, IsValid as IsValidConfig, wait_of}
 use Rattle.run_words.specs.declared.outcome.How.TheVariants.{Plain}
-use Rattle.run_words.specs.declared.outcome.Outcome.TheVariants.{Wrote, Spent, Gave}
+use Rattle.run_words.specs.declared.outcome.Outcome.TheVariants.{Wrote, Gave}
 use Rattle.wire_forms.specs.declared.Reply.TheVariants.{TimeIs, Found}
 use Rattle.protocol.specs.Messages.{Version, Reply}
 use Rattle.protocol.specs.Count.{count, collect}
-use Rattle.protocol.specs.Setting.{Setting, IsValid, IsBlock, IsAscending, zeros, first_stamp, verifier_of, same_digests}
+use Rattle.protocol.specs.Setting.{Setting, IsValid, IsBlock, zeros, first_stamp, verifier_of, same_digests}
 use Rattle.protocol.specs.Nodes.{carries, greatest_in}
-use Rattle.protocol.specs.Instance.{setting, nobody, IsCluster}
-use Rattle.protocol.specs.Operations.{valid, pivot, support, chosen, carriers, candidate, sum_of_first, part_of, only_if, numbered, drawn_from, decide, decide_at, decide_time, decide_pivot, value_of, stored, time_of, stamp_of as stamp_in}
-use Rattle.protocol.specs.Operations.Work.{Reads, Writes}
+use Rattle.protocol.specs.Instance.{setting, nobody}
+use Rattle.protocol.specs.Operations.{valid, pivot, support, chosen, carriers, candidate, sum_of_first, part_of, only_if, numbered, drawn_from, decide, decide_at, decide_time, decide_pivot, value_of, time_of, stamp_of as stamp_in}
+use Rattle.protocol.specs.Operations.Work.{Writes}
 use Rattle.protocol.specs.Operations.Stage.{Times, Versions, Storing}
-use Rattle.protocol.specs.Operations.Decision.{GoesOn, Ends}
+use Rattle.protocol.specs.Operations.Decision.{Ends}
 use Rattle.protocol.specs.Seen.{SeenTask, task_at, answers_of, by_decision, seen_goes_on}
 use Rattle.protocol.specs.Seen.Hearing.{Begins, Ended}
 use Rattle.protocol.proofs.Cluster.{cluster_valid}
@@ -32,7 +32,7 @@ use Rattle.node_core.specs.Seen.{SeenNode, versions_in}
 use Rattle.node_device.specs.Held.{Held, node_at, stamp_of, version_of, kept_of, fragment_in, part_in}
 use Rattle.node_device.specs.Phases.{answer_of, asked, phase_end}
 use Rattle.node_device.proofs.Below.{count_below, highest_below}
-use Rattle.node_device.proofs.Keeping.{AreApart, are_apart, greatest_is, whole_is}
+use Rattle.node_device.proofs.Keeping.{are_apart, greatest_is, whole_is}
 use Rattle.node_device.proofs.Phases.{answer_there, answer_not, collect_all}
 
 -- a node or client alone knows of no liar

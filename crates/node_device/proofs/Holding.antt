@@ -1,26 +1,26 @@
 -- How an operation and the prune after it change what the nodes hold.
-use Rattle.std.proofs.Common.{◌≡◌, ◌≢◌, ℕ, zero, suc, ◌+◌, ◌-◌, ◌^◌, ◌<◌, ◌≤◌, Bool, true, false, cond, ◌==◌, List, [], ◌∷◌, ◌++◌, length, map, replicate, Option, refl, sym, ◌∙◌, ap, subst, ◌⊎◌, inl, inr, arith, eqb, ltb}
-use Rattle.std.specs.declared.option.Option.TheVariants.{None, Some}
-use Rattle.std.specs.List.{range_with_len, slice_set, slice_index_or}
+use Rattle.std.proofs.Common.{◌≡◌, ◌≢◌, ℕ, zero, suc, ◌+◌, ◌-◌, ◌<◌, ◌≤◌, true, List, [], ◌∷◌, ◌++◌, length, map, replicate, refl, sym, ◌∙◌, ap, ◌⊎◌, inl, inr, arith, ltb}
+use Rattle.std.specs.declared.option.Option.TheVariants.{None}
+use Rattle.std.specs.List.{range_with_len, slice_set}
 use Rattle.std.proofs.lemmas.Bool.{cases_eq}
 use Rattle.std.proofs.lemmas.Bool.Decides.{nat_tests}
-use Rattle.std.proofs.lemmas.List.{ext_get_or, get_or_default, get_or-map, get_or-replicate, length-map, length-replicate, length-set, get_or-set_same, get_or-set_other, set-get_or}
+use Rattle.std.proofs.lemmas.List.{ext_get_or, get_or-map, get_or-replicate, length-map, length-replicate, length-set, get_or-set_same, get_or-set_other, set-get_or}
 use Rattle.std.proofs.lemmas.List.FromFn.{get_or-map-range_with_len, length-map-range_with_len}
 use Rattle.stamp_order.specs.declared.Stamp.{Stamp}
 use Rattle.stamp_order.specs.declared.Bound.TheVariants.{All as Every}
 use Rattle.quorum_rules.specs.Limits.{Numbers, IsValid as IsValidConfig, wait_of}
 use Rattle.wire_forms.specs.declared.Request.TheVariants.{Time, Read, Write}
 use Rattle.wire_forms.specs.declared.Reply.TheVariants.{TimeIs, Found, Ack}
-use Rattle.protocol.specs.Messages.{IsBytes, Version, Ask, Request, Reply}
+use Rattle.protocol.specs.Messages.{IsBytes, Version, Request}
 use Rattle.protocol.specs.Count.{one_more}
 use Rattle.protocol.specs.Setting.{Setting, IsValid, IsBlock, zeros, verifier_of}
-use Rattle.protocol.specs.Nodes.{first_version, reply_in, added_in, pruned}
+use Rattle.protocol.specs.Nodes.{first_version, reply_in, added_in}
 use Rattle.protocol.specs.Instance.{setting}
 use Rattle.protocol.specs.Operations.Stage.{Times, Versions, Storing}
 use Rattle.protocol.specs.Seen.{SeenTask}
 use Rattle.node_core.specs.Seen.{SeenNode, versions_in, with_versions, new_node, reply_of, after_of}
-use Rattle.node_device.specs.Held.{Held, the_client, unwritten, node_at, held_at, stamp_of, version_of, kept_of, rewritten, IsOwn, IsHeld, held_in, held_of}
-use Rattle.node_device.specs.Phases.{ask_to, answer_of, node_after, HaveAnswered}
+use Rattle.node_device.specs.Held.{Held, the_client, unwritten, node_at, held_at, stamp_of, version_of, kept_of, rewritten, IsHeld, held_in, held_of}
+use Rattle.node_device.specs.Phases.{answer_of, HaveAnswered}
 use Rattle.node_device.specs.Devices.{pruned_at}
 use Rattle.node_device.proofs.Keeping.{greatest_is, time_is, prune_same, not_refused, is_added, prune_next}
 use Rattle.node_device.proofs.Deciding.{good_setting, decodes_held}

@@ -1,14 +1,14 @@
 -- What a node answers and keeps of a block of which it keeps the first version and the latest.
-use Rattle.std.proofs.Common.{◌≡◌, ℕ, ◌+◌, ◌<◌, ◌≤◌, Bool, true, false, cond, not, ◌||◌, ◌&&◌, ◌==◌, List, [], ◌∷◌, ◌++◌, length, max, filter, Option, refl, sym, ◌∙◌, ap, ◌⊎◌, inl, inr, arith, eqb, ltb}
+use Rattle.std.proofs.Common.{◌≡◌, ℕ, ◌+◌, ◌<◌, Bool, true, false, ◌||◌, List, [], ◌∷◌, ◌++◌, length, refl, ap, ◌⊎◌, inl, inr, arith, eqb, ltb}
 use Rattle.std.specs.declared.option.Option.TheVariants.{None, Some}
 use Rattle.std.proofs.lemmas.Bool.Decides.{nat_tests}
 use Rattle.stamp_order.specs.declared.Stamp.{Stamp}
 use Rattle.stamp_order.specs.declared.Bound.TheVariants.{All as Every, AtMost}
-use Rattle.stamp_order.specs.Stamps.{has, up_to, before, same_stamp}
+use Rattle.stamp_order.specs.Stamps.{up_to, before, same_stamp}
 use Rattle.quorum_rules.specs.Limits.{Numbers}
 use Rattle.protocol.specs.Messages.{Version}
 use Rattle.protocol.specs.Setting.{Setting, IsValid, IsBlock, zeros, first_stamp, verifier_of, digest_at, same}
-use Rattle.protocol.specs.Nodes.{first_version, greatest_in, greatest_time, later, keeps, carries, refusal, added_in, outlives, pruned}
+use Rattle.protocol.specs.Nodes.{first_version, greatest_in, greatest_time, keeps, refusal, added_in, outlives, pruned}
 use Rattle.wire_forms.specs.declared.Request.TheVariants.{Write}
 use Rattle.protocol.specs.Operations.{is_whole}
 use Rattle.protocol.specs.Instance.{setting}

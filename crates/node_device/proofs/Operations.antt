@@ -1,5 +1,5 @@
 -- What a read and a write do, phase by phase.
-use Rattle.std.proofs.Common.{◌≡◌, ℕ, ◌+◌, ◌-◌, ◌^◌, ◌<◌, ◌≤◌, true, List, length, map, Option, refl, sym, ◌∙◌, ap, subst, ◌⊎◌, inl, inr, arith}
+use Rattle.std.proofs.Common.{◌≡◌, ℕ, ◌+◌, ◌-◌, ◌^◌, ◌<◌, ◌≤◌, List, length, map, refl, ◌∙◌, ap, subst, ◌⊎◌, inl, inr, arith}
 use Rattle.std.specs.declared.option.Option.TheVariants.{None, Some}
 use Rattle.std.specs.List.{slice_set}
 use Rattle.stamp_order.specs.declared.Stamp.{Stamp}
@@ -10,8 +10,8 @@ use Rattle.run_words.specs.declared.outcome.Outcome.TheVariants.{Wrote, Gave}
 use Rattle.wire_forms.specs.declared.op.Op.TheVariants.{Read as ReadOp, Write as WriteOp}
 use Rattle.protocol.specs.Setting.{Setting, IsBlock, verifier_of}
 use Rattle.protocol.specs.Instance.{setting}
-use Rattle.protocol.specs.Operations.{Stage, mail}
-use Rattle.protocol.specs.Operations.Stage.{Times, Versions, Storing}
+use Rattle.protocol.specs.Operations.{mail}
+use Rattle.protocol.specs.Operations.Stage.{Storing}
 use Rattle.protocol.specs.Views.{task_after}
 use Rattle.protocol.specs.Seen.{SeenTask, task_at, seen_goes_on}
 use Rattle.protocol.specs.Seen.Hearing.{Begins, Ended}

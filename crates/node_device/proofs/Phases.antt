@@ -1,14 +1,13 @@
 -- The nodes answer a phase one after the other, and the client counts each answer.
-use Rattle.std.proofs.Common.{◌≡◌, ℕ, zero, suc, ◌+◌, ◌-◌, ◌^◌, ◌<◌, ◌≤◌, Bool, true, false, cond, not, ◌&&◌, ◌==◌, List, [], ◌∷◌, ◌++◌, length, map, replicate, Option, refl, sym, ◌∙◌, ap, ◌⊎◌, inl, inr, arith, eqb, ltb}
+use Rattle.std.proofs.Common.{◌≡◌, ℕ, zero, suc, ◌+◌, ◌-◌, ◌<◌, ◌≤◌, true, false, List, [], ◌∷◌, ◌++◌, length, map, replicate, Option, refl, sym, ◌∙◌, ap, ◌⊎◌, inl, inr, arith, ltb}
 use Rattle.std.specs.declared.option.Option.TheVariants.{None, Some}
 use Rattle.std.specs.List.{range_with_len, slice_set, slice_index_or}
 use Rattle.std.proofs.lemmas.Bool.{cases_eq}
 use Rattle.std.proofs.lemmas.Bool.Decides.{nat_tests}
-use Rattle.std.proofs.lemmas.List.{ext_get_or, get_or_past, get_or-replicate, length-replicate, length-set, get_or-set_same, get_or-set_other}
+use Rattle.std.proofs.lemmas.List.{ext_get_or, get_or-replicate, length-replicate, length-set, get_or-set_same, get_or-set_other}
 use Rattle.std.proofs.lemmas.List.FromFn.{get_or-map-range_with_len, length-map-range_with_len, map-range_with_len_more}
 use Rattle.quorum_rules.specs.Limits.{Numbers, wait_of}
 use Rattle.wire_forms.specs.declared.message.Message.{Message}
-use Rattle.wire_forms.specs.declared.message.Body.TheVariants.{Ask as Asks, Answer as Answers}
 use Rattle.protocol.specs.Messages.{Reply, Tag}
 use Rattle.protocol.specs.Count.{count, collect}
 use Rattle.protocol.specs.Operations.{Decision, is_of_kind, is_answered, answered, outstanding, decide}
@@ -18,12 +17,12 @@ use Rattle.protocol.specs.Views.{task_after}
 use Rattle.protocol.specs.Seen.{SeenTask, Hearing, task_at, answers_of, by_decision, is_counted, seen_counted, after_counting, hearing}
 use Rattle.protocol.specs.Seen.Hearing.{Ignored, Counted, Begins, Ended}
 use Rattle.protocol.proofs.Tests.{eqb_self}
-use Rattle.node_core.specs.Seen.{SeenNode, with_versions, after_of}
-use Rattle.client_core.specs.Clients.{ClientView, IsHeard, with_task, mail_of, hears}
+use Rattle.node_core.specs.Seen.{SeenNode}
+use Rattle.client_core.specs.Clients.{ClientView, IsHeard, with_task, hears}
 use Rattle.client_core.specs.declared.heard.Heard.{Heard}
 use Rattle.client_core.specs.declared.heard.Heard.TheVariants.{Unchanged, More, Send, Ended as EndedWith}
 use Rattle.node_device.specs.Held.{node_at}
-use Rattle.node_device.specs.Phases.{answer_to, ask_to, answer_of, answer_below, asked, node_after, HaveAnswered, phase_end, heard_of, IsAsking, HasAsked, HasMet}
+use Rattle.node_device.specs.Phases.{answer_to, answer_of, answer_below, asked, node_after, HaveAnswered, phase_end, heard_of, IsAsking, HasAsked, HasMet}
 use Rattle.node_device.proofs.Below.{count_below}
 
 -- what is collected of all numbers is a list of what they give

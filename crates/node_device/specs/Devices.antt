@@ -1,5 +1,5 @@
 -- What contracts see of a device over nodes.
-use Rattle.std.specs.Prelude.{◌≡◌, ℕ, ◌+◌, Bool, true, List, Option}
+use Rattle.std.specs.Prelude.{◌≡◌, ℕ, ◌+◌, Bool, true, List}
 use Rattle.std.specs.declared.option.Option.TheVariants.{None}
 use Rattle.quorum_rules.specs.Limits.{Numbers, IsValid}
 use Rattle.stamp_order.specs.declared.Stamp.{Stamp}

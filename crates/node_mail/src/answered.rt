@@ -7,7 +7,6 @@ use event_clock::{Clock, Note};
 use inboxes::Mail;
 use journals::Way;
 use locked_nodes::{CellRefusal, Told};
-use message_same::same;
 use std::snapshot::Snapshot;
 use wire_forms::Message;
 
@@ -51,7 +50,7 @@ impl Answered {
     pub fn is_to(&self, way: Way, ask: &Message) -> bool
         ensures { IsTrue result ↔ ((self.now.way ≡ way) × (self.now.ask ≡ ask.now)) }
     {
-        self.way == way && same(&self.ask, ask)
+        self.way == way && self.ask.same(ask)
     }
 
     /// What was told or refused, and the note that has seen it.

@@ -1,5 +1,5 @@
 -- What holds of plans, and of journals that follow them.
-use Rattle.std.specs.Prelude.{ℕ, ◌<◌, ◌≤◌, List, [], ◌∷◌, ◌++◌, length, All}
+use Rattle.std.specs.Prelude.{ℕ, List, [], ◌∷◌, ◌++◌}
 use Rattle.wire_forms.specs.Liars.{has_number, AreLiars}
 use Rattle.protocol.specs.Instance.{IsCluster}
 use Rattle.plan_words.specs.declared.plan.Plan.{Plan}

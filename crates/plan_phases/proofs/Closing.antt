@@ -1,24 +1,22 @@
 -- What was closed stays closed, and one phase more closes.
-use Rattle.std.proofs.Common.{◌≡◌, ◌⊎◌, ℕ, zero, suc, ◌+◌, ◌<◌, ◌≤◌, Bool, true, false, cond, List, [], ◌∷◌, ◌++◌, length, map, refl, sym, ◌∙◌, ap, subst, inl, inr, arith}
-use Rattle.std.specs.Prelude.{Option, slice_get}
-use Rattle.std.specs.declared.option.Option.TheVariants.{None, Some}
-use Rattle.std.specs.List.{Contains, count_by, flat_map}
+use Rattle.std.proofs.Common.{◌≡◌, ◌⊎◌, ℕ, suc, ◌+◌, ◌<◌, ◌≤◌, Bool, true, false, cond, List, [], ◌∷◌, ◌++◌, length, map, refl, sym, ◌∙◌, ap, subst, inl, inr, arith}
+use Rattle.std.specs.Prelude.{slice_get}
+use Rattle.std.specs.declared.option.Option.TheVariants.{Some}
+use Rattle.std.specs.List.{Contains, count_by}
 use Rattle.std.proofs.lemmas.List.Elements.{Contains-append_cases, Contains-append_left, Contains-append_right, Contains-push}
 use Rattle.quorum_rules.specs.Limits.{Numbers}
 use Rattle.stamp_order.specs.declared.Stamp.{Stamp}
-use Rattle.stamp_order.specs.Stamps.{◌≼◌}
 use Rattle.wire_forms.specs.Liars.{has_number, Liars}
 use Rattle.std.proofs.lemmas.Option.{slice_get_within}
 use Rattle.std.proofs.lemmas.List.Sums.{sum_by-cons}
 use Rattle.protocol.specs.Count.{update}
-use Rattle.protocol.proofs.Lists.{Contains-none, Contains-head, Contains-one, Contains-slice_get, Contains-map, Contains-map_cases}
+use Rattle.protocol.proofs.Lists.{Contains-none, Contains-one, Contains-slice_get}
 use Rattle.block_device.specs.declared.steps.BlockStep.{BlockStep}
 use Rattle.plan_words.specs.declared.plan.Plan.{Plan}
 use Rattle.plan_words.specs.declared.job.Job.{Job}
 use Rattle.plan_words.specs.declared.job.Job.TheVariants.{Block, Device, Phase as PhaseEnd}
 use Rattle.plan_words.specs.Named.{is_phase}
 use Rattle.journals.specs.declared.node.NodeAct.TheVariants.{Pruned}
-use Rattle.journals.specs.declared.node.NodeAct.{NodeAct}
 use Rattle.journals.specs.declared.node.NodeEntry.{NodeEntry}
 use Rattle.journals.specs.declared.desk.DeskEntry.{DeskEntry}
 use Rattle.journals.specs.declared.whole.Journals.{Journals}
@@ -26,13 +24,13 @@ use Rattle.journals.specs.Acts.{can_prune}
 use Rattle.journals.specs.Desks.{DeskState, new_desk, desk_after_all}
 use Rattle.journals.specs.Steps.{HasGiven}
 use Rattle.journals.specs.Journals.{setting_for, at_node, at_desk, desks_before, nodes_before, cluster_at}
-use Rattle.journals.specs.Phases.{Phase, IsWithin, IsGreatest}
-use Rattle.journals.proofs.Lists.{number_of, update-same, update-other}
-use Rattle.plan_followed.specs.Asked.{conduct_of, steps_for, steps_in, first_phases, nature, messages}
-use Rattle.plan_followed.specs.Clients.{InEach, GoesByPlan, IsDone, ClientFollows, LiarFollows, all_asked}
-use Rattle.plan_followed.specs.Nodes.{Pruning, act_of, node_after, nodes_within, IsClosed, NodeFollows}
-use Rattle.plan_followed.specs.Followed.{AreInTurn, begin_of, IsGivenIn, ArePrunes, AreFor, FollowsAs, Follows}
-use Rattle.plan_phases.specs.Closed.{ComesLater, NodeGoesOn, DeskGoesOn, AreLater, AreBelow, HasPruned, next_begin, IsDoneWith, ClosedAs, HaveClosed, AreEmpty, AreWorked, FinishedAs, IsWorkedOff, HavePruned, Begins, GoesOn, Closes, Ends}
+use Rattle.journals.specs.Phases.{Phase, IsWithin}
+use Rattle.journals.proofs.Lists.{update-same, update-other}
+use Rattle.plan_followed.specs.Asked.{conduct_of, steps_for, steps_in, first_phases, nature}
+use Rattle.plan_followed.specs.Clients.{IsDone}
+use Rattle.plan_followed.specs.Nodes.{Pruning, act_of, node_after, nodes_within, IsClosed}
+use Rattle.plan_followed.specs.Followed.{begin_of, IsGivenIn, ArePrunes, FollowsAs}
+use Rattle.plan_phases.specs.Closed.{NodeGoesOn, DeskGoesOn, AreBelow, HasPruned, next_begin, IsDoneWith, ClosedAs, HaveClosed, AreWorked, FinishedAs, IsWorkedOff, HavePruned, Begins, GoesOn, Closes, Ends}
 use Rattle.plan_phases.proofs.Later.{below_same, within_same, below_all, within_more}
 use Rattle.plan_phases.proofs.Turns.{ends_before, closes_before, in_turn, get_pushed, same_begin}
 

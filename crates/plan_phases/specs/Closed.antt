@@ -1,6 +1,6 @@
 -- What journals have followed of a plan when its first phases are closed, and how that goes on.
-use Rattle.std.specs.Prelude.{◌≡◌, ◌⊎◌, ℕ, ◌+◌, ◌<◌, ◌≤◌, Bool, true, false, if◌then◌else◌, List, [], ◌∷◌, ◌++◌, length, map, count_by, Option, slice_get}
-use Rattle.std.specs.declared.option.Option.TheVariants.{None, Some}
+use Rattle.std.specs.Prelude.{◌≡◌, ◌⊎◌, ℕ, ◌+◌, ◌<◌, ◌≤◌, Bool, true, false, if◌then◌else◌, List, [], ◌∷◌, ◌++◌, length, map, count_by, slice_get}
+use Rattle.std.specs.declared.option.Option.TheVariants.{Some}
 use Rattle.std.specs.List.{Contains}
 use Rattle.protocol.specs.Count.{update}
 use Rattle.stamp_order.specs.declared.Stamp.{Stamp}
@@ -17,7 +17,7 @@ use Rattle.journals.specs.Phases.{Phase, IsWithin}
 use Rattle.plan_followed.specs.Asked.{steps_for, first_phases, nature, messages}
 use Rattle.plan_followed.specs.Clients.{InEach, GoesByPlan, IsDone, all_asked}
 use Rattle.plan_followed.specs.Nodes.{Pruning, act_of, node_after, IsClosed}
-use Rattle.plan_followed.specs.Followed.{AreInTurn, begin_of, end_of, ArePrunes, AreFor, Follows}
+use Rattle.plan_followed.specs.Followed.{AreInTurn, begin_of, ArePrunes, AreFor, Follows}
 
 -- ---- what comes later
 

@@ -1,18 +1,17 @@
 -- The history of a run whose records were made out of its journals.
-use Rattle.std.proofs.Common.{◌≡◌, ℕ, ◌+◌, ◌-◌, ◌^◌, ◌<◌, ◌≤◌, List, [], ◌∷◌, map, Option, refl, sym, ◌∙◌, ap, subst, arith}
-use Rattle.text_lines.specs.Lines.{text_of_lines}
+use Rattle.std.proofs.Common.{◌≡◌, ℕ, ◌+◌, ◌-◌, ◌^◌, ◌<◌, List, [], ◌∷◌, map, Option, sym, ◌∙◌, ap, subst, arith}
 use Rattle.stamp_order.specs.declared.Stamp.{Stamp}
 use Rattle.wire_forms.specs.Liars.{has_number}
 use Rattle.wire_forms.specs.Firsts.{first_of}
-use Rattle.protocol.specs.Setting.{Setting, IsValid, first_stamp}
-use Rattle.protocol.specs.World.{World, Record, start_world}
+use Rattle.protocol.specs.Setting.{Setting}
+use Rattle.protocol.specs.World.{World, Record}
 use Rattle.protocol.specs.Lines.{Line, IsRun}
 use Rattle.protocol.proofs.Cluster.{cluster_valid}
 use Rattle.protocol.proofs.Firsts.{first_stamp_is}
 use Rattle.history_entries.specs.Books.{Book}
 use Rattle.history_texts.specs.Reports.{report_text}
 use Rattle.run_reports.specs.Histories.{AreOfRun, TellsHistory}
-use Rattle.journals.specs.Steps.{Step, Conduct}
+use Rattle.journals.specs.Steps.{Step}
 use Rattle.journals.specs.Merging.{Merged, next_world, line_of}
 use Rattle.journals.specs.declared.whole.Journals.{Journals}
 use Rattle.journals.specs.Journals.{setting_for, IsMerge, AreOfRun as AreOfRunInThreads}

@@ -13,7 +13,7 @@ use Rattle.wire_forms.specs.declared.Body.TheVariants.{Ask as Asks, Answer as An
 use Rattle.protocol.specs.Messages.{Version, Ask, Tag, Request, Reply, Message}
 use Rattle.protocol.specs.Setting.{Setting, IsValid}
 use Rattle.protocol.specs.Nodes.{greatest_time, found, reply, reply_in}
-use Rattle.protocol.specs.Operations.{Task, Stage, Outcome, begun, goes_on, mail, outstanding, ask_of}
+use Rattle.protocol.specs.Operations.{Task, Stage, goes_on, mail, outstanding, ask_of}
 use Rattle.protocol.specs.World.{World, Event, Record, Allowed, AllAllowed, IsAskTo, IsAnswerTo, IsQuiet, happens, all_happen, moved, given, heard, resent_by, pruned_at, only_place, open_record, closed_record, under_way, greatest_given, unless, start_world}
 use Rattle.protocol.specs.World.Event.{Start, Resend as Resends, Give as Gives, Hear as Hears, CrashNode as NodeCrashes, CrashClient as ClientCrashes, Lie as Lies, Prune as Prunes, Back as ComesBack}
 use Rattle.protocol.specs.Lines.{Line, Rule, Run, FitsLine, fault, events, plays, called, told, falsely_told, false_answer, given_at, heard_at}

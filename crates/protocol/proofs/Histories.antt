@@ -10,7 +10,7 @@ use Rattle.stamp_order.specs.declared.Stamp.{Stamp}
 use Rattle.stamp_order.specs.Stamps.{◌≼◌}
 use Rattle.protocol.proofs.Forming.{zeros_block, sum_formed, flat_inj}
 use Rattle.protocol.specs.Messages.{flat}
-use Rattle.protocol.specs.Setting.{Setting, IsBlock, IsValid, IsAscending, first_stamp, zeros, Sound, verifier_of}
+use Rattle.protocol.specs.Setting.{Setting, IsBlock, IsValid, IsAscending, first_stamp, Sound, verifier_of}
 use Rattle.protocol.specs.Operations.{Work, Outcome, How}
 use Rattle.protocol.specs.Operations.Work.{Reads, Writes}
 use Rattle.run_words.specs.declared.outcome.Outcome.TheVariants.{Wrote, Spent, Gave, Outvoted}

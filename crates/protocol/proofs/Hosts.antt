@@ -12,9 +12,8 @@ use Rattle.wire_forms.specs.declared.Reply.TheVariants.{TimeIs, Found, Nothing, 
 use Rattle.wire_forms.specs.declared.Body.TheVariants.{Ask as Asks, Answer as Answers}
 use Rattle.protocol.specs.Setting.{Setting, IsValid, first_stamp}
 use Rattle.protocol.specs.Nodes.{greatest_in, greatest_time, found, acknowledged, refusal, reply, reply_in}
-use Rattle.protocol.specs.Operations.{Task, Stage, Outcome, answered, mail, goes_on, decide}
-use Rattle.protocol.specs.Operations.Decision.{GoesOn, Ends}
-use Rattle.protocol.specs.World.{World, Event, happens, Allowed, IsAskTo, IsAnswerTo, given, handled, heard, moved, pruned_at, open_record, closed_record, greatest_given, under_way, IsOfLiar, only_place, start_world}
+use Rattle.protocol.specs.Operations.{Task, mail, goes_on}
+use Rattle.protocol.specs.World.{World, Event, happens, Allowed, IsAskTo, IsAnswerTo, given, handled, heard, pruned_at, greatest_given, IsOfLiar, only_place, start_world}
 use Rattle.protocol.specs.World.Event.{Start, Resend, Give, Hear, CrashNode, CrashClient, Lie, Prune, Back}
 use Rattle.protocol.specs.Facts.{HasAccepted, IsGrounded, IsHosted}
 use Rattle.protocol.proofs.Lists.{append_nil, Contains-slice_get, Contains-one, Contains-none}

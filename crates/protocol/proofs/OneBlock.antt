@@ -9,8 +9,7 @@ use Rattle.protocol.specs.Count.{update}
 use Rattle.protocol.specs.Messages.{Ask, Body, Message}
 use Rattle.protocol.specs.Setting.{Setting, IsValid}
 use Rattle.protocol.specs.Nodes.{reply}
-use Rattle.protocol.specs.Operations.{Task, Work, Stage, Outcome, begun, outstanding, mail, goes_on, answered, decide}
-use Rattle.protocol.specs.Operations.Decision.{GoesOn, Ends}
+use Rattle.protocol.specs.Operations.{Task, Work, begun, outstanding, mail, goes_on}
 use Rattle.protocol.specs.World.{World, Event, happens, Allowed, IsAnswerTo, IsOfLiar, given, heard, pruned_at, under_way, last_op, greatest_given, start_world}
 use Rattle.protocol.specs.World.Event.{Start, Resend, Give, Hear, CrashNode, CrashClient, Lie, Prune, Back}
 use Rattle.protocol.proofs.Counting.{update-cases}

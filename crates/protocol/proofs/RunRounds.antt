@@ -1,5 +1,5 @@
 -- How many rounds the reads of a run ask.
-use Rattle.std.proofs.Common.{◌≡◌, ◌⊎◌, ℕ, ◌+◌, ◌-◌, ◌*◌, ◌<◌, ◌≤◌, Bool, true, false, cond, not, ◌&&◌, List, [], ◌∷◌, ◌++◌, Option, refl, sym, ◌∙◌, ap, subst, inl, inr, arith, leb, ltb}
+use Rattle.std.proofs.Common.{◌≡◌, ℕ, ◌+◌, ◌-◌, ◌<◌, ◌≤◌, Bool, true, false, cond, not, ◌&&◌, List, [], ◌∷◌, Option, refl, sym, ◌∙◌, subst, inl, inr, arith, leb, ltb}
 use Rattle.std.specs.declared.option.Option.TheVariants.{None, Some}
 use Rattle.std.specs.List.{Contains}
 use Rattle.std.proofs.lemmas.Bool.Decides.{nat_tests}
@@ -21,7 +21,7 @@ use Rattle.run_words.specs.declared.outcome.How.TheVariants.{Plain}
 use Rattle.protocol.specs.Operations.Stage.{Times, Versions, Storing}
 use Rattle.run_words.specs.declared.outcome.Outcome.TheVariants.{Wrote, Spent, Gave, Outvoted}
 use Rattle.protocol.specs.Operations.Decision.{GoesOn, Ends}
-use Rattle.protocol.specs.World.{World, Record, Accepted, Event, Allowed, happens, handled, accepted_at, given, moved, only_place, resent_by, pruned_at, open_record, closed_record, under_way, greatest_given, with_record, last_op, IsAnswerTo, start_world}
+use Rattle.protocol.specs.World.{World, Record, Accepted, Event, Allowed, happens, handled, accepted_at, given, moved, resent_by, pruned_at, open_record, closed_record, under_way, greatest_given, last_op, IsAnswerTo, start_world}
 use Rattle.protocol.specs.World.Event.{Start, Resend, Give, Hear, CrashNode, CrashClient, Lie, Prune, Back}
 use Rattle.protocol.specs.Bounds.{IsFewAt, IsBounded}
 use Rattle.protocol.proofs.Counting.{both_true, shared, some_passes, count_within, update-cases}

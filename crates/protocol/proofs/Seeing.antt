@@ -11,7 +11,7 @@ use Rattle.protocol.specs.Operations.{Task, Work, Stage, Decision, decide, mail,
 use Rattle.protocol.specs.Operations.Stage.{Times, Versions, Storing}
 use Rattle.protocol.specs.Operations.Decision.{GoesOn, Ends}
 use Rattle.protocol.specs.Nodes.{first_version}
-use Rattle.protocol.specs.World.{World, start_world, moved, only_place, decided, advanced, heard_by, open_record, closed_record}
+use Rattle.protocol.specs.World.{World, start_world, moved, only_place, decided, advanced, heard_by, open_record}
 use Rattle.protocol.specs.Seen.{SeenClient, SeenWorld, client_at, new_client, started_task, world_of, SeenTask, answers_of, task_at, seen_begun, seen_goes_on, seen_counted, is_counted, by_decision, after_counting, hearing}
 use Rattle.protocol.specs.Seen.Hearing.{Ignored, Counted}
 pub use Rattle.protocol.specs.Views.{IsFull, after_hearing, task_after}

@@ -11,7 +11,7 @@ use Rattle.wire_forms.specs.declared.Body.TheVariants.{Ask as Asks, Answer as An
 use Rattle.protocol.specs.Setting.{Setting, IsValid}
 use Rattle.protocol.proofs.Forming.{request_formed}
 use Rattle.protocol.specs.Nodes.{pruned}
-use Rattle.protocol.specs.Operations.{Task, Outcome, How, outstanding, mail, request_of}
+use Rattle.protocol.specs.Operations.{Task, outstanding, mail, request_of}
 use Rattle.run_words.specs.declared.outcome.Outcome.TheVariants.{Gave}
 use Rattle.protocol.specs.World.{World, happens, sent, only_place, IsOfLiar, IsQuiet, unless, under_way, last_op, greatest_given}
 use Rattle.protocol.specs.World.Event.{Resend, Lie, CrashNode, CrashClient, Back}

@@ -4,8 +4,7 @@ use Rattle.std.specs.List.{Contains, AllByRecursion}
 use Rattle.std.proofs.lemmas.Bool.Decides.{nat_tests}
 use Rattle.protocol.specs.Messages.{Message}
 use Rattle.protocol.specs.Setting.{Setting, IsValid}
-use Rattle.protocol.specs.Operations.{Task}
-use Rattle.protocol.specs.World.{World, Record, Event, happens, Allowed, IsAnswerTo, given, resent_by, pruned_at, heard, open_record, closed_record, with_record, replaced_by, only_place}
+use Rattle.protocol.specs.World.{World, Record, Event, happens, Allowed, IsAnswerTo, heard, open_record, with_record, replaced_by}
 use Rattle.protocol.specs.World.Event.{Start, Resend, Give, Hear, CrashNode, CrashClient, Lie, Prune, Back}
 use Rattle.protocol.specs.Report.{Ascend}
 use Rattle.protocol.proofs.Counting.{both_true}

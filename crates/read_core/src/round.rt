@@ -1,5 +1,5 @@
 ghost use Rattle.std.specs.Prelude.{◌≡◌, ◌↔◌, ◌≤◌, ℕ, IsTrue, IfOk, length};
-ghost use Rattle.quorum_rules.specs.Limits.{IsValid, complete_of, repairable_of};
+ghost use Rattle.quorum_rules.specs.Limits.{complete_of, repairable_of};
 ghost use Rattle.protocol.specs.Setting.{first_stamp};
 ghost use Rattle.protocol.specs.Instance.{setting};
 ghost use Rattle.protocol.specs.Operations.{stamps};

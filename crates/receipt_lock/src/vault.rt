@@ -1,4 +1,4 @@
-ghost use Rattle.std.specs.Prelude.{◌≡◌, ℕ, ◌+◌, ◌^◌, ◌<◌, ◌≤◌, [], ◌∷◌, length, All, None, Some, IsSome, IfOk};
+ghost use Rattle.std.specs.Prelude.{◌≡◌, ◌+◌, ◌^◌, ◌<◌, ◌≤◌, [], ◌∷◌, length, All, None, Some, IsSome, IfOk};
 ghost use Rattle.receipt_lock.specs.Turns.{Begins, AllStand, HasTurn, times_held, known_of, with_entries, with_turn, without_one, fresh};
 ghost use Rattle.receipt_lock.specs.Chits.{vault_id, new_chit, AreNew, took, gave, found_list, all_mine, TookOut};
 ghost use Rattle.receipt_lock.specs.Receipts.{IsSettled};

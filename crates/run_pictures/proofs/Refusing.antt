@@ -10,7 +10,6 @@ use Rattle.script_run.specs.Performing.{StopsAt}
 use Rattle.command_texts.specs.Replays.{cluster_of, IsScript}
 use Rattle.call_statuses.specs.Statuses.{refusal_of, status_of_refusal}
 use Rattle.command_texts.specs.Texts.{Refuses}
-use Rattle.call_statuses.specs.declared.status.Status.{Status}
 use Rattle.call_statuses.specs.declared.status.Status.TheVariants.{BadScript}
 use Rattle.call_statuses.specs.declared.refusal.Refusal.{Refusal}
 use Rattle.call_statuses.specs.declared.refusal.Refusal.TheVariants as refusals

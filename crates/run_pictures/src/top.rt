@@ -1,5 +1,5 @@
 //! From a script to its picture.
-ghost use Rattle.std.specs.Prelude.{◌≡◌, ◌≢◌, ◌<◌, ◌≤◌, ℕ, IfOk, IfErr, IsErrOf};
+ghost use Rattle.std.specs.Prelude.{◌≡◌, ◌≢◌, ◌<◌, ℕ, IfOk, IfErr, IsErrOf};
 ghost use Rattle.wire_forms.specs.Liars.{AreLiars};
 ghost use Rattle.line_forms.specs.declared.cause.Cause.{Cause};
 ghost use Rattle.outside_io.specs.Causes.{Rose};

@@ -1,5 +1,5 @@
 ghost use Rattle.std.specs.Prelude.{◌≡◌, ◌+◌, ◌≤◌, ℕ, length, All, IfOk, IsErrOf};
-ghost use Rattle.std.specs.declared.option.Option.TheVariants.{None, Some};
+ghost use Rattle.std.specs.declared.option.Option.TheVariants.{Some};
 ghost use Rattle.wire_forms.specs.Liars.{has_number, IsAscending, IsClientNumber};
 ghost use Rattle.protocol.specs.Instance.{setting_of};
 ghost use Rattle.line_forms.specs.declared.cause.Cause.{Cause as Causes};

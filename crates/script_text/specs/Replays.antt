@@ -1,6 +1,6 @@
 -- Replay scripts: the head lines, a line for each liar, and the event lines of a run.
 use Rattle.std.specs.Prelude.{ℕ, ◌≡◌, ◌==◌, ◌+◌, ◌*◌, ◌/◌, ◌≤◌, ◌<◌, Bool, true, false, not, ◌&&◌, nat_le, min, List, [], ◌∷◌, ◌++◌, length, map, count_by, codes, decimal, drop, slice_index_or, Option, Some, if◌then◌else◌}
-use Rattle.std.specs.List.{list_any, All, AllByRecursion, IsDistinct}
+use Rattle.std.specs.List.{list_any, AllByRecursion, IsDistinct}
 use Rattle.std.specs.Str.{bytes_eq}
 use Rattle.std.specs.Ordering.{nat_cmp}
 use Rattle.std.specs.BTreeSet.{insert_key}

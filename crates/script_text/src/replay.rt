@@ -1,5 +1,5 @@
 //! Replay scripts.
-ghost use Rattle.std.specs.Prelude.{◌≡◌, ◌++◌, ◌<◌, length, IfOk, IfErr, OnOk};
+ghost use Rattle.std.specs.Prelude.{◌≡◌, ◌<◌, IfOk, IfErr, OnOk};
 ghost use Rattle.std.specs.List.{AllByRecursion};
 ghost use Rattle.line_forms.specs.Tables.{Gives};
 ghost use Rattle.line_forms.specs.Texts.{IsFaultless, IsRefusal};

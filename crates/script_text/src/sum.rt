@@ -1,7 +1,7 @@
 //! The input of `sum`.
 #![tactic(auto, using(text_lines::proofs::Spelled::spelled, std::proofs::lemmas::Grind::common_steps))]
 
-ghost use Rattle.std.specs.Prelude.{◌≡◌, ◌∷◌, length, IfOk, OnOk, IfErr};
+ghost use Rattle.std.specs.Prelude.{◌≡◌, length, IfOk, OnOk, IfErr};
 ghost use Rattle.text_lines.specs.Lines.{fields_of, texts};
 ghost use Rattle.text_lines.specs.Fields.{IsBytes};
 ghost use Rattle.line_forms.specs.Kinds.{form_cause};

@@ -1,6 +1,6 @@
 //! What the types of a line's parts say of it.
 
-ghost use Rattle.message_texts.specs.Texts.{HasLimits, HasShort, HasShortRequest, IsMessage, IsAsk, IsReply, IsRequest, IsBound, IsVersion, IsStamp, IsDigest};
+ghost use Rattle.message_texts.specs.Texts.{HasLimits, HasShort, HasShortRequest, IsMessage, IsAsk, IsReply, IsBound, IsVersion, IsStamp, IsDigest};
 ghost use Rattle.std.specs.Prelude.{◌≡◌, ◌<◌, ◌^◌, length, All};
 ghost use Rattle.std.specs.List.{AllByRecursion};
 ghost use Rattle.text_lines.specs.Fields.{IsBytes};

@@ -1,4 +1,4 @@
-ghost use Rattle.std.specs.Prelude.{◌≡◌, ◌≤◌, ◌+◌, ◌*◌, ◌∷◌, [], ◌++◌, false, length, OnOk, slice_index};
+ghost use Rattle.std.specs.Prelude.{◌≡◌, ◌≤◌, ◌+◌, ◌*◌, ◌∷◌, [], ◌++◌, length, OnOk, slice_index};
 ghost use Rattle.outside_io.specs.Causes.{HasCause};
 ghost use Rattle.disk_model.specs.Crash.{LeavesOnly};
 ghost use Rattle.version_disk.specs.Slots.{Slot, body_len, IsPieceOf};

@@ -1,5 +1,4 @@
-ghost use Rattle.std.specs.Prelude.{◌≡◌, ◌≤◌, ◌<◌, ◌+◌, ◌*◌, true, [], ◌∷◌, not, length, Some, None, IfOk, IfErr, OnOk, IfSome, IfNone};
-ghost use Rattle.quorum_rules.specs.Limits.{IsValid};
+ghost use Rattle.std.specs.Prelude.{◌≡◌, ◌<◌, ◌+◌, ◌*◌, true, [], ◌∷◌, not, length, Some, None, IfOk, IfErr, OnOk, IfSome, IfNone};
 ghost use Rattle.version_disk.specs.Bodies.{bodies};
 ghost use Rattle.version_disk.specs.Slots.{body_len, slot_of};
 ghost use Rattle.version_disk.specs.Held.{after_slot, held, is_bad, first_bad};

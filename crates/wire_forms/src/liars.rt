@@ -1,4 +1,4 @@
-ghost use Rattle.std.specs.Prelude.{◌≡◌, ◌↔◌, [], length, Contains, IsTrue, OnOk, OnErr, Ok, ℕ};
+ghost use Rattle.std.specs.Prelude.{◌≡◌, [], length, OnOk, OnErr, Ok};
 ghost use Rattle.std.specs.Ordering.{nat_cmp};
 ghost use Rattle.std.specs.BTreeSet.{insert_key};
 

@@ -8,6 +8,7 @@ pub mod liars;
 pub mod message;
 pub mod op;
 pub mod rule;
+mod same;
 
 pub use device::DeviceOp;
 pub use first::First;

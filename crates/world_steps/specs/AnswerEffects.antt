@@ -9,7 +9,6 @@ use Rattle.protocol.specs.Operations.{Task, Outcome}
 use Rattle.protocol.specs.World.{World, stamp_of_outcome, with_record}
 use Rattle.protocol.specs.Seen.{SeenTask, Hearing, client_at, started_task, chosen_of, hears as hears_answer}
 use Rattle.protocol.specs.Seen.Hearing.{Ignored, Counted, Begins, Ended}
-use Rattle.operation_core.specs.declared.stage.Stage.{Stage}
 use Rattle.operation_core.specs.Counting.{MayBegin}
 use Rattle.client_core.specs.Clients.{ClientView, operation_of, mail_of, goes_to, is_only_counted, next_of}
 use Rattle.world_steps.specs.declared.answer_effect.AnswerEffect.{AnswerEffect}

@@ -5,7 +5,7 @@ ghost use Rattle.std.specs.declared.option.Option.TheVariants.{None};
 ghost use Rattle.protocol.specs.Messages.{Message as Messages};
 ghost use Rattle.protocol.specs.World.{sent, heard, happens, Fits, under_way, stamp_of_outcome};
 ghost use Rattle.protocol.specs.World.Event.{Start, Resend as Resends, CrashClient as ClientCrashes, Back as ComesBack};
-ghost use Rattle.protocol.specs.Seen.{SeenTask, client_at, block_of, work_of, phase_of, outstanding_of};
+ghost use Rattle.protocol.specs.Seen.{client_at, block_of, work_of, phase_of, outstanding_of};
 ghost use Rattle.protocol.specs.Count.{collect};
 ghost use Rattle.protocol.specs.Instance.{setting};
 ghost use Rattle.world_steps.specs.Worlds.{setting_in, world_in};

@@ -1,8 +1,7 @@
 //! Why a line is refused.
 
-ghost use Rattle.std.specs.Prelude.{◌≡◌, ◌++◌, not};
+ghost use Rattle.std.specs.Prelude.{◌≡◌, not};
 ghost use Rattle.protocol.specs.Lines.{fault, meets, some_of, is_actor, is_liar, has_crashed, is_idle, does_something, is_ask_to, is_answer_to};
-ghost use Rattle.protocol.specs.Seen.{client_at};
 ghost use Rattle.world_steps.specs.Worlds.{setting_in, world_in};
 ghost use Rattle.world_steps.specs.Actors.{actor_of, listed};
 ghost use Rattle.world_steps.specs.Faults.{possible_faults};

@@ -1,6 +1,6 @@
 //! The messages that a line's liars send, and what a client asks.
 
-ghost use Rattle.std.specs.Prelude.{◌≡◌, ◌≤◌, ◌<◌, ◌≢◌, length, IfOk, IsSome, slice_index_or};
+ghost use Rattle.std.specs.Prelude.{◌≡◌, ◌≤◌, ◌<◌, length, IfOk};
 ghost use Rattle.std.specs.declared.option.Option.TheVariants.{None, Some};
 ghost use Rattle.protocol.specs.Lines.{sound_ask as sound_ask_of, mix_ask as mix_ask_of};
 ghost use Rattle.world_steps.specs.Worlds.{setting_in, world_in};

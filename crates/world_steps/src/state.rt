@@ -1,4 +1,4 @@
-ghost use Rattle.std.specs.Prelude.{◌≡◌, ◌<◌, List, length, IfOk};
+ghost use Rattle.std.specs.Prelude.{◌≡◌, ◌<◌, length, IfOk};
 ghost use Rattle.protocol.specs.Instance.{setting_of};
 ghost use Rattle.wire_forms.specs.Liars.{has_number, AreLiars};
 ghost use Rattle.quorum_rules.specs.Limits.{IsValid};

@@ -1,5 +1,4 @@
-use Rattle.std.proofs.Common.{◌≡◌, ◌+◌, ◌*◌, ◌≤◌, ◌∙◌, sym, subst, arith}
-use Rattle.nbd_words.specs.Replies.{error_of}
+use Rattle.std.proofs.Common.{◌∙◌, sym, arith}
 use Rattle.nbd_front.specs.Arrays.{array_of}
 use Rattle.nbd_front.proofs.Devices.{length_array, small_array}
 use Rattle.nbd_front.proofs.Replying.{within}

@@ -1,4 +1,4 @@
-use Rattle.std.proofs.Common.{◌≡◌, ◌+◌, ◌*◌, ◌≤◌, ◌∙◌, sym, length, arith}
+use Rattle.std.proofs.Common.{◌≤◌, ◌∙◌, sym, length, arith}
 use Rattle.nbd_front.specs.Arrays.{array_of}
 use Rattle.nbd_front.proofs.Devices.{length_array}
 use Rattle.nbd_front.proofs.Replying.{within}

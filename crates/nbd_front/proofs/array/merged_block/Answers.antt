@@ -1,4 +1,4 @@
-use Rattle.std.proofs.Common.{◌≡◌, ◌≤◌, ◌∙◌, ap, length, arith}
+use Rattle.std.proofs.Common.{◌≡◌, ◌∙◌, ap, length, arith}
 use Rattle.quorum_rules.specs.Limits.{Numbers}
 use Rattle.nbd_front.proofs.Blocks.{merged_whole}
 use Rattle.node_device.specs.Held.{held_at}

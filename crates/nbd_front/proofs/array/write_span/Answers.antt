@@ -1,4 +1,4 @@
-use Rattle.std.proofs.Common.{◌≡◌, ◌+◌, ◌*◌, ◌-◌, ◌^◌, ◌<◌, ◌≤◌, ◌++◌, ◌∙◌, refl, ap, subst, sym, arith, take, length}
+use Rattle.std.proofs.Common.{◌≡◌, ◌+◌, ◌*◌, ◌-◌, ◌^◌, ◌<◌, ◌≤◌, ◌∙◌, refl, ap, subst, sym, arith, take, length}
 use Rattle.std.proofs.Math.Seq.{take-length}
 use Rattle.quorum_rules.specs.Limits.{Numbers}
 use Rattle.block_device.specs.Device.{merged}

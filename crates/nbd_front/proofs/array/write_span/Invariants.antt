@@ -1,4 +1,4 @@
-use Rattle.std.proofs.Common.{◌≡◌, ℕ, ◌+◌, ◌-◌, ◌<◌, ◌≤◌, min, take}
+use Rattle.std.proofs.Common.{◌≡◌, ℕ, ◌+◌, ◌-◌, ◌≤◌, min, take}
 use Rattle.block_device.specs.Device.{merged}
 use Rattle.node_device.specs.Held.{held_at}
 use Rattle.nbd_front.specs.Arrays.{array_of, IsInOrder}

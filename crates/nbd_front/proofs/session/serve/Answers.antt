@@ -1,4 +1,4 @@
-use Rattle.std.proofs.Common.{rules, ◌≡◌, ◌*◌, ℕ, Ok, Err, ap, subst, sym, replicate}
+use Rattle.std.proofs.Common.{rules, ◌≡◌, ◌*◌, Ok, Err, subst, sym, replicate}
 use Rattle.std.proofs.lemmas.Grind.{common_steps}
 use Rattle.std.proofs.Common.{arith}
 use Rattle.outside_io.specs.Causes.{Rose}
@@ -8,8 +8,7 @@ use Rattle.quorum_rules.specs.Limits.{Numbers}
 use Rattle.nbd_words.specs.Replies.{greeting}
 use Rattle.nbd_front.specs.declared.ending.Served.TheVariants.{Over}
 use Rattle.nbd_front.specs.declared.ending.SessionEnd.TheVariants.{NoMemory, WriteFault}
-use Rattle.nbd_front.specs.Servers.{bytes_of}
-use Rattle.nbd_front.specs.Sessions.{IsSession, IsWholeInput}
+use Rattle.nbd_front.specs.Sessions.{IsWholeInput}
 use Rattle.nbd_front.proofs.Runs.{not_greeted, not_made}
 use Rattle.nbd_front.proofs.Stepping.{greeted, on_ok, if_err}
 use Rattle.nbd_front.proofs.session.serve.Goals as goal

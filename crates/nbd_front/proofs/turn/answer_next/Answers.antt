@@ -1,4 +1,4 @@
-use Rattle.std.proofs.Common.{rules, ◌≡◌, ◌≢◌, ◌+◌, ◌<◌, ◌≤◌, ◌^◌, ◌++◌, ◌∙◌, Err, ap, sym, subst, arith, length, length-append}
+use Rattle.std.proofs.Common.{rules, ◌≡◌, ◌≢◌, ◌+◌, ◌≤◌, ◌++◌, ◌∙◌, Err, ap, sym, subst, arith, length, length-append}
 use Rattle.outside_io.proofs.Known.{Consumes-then}
 use Rattle.node_device.specs.Devices.{SeenDevice}
 use Rattle.nbd_words.specs.Requests.{request_of, data_len}

@@ -1,10 +1,10 @@
-use Rattle.std.proofs.Common.{◌≡◌, ◌+◌, ◌<◌, ◌⊎◌, length, get_or, refl, sym, ◌∙◌, ap, inl, inr, arith}
+use Rattle.std.proofs.Common.{◌≡◌, ◌+◌, ◌<◌, ◌⊎◌, length, get_or, sym, ◌∙◌, ap, inl, inr, arith}
 use Rattle.std.specs.declared.option.Option.TheVariants.{Some}
-use Rattle.protocol.specs.Seen.{SeenTask, task_at}
+use Rattle.protocol.specs.Seen.{task_at}
 use Rattle.protocol.specs.Instance.{setting}
 use Rattle.protocol.specs.Operations.{decide}
 use Rattle.quorum_rules.specs.Limits.{wait_of}
-use Rattle.node_device.specs.Phases.{HasAsked, asked}
+use Rattle.node_device.specs.Phases.{asked}
 use Rattle.node_device.proofs.Phases.{begins, message_is, goes_on, ends, sent_count, end_is_told}
 use Rattle.node_device.proofs.asking.ask.Goals as goal
 

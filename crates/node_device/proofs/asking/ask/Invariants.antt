@@ -1,4 +1,3 @@
-use Rattle.std.proofs.Common.{◌≡◌}
 use Rattle.protocol.specs.Seen.{SeenTask}
 use Rattle.node_device.specs.Phases.{IsAsking}
 use Rattle.node_device.proofs.Phases.{IsUnderWay}

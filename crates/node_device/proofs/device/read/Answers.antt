@@ -1,5 +1,4 @@
-use Rattle.std.proofs.Common.{◌≡◌, refl, sym, ◌∙◌, ap, subst}
-use Rattle.protocol.specs.Messages.{Stamp}
+use Rattle.std.proofs.Common.{◌≡◌, sym, ◌∙◌, ap, subst}
 use Rattle.run_words.specs.declared.outcome.Outcome.TheVariants.{Gave}
 use Rattle.run_words.specs.declared.outcome.How.TheVariants.{Plain}
 use Rattle.client_core.specs.declared.heard.Heard.TheVariants.{Ended as EndedWith}

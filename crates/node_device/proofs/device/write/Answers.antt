@@ -1,6 +1,5 @@
-use Rattle.std.proofs.Common.{◌≡◌, refl, sym, ◌∙◌, ap, subst}
+use Rattle.std.proofs.Common.{◌≡◌, sym, ◌∙◌, ap, subst}
 use Rattle.run_words.specs.declared.outcome.Outcome.TheVariants.{Wrote}
-use Rattle.wire_forms.specs.declared.message.Message.{Message}
 use Rattle.client_core.specs.declared.heard.Heard.TheVariants.{Send, Ended as EndedWith}
 use Rattle.client_core.specs.Clients.{ClientView}
 use Rattle.protocol.specs.Instance.{setting}

@@ -1,4 +1,4 @@
-use Rattle.std.proofs.Common.{◌≡◌, ◌<◌, ◌-◌, ◌^◌, map, ap, arith}
+use Rattle.std.proofs.Common.{◌<◌, ◌-◌, ◌^◌, map, ap, arith}
 use Rattle.std.proofs.lemmas.Bool.Decides.{nat_tests}
 use Rattle.wire_forms.specs.declared.first.First.{First}
 use Rattle.protocol.specs.Seen.{record_of}

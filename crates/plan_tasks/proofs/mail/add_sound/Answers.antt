@@ -1,4 +1,4 @@
-use Rattle.std.proofs.Common.{◌≡◌, ◌∙◌, ap, sym, [], ◌∷◌, ◌++◌, List}
+use Rattle.std.proofs.Common.{◌∙◌, ap, [], ◌∷◌, ◌++◌, List}
 use Rattle.protocol.specs.Messages.{Message}
 use Rattle.protocol.specs.Instance.{setting}
 use Rattle.protocol.specs.Lines.{sound_ask}

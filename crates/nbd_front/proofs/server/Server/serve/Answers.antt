@@ -1,7 +1,6 @@
-use Rattle.std.proofs.Common.{rules, ◌≡◌, ◌≢◌, ◌⊎◌, ◌∙◌, Ok, Err, ap, subst, sym, inl, inr, refl, ℕ, []}
+use Rattle.std.proofs.Common.{rules, ◌≡◌, ◌≢◌, ◌∙◌, Ok, Err, ap, subst, ℕ, []}
 use Rattle.outside_io.specs.Causes.{Rose}
 use Rattle.nbd_front.specs.declared.ending.Served.TheVariants.{Next, Over}
-use Rattle.nbd_front.specs.declared.ending.SessionEnd.TheVariants.{NoMemory, ReadFault, WriteFault}
 use Rattle.nbd_front.specs.Servers.{HasStepped}
 use Rattle.nbd_front.proofs.Stepping.{next_gone, finished, step_ended}
 use Rattle.nbd_front.proofs.Completing.{completes}

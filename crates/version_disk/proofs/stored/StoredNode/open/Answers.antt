@@ -1,4 +1,4 @@
-use Rattle.std.proofs.Common.{sym, ap, arith}
+use Rattle.std.proofs.Common.{ap, arith}
 use Rattle.quorum_rules.specs.Limits.{Numbers}
 use Rattle.version_disk.proofs.Keeping.{kept_own}
 use Rattle.version_disk.proofs.Playing.{held_config}
