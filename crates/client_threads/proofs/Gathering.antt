@@ -30,7 +30,7 @@ use Rattle.phase_threads.specs.declared.duty.Seat.{Seat}
 use Rattle.client_work.specs.declared.reads.GivenRead.{GivenRead}
 use Rattle.client_work.specs.declared.work.Work.{Work}
 use Rattle.client_work.specs.declared.work.Work.TheVariants.{Client, Lying, Courier}
-use Rattle.client_work.specs.declared.worker.Worker.{Worker}
+use Rattle.client_work.specs.declared.worker.ClientWorker.{ClientWorker}
 use Rattle.client_work.specs.Work.{given_by, all_given, Stands}
 use Rattle.client_threads.specs.Pruned.{pruning_of}
 use Rattle.client_threads.specs.Reads.{reads_in, reads_of, block_stamp, early_reads, late_reads, AreParted, IsPartedAs, IsParted}
@@ -103,7 +103,7 @@ read_in (y ∷ es) x r there e = elim (Contains-cons_cases x y es there) [
 -- ---- all clients' reads
 
 -- a worker's reads are those of its desk
-pub reads_are : (w : Worker) (d : DeskView) → Stands w d → w.reads ≡ all_given (state_at d).ended
+pub reads_are : (w : ClientWorker) (d : DeskView) → Stands w d → w.reads ≡ all_given (state_at d).ended
 reads_are w d h =
     let its = h.goes.its in
     h.goes.reads.all
@@ -175,7 +175,7 @@ pub record IsGiven (seats : List (Seat Work)) (x : BlockStamp) : Type 0 where
 module _ (plan : Plan) (k from : ℕ) (seats : List (Seat Work)) (counted : List ℕ)
     (works : All (λ s. StandsAt plan k s.duty s.desk) seats) (parted : AllZip (IsParted from) seats counted) where
   -- they are what the operations before and after a number gave
-  split_reads : (w : Worker) (d : DeskView) (n : ℕ) (h : Stands w d) (p : AreParted from d n) → (take n w.reads ≡ all_given p.before) × (drop n w.reads ≡ all_given p.after)
+  split_reads : (w : ClientWorker) (d : DeskView) (n : ℕ) (h : Stands w d) (p : AreParted from d n) → (take n w.reads ≡ all_given p.before) × (drop n w.reads ≡ all_given p.after)
   split_reads w d n h p =
       let all : w.reads ≡ all_given p.before ++ all_given p.after = reads_are w d h ∙ ap all_given p.ended ∙ filter_map-append (λ (x : Ended). given_by x.block x.outcome) p.before p.after in (
         ap (take n) all ∙ ap (λ (m : ℕ). take m (all_given p.before ++ all_given p.after)) p.count ∙ take-append_seam (all_given p.before) (all_given p.after),

@@ -1,16 +1,14 @@
 -- What comes late to cells, and a desk that only sees more.
-use Rattle.std.proofs.Common.{◌≡◌, ℕ, true, false, List, [], ◌∷◌, ◌++◌, drop, refl, sym, ◌∙◌, ap, subst, inl, inr, arith, append_assoc}
+use Rattle.std.proofs.Common.{◌≡◌, ℕ, true, false, List, [], ◌∷◌, ◌++◌, drop, refl, sym, ◌∙◌, ap, subst, inl, inr, arith}
 use Rattle.std.specs.declared.option.Option.TheVariants.{None}
-use Rattle.std.proofs.lemmas.List.Elements.{Contains-append_cases}
-use Rattle.protocol.proofs.Lists.{append_nil, Contains-none, Contains-one}
 use Rattle.journals.specs.declared.node.NodeAct.{NodeAct}
 use Rattle.journals.specs.declared.node.NodeAct.TheVariants.{Answered, Lied, Silent, CrashedAt, Delivered, LateLost, Pruned}
 use Rattle.journals.specs.declared.node.NodeEntry.{NodeEntry}
 use Rattle.journals.specs.Acts.{NodeState, after, after_all}
 use Rattle.journals.specs.Steps.{side}
-use Rattle.locked_nodes.specs.Cells.{CellView, HasNoLateMail, state_of, first_state, entry, with_entry, with_seen}
+use Rattle.locked_nodes.specs.Cells.{CellView, HasNoLateMail, state_of, first_state, entry, with_entry, with_seen, HasMoreAside}
+use Rattle.locked_nodes.proofs.Aside.{aside_none, aside_one}
 use Rattle.client_desks.specs.Desks.{DeskView, KeepsDesk, Delivers}
-use Rattle.client_threads.specs.Mailed.{Brings}
 
 -- ---- desks
 
@@ -29,30 +27,9 @@ keeps_clock a b x = ap (λ p. p.clock) x.pass
 
 -- ---- cells
 
-pub brings_none : (c : CellView) → Brings c c
-brings_none c = record { charter = refl; clock = refl; more = []; grew = append_nil c.journal; alone = λ e there. absurd (Contains-none e there) }
-
-pub brings_then : (a b c : CellView) → Brings a b → Brings b c → Brings a c
-brings_then a b c x y = record {
-  charter = y.charter ∙ x.charter;
-  clock = y.clock ∙ x.clock;
-  more = x.more ++ y.more;
-  grew = y.grew ∙ ap (λ (l : List NodeEntry). l ++ y.more) x.grew ∙ append_assoc a.journal x.more y.more;
-  alone = λ e there. elim (Contains-append_cases x.more y.more e there) [ inl early ↦ x.alone e early | inr late ↦ y.alone e late ];
-}
-
-brings_one : (a : CellView) (n : ℕ) (done : NodeAct) → side done ≡ None → Brings a (with_entry a n done)
-brings_one a n done none = record {
-  charter = refl;
-  clock = refl;
-  more = entry n done ∷ [];
-  grew = refl;
-  alone = λ e there. ap (λ (x : NodeEntry). side x.act) (Contains-one e (entry n done) there) ∙ none;
-}
-
-pub delivers_brings : (a b : CellView) → Delivers a b → Brings a b
-delivers_brings a b (inl same) = subst (Brings a) (sym same) (brings_none a)
-delivers_brings a b (inr d) = subst (Brings a) (sym d.2) (brings_one a d.0 d.1 d.3)
+pub delivers_aside : (a b : CellView) → Delivers a b → HasMoreAside a b
+delivers_aside a b (inl same) = subst (HasMoreAside a) (sym same) (aside_none a)
+delivers_aside a b (inr d) = subst (HasMoreAside a) (sym d.2) (aside_one a d.0 d.1 d.3)
 
 -- no mail is held back by an act of which no client has a side
 still_none : (s : NodeState) (a : NodeAct) → side a ≡ None → s.late ≡ [] → (after s a).late ≡ []
@@ -79,5 +56,5 @@ none_left a b (inr d) none = subst HasNoLateMail (sym d.2) (none_one a d.0 d.1 d
 
 -- all that was held back came
 pub record BringsAll (old new : CellView) : Type 0 where
-  pub brings : Brings old new
+  pub brings : HasMoreAside old new
   pub none : HasNoLateMail new

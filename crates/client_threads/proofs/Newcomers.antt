@@ -36,7 +36,7 @@ use Rattle.phase_threads.specs.declared.duty.Seat.{Seat}
 use Rattle.crews.proofs.Places.{get_front, get_last, get_snoc}
 use Rattle.client_work.specs.declared.work.Work.{Work}
 use Rattle.client_work.specs.declared.work.Work.TheVariants.{Client, Lying}
-use Rattle.client_work.specs.declared.worker.Worker.{Worker}
+use Rattle.client_work.specs.declared.worker.ClientWorker.{ClientWorker}
 use Rattle.client_work.specs.declared.liar.Liar.{Liar}
 use Rattle.client_work.specs.Work.{IsReady, HasMail, phase_at}
 use Rattle.client_threads.specs.Opened.{IsUnusedPass, IsNewCell, AreNewCells, IsBefore, IsNewSeat, cell_count, shards_of}
@@ -313,7 +313,7 @@ desk_is : (plan : Plan) (id : ℕ) (lying : Bool) (pass : Holder) (d : DeskView)
 desk_is plan id lying pass d is lies =
     is ∙ ap (λ (b : Bool). first_desk plan.config id b pass) (sym lies) ∙ ap (λ (k : ℕ). first_desk plan.config k (has_number plan.liars.clients k) pass) (sym (ap (λ (x : DeskView). x.id) is))
 
-pub client_new : (plan : Plan) (pass : Holder) (c : ℕ) (d : DeskView) (w : Worker) → pass.drawn ≡ [] → d ≡ first_desk plan.config c false pass → has_number plan.liars.clients c ≡ false → w.plan.value ≡ plan
+pub client_new : (plan : Plan) (pass : Holder) (c : ℕ) (d : DeskView) (w : ClientWorker) → pass.drawn ≡ [] → d ≡ first_desk plan.config c false pass → has_number plan.liars.clients c ≡ false → w.plan.value ≡ plan
     → ((e : DeskView) → e.config ≡ plan.config → e.id ≡ c → e.lying ≡ false → e.entries ≡ [] → IsReady w e) → phase_at w ≡ 0 → IsNewSeat plan pass.clock (record { desk = d; duty = Client w })
 client_new plan pass c d w none is correct same ready first = record {
   pass = pass;

@@ -14,7 +14,7 @@ use Rattle.protocol.proofs.Lists.{Contains-none, Contains-head, Contains-rest, C
 use Rattle.journals.specs.declared.desk.DeskEntry.{DeskEntry}
 use Rattle.journals.specs.declared.node.NodeEntry.{NodeEntry}
 use Rattle.journals.specs.Phases.{Phase}
-use Rattle.locked_nodes.specs.Cells.{CellView, KeptCell, HasNoLateMail, numbers}
+use Rattle.locked_nodes.specs.Cells.{CellView, KeptCell, HasNoLateMail, numbers, HasMoreAside}
 use Rattle.client_desks.specs.Desks.{DeskView, KeepsDesk, numbers_of}
 use Rattle.client_desks.specs.Later.{IsLater}
 use Rattle.plan_words.specs.declared.plan.Plan.{Plan}
@@ -33,7 +33,6 @@ use Rattle.phase_threads.specs.declared.duty.Seat.{Seat}
 use Rattle.client_work.specs.declared.work.Work.{Work}
 use Rattle.client_work.specs.declared.work.Work.TheVariants.{Client, Lying, Courier}
 use Rattle.client_work.specs.Work.{phase_at}
-use Rattle.client_threads.specs.Mailed.{Brings}
 use Rattle.client_threads.specs.Reads.{IsPartedAs, IsParted}
 use Rattle.client_threads.specs.Running.{desks_of, clients_of, plan_of, journals_in, StandsAt, LiarsNamed, IsOpen, IsStanding, HasDonePhase, IsBetween, IsWorked}
 use Rattle.client_threads.specs.declared.state.Run.{Run}
@@ -158,7 +157,7 @@ all_finished plan k seats are liars works c = elim (desk_at (desks_of seats) c).
 -- ---- cells
 
 -- a cell that worked, and to which mail came late
-pub worked_on : (a b c : CellView) → HasWorked a b → Brings b c → HasWorked a c
+pub worked_on : (a b c : CellView) → HasWorked a b → HasMoreAside b c → HasWorked a c
 worked_on a b c w m = record {
   charter = m.charter ∙ w.charter;
   grew = (w.grew.0 ++ m.more, m.grew ∙ ap (λ (es : List NodeEntry). es ++ m.more) w.grew.1 ∙ append_assoc a.journal w.grew.0 m.more);
@@ -284,7 +283,7 @@ pub record IsMailed (old new : Run) : Type 0 where
   pub keeper : new.keeper ≡ old.keeper
   pub counted : new.counted.items ≡ old.counted.items
   pub courier : KeepsDesk old.courier new.courier
-  pub cells : AllZip Brings old.cells.items new.cells.items
+  pub cells : AllZip HasMoreAside old.cells.items new.cells.items
 
 pub open_mailed : (old new : Run) → IsMailed old new → IsOpen old → IsOpen new
 open_mailed old new m h = record {
@@ -300,25 +299,25 @@ open_mailed old new m h = record {
   keeper = (ap (λ p. p.clock) m.keeper ∙ h.keeper.0 ∙ sym m.clock, ap (λ p. p.drawn) m.keeper ∙ h.keeper.1);
   passes =
       let a : new.clock.passes ≡ old.clock.passes = ap (λ c. c.passes) m.clock in
-      let b : length new.cells.items ≡ length old.cells.items = zip_long Brings old.cells.items new.cells.items m.cells in
+      let b : length new.cells.items ≡ length old.cells.items = zip_long HasMoreAside old.cells.items new.cells.items m.cells in
       let c : length new.clients.items ≡ length old.clients.items = ap length m.clients in
       let d = h.passes in
       omega (arith, a, b, c, d);
 }
   where
     fixed : AllZip IsFixedAs old.cells.items new.cells.items
-    fixed = zip_map Brings IsFixedAs old.cells.items new.cells.items (λ x y b. fixed_same x y b.charter) m.cells
+    fixed = zip_map HasMoreAside IsFixedAs old.cells.items new.cells.items (λ x y b. fixed_same x y b.charter) m.cells
 
 pub standing_mailed : (k : ℕ) (old new : Run) → IsMailed old new → IsStanding k old → IsStanding k new
 standing_mailed k old new m h = record {
   opened = open_mailed old new m h.opened;
   planned = subst (λ (p : Plan). ArePlanned p new.clock new.cells.items) (sym m.plan) (subst (λ (c : ClockId). ArePlanned (plan_of old) c new.cells.items) (sym m.clock)
-      (planned_fixed (plan_of old) old.clock old.cells.items new.cells.items (zip_map Brings IsFixedAs old.cells.items new.cells.items (λ x y b. fixed_same x y b.charter) m.cells) h.planned));
+      (planned_fixed (plan_of old) old.clock old.cells.items new.cells.items (zip_map HasMoreAside IsFixedAs old.cells.items new.cells.items (λ x y b. fixed_same x y b.charter) m.cells) h.planned));
   clients = subst (λ (l : List (Seat Work)). AreClients (plan_of new) (desks_of l)) (sym m.clients) (subst (λ (p : Plan). AreClients p (clients_of old)) (sym m.plan) h.clients);
   works = subst (λ (l : List (Seat Work)). All (λ s. StandsAt (plan_of new) k s.duty s.desk) l) (sym m.clients) (subst (λ (p : Plan). All (λ s. StandsAt p k s.duty s.desk) old.clients.items) (sym m.plan) h.works);
   pairs = subst (λ (l : List (Seat Work)). PairsStand new.cells.items (desks_of l)) (sym m.clients)
       (pairs_on old.cells.items new.cells.items (clients_of old) (clients_of old)
-      (zip_map Brings HasMoreAlone old.cells.items new.cells.items (λ x y b. record { more = b.more; grew = b.grew; alone = b.alone }) m.cells)
+      (zip_map HasMoreAside HasMoreAlone old.cells.items new.cells.items (λ x y b. record { more = b.more; grew = b.grew; alone = b.aside }) m.cells)
       (zip_same HasSameEntries (clients_of old) (λ d. record { id = refl; entries = refl })) h.pairs);
   quiet = ap (λ d. d.entries) m.courier.same ∙ h.quiet;
   named = subst LiarsNamed (sym m.plan) h.named;
@@ -333,7 +332,7 @@ module _ (works : PhasesWork) (goes : GoesOn) (nothing : NothingLate) (k : ℕ) 
   same_plan = m.plan ∙ d.same.plan
 
   worked : AllZip HasWorked run.cells.items new.cells.items
-  worked = zip_then HasWorked Brings HasWorked run.cells.items mid.cells.items new.cells.items worked_on d.cells m.cells
+  worked = zip_then HasWorked HasMoreAside HasWorked run.cells.items mid.cells.items new.cells.items worked_on d.cells m.cells
 
   later : AllZip IsLater (clients_of run) (clients_of new)
   later = subst (λ (l : List (Seat Work)). AllZip IsLater (clients_of run) (desks_of l)) (sym m.clients) d.desks

@@ -1,5 +1,4 @@
 pub mod Met
-pub mod Mailed
 pub mod Pruned
 pub mod Reads
 pub mod Running

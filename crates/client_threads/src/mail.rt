@@ -1,9 +1,8 @@
 //! What nodes hold back when the threads of a phase have ended.
 ghost use Rattle.std.specs.Prelude.{◌≡◌, All, OnOk};
 ghost use Rattle.std.specs.List.{AllZip};
-ghost use Rattle.locked_nodes.specs.Cells.{HasNoLateMail, KeptCell};
+ghost use Rattle.locked_nodes.specs.Cells.{HasNoLateMail, KeptCell, HasMoreAside};
 ghost use Rattle.client_desks.specs.Desks.{KeepsDesk};
-ghost use Rattle.client_threads.specs.Mailed.{Brings};
 
 use crate::state::know_cells;
 use client_desks::Desk;
@@ -21,7 +20,7 @@ pub(crate) fn bring_all<R: Wait>(
     requires courier { courier.old.pass.clock ≡ clock.now }
     requires cells { All (λ c. c.charter.pass.clock ≡ clock.now) cells.old }
     ensures kept { KeepsDesk courier.old courier.new }
-    ensures cells { AllZip Brings cells.old cells.new }
+    ensures cells { AllZip HasMoreAside cells.old cells.new }
     ensures known { All KeptCell cells.new }
     ensures none { OnOk result (All HasNoLateMail cells.new) }
 {
@@ -42,7 +41,7 @@ fn bring<R: Wait>(
     requires courier { courier.old.pass.clock ≡ clock.now }
     requires cell { cell.old.charter.pass.clock ≡ clock.now }
     ensures kept { KeepsDesk courier.old courier.new }
-    ensures cell { Brings cell.old cell.new }
+    ensures cell { HasMoreAside cell.old cell.new }
     ensures known { KeptCell cell.new }
     ensures none { OnOk result (HasNoLateMail cell.new) }
 {

@@ -8,7 +8,7 @@ ghost use Rattle.client_threads.specs.Opened.{IsUnusedPass, AreNewCells, IsNewSe
 
 use crate::state::Run;
 use client_desks::Desk;
-use client_work::{Liar, Work, Worker};
+use client_work::{Liar, Work, ClientWorker};
 use event_clock::{Clock, Pass, Passes};
 use lists::{ItemList, NoMemory};
 use locked_nodes::NodeCell;
@@ -194,7 +194,7 @@ fn open_seat(alloc: Global, plan: &Plan, task: Task, pass: Pass) -> Result<Seat<
     match task {
         Task::Client(task) => {
             let desk = Desk::new(alloc, &plan.config, task.client, pass)?;
-            let duty = Work::Client(Worker::new(alloc, plan, task));
+            let duty = Work::Client(ClientWorker::new(alloc, plan, task));
             Ok(Seat { desk, duty })
         }
         Task::Liar { client, mail } => {

@@ -21,7 +21,7 @@ use Rattle.plan_followed.specs.Asked.{drops, holds, client_crash}
 use Rattle.plan_followed.specs.Clients.{InEach, GoesByPlan, IsNext, IsCutOff, client_after, times, asks, asks_of, last_of, turn_after, way_of}
 use Rattle.plan_followed.proofs.Entries as followed
 use Rattle.desk_keys.specs.Keys.{IsAskOn, AsksOn}
-use Rattle.client_work.specs.declared.worker.Worker.{Worker}
+use Rattle.client_work.specs.declared.worker.ClientWorker.{ClientWorker}
 use Rattle.client_work.specs.declared.reads.GivenRead.{GivenRead}
 use Rattle.client_work.specs.Work.{given_by, all_given, asks_left, Counts, HasReads, Goes, IsWholeIn, counted, HasCounted, IsOn}
 use Rattle.client_work.proofs.Heard.{state_snoc, numbered, EndedWith, GoesOnWith, told_on, told_end}
@@ -68,7 +68,7 @@ next_is : (n m : ℕ) (o p : Option SeenTask) (from to i j : ℕ) → n ≡ m �
 next_is n m o p from to i j a b c e h =
     subst (λ (x : ℕ). IsNext m p to x) e (subst (λ (x : ℕ). IsNext m p x i) c (subst (λ (x : Option SeenTask). IsNext m x from i) b (subst (λ (x : ℕ). IsNext x o from i) a h)))
 
-module _ (w w' : Worker) (d : DeskView) (n node : ℕ) (way : Way) (ask : Message) (reply : Option Message) (t : SeenTask) (g : Goes w d) (busy : task_at d ≡ Some t) (asked : asks_node d node ≡ Some ask) (below : node < d.config.n)
+module _ (w w' : ClientWorker) (d : DeskView) (n node : ℕ) (way : Way) (ask : Message) (reply : Option Message) (t : SeenTask) (g : Goes w d) (busy : task_at d ≡ Some t) (asked : asks_node d node ≡ Some ask) (below : node < d.config.n)
     (up : w.crash_after ≡ Some 0 → ⊥) (count : HasCounted w node way w') (next : IsNext d.config.n (task_at d) (turn_after (d.id % d.config.n) (tag_at d) (last_of d.entries)) node) where
   abbrev e : DeskEntry
   e = desk_entry n (Call way ask reply)
@@ -127,12 +127,12 @@ module _ (w w' : Worker) (d : DeskView) (n node : ℕ) (way : Way) (ask : Messag
     inner_on = record {
       its = record { same = g.its.same; config = g.its.config; id = g.its.id; correct = g.its.correct };
       acts = by_plan;
-      counts = subst (λ (x : Worker). Counts x (d.entries ++ e ∷ [])) count.is counts_on;
+      counts = subst (λ (x : ClientWorker). Counts x (d.entries ++ e ∷ [])) count.is counts_on;
       reads = reads_on;
     }
 
     pub asked_goes : Goes w' (with_call d n (Call way ask reply))
-    asked_goes = subst (λ (x : Worker). Goes x (with_call d n (Call way ask reply))) (sym count.is) inner_on
+    asked_goes = subst (λ (x : ClientWorker). Goes x (with_call d n (Call way ask reply))) (sym count.is) inner_on
 
     pub asked_on : (block : ℕ) → t.block ≡ block → IsOn block (with_call d n (Call way ask reply))
     asked_on block q = (goes_with.next, ap (λ (x : DeskState). x.client.seen.task) now_is ∙ goes_with.task, goes_with.block ∙ q)
@@ -145,7 +145,7 @@ module _ (w w' : Worker) (d : DeskView) (n node : ℕ) (way : Way) (ask : Messag
     ended_with : EndedWith (state_at d) (desk_told (state_at d) n reply) t outcome
     ended_with = told_end (state_at d) n t reply outcome busy end
 
-    abbrev noted : Worker → Worker
+    abbrev noted : ClientWorker → ClientWorker
     noted x = record x { reads = one_more x.reads (given_by block outcome) }
 
     more_reads : one_more w.reads (given_by block outcome) ≡ all_given (client_after w.plan.value w.client (d.entries ++ e ∷ [])).ended
@@ -176,10 +176,10 @@ module _ (w w' : Worker) (d : DeskView) (n node : ℕ) (way : Way) (ask : Messag
         at (Some r) h = All-push (λ r. length r.value ≡ w.plan.value.config.size) w.reads r g.reads.whole h
 
     pub ended_goes : block < w.plan.value.config.blocks → IsWholeIn w.plan.value.config.size (given_by block outcome) → Goes (noted w') (with_call d n (Call way ask reply))
-    ended_goes l h = subst (λ (x : Worker). Goes (noted x) (with_call d n (Call way ask reply))) (sym count.is) inner
+    ended_goes l h = subst (λ (x : ClientWorker). Goes (noted x) (with_call d n (Call way ask reply))) (sym count.is) inner
       where
         held : Counts (counted w node count.was) (d.entries ++ e ∷ [])
-        held = subst (λ (x : Worker). Counts x (d.entries ++ e ∷ [])) count.is counts_on
+        held = subst (λ (x : ClientWorker). Counts x (d.entries ++ e ∷ [])) count.is counts_on
 
         inner : Goes (noted (counted w node count.was)) (with_call d n (Call way ask reply))
         inner = record {
@@ -205,7 +205,7 @@ none_left before (Some count) e few =
     ap Some (omega arith)
 
 -- a client that has no ask left crashes in its operation
-pub crash_cuts : (w : Worker) (d : DeskView) (n : ℕ) → Goes w d → w.crash_after ≡ Some 0 → IsSome (task_at d) → IsCutOff w.plan.value w.client (d.entries ++ desk_entry n Crash ∷ [])
+pub crash_cuts : (w : ClientWorker) (d : DeskView) (n : ℕ) → Goes w d → w.crash_after ≡ Some 0 → IsSome (task_at d) → IsCutOff w.plan.value w.client (d.entries ++ desk_entry n Crash ∷ [])
 crash_cuts w d n g none busy =
     let e : DeskEntry = desk_entry n Crash in
     let now : client_after w.plan.value w.client (d.entries ++ e ∷ []) ≡ desk_after (state_at d) n Crash = state_snoc (new_desk w.plan.value.config w.client) d.entries e ∙ ap (λ (x : DeskState). desk_after x n Crash) (state_is w d g.its) in

@@ -15,7 +15,7 @@ use Rattle.plan_tasks.specs.declared.task.Ways.{Ways}
 use Rattle.plan_tasks.specs.declared.task.ClientTask.{ClientTask}
 use Rattle.plan_tasks.specs.Phases.{all_steps}
 use Rattle.plan_tasks.specs.Tasks.{ways_of, IsClientTask}
-use Rattle.client_work.specs.declared.worker.Worker.{Worker}
+use Rattle.client_work.specs.declared.worker.ClientWorker.{ClientWorker}
 use Rattle.client_work.specs.declared.reads.GivenRead.{GivenRead}
 use Rattle.client_work.specs.Work.{ways_left, asks_left, phase_in, steps_of_first, HasSteps, Counts, HasReads, IsReady}
 
@@ -61,7 +61,7 @@ module _ (plan : Plan) (t : ClientTask) (h : IsClientTask plan t) where
       ap (λ (ws : List Ways). slice_get ws i) h.ways ∙ get_range (ways_of plan.rules t.client) 0 plan.config.n i l ∙ ap (λ (k : ℕ). Some (ways_of plan.rules t.client k)) e
       ∙ ap Some (none_asked (drops plan.rules t.client i) (holds plan.rules t.client i))
 
-module _ (w : Worker) (t : ClientTask) (d : DeskView) (h : IsClientTask w.plan.value t) (same : w.config ≡ w.plan.value.config) (client : w.client ≡ t.client) (phases : w.phases.items ≡ t.phases)
+module _ (w : ClientWorker) (t : ClientTask) (d : DeskView) (h : IsClientTask w.plan.value t) (same : w.config ≡ w.plan.value.config) (client : w.client ≡ t.client) (phases : w.phases.items ≡ t.phases)
     (ways : w.ways ≡ t.ways) (crash : w.crash_after ≡ t.crash_after) (reads : w.reads ≡ []) (config : d.config ≡ w.plan.value.config) (id : d.id ≡ w.client) (correct : d.lying ≡ false) (entries : d.entries ≡ []) where
   counts_none : Counts w []
   counts_none = record {

@@ -8,13 +8,13 @@ use Rattle.journals.specs.Desks.{DeskState}
 use Rattle.client_desks.specs.Desks.{DeskView, CanStart, state_at, task_at}
 use Rattle.plan_words.specs.declared.plan.Plan.{Plan}
 use Rattle.plan_followed.specs.Clients.{IsCutOff, times, starts}
-use Rattle.client_work.specs.declared.worker.Worker.{Worker}
+use Rattle.client_work.specs.declared.worker.ClientWorker.{ClientWorker}
 use Rattle.client_work.specs.Work.{every_step, HasSteps, StepsFit, Goes, Stands, IsSame, HasWorked, IsAmid, IsAmidOrOff, DidStep, HasStepped, HasAskedOn}
 use Rattle.client_work.proofs.Going.{state_is}
 use Rattle.client_work.proofs.Phasing.{phases_rest, phase_done, one_done, steps_rest, can_go, next_step, step_fits}
 
 -- the phase that the worker began is done
-pub worked : (old new : Worker) (steps : List BlockStep) (rest : List (List BlockStep)) (d d' : DeskView) → old.phases.items ≡ steps ∷ rest → new.phases.items ≡ rest → IsSame old new → Stands old d → Goes new d' → IsAmidOrOff new [] d' → HasWorked old new d'
+pub worked : (old new : ClientWorker) (steps : List BlockStep) (rest : List (List BlockStep)) (d d' : DeskView) → old.phases.items ≡ steps ∷ rest → new.phases.items ≡ rest → IsSame old new → Stands old d → Goes new d' → IsAmidOrOff new [] d' → HasWorked old new d'
 worked old new steps rest d d' was now same s g a = record {
   same = same;
   stands = record {
@@ -27,27 +27,27 @@ worked old new steps rest d d' was now same s g a = record {
 }
 
 -- a client that can't start, amid its steps, has crashed
-pub amid_off : (w : Worker) (left : List BlockStep) (d : DeskView) → d.lying ≡ false → StepsFit w.plan.value w.client w.phases.items left → (CanStart d → ⊥) → IsAmidOrOff w left d → IsCutOff w.plan.value w.client d.entries
+pub amid_off : (w : ClientWorker) (left : List BlockStep) (d : DeskView) → d.lying ≡ false → StepsFit w.plan.value w.client w.phases.items left → (CanStart d → ⊥) → IsAmidOrOff w left d → IsCutOff w.plan.value w.client d.entries
 amid_off w left d correct f not (inl a) = absurd (not (can_go w.plan.value w.client w.phases.items left d correct f a))
 amid_off w left d correct f not (inr off) = off
 
 -- a client that can start is amid its steps
-pub amid_on : (w : Worker) (xs : List BlockStep) (step : BlockStep) (left : List BlockStep) (d : DeskView) → Goes w d → CanStart d → xs ≡ step ∷ left → IsAmidOrOff w xs d → IsAmid w.plan.value w.client w.phases.items (step ∷ left) d
+pub amid_on : (w : ClientWorker) (xs : List BlockStep) (step : BlockStep) (left : List BlockStep) (d : DeskView) → Goes w d → CanStart d → xs ≡ step ∷ left → IsAmidOrOff w xs d → IsAmid w.plan.value w.client w.phases.items (step ∷ left) d
 amid_on w xs step left d g can e (inl a) = subst (λ (ys : List BlockStep). IsAmid w.plan.value w.client w.phases.items ys d) e a
 amid_on w xs step left d g can e (inr off) =
     let down : (state_at d).crashed ≡ true = ap (λ (x : DeskState). x.crashed) (sym (state_is w d g.its)) ∙ off.down in
     let up = can.up.up in
     absurd (cc)
 
-pub step_next : (w : Worker) (xs : List BlockStep) (step : BlockStep) (left : List BlockStep) (d : DeskView) → Goes w d → CanStart d → xs ≡ step ∷ left → StepsFit w.plan.value w.client w.phases.items xs → IsAmidOrOff w xs d
+pub step_next : (w : ClientWorker) (xs : List BlockStep) (step : BlockStep) (left : List BlockStep) (d : DeskView) → Goes w d → CanStart d → xs ≡ step ∷ left → StepsFit w.plan.value w.client w.phases.items xs → IsAmidOrOff w xs d
     → slice_get (every_step w.plan.value w.client) (times starts d.entries) ≡ Some step
 step_next w xs step left d g can e f a =
     next_step w.plan.value w.client w.phases.items step left d (subst (StepsFit w.plan.value w.client w.phases.items) e f) (amid_on w xs step left d g can e a)
 
-pub step_there : (w : Worker) (xs : List BlockStep) (step : BlockStep) (left : List BlockStep) → xs ≡ step ∷ left → StepsFit w.plan.value w.client w.phases.items xs → Fits w.plan.value.config step
+pub step_there : (w : ClientWorker) (xs : List BlockStep) (step : BlockStep) (left : List BlockStep) → xs ≡ step ∷ left → StepsFit w.plan.value w.client w.phases.items xs → Fits w.plan.value.config step
 step_there w xs step left e f = step_fits w.plan.value w.client w.phases.items step left (subst (StepsFit w.plan.value w.client w.phases.items) e f)
 
-module _ (old new : Worker) (before d : DeskView) (h : HasStepped old before new d) where
+module _ (old new : ClientWorker) (before d : DeskView) (h : HasStepped old before new d) where
   phases_items : new.phases.items ≡ old.phases.items
   phases_items = h.phases
 
@@ -66,7 +66,7 @@ module _ (old new : Worker) (before d : DeskView) (h : HasStepped old before new
       (subst (λ (ps : List (List BlockStep)). StepsFit old.plan.value old.client ps left) (sym phases_items) (steps_rest old.plan.value old.client old.phases.items step left f)))
 
 -- an operation was asked to its end: a step is done
-pub stepped : (old new : Worker) (before mid d : DeskView) → times starts mid.entries ≡ times starts before.entries + 1 → HasAskedOn old mid new d → HasStepped old before new d
+pub stepped : (old new : ClientWorker) (before mid d : DeskView) → times starts mid.entries ≡ times starts before.entries + 1 → HasAskedOn old mid new d → HasStepped old before new d
 stepped old new before mid d e h = record { same = h.same; phases = h.phases; goes = h.goes; over = at h.over }
   where
     at : ((task_at d ≡ None) × ((state_at d).crashed ≡ false)) ⊎ IsCutOff new.plan.value new.client d.entries → DidStep before d ⊎ IsCutOff new.plan.value new.client d.entries

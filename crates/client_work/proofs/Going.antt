@@ -20,7 +20,7 @@ use Rattle.plan_followed.specs.Asked.{drops, holds, client_crash}
 use Rattle.plan_followed.specs.Clients.{client_after, times, starts, asks, asks_of, way_of, op_of}
 use Rattle.plan_followed.proofs.Entries as followed
 use Rattle.plan_tasks.specs.declared.task.Ways.{Ways}
-use Rattle.client_work.specs.declared.worker.Worker.{Worker}
+use Rattle.client_work.specs.declared.worker.ClientWorker.{ClientWorker}
 use Rattle.client_work.specs.Work.{all_given, ways_left, asks_left, every_step, IsItsDesk, Counts, HasReads, Goes, counted, HasCounted, HoldsWhole}
 use Rattle.client_work.proofs.Heard.{state_snoc, times_snoc}
 
@@ -45,7 +45,7 @@ put_length (z ∷ xs) (suc k) y = ap suc (put_length xs k y)
 
 -- ---- the client as its journal tells
 
-pub state_is : (w : Worker) (d : DeskView) → IsItsDesk w d → client_after w.plan.value w.client d.entries ≡ state_at d
+pub state_is : (w : ClientWorker) (d : DeskView) → IsItsDesk w d → client_after w.plan.value w.client d.entries ≡ state_at d
 state_is w d its =
     ap (λ (c : Numbers). desk_after_all (new_desk c w.client) d.entries) (sym its.config)
     ∙ ap (λ (k : ℕ). desk_after_all (new_desk d.config k) d.entries) (sym its.id)
@@ -61,7 +61,7 @@ more_times test es e f = times_snoc test es e ∙ ap (λ (b : Bool). times test 
 
 -- ---- an entry that is no ask
 
-counts_still : (w : Worker) (es : List DeskEntry) (e : DeskEntry) → asks e.act ≡ false → ((i : ℕ) → asks_of i e.act ≡ false) → Counts w es → Counts w (es ++ e ∷ [])
+counts_still : (w : ClientWorker) (es : List DeskEntry) (e : DeskEntry) → asks e.act ≡ false → ((i : ℕ) → asks_of i e.act ≡ false) → Counts w es → Counts w (es ++ e ∷ [])
 counts_still w es e not_ask none h = record {
   nodes = h.nodes;
   ways = λ i l. h.ways i l ∙ ap (λ (k : ℕ). Some (ways_left (drops w.plan.value.rules w.client i) (holds w.plan.value.rules w.client i) k)) (sym (same_times (asks_of i) es e (none i)));
@@ -69,7 +69,7 @@ counts_still w es e not_ask none h = record {
   few = λ count q. let a = same_times asks es e not_ask in let b = h.few count q in omega arith;
 }
 
-reads_still : (w : Worker) (es : List DeskEntry) (e : DeskEntry) → (desk_after (client_after w.plan.value w.client es) e.number e.act).ended ≡ (client_after w.plan.value w.client es).ended → HasReads w es → HasReads w (es ++ e ∷ [])
+reads_still : (w : ClientWorker) (es : List DeskEntry) (e : DeskEntry) → (desk_after (client_after w.plan.value w.client es) e.number e.act).ended ≡ (client_after w.plan.value w.client es).ended → HasReads w es → HasReads w (es ++ e ∷ [])
 reads_still w es e same h = record {
   all = h.all ∙ ap all_given (sym same ∙ ap (λ (x : DeskState). x.ended) (sym (state_snoc (new_desk w.plan.value.config w.client) es e)));
   inside = h.inside;
@@ -77,7 +77,7 @@ reads_still w es e same h = record {
 }
 
 -- it starts the operation of its next step
-pub start_goes : (w : Worker) (d : DeskView) (n : ℕ) (op : Op) (step : BlockStep) → Goes w d → slice_get (every_step w.plan.value w.client) (times starts d.entries) ≡ Some step
+pub start_goes : (w : ClientWorker) (d : DeskView) (n : ℕ) (op : Op) (step : BlockStep) → Goes w d → slice_get (every_step w.plan.value w.client) (times starts d.entries) ≡ Some step
     → op ≡ op_of (client_after w.plan.value w.client d.entries) step → Goes w (with_own d n (Start op))
 start_goes w d n op step g next is = record {
   its = record { same = g.its.same; config = g.its.config; id = g.its.id; correct = g.its.correct };
@@ -86,7 +86,7 @@ start_goes w d n op step g next is = record {
   reads = reads_still w d.entries (desk_entry n (Start op)) refl g.reads;
 }
 
-pub crash_goes : (w : Worker) (d : DeskView) (n : ℕ) → Goes w d → Goes w (with_own d n Crash)
+pub crash_goes : (w : ClientWorker) (d : DeskView) (n : ℕ) → Goes w d → Goes w (with_own d n Crash)
 crash_goes w d n g = record {
   its = record { same = g.its.same; config = g.its.config; id = g.its.id; correct = g.its.correct };
   acts = followed.one_more w.plan.value w.client d.entries (desk_entry n Crash) g.acts (record { start = tt; turn = tt; way = tt });
@@ -125,9 +125,9 @@ asks_other : (node i : ℕ) → i ≢ node → (node == i) ≡ false
 asks_other node i e = grind (arith, nat_tests)
 
 -- what is counted after an ask
-pub counts_more : (w : Worker) (es : List DeskEntry) (n : ℕ) (way way' : Way) (ask : Message) (reply : Option Message) (w' : Worker) → ask.node < w.plan.value.config.n → (w.crash_after ≡ Some 0 → ⊥)
+pub counts_more : (w : ClientWorker) (es : List DeskEntry) (n : ℕ) (way way' : Way) (ask : Message) (reply : Option Message) (w' : ClientWorker) → ask.node < w.plan.value.config.n → (w.crash_after ≡ Some 0 → ⊥)
     → Counts w es → HasCounted w ask.node way' w' → Counts w' (es ++ desk_entry n (Call way ask reply) ∷ [])
-counts_more w es n way way' ask reply w' below up h c = subst (λ (x : Worker). Counts x (es ++ desk_entry n (Call way ask reply) ∷ [])) (sym c.is) inner
+counts_more w es n way way' ask reply w' below up h c = subst (λ (x : ClientWorker). Counts x (es ++ desk_entry n (Call way ask reply) ∷ [])) (sym c.is) inner
   where
     e : DeskEntry
     e = desk_entry n (Call way ask reply)
@@ -186,7 +186,7 @@ way_on drops holds before = at (nat_lt before drops) refl (nat_lt before (drops 
         let h : nat_lt 0 (drops - before + (holds - (before - drops))) ≡ false = grind (arith, nat_tests) in
         ap (λ (x : Bool). cond x ByDrop (cond (nat_lt 0 (drops - before + (holds - (before - drops)))) ByHold ByCall)) g ∙ ap (λ (x : Bool). cond x ByHold ByCall) h
 
-pub way_is : (w : Worker) (es : List DeskEntry) (node : ℕ) (way : Way) (w' : Worker) → node < w.plan.value.config.n → Counts w es → HasCounted w node way w'
+pub way_is : (w : ClientWorker) (es : List DeskEntry) (node : ℕ) (way : Way) (w' : ClientWorker) → node < w.plan.value.config.n → Counts w es → HasCounted w node way w'
     → way ≡ way_of (drops w.plan.value.rules w.client node) (holds w.plan.value.rules w.client node) (times (asks_of node) es)
 way_is w es node way w' below h c =
     let d = drops w.plan.value.rules w.client node in
@@ -203,7 +203,7 @@ held_some drops holds e = at (nat_lt 0 drops) (nat_lt 0 (drops + holds)) refl re
     at false true x y e = grind (arith, nat_tests)
     at false false x y e = absurd (cc)
 
-pub held_whole : (w : Worker) (es : List DeskEntry) (node : ℕ) (way : Way) (w' : Worker) (slots : List Slot) → node < w.plan.value.config.n → Counts w es → HasCounted w node way w' → HoldsWhole w slots → way ≡ ByHold → IsWholeAt slots node
+pub held_whole : (w : ClientWorker) (es : List DeskEntry) (node : ℕ) (way : Way) (w' : ClientWorker) (slots : List Slot) → node < w.plan.value.config.n → Counts w es → HasCounted w node way w' → HoldsWhole w slots → way ≡ ByHold → IsWholeAt slots node
 held_whole w es node way w' slots below h c whole is =
     let d = drops w.plan.value.rules w.client node in
     let k = holds w.plan.value.rules w.client node in

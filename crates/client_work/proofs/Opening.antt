@@ -10,7 +10,7 @@ use Rattle.block_device.specs.Steps.{Fits}
 use Rattle.protocol.specs.Messages.{IsBytes}
 use Rattle.journals.specs.Desks.{FitsOp}
 use Rattle.plan_followed.specs.Clients.{latest_read}
-use Rattle.client_work.specs.declared.worker.Worker.{Worker}
+use Rattle.client_work.specs.declared.worker.ClientWorker.{ClientWorker}
 use Rattle.client_work.specs.declared.reads.GivenRead.{GivenRead}
 use Rattle.client_work.specs.Work.{all_given, latest_given, IsOpOf}
 use Rattle.client_work.proofs.Phasing.{latest_is}
@@ -18,12 +18,12 @@ use Rattle.client_work.proofs.Phasing.{latest_is}
 write_fits : (config : Numbers) (block : ℕ) (value : List ℕ) → block < config.blocks → length value ≡ config.size → IsBytes value → FitsOp config (WriteOp block value)
 write_fits config block value l e b = record { block = l; fits = (e, b) }
 
-pub op_whole : (w : Worker) (step : BlockStep) (block : ℕ) (value : List ℕ) (op : Op) → step ≡ Whole block value → op ≡ WriteOp block value → IsBytes value → Fits w.config step → IsOpOf w step op
+pub op_whole : (w : ClientWorker) (step : BlockStep) (block : ℕ) (value : List ℕ) (op : Op) → step ≡ Whole block value → op ≡ WriteOp block value → IsBytes value → Fits w.config step → IsOpOf w step op
 op_whole w step block value op s o b f =
     let h = subst (Fits w.config) s f in
     subst (λ (x : BlockStep). IsOpOf w x op) (sym s) (subst (IsOpOf w (Whole block value)) (sym o) (record { fits = write_fits w.config block value h.0 h.1 b; is = λ d config reads. refl }))
 
-pub op_merge : (w : Worker) (step : BlockStep) (block at : ℕ) (bytes value old : List ℕ) (op : Op) → step ≡ Merge block at bytes → op ≡ WriteOp block value → IsBytes value → Fits w.config step → value ≡ merged old at bytes
+pub op_merge : (w : ClientWorker) (step : BlockStep) (block at : ℕ) (bytes value old : List ℕ) (op : Op) → step ≡ Merge block at bytes → op ≡ WriteOp block value → IsBytes value → Fits w.config step → value ≡ merged old at bytes
     → length value ≡ length old → length old ≡ w.config.size → old ≡ latest_given block (replicate w.config.size 0) w.reads → IsOpOf w step op
 op_merge w step block at bytes value old op s o b f made long whole latest =
     let h = subst (Fits w.config) s f in

@@ -19,7 +19,7 @@ use Rattle.journals.specs.Desks.{DeskState, Ended, new_desk}
 use Rattle.client_desks.specs.Desks.{DeskView, CanStart, state_at, with_own, desk_entry}
 use Rattle.plan_followed.specs.Clients.{IsCutOff, IsDone, times, starts, value_given, value_in, op_of}
 use Rattle.plan_tasks.specs.Phases.{all_steps}
-use Rattle.client_work.specs.declared.worker.Worker.{Worker}
+use Rattle.client_work.specs.declared.worker.ClientWorker.{ClientWorker}
 use Rattle.client_work.specs.Work.{given_by, all_given, latest_given, phase_in, steps_of_first, every_step, HasSteps, StepsFit, Goes, Stands, IsAmid, IsAmidOrOff, IsOn, block_in, DidStep}
 use Rattle.client_work.proofs.Heard.{state_snoc, numbered}
 use Rattle.client_work.proofs.Going.{state_is, more_times}
@@ -84,7 +84,7 @@ can_go plan c phases left d correct f a =
     record { up = record { correct = correct; up = a.up }; idle = a.idle; fresh = omega arith }
 
 -- a phase begins
-pub phase_amid : (w : Worker) (d : DeskView) (steps : List BlockStep) (rest : List (List BlockStep)) → w.phases.items ≡ steps ∷ rest → Stands w d → IsAmid w.plan.value w.client rest steps d ⊎ IsCutOff w.plan.value w.client d.entries
+pub phase_amid : (w : ClientWorker) (d : DeskView) (steps : List BlockStep) (rest : List (List BlockStep)) → w.phases.items ≡ steps ∷ rest → Stands w d → IsAmid w.plan.value w.client rest steps d ⊎ IsCutOff w.plan.value w.client d.entries
 phase_amid w d steps rest e s =
     let plan = w.plan.value in
     let c = w.client in
@@ -130,7 +130,7 @@ phases_rest plan c steps rest h =
     }
 
 -- a phase ends
-pub phase_done : (w : Worker) (d : DeskView) → Goes w d → IsAmidOrOff w [] d → IsDone w.plan.value w.client (steps_of_first w.plan.value w.client (phase_in w.plan.value w.phases.items)) d.entries
+pub phase_done : (w : ClientWorker) (d : DeskView) → Goes w d → IsAmidOrOff w [] d → IsDone w.plan.value w.client (steps_of_first w.plan.value w.client (phase_in w.plan.value w.phases.items)) d.entries
 phase_done w d g (inl a) =
     let plan = w.plan.value in
     let c = w.client in

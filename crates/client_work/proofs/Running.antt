@@ -22,7 +22,7 @@ use Rattle.client_desks.specs.Desks.{DeskView, CanStart, state_at, task_at, with
 use Rattle.desk_keys.specs.Keys.{KeysView, FloorView, Fit, HasCalled, refusal_in}
 use Rattle.client_desks.specs.Later.{IsLater}
 use Rattle.plan_followed.specs.Clients.{IsNext, client_after, op_of, last_of, turn_after, times, starts}
-use Rattle.client_work.specs.declared.worker.Worker.{Worker}
+use Rattle.client_work.specs.declared.worker.ClientWorker.{ClientWorker}
 use Rattle.client_work.specs.declared.reads.GivenRead.{GivenRead}
 use Rattle.client_work.specs.Work.{given_by, every_step, Goes, IsWholeIn, HasCounted, HasAskedOn, IsOn, IsOpOf, IsSame, MoreReads, HoldsWhole, block_in}
 use Rattle.client_work.proofs.Heard.{config_all}
@@ -32,41 +32,41 @@ use Rattle.client_work.proofs.Phasing.{op_block, start_on, start_up, start_count
 
 -- ---- the same worker
 
-pub same_self : (w : Worker) → IsSame w w
+pub same_self : (w : ClientWorker) → IsSame w w
 same_self w = record { plan = refl; client = refl; reads = ([], sym (append-nil w.reads)) }
 
-pub same_on : (a b c : Worker) → IsSame a b → IsSame b c → IsSame a c
+pub same_on : (a b c : ClientWorker) → IsSame a b → IsSame b c → IsSame a c
 same_on a b c x y = record {
   plan = y.plan ∙ x.plan;
   client = y.client ∙ x.client;
   reads = (x.reads.0 ++ y.reads.0, y.reads.1 ∙ ap (λ (rs : List GivenRead). rs ++ y.reads.0) x.reads.1 ∙ append_assoc a.reads x.reads.0 y.reads.0);
 }
 
-pub whole_on : (a b : Worker) (slots : List Slot) → IsSame a b → HoldsWhole a slots → HoldsWhole b slots
+pub whole_on : (a b : ClientWorker) (slots : List Slot) → IsSame a b → HoldsWhole a slots → HoldsWhole b slots
 whole_on a b slots x whole node some =
     whole node (subst (λ (c : ℕ). 0 < holds a.plan.value.rules c node) x.client (subst (λ (p : Plan). 0 < holds p.rules b.client node) x.plan some))
 
 -- a worker that noted what an operation gave
-abbrev pub noted_by : Worker → ℕ → Outcome → Worker
+abbrev pub noted_by : ClientWorker → ℕ → Outcome → ClientWorker
 noted_by w block outcome = record w { reads = one_more w.reads (given_by block outcome) }
 
 more_of : (rs : List GivenRead) (o : Option GivenRead) → MoreReads rs (one_more rs o)
 more_of rs None = ([], sym (append-nil rs))
 more_of rs (Some r) = (r ∷ [], refl)
 
-pub same_counted : (w w' : Worker) (node : ℕ) (way : Way) → HasCounted w node way w' → IsSame w w'
+pub same_counted : (w w' : ClientWorker) (node : ℕ) (way : Way) → HasCounted w node way w' → IsSame w w'
 same_counted w w' node way c = subst (IsSame w) (sym c.is) (record { plan = refl; client = refl; reads = ([], sym (append-nil w.reads)) })
 
-pub same_noted : (w : Worker) (block : ℕ) (outcome : Outcome) → IsSame w (noted_by w block outcome)
+pub same_noted : (w : ClientWorker) (block : ℕ) (outcome : Outcome) → IsSame w (noted_by w block outcome)
 same_noted w block outcome = record { plan = refl; client = refl; reads = more_of w.reads (given_by block outcome) }
 
-pub counted_phases : (w w' : Worker) (node : ℕ) (way : Way) → HasCounted w node way w' → w'.phases.items ≡ w.phases.items
-counted_phases w w' node way c = ap (λ (x : Worker). x.phases.items) c.is
+pub counted_phases : (w w' : ClientWorker) (node : ℕ) (way : Way) → HasCounted w node way w' → w'.phases.items ≡ w.phases.items
+counted_phases w w' node way c = ap (λ (x : ClientWorker). x.phases.items) c.is
 
 -- ---- a call of the next node
 
 -- what is known before it
-pub record MayCall (w w' : Worker) (d : DeskView) (node : ℕ) (way : Way) : Type 0 where
+pub record MayCall (w w' : ClientWorker) (d : DeskView) (node : ℕ) (way : Way) : Type 0 where
   pub goes : Goes w d
   pub up : (state_at d).crashed ≡ false
   pub below : node < d.config.n
@@ -75,20 +75,20 @@ pub record MayCall (w w' : Worker) (d : DeskView) (node : ℕ) (way : Way) : Typ
   pub next : IsNext d.config.n (task_at d) (turn_after (d.id % d.config.n) (tag_at d) (last_of d.entries)) node
 
 -- the operation goes on
-pub record CallGoesOn (w' : Worker) (block : ℕ) (d d' : DeskView) : Type 0 where
+pub record CallGoesOn (w' : ClientWorker) (block : ℕ) (d d' : DeskView) : Type 0 where
   pub goes : Goes w' d'
   pub on : IsOn block d'
   pub up : (state_at d').crashed ≡ false
   pub starts : times starts d'.entries ≡ times starts d.entries
 
 -- it ended
-pub record CallEnds (w' : Worker) (d d' : DeskView) : Type 0 where
+pub record CallEnds (w' : ClientWorker) (d d' : DeskView) : Type 0 where
   pub goes : Goes w' d'
   pub idle : task_at d' ≡ None
   pub up : (state_at d').crashed ≡ false
   pub starts : times starts d'.entries ≡ times starts d.entries
 
-pub call_on : (w w' : Worker) (d d' : DeskView) (node : ℕ) (way : Way) (block : ℕ) → MayCall w w' d node way → IsOn block d → HasCalled d node way None d' → CallGoesOn w' block d d'
+pub call_on : (w w' : ClientWorker) (d d' : DeskView) (node : ℕ) (way : Way) (block : ℕ) → MayCall w w' d node way → IsOn block d → HasCalled d node way None d' → CallGoesOn w' block d d'
 call_on w w' d d' node way block m on h =
     let n = h.call.number in
     subst (CallGoesOn w' block d) (sym h.call.desk) (record {
@@ -98,7 +98,7 @@ call_on w w' d d' node way block m on h =
       starts = same_times starts d.entries (desk_entry n (Call way h.ask h.reply)) refl;
     })
 
-pub call_ends : (w w' : Worker) (d d' : DeskView) (node : ℕ) (way : Way) (block : ℕ) (outcome : Outcome) → MayCall w w' d node way → IsOn block d → HasCalled d node way (Some outcome) d'
+pub call_ends : (w w' : ClientWorker) (d d' : DeskView) (node : ℕ) (way : Way) (block : ℕ) (outcome : Outcome) → MayCall w w' d node way → IsOn block d → HasCalled d node way (Some outcome) d'
     → block < w.plan.value.config.blocks → IsWholeIn w.plan.value.config.size (given_by block outcome) → CallEnds (noted_by w' block outcome) d d'
 call_ends w w' d d' node way block outcome m on h l whole =
     let n = h.call.number in
@@ -112,7 +112,7 @@ call_ends w w' d d' node way block outcome m on h l whole =
 -- ---- asking on
 
 -- a worker that asks nodes in an operation on the block, from when it began to
-pub record IsAsking (from w : Worker) (first keys : KeysView) (floor : FloorView) (block : ℕ) : Type 0 where
+pub record IsAsking (from w : ClientWorker) (first keys : KeysView) (floor : FloorView) (block : ℕ) : Type 0 where
   pub fit : Fit keys floor
   pub sound : keys.refused ≡ None
   pub later : IsLater first.desk keys.desk
@@ -128,7 +128,7 @@ pub ok_gives : {A P : Type 0} (r : Result A CellRefusal) → refusal_in r ≡ No
 ok_gives (Ok x) e h = h
 ok_gives (Err f) e h = absurd (cc)
 
-pub may_call : (w w' : Worker) (d seen : DeskView) (node : ℕ) (way : Way) → Goes w d → (state_at d).crashed ≡ false → seen ≡ d → node < seen.config.n → HasCounted w node way w'
+pub may_call : (w w' : ClientWorker) (d seen : DeskView) (node : ℕ) (way : Way) → Goes w d → (state_at d).crashed ≡ false → seen ≡ d → node < seen.config.n → HasCounted w node way w'
     → IsNext seen.config.n (task_at seen) (turn_after (seen.id % seen.config.n) (tag_at seen) (last_of seen.entries)) node → MayCall w w' d node way
 may_call w w' d seen node way g up e below c next = record {
   goes = g;
@@ -139,7 +139,7 @@ may_call w w' d seen node way g up e below c next = record {
   next = subst (λ (x : DeskView). IsNext x.config.n (task_at x) (turn_after (x.id % x.config.n) (tag_at x) (last_of x.entries)) node) e next;
 }
 
-module _ (from w w' : Worker) (first keys keys' : KeysView) (floor : FloorView) (block node : ℕ) (way : Way) (a : IsAsking from w first keys floor block) (m : MayCall w w' keys.desk node way) where
+module _ (from w w' : ClientWorker) (first keys keys' : KeysView) (floor : FloorView) (block node : ℕ) (way : Way) (a : IsAsking from w first keys floor block) (m : MayCall w w' keys.desk node way) where
   -- it asks on
   pub asking_on : (answer : Option Outcome) → answer ≡ None → HasCalled keys.desk node way answer keys'.desk → Fit keys' floor → keys'.refused ≡ None → IsLater first.desk keys'.desk → IsAsking from w' first keys' floor block
   asking_on answer e h fit sound later =
@@ -157,12 +157,12 @@ module _ (from w w' : Worker) (first keys keys' : KeysView) (floor : FloorView) 
       }
 
   -- the operation ended, and the worker noted what it gave
-  pub asked_out : (answer : Option Outcome) (outcome : Outcome) (new : Worker) → answer ≡ Some outcome → HasCalled keys.desk node way answer keys'.desk → block < w.plan.value.config.blocks
+  pub asked_out : (answer : Option Outcome) (outcome : Outcome) (new : ClientWorker) → answer ≡ Some outcome → HasCalled keys.desk node way answer keys'.desk → block < w.plan.value.config.blocks
       → IsWholeIn w'.config.size (given_by block outcome) → new ≡ noted_by w' block outcome → HasAskedOn from first.desk new keys'.desk
   asked_out answer outcome new e h l whole is =
-      let size : w'.config.size ≡ w.plan.value.config.size = ap (λ (x : Worker). x.config.size) m.count.is ∙ ap (λ (n : Numbers). n.size) m.goes.its.same in
+      let size : w'.config.size ≡ w.plan.value.config.size = ap (λ (x : ClientWorker). x.config.size) m.count.is ∙ ap (λ (n : Numbers). n.size) m.goes.its.same in
       let x = call_ends w w' keys.desk keys'.desk node way block outcome m a.on (subst (λ (o : Option Outcome). HasCalled keys.desk node way o keys'.desk) e h) l (subst (λ (k : ℕ). IsWholeIn k (given_by block outcome)) size whole) in
-      subst (λ (v : Worker). HasAskedOn from first.desk v keys'.desk) (sym is) (record {
+      subst (λ (v : ClientWorker). HasAskedOn from first.desk v keys'.desk) (sym is) (record {
         same = same_on from w' (noted_by w' block outcome) (same_on from w w' a.same (same_counted w w' node way m.count)) (same_noted w' block outcome);
         phases = counted_phases w w' node way m.count ∙ a.phases;
         goes = x.goes;
@@ -171,7 +171,7 @@ module _ (from w w' : Worker) (first keys keys' : KeysView) (floor : FloorView) 
       })
 
 -- no ask was left, and the client crashed
-pub crashed_out : (from w : Worker) (first keys : KeysView) (floor : FloorView) (block : ℕ) (d' : DeskView) → IsAsking from w first keys floor block → w.crash_after ≡ Some 0
+pub crashed_out : (from w : ClientWorker) (first keys : KeysView) (floor : FloorView) (block : ℕ) (d' : DeskView) → IsAsking from w first keys floor block → w.crash_after ≡ Some 0
     → ((n : ℕ) × (keys.desk.pass.seen ≤ n) × (d' ≡ with_own keys.desk n Crash)) → HasAskedOn from first.desk w d'
 crashed_out from w first keys floor block d' a none s =
     let d = keys.desk in
@@ -187,13 +187,13 @@ crashed_out from w first keys floor block d' a none s =
 -- ---- a start
 
 -- the operation of a step is under way
-pub record HasBegun (w : Worker) (block : ℕ) (before d : DeskView) : Type 0 where
+pub record HasBegun (w : ClientWorker) (block : ℕ) (before d : DeskView) : Type 0 where
   pub goes : Goes w d
   pub up : (state_at d).crashed ≡ false
   pub on : IsOn block d
   pub starts : times starts d.entries ≡ times starts before.entries + 1
 
-pub begun : (w : Worker) (d d' : DeskView) (step : BlockStep) (op : Op) (block : ℕ) → Goes w d → CanStart d → slice_get (every_step w.plan.value w.client) (times starts d.entries) ≡ Some step → IsOpOf w step op → block ≡ block_in step
+pub begun : (w : ClientWorker) (d d' : DeskView) (step : BlockStep) (op : Op) (block : ℕ) → Goes w d → CanStart d → slice_get (every_step w.plan.value w.client) (times starts d.entries) ≡ Some step → IsOpOf w step op → block ≡ block_in step
     → ((n : ℕ) × (d.pass.seen ≤ n) × (d' ≡ with_own d n (Start op))) → HasBegun w block d d'
 begun w d d' step op block g can next o b s =
     let now = client_after w.plan.value w.client d.entries in

@@ -14,7 +14,7 @@ use Rattle.cross_sum.specs.contracts.bytes.Bytes as bytes
 use Rattle.cross_sum.specs.contracts.sum.CrossSum as sum
 use Rattle.wire_forms.specs.contracts.message.Message as message
 use Rattle.client_work.specs.contracts.reads.GivenRead as given
-use Rattle.client_work.specs.contracts.worker.Worker as worker
+use Rattle.client_work.specs.contracts.worker.ClientWorker as worker
 use Rattle.client_work.specs.contracts.liar.Liar as liar
 use Rattle.client_work.specs.contracts.work.Work as work
 

@@ -26,7 +26,7 @@ use Rattle.plan_tasks.specs.Tasks.{IsSendable}
 use Rattle.client_work.specs.declared.reads.GivenRead.{GivenRead}
 use Rattle.client_work.specs.declared.work.Work.{Work}
 use Rattle.client_work.specs.declared.work.Work.TheVariants.{Client, Lying, Courier}
-use Rattle.client_work.specs.declared.worker.Worker.{Worker}
+use Rattle.client_work.specs.declared.worker.ClientWorker.{ClientWorker}
 use Rattle.client_work.specs.declared.liar.Liar.{Liar}
 
 -- ---- reads
@@ -59,7 +59,7 @@ asks_left before (Some count) = Some (count - before)
 abbrev pub phase_in : Plan → List (List BlockStep) → ℕ
 phase_in plan phases = count_by is_phase plan.work + 1 - length phases
 
-abbrev pub phase_at : Worker → ℕ
+abbrev pub phase_at : ClientWorker → ℕ
 phase_at w = phase_in w.plan.value w.phases.items
 
 -- a client's steps of the first phases of a plan's work, and all of them
@@ -77,7 +77,7 @@ pub record HasSteps (plan : Plan) (c : ℕ) (phases : List (List BlockStep)) : T
   pub few : length (every_step plan c) ≤ 4000
   pub fit : All (All (Fits plan.config)) phases
 
-module _ (w : Worker) where
+module _ (w : ClientWorker) where
   -- the desk is the correct client's
   pub record IsItsDesk (d : DeskView) : Type 0 where
     pub same : w.config ≡ w.plan.value.config
@@ -112,7 +112,7 @@ module _ (w : Worker) where
     pub steps : HasSteps w.plan.value w.client w.phases.items
 
 -- a node that is to hold back asks of the client stands in one cell
-abbrev pub HoldsWhole : Worker → List Slot → Type 0
+abbrev pub HoldsWhole : ClientWorker → List Slot → Type 0
 HoldsWhole w slots = (node : ℕ) → 0 < holds w.plan.value.rules w.client node → IsWholeAt slots node
 
 -- the new reads are the old ones, and perhaps more
@@ -120,18 +120,18 @@ abbrev pub MoreReads : List GivenRead → List GivenRead → Type 0
 MoreReads old new = (more : List GivenRead) × (new ≡ old ++ more)
 
 -- the worker is of the same plan and client, and its reads only grew
-pub record IsSame (old new : Worker) : Type 0 where
+pub record IsSame (old new : ClientWorker) : Type 0 where
   pub plan : new.plan.value ≡ old.plan.value
   pub client : new.client ≡ old.client
   pub reads : MoreReads old.reads new.reads
 
 -- a worker that has a phase to do
-pub record IsReady (w : Worker) (d : DeskView) : Type 0 where
+pub record IsReady (w : ClientWorker) (d : DeskView) : Type 0 where
   pub stands : Stands w d
   pub left : 0 < length w.phases.items
 
 -- it did one phase more
-pub record HasWorked (old : Worker) (new : Worker) (d : DeskView) : Type 0 where
+pub record HasWorked (old : ClientWorker) (new : ClientWorker) (d : DeskView) : Type 0 where
   pub same : IsSame old new
   pub stands : Stands new d
   pub one : length new.phases.items + 1 ≡ length old.phases.items
@@ -143,7 +143,7 @@ block_in (Whole k value) = k
 block_in (Merge k at bytes) = k
 
 -- the operation fits the cluster, and is that of the step for a client whose reads the worker has
-pub record IsOpOf (w : Worker) (step : BlockStep) (op : Op) : Type 0 where
+pub record IsOpOf (w : ClientWorker) (step : BlockStep) (op : Op) : Type 0 where
   pub fits : FitsOp w.config op
   pub is : (d : DeskState) → d.client.config ≡ w.config → w.reads ≡ all_given d.ended → op ≡ op_of d step
 
@@ -153,11 +153,11 @@ IsWholeIn size None = Unit {0}
 IsWholeIn size (Some r) = length r.value ≡ size
 
 -- the worker after an ask to the node was counted, to which these ways were left
-abbrev pub counted : Worker → ℕ → Ways → Worker
+abbrev pub counted : ClientWorker → ℕ → Ways → ClientWorker
 counted w node was = record w { ways = slice_set w.ways node (ways_left was.drops was.holds 1); crash_after = asks_left 1 w.crash_after }
 
 -- an ask to the node, which goes this way, was counted; one was left
-pub record HasCounted (old : Worker) (node : ℕ) (way : Way) (new : Worker) : Type 0 where
+pub record HasCounted (old : ClientWorker) (node : ℕ) (way : Way) (new : ClientWorker) : Type 0 where
   pub left : old.crash_after ≡ Some 0 → ⊥
   pub was : Ways
   pub there : slice_get old.ways node ≡ Some was
@@ -172,7 +172,7 @@ pub record StepsFit (plan : Plan) (c : ℕ) (phases : List (List BlockStep)) (st
   pub fit : All (Fits plan.config) steps
 
 -- the worker and its desk after an operation ended, or the client crashed in it
-pub record HasAskedOn (old : Worker) (before : DeskView) (new : Worker) (d : DeskView) : Type 0 where
+pub record HasAskedOn (old : ClientWorker) (before : DeskView) (new : ClientWorker) (d : DeskView) : Type 0 where
   pub same : IsSame old new
   pub phases : new.phases.items ≡ old.phases.items
   pub goes : Goes new d
@@ -186,7 +186,7 @@ pub record DidStep (before d : DeskView) : Type 0 where
   pub up : (state_at d).crashed ≡ false
 
 -- the worker and its desk after one step, of whose phases none was taken
-pub record HasStepped (old : Worker) (before : DeskView) (new : Worker) (d : DeskView) : Type 0 where
+pub record HasStepped (old : ClientWorker) (before : DeskView) (new : ClientWorker) (d : DeskView) : Type 0 where
   pub same : IsSame old new
   pub phases : new.phases.items ≡ old.phases.items
   pub goes : Goes new d
@@ -205,7 +205,7 @@ pub record IsAmid (plan : Plan) (c : ℕ) (phases : List (List BlockStep)) (left
   pub up : (state_at d).crashed ≡ false
 
 -- so it is, or the client crashed
-abbrev pub IsAmidOrOff : Worker → List BlockStep → DeskView → Type 0
+abbrev pub IsAmidOrOff : ClientWorker → List BlockStep → DeskView → Type 0
 IsAmidOrOff w left d = IsAmid w.plan.value w.client w.phases.items left d ⊎ IsCutOff w.plan.value w.client d.entries
 
 -- ---- a lying client

@@ -13,4 +13,4 @@ pub mod worker;
 pub use liar::Liar;
 pub use reads::GivenRead;
 pub use work::Work;
-pub use worker::Worker;
+pub use worker::ClientWorker;

@@ -8,7 +8,7 @@ ghost use Rattle.desk_keys.specs.Keys.{Fit};
 ghost use Rattle.client_work.specs.Work.{every_step, Goes, IsSame, IsReady, HasWorked, HasStepped, IsOn, IsAmidOrOff, HoldsWhole, HasAskedOn, StepsFit, block_in};
 
 use crate::turns::next_node;
-use crate::worker::Worker;
+use crate::worker::ClientWorker;
 use block_device::{BlockStep, Command};
 use client_desks::laws::desks_go_on;
 use crews::{Edge, Gate};
@@ -16,7 +16,7 @@ use desk_keys::{Floor, Keys};
 use locked_nodes::CellRefusal;
 use std::sync::Wait;
 
-impl Worker {
+impl ClientWorker {
     /// Does the steps of the next phase, until they are done, the client crashes, or the keys note a refusal. It calls the gate
     /// before each operation starts, under each lock where nodes stand under locks, and after each operation ended.
     pub fn work<R: Wait, G: Gate>(&mut self, rt: &R, gate: &G, floor: &Floor, keys: &mut Keys)

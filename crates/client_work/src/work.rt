@@ -3,7 +3,7 @@ ghost use Rattle.client_work.specs.Work.{Ready, Done};
 
 use crate::liar::Liar;
 use crate::sends::carry;
-use crate::worker::Worker;
+use crate::worker::ClientWorker;
 use crews::Gate;
 use desk_keys::{Floor, Keys};
 use phase_threads::Duty;
@@ -12,7 +12,7 @@ use std::sync::Wait;
 /// What a thread does.
 pub enum Work {
     /// The steps of a correct client.
-    Client(Worker),
+    Client(ClientWorker),
     /// The messages of a lying client.
     Lying(Liar),
     /// It brings what nodes hold back.

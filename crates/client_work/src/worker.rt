@@ -25,7 +25,7 @@ use wire_forms::Op;
 
 /// A correct client at work, by its plan: the steps of the phases that are left, what is left of the asks to each node that go wrong,
 /// and of all asks until it crashes, and its reads that gave a value.
-pub struct Worker {
+pub struct ClientWorker {
     pub plan: Snapshot<Plan>,
     pub config: Config,
     pub client: u32,
@@ -36,9 +36,9 @@ pub struct Worker {
 }
 
 // By hand, since a derived drop is proved anew wherever one is let go.
-impl Drop for Worker {
+impl Drop for ClientWorker {
     fn drop(self) {
-        let Worker {
+        let ClientWorker {
             plan: _plan,
             config: _config,
             client: _client,
@@ -50,9 +50,9 @@ impl Drop for Worker {
     }
 }
 
-impl Worker {
+impl ClientWorker {
     /// The client of a task of the plan before it did anything.
-    pub fn new(alloc: Global, plan: &Plan, task: ClientTask) -> Worker
+    pub fn new(alloc: Global, plan: &Plan, task: ClientTask) -> ClientWorker
         requires fits { Fits plan.now }
         requires task { IsClientTask plan.now task }
         ensures plan { result.plan.value ≡ plan.now }
@@ -68,7 +68,7 @@ impl Worker {
             ways,
             crash_after,
         } = task;
-        Worker {
+        ClientWorker {
             plan: Snapshot::of(plan),
             config: plan.config,
             client,

@@ -6,3 +6,4 @@ pub mod Sharding
 pub mod Joining
 pub mod Conducting
 pub mod Joins
+pub mod Aside

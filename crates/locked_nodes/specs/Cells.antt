@@ -1,5 +1,6 @@
 -- What contracts see of a cell, and what each cell keeps.
 use Rattle.std.specs.Prelude.{◌≡◌, ℕ, ◌+◌, ◌<◌, ◌≤◌, ◌%◌, ◌||◌, Bool, true, false, List, [], ◌∷◌, ◌++◌, length, map, take, drop, All, Option, None, Some}
+use Rattle.std.specs.List.{Contains}
 use Rattle.quorum_rules.specs.Limits.{Numbers}
 use Rattle.protocol.specs.Messages.{Message, Body}
 use Rattle.wire_forms.specs.declared.message.Body.TheVariants.{Ask as Asks, Answer as Answers}
@@ -15,6 +16,7 @@ use Rattle.journals.specs.declared.node.NodeAct.TheVariants.{Pruned}
 use Rattle.journals.specs.declared.node.NodeEntry.{NodeEntry}
 use Rattle.journals.specs.Acts.{NodeState, Cause, new_state, late_act, after_all, cause_of, is_spent, IsOldest, NodeKept}
 use Rattle.journals.specs.Acts.Cause.{Comes, ComesLate, Prunes}
+use Rattle.journals.specs.Steps.{side}
 use Rattle.locked_nodes.specs.declared.answers.Told.{Told}
 use Rattle.locked_nodes.specs.declared.answers.Told.TheVariants.{Answered as ToldReply, Silent as ToldSilence}
 use Rattle.locked_nodes.specs.declared.charter.Charter.{Charter}
@@ -139,6 +141,14 @@ pub record BroughtLate (old : CellView) (n : ℕ) (new : CellView) : Type 0 wher
   pub ask : Message
   pub oldest : IsOldest (state_of old).late ask
   pub cell : new ≡ with_entry old n (late_act (state_of old) old.charter.nature ask)
+
+-- the cell is as it was, with entries more of which no client has a side
+pub record HasMoreAside (old new : CellView) : Type 0 where
+  pub charter : new.charter ≡ old.charter
+  pub clock : new.pass.clock ≡ old.pass.clock
+  pub more : List NodeEntry
+  pub grew : new.journal ≡ old.journal ++ more
+  pub aside : (e : NodeEntry) → Contains more e → side e.act ≡ None
 
 -- the note saw a number that it hadn't seen
 pub record SawLate (before : Sight) (n : ℕ) (after : Sight) : Type 0 where

@@ -1,6 +1,6 @@
 -- What one ask more adds to what a worker has answered.
 use Rattle.std.proofs.Common.{◌≡◌, ◌≢◌, ℕ, zero, suc, ◌<◌, List, [], ◌∷◌, ◌++◌, length, length-set, map, cond, refl, sym, ap, subst, ◌∙◌, arith, inl, inr, append_assoc, append-nil}
-use Rattle.std.specs.declared.option.Option.TheVariants.{Some, None}
+use Rattle.std.specs.declared.option.Option.TheVariants.{Some}
 use Rattle.std.specs.declared.result.Result.{Result}
 use Rattle.std.specs.declared.result.Result.TheVariants.{Ok, Err}
 use Rattle.std.specs.Prelude.{◌⊎◌, Bool, true, false, nat_eq, slice_get, slice_set, IfOk, OnErr}
@@ -15,7 +15,8 @@ use Rattle.journals.specs.declared.desk.DeskAct.{DeskAct}
 use Rattle.journals.specs.declared.node.NodeEntry.{NodeEntry}
 use Rattle.journals.specs.Steps.{side}
 use Rattle.locked_nodes.specs.declared.answers.Told.{Told}
-use Rattle.locked_nodes.specs.Cells.{CellView, BroughtLate, state_of, loses, told_as, number_of, entry, with_entry}
+use Rattle.locked_nodes.specs.Cells.{CellView, BroughtLate, HasMoreAside, state_of, loses, told_as, number_of, entry, with_entry}
+use Rattle.locked_nodes.proofs.Aside.{aside_none, aside_one}
 use Rattle.locked_nodes.specs.declared.answers.CellRefusal.{CellRefusal}
 use Rattle.locked_nodes.specs.declared.answers.Late.{Late}
 use Rattle.locked_nodes.specs.declared.answers.Late.TheVariants.{NoMail, Delivered as CameIn, Lost}
@@ -28,7 +29,7 @@ use Rattle.locked_nodes.specs.Cells.{reply_told}
 use Rattle.client_desks.proofs.Desking.{act_side, late_side, told_reply}
 use Rattle.node_mail.specs.declared.asked.Asked.{Asked}
 use Rattle.node_mail.specs.declared.answered.Answered.{Answered}
-use Rattle.node_serving.specs.Workers.{Line, WorkerView, clients_of, CanServe, IsLineTo, Tells, WasTold, TellsOf, IsSameLine, HasAnswered, HasMet, CameAside, asks_from, asks_told, AreAnswered}
+use Rattle.node_serving.specs.Workers.{AnswerPutter, WorkerView, clients_of, CanServe, IsPutterTo, Tells, WasTold, TellsOf, IsSamePutter, HasAnswered, HasMet, asks_from, asks_told, AreAnswered}
 
 -- the items of a list of which one was replaced
 set_here : {A : Type 0} (xs : List A) (k : ℕ) (x y : A) → slice_get xs k ≡ Some x → slice_get (slice_set xs k y) k ≡ Some y
@@ -57,10 +58,10 @@ pub none_in : {A : Type 0} (xs : List A) (x : A) → xs ≡ [] → Contains xs x
 none_in xs x none (k, lt, is) = let few = ap length none in omega (arith, lt, few)
 
 -- a worker that has answered nobody
-same_line : (seat : ℕ) (x y : Line) → x ≡ y → IsSameLine seat x y
-same_line seat x y same = record { inbox = ap (λ (l : Line). l.inbox) (sym same); number = ap (λ (l : Line). l.number) (sym same) }
+same_line : (seat : ℕ) (x y : AnswerPutter) → x ≡ y → IsSamePutter seat x y
+same_line seat x y same = record { inbox = ap (λ (l : AnswerPutter). l.inbox) (sym same); number = ap (λ (l : AnswerPutter). l.number) (sym same) }
 
-pub answered_none : (clients : List ℕ) (cell : CellView) (lines : List Line) → ((seat : ℕ) (line : Line) → slice_get lines seat ≡ Some line → line.put ≡ []) → HasAnswered clients cell lines cell lines
+pub answered_none : (clients : List ℕ) (cell : CellView) (lines : List AnswerPutter) → ((seat : ℕ) (line : AnswerPutter) → slice_get lines seat ≡ Some line → line.put ≡ []) → HasAnswered clients cell lines cell lines
 answered_none clients cell lines new = record {
   charter = refl;
   more = [];
@@ -96,9 +97,9 @@ module _ (seat from : ℕ) (q : Asked) where
       asks-append seat asks ((from, q) ∷ []) ∙ ap (λ l. asks_from seat asks ++ l) none
       ∙ append-nil (asks_from seat asks)
 
--- the lines after an answer was put into one of them
-module _ (lines : List Line) (seat : ℕ) (line : Line) (here : slice_get lines seat ≡ Some line) (a : Answered) where
-  abbrev after : List Line
+-- the putters after an answer was put into one of them
+module _ (lines : List AnswerPutter) (seat : ℕ) (line : AnswerPutter) (here : slice_get lines seat ≡ Some line) (a : Answered) where
+  abbrev after : List AnswerPutter
   after = slice_set lines seat (put_more line a)
 
   new_line : slice_get after seat ≡ Some (put_more line a)
@@ -113,7 +114,7 @@ module _ (lines : List Line) (seat : ℕ) (line : Line) (here : slice_get lines 
         there = new_line;
         answer = w.answer;
         client = ap (slice_get clients) (sym is) ∙ w.client;
-        put = Contains-append_left line.put (a ∷ []) w.answer (subst (λ (l : Line). Contains l.put w.answer) same w.put);
+        put = Contains-append_left line.put (a ∷ []) w.answer (subst (λ (l : AnswerPutter). Contains l.put w.answer) same w.put);
         tells = w.tells;
       }
   kept_by clients n w (inr apart) =
@@ -125,7 +126,7 @@ module _ (lines : List Line) (seat : ℕ) (line : Line) (here : slice_get lines 
   told_now : (clients : List ℕ) (n : NodeEntry) → slice_get clients seat ≡ Some a.ask.client → Tells n a → WasTold clients after n
   told_now clients n client tells = record { seat = seat; line = put_more line a; there = new_line; answer = a; client = client; put = Contains-push line.put a; tells = tells }
 
-  module _ (clients : List ℕ) (old now new : CellView) (first : List Line) (so : HasAnswered clients old first now lines) (met : HasMet now a new) (client : slice_get clients seat ≡ Some a.ask.client) where
+  module _ (clients : List ℕ) (old now new : CellView) (first : List AnswerPutter) (so : HasAnswered clients old first now lines) (met : HasMet now a new) (client : slice_get clients seat ≡ Some a.ask.client) where
     abbrev all_more : List NodeEntry
     all_more = so.more ++ met.tail
 
@@ -150,14 +151,14 @@ module _ (lines : List Line) (seat : ℕ) (line : Line) (here : slice_get lines 
     done_put s b t at is (inl has) = of_old s b (so.done s line b t (ap (slice_get lines) at ∙ here) has is)
     done_put s b t at is (inr same) = of_new s b t at same is
 
-    done_of : (s : ℕ) (l : Line) (b : Answered) (t : Told) → Contains l.put b → b.told ≡ Ok t → ((s ≡ seat) × (l ≡ put_more line a)) ⊎ ((s ≢ seat) × (slice_get lines s ≡ Some l)) → TellsOf clients all_more s b
-    done_of s l b t has is (inl h) = done_put s b t h.0 is (Contains-push_cases line.put a b (subst (λ (x : Line). Contains x.put b) h.1 has))
+    done_of : (s : ℕ) (l : AnswerPutter) (b : Answered) (t : Told) → Contains l.put b → b.told ≡ Ok t → ((s ≡ seat) × (l ≡ put_more line a)) ⊎ ((s ≢ seat) × (slice_get lines s ≡ Some l)) → TellsOf clients all_more s b
+    done_of s l b t has is (inl h) = done_put s b t h.0 is (Contains-push_cases line.put a b (subst (λ (x : AnswerPutter). Contains x.put b) h.1 has))
     done_of s l b t has is (inr h) = of_old s b (so.done s l b t h.1 has is)
 
-    line_kept : (s : ℕ) (x y : Line) → slice_get first s ≡ Some x → ((s ≡ seat) × (y ≡ put_more line a)) ⊎ ((s ≢ seat) × (slice_get lines s ≡ Some y)) → IsSameLine s x y
+    line_kept : (s : ℕ) (x y : AnswerPutter) → slice_get first s ≡ Some x → ((s ≡ seat) × (y ≡ put_more line a)) ⊎ ((s ≢ seat) × (slice_get lines s ≡ Some y)) → IsSamePutter s x y
     line_kept s x y at (inl h) =
         let was = so.same.each s x line at (ap (slice_get lines) h.0 ∙ here) in
-        record { inbox = ap (λ (l : Line). l.inbox) h.1 ∙ was.inbox; number = ap (λ (l : Line). l.number) h.1 ∙ was.number }
+        record { inbox = ap (λ (l : AnswerPutter). l.inbox) h.1 ∙ was.inbox; number = ap (λ (l : AnswerPutter). l.number) h.1 ∙ was.number }
     line_kept s x y at (inr h) = so.same.each s x y at h.1
 
     pub answered_more : HasAnswered clients old first new after
@@ -173,11 +174,11 @@ module _ (lines : List Line) (seat : ℕ) (line : Line) (here : slice_get lines 
   -- and the asks with the one to which it is the answer
   module _ (asks : List (ℕ × Asked)) (from : ℕ) (q : Asked) (own : q.seat ≡ seat)
       (is : (a.way ≡ q.way) × (a.ask ≡ q.ask)) (so : AreAnswered asks lines) where
-    asked_at : (s : ℕ) (l : Line)
+    asked_at : (s : ℕ) (l : AnswerPutter)
         → ((s ≡ seat) × (l ≡ put_more line a)) ⊎ ((s ≢ seat) × (slice_get lines s ≡ Some l))
         → asks_told l.put ≡ asks_from s (asks ++ (from, q) ∷ [])
     asked_at s l (inl h) =
-        ap (λ (x : Line). asks_told x.put) h.1
+        ap (λ (x : AnswerPutter). asks_told x.put) h.1
         ∙ map-append (λ (x : Answered). (x.way, x.ask)) line.put (a ∷ [])
         ∙ (λ j. so seat line here j ++ (is.0 j, is.1 j) ∷ [])
         ∙ sym (one_more seat from q asks own)
@@ -188,36 +189,36 @@ module _ (lines : List Line) (seat : ℕ) (line : Line) (here : slice_get lines 
     asked_more s l at = asked_at s l (get_set lines seat s l (put_more line a) at)
 
 -- what has no client's side is told to nobody
-module _ (clients : List ℕ) (old now new : CellView) (first lines : List Line) (so : HasAnswered clients old first now lines) (late : CameAside now new) where
-  told_before : (n : NodeEntry) (c : ℕ) (act : DeskAct) → side n.act ≡ Some (c, act) → Contains so.more n ⊎ Contains late.tail n → WasTold clients lines n
+module _ (clients : List ℕ) (old now new : CellView) (first lines : List AnswerPutter) (so : HasAnswered clients old first now lines) (late : HasMoreAside now new) where
+  told_before : (n : NodeEntry) (c : ℕ) (act : DeskAct) → side n.act ≡ Some (c, act) → Contains so.more n ⊎ Contains late.more n → WasTold clients lines n
   told_before n c act is (inl has) = so.told n c act has is
   told_before n c act is (inr has) = let none = late.aside n has in absurd cc
 
-  done_before : (seat : ℕ) (a : Answered) → TellsOf clients so.more seat a → TellsOf clients (so.more ++ late.tail) seat a
-  done_before seat a of = record { entry = of.entry; there = Contains-append_left so.more late.tail of.entry of.there; client = of.client; tells = of.tells }
+  done_before : (seat : ℕ) (a : Answered) → TellsOf clients so.more seat a → TellsOf clients (so.more ++ late.more) seat a
+  done_before seat a of = record { entry = of.entry; there = Contains-append_left so.more late.more of.entry of.there; client = of.client; tells = of.tells }
 
   pub answered_late : HasAnswered clients old first new lines
   answered_late = record {
     charter = late.charter ∙ so.charter;
-    more = so.more ++ late.tail;
-    grew = late.grew ∙ ap (λ l. l ++ late.tail) so.grew ∙ append_assoc old.journal so.more late.tail;
+    more = so.more ++ late.more;
+    grew = late.grew ∙ ap (λ l. l ++ late.more) so.grew ∙ append_assoc old.journal so.more late.more;
     same = so.same;
-    told = λ n c act has is. told_before n c act is (Contains-append_cases so.more late.tail n has);
+    told = λ n c act has is. told_before n c act is (Contains-append_cases so.more late.more n has);
     done = λ seat line a t at has is. done_before seat a (so.done seat line a t at has is);
   }
 
--- the line of a seat, when a worker starts and later
-line_at : (of : ClockId) (clients : List ℕ) (lines : List Line) (seat : ℕ) (line : Line) → Beside (IsLineTo of) clients lines → slice_get lines seat ≡ Some line → (id : ℕ) × (slice_get clients seat ≡ Some id) × IsLineTo of seat id line
+-- the putter of a seat, when a worker starts and later
+line_at : (of : ClockId) (clients : List ℕ) (lines : List AnswerPutter) (seat : ℕ) (line : AnswerPutter) → Beside (IsPutterTo of) clients lines → slice_get lines seat ≡ Some line → (id : ℕ) × (slice_get clients seat ≡ Some id) × IsPutterTo of seat id line
 line_at of clients lines seat line to at =
-    left_of (IsLineTo of) clients lines seat line to at
+    left_of (IsPutterTo of) clients lines seat line to at
 
-pub new_lines : (of : ClockId) (clients : List ℕ) (lines : List Line) → Beside (IsLineTo of) clients lines → (seat : ℕ) (line : Line) → slice_get lines seat ≡ Some line → line.put ≡ []
+pub new_lines : (of : ClockId) (clients : List ℕ) (lines : List AnswerPutter) → Beside (IsPutterTo of) clients lines → (seat : ℕ) (line : AnswerPutter) → slice_get lines seat ≡ Some line → line.put ≡ []
 new_lines of clients lines to seat line at = (line_at of clients lines seat line to at).2.new
 
-pub seat_within : (of : ClockId) (clients : List ℕ) (old : CellView) (first : List Line) (now : CellView) (lines : List Line) → Beside (IsLineTo of) clients first → HasAnswered clients old first now lines → (seat id : ℕ) → slice_get clients seat ≡ Some id → seat < length lines
+pub seat_within : (of : ClockId) (clients : List ℕ) (old : CellView) (first : List AnswerPutter) (now : CellView) (lines : List AnswerPutter) → Beside (IsPutterTo of) clients first → HasAnswered clients old first now lines → (seat id : ℕ) → slice_get clients seat ≡ Some id → seat < length lines
 seat_within of clients old first now lines to so seat id at = let lt = within clients seat id at in omega (arith, lt, to.count, so.same.count)
 
-pub line_of : (of : ClockId) (clients : List ℕ) (old : CellView) (first : List Line) (now : CellView) (lines : List Line) → Beside (IsLineTo of) clients first → HasAnswered clients old first now lines → (seat id : ℕ) (line : Line) → slice_get clients seat ≡ Some id → slice_get lines seat ≡ Some line
+pub line_of : (of : ClockId) (clients : List ℕ) (old : CellView) (first : List AnswerPutter) (now : CellView) (lines : List AnswerPutter) → Beside (IsPutterTo of) clients first → HasAnswered clients old first now lines → (seat id : ℕ) (line : AnswerPutter) → slice_get clients seat ≡ Some id → slice_get lines seat ≡ Some line
     → (line.inbox.place.clock.value ≡ of) × (line.inbox.place.client ≡ id)
 line_of of clients old first now lines to so seat id line at here =
     let lt = within lines seat line here in
@@ -258,35 +259,19 @@ has_met (Err e) old new way ask note before cell tell err = record {
 }
 
 -- what a cell did with a held ask that came late, or did not come
-pub aside_none : (old new : CellView) → new ≡ old → CameAside old new
-aside_none old new same = record { charter = ap (λ (c : CellView). c.charter) same; tail = []; grew = ap (λ (c : CellView). c.journal) same ∙ sym (append-nil old.journal); aside = λ n has. absurd (none_in [] n refl has) }
+aside_same : (old new : CellView) → new ≡ old → HasMoreAside old new
+aside_same old new same = subst (HasMoreAside old) (sym same) (aside_none old)
 
-aside_one : (old new : CellView) (n : ℕ) → BroughtLate old n new → CameAside old new
-aside_one old new n late = record {
-  charter = ap (λ (c : CellView). c.charter) late.cell;
-  tail = entry n (late_act (state_of old) old.charter.nature late.ask) ∷ [];
-  grew = ap (λ (c : CellView). c.journal) late.cell;
-  aside = λ m has. ap (λ (e : NodeEntry). side e.act) (sym (one_of (entry n (late_act (state_of old) old.charter.nature late.ask)) m has)) ∙ late_side (state_of old) old.charter.nature late.ask;
-}
+aside_late : (old new : CellView) (n : ℕ) → BroughtLate old n new → HasMoreAside old new
+aside_late old new n late =
+    subst (HasMoreAside old) (sym late.cell) (aside_one old n (late_act (state_of old) old.charter.nature late.ask) (late_side (state_of old) old.charter.nature late.ask))
 
 pub came_aside : (result : Result Late CellRefusal) (old new : CellView) → ((n : ℕ) → result ≡ Ok (CameIn n) → BroughtLate old n new × (loses (state_of old) old.charter.nature ≡ false)) → ((n : ℕ) → result ≡ Ok (Lost n) → BroughtLate old n new × (loses (state_of old) old.charter.nature ≡ true))
-    → (result ≡ Ok NoMail → new ≡ old) → OnErr result (new ≡ old) → CameAside old new
-came_aside (Ok NoMail) old new came lost none err = aside_none old new (none refl)
-came_aside (Ok (CameIn n)) old new came lost none err = aside_one old new n (came n refl).0
-came_aside (Ok (Lost n)) old new came lost none err = aside_one old new n (lost n refl).0
-came_aside (Err e) old new came lost none err = aside_none old new err
-
-aside_in : (old now new : CellView) (first : CameAside old now) (then : CameAside now new) (n : NodeEntry) → Contains first.tail n ⊎ Contains then.tail n → side n.act ≡ None
-aside_in old now new first then n (inl has) = first.aside n has
-aside_in old now new first then n (inr has) = then.aside n has
-
-pub aside_more : (old now new : CellView) → CameAside old now → CameAside now new → CameAside old new
-aside_more old now new first then = record {
-  charter = then.charter ∙ first.charter;
-  tail = first.tail ++ then.tail;
-  grew = then.grew ∙ ap (λ l. l ++ then.tail) first.grew ∙ append_assoc old.journal first.tail then.tail;
-  aside = λ n has. aside_in old now new first then n (Contains-append_cases first.tail then.tail n has);
-}
+    → (result ≡ Ok NoMail → new ≡ old) → OnErr result (new ≡ old) → HasMoreAside old new
+came_aside (Ok NoMail) old new came lost none err = aside_same old new (none refl)
+came_aside (Ok (CameIn n)) old new came lost none err = aside_late old new n (came n refl).0
+came_aside (Ok (Lost n)) old new came lost none err = aside_late old new n (lost n refl).0
+came_aside (Err e) old new came lost none err = aside_same old new err
 
 -- a worker that has answered what it was asked so far
 pub record IsServing (old new : WorkerView) : Type 0 where

@@ -1,6 +1,6 @@
 -- A node with its inbox and the inboxes of those who ask, and what it does until the last ask was taken.
 use Rattle.std.specs.Prelude.{◌≡◌, ◌==◌, ℕ, List, [], ◌++◌, map, slice_get}
-use Rattle.std.specs.declared.option.Option.TheVariants.{None, Some}
+use Rattle.std.specs.declared.option.Option.TheVariants.{Some}
 use Rattle.std.specs.declared.result.Result.TheVariants.{Ok}
 use Rattle.std.specs.List.{Contains, filter}
 use Rattle.crews.specs.Crews.{Beside}
@@ -22,34 +22,34 @@ use Rattle.node_mail.specs.declared.answered.Answered.{Answered}
 use Rattle.node_mail.specs.declared.answered.ClientPlace.{ClientPlace}
 
 -- one who puts answers into a client's inbox: before its last word or after it
-abbrev pub Line : Type 0
-Line = Putting Answered ClientPlace
+abbrev pub AnswerPutter : Type 0
+AnswerPutter = Putting Answered ClientPlace
 
--- a worker: its cell, the inbox of asks, and by seat the lines to the clients' inboxes, first without a last word, and then with one
+-- a worker: its cell, the inbox of asks, and by seat the putters to the clients' inboxes, first without a last word, and then with one
 pub record WorkerView : Type 0 where
   pub cell : CellView
   pub asks : Taking Asked NodePlace
-  pub answers : List Line
-  pub sents : List Line
+  pub answers : List AnswerPutter
+  pub sents : List AnswerPutter
 
 -- the numbers of the clients, by seat
 abbrev pub clients_of : WorkerView → List ℕ
 clients_of w = w.asks.inbox.place.clients.value
 
--- a line to this client's inbox, by this clock, into which nothing was put yet
-pub record IsLineTo (of : ClockId) (seat id : ℕ) (line : Line) : Type 0 where
+-- a putter to this client's inbox, by this clock, into which nothing was put yet
+pub record IsPutterTo (of : ClockId) (seat id : ℕ) (line : AnswerPutter) : Type 0 where
   pub ticks : line.inbox.place.clock.value ≡ of
   pub client : line.inbox.place.client ≡ id
   pub new : line.put ≡ []
 
 -- a worker that has served nobody: the inbox is that of its cell's slot, nothing was taken out of it,
--- and there is a line to each client
+-- and there is a putter to each client
 pub record CanServe (of : ClockId) (w : WorkerView) : Type 0 where
   pub cell : w.cell.charter.pass.clock ≡ of
   pub ticks : w.asks.inbox.place.clock.value ≡ of
   pub slot : w.asks.inbox.place.slot ≡ slot_of w.cell.charter
   pub new : w.asks.heard ≡ []
-  pub lines : Beside (IsLineTo of) (clients_of w) w.answers
+  pub lines : Beside (IsPutterTo of) (clients_of w) w.answers
   pub none : w.sents ≡ []
 
 -- the answer tells of the node's entry: it has the entry's number, and the call that is the client's side of it
@@ -60,9 +60,9 @@ pub record Tells (n : NodeEntry) (a : Answered) : Type 0 where
   pub agree : side n.act ≡ Some (a.ask.client, Call a.way a.ask (reply_told told))
 
 -- an answer that tells of the entry was put into the inbox of the client that asked
-pub record WasTold (clients : List ℕ) (lines : List Line) (n : NodeEntry) : Type 0 where
+pub record WasTold (clients : List ℕ) (lines : List AnswerPutter) (n : NodeEntry) : Type 0 where
   pub seat : ℕ
-  pub line : Line
+  pub line : AnswerPutter
   pub there : slice_get lines seat ≡ Some line
   pub answer : Answered
   pub client : slice_get clients seat ≡ Some answer.ask.client
@@ -76,20 +76,20 @@ pub record TellsOf (clients : List ℕ) (more : List NodeEntry) (seat : ℕ) (a 
   pub client : slice_get clients seat ≡ Some a.ask.client
   pub tells : Tells entry a
 
--- the same line, whatever was put
-pub record IsSameLine (seat : ℕ) (old new : Line) : Type 0 where
+-- the same putter, whatever was put
+pub record IsSamePutter (seat : ℕ) (old new : AnswerPutter) : Type 0 where
   pub inbox : new.inbox ≡ old.inbox
   pub number : new.number ≡ old.number
 
 -- the cell has these entries more, and answers were put: each entry that has a client's side was told to that client, and each
 -- answer that tells of an entry tells of one of these
-pub record HasAnswered (clients : List ℕ) (old : CellView) (first : List Line) (new : CellView) (lines : List Line) : Type 0 where
+pub record HasAnswered (clients : List ℕ) (old : CellView) (first : List AnswerPutter) (new : CellView) (lines : List AnswerPutter) : Type 0 where
   pub charter : new.charter ≡ old.charter
   pub more : List NodeEntry
   pub grew : new.journal ≡ old.journal ++ more
-  pub same : Beside IsSameLine first lines
+  pub same : Beside IsSamePutter first lines
   pub told : (n : NodeEntry) (c : ℕ) (act : DeskAct) → Contains more n → side n.act ≡ Some (c, act) → WasTold clients lines n
-  pub done : (seat : ℕ) (line : Line) (a : Answered) (t : Told) → slice_get lines seat ≡ Some line → Contains line.put a → a.told ≡ Ok t → TellsOf clients more seat a
+  pub done : (seat : ℕ) (line : AnswerPutter) (a : Answered) (t : Told) → slice_get lines seat ≡ Some line → Contains line.put a → a.told ≡ Ok t → TellsOf clients more seat a
 
 -- the cell met what was asked: the answer tells of each entry that it has more, and of one if it tells of any
 pub record HasMet (old : CellView) (a : Answered) (new : CellView) : Type 0 where
@@ -98,13 +98,6 @@ pub record HasMet (old : CellView) (a : Answered) (new : CellView) : Type 0 wher
   pub grew : new.journal ≡ old.journal ++ tail
   pub told : (n : NodeEntry) → Contains tail n → Tells n a
   pub done : (t : Told) → a.told ≡ Ok t → (n : NodeEntry) × Contains tail n
-
--- the cell has more entries of which no client has a side
-pub record CameAside (old new : CellView) : Type 0 where
-  pub charter : new.charter ≡ old.charter
-  pub tail : List NodeEntry
-  pub grew : new.journal ≡ old.journal ++ tail
-  pub aside : (n : NodeEntry) → Contains tail n → side n.act ≡ None
 
 -- the ways and messages of what was asked from this seat, in order
 abbrev pub asks_from : ℕ → List (ℕ × Asked) → List (Way × Message)
@@ -115,12 +108,12 @@ abbrev pub asks_told : List Answered → List (Way × Message)
 asks_told answers = map (λ a. (a.way, a.ask)) answers
 
 -- each seat was answered just what it asked, in its order
-abbrev pub AreAnswered : List (ℕ × Asked) → List Line → Type 0
+abbrev pub AreAnswered : List (ℕ × Asked) → List AnswerPutter → Type 0
 AreAnswered asks lines =
-    (seat : ℕ) (line : Line) → slice_get lines seat ≡ Some line
+    (seat : ℕ) (line : AnswerPutter) → slice_get lines seat ≡ Some line
     → asks_told line.put ≡ asks_from seat asks
 
--- all asks were taken, up to the last word of each who asks, and answered; each line has had its last word
+-- all asks were taken, up to the last word of each who asks, and answered; each putter has had its last word
 pub record HasServed (old new : WorkerView) : Type 0 where
   pub asks : new.asks.inbox ≡ old.asks.inbox
   pub done : IsDone new.asks

@@ -4,4 +4,4 @@
 
 pub mod worker;
 
-pub use worker::Worker;
+pub use worker::NodeWorker;

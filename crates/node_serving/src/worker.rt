@@ -4,9 +4,9 @@ ghost use Rattle.node_mail.specs.Mail.{IsAskAt};
 ghost use Rattle.node_mail.specs.declared.asked.NodePlace.{NodePlace};
 ghost use Rattle.locked_nodes.specs.declared.answers.Told.{Told};
 ghost use Rattle.journals.specs.Acts.{act, answer_of};
-ghost use Rattle.locked_nodes.specs.Cells.{number_of, state_of, told_as, with_entry};
+ghost use Rattle.locked_nodes.specs.Cells.{HasMoreAside, number_of, state_of, told_as, with_entry};
 ghost use Rattle.locked_nodes.specs.Slots.{slot_of};
-ghost use Rattle.node_serving.specs.Workers.{CanServe, HasMet, CameAside, HasServed};
+ghost use Rattle.node_serving.specs.Workers.{CanServe, HasMet, HasServed};
 
 use crews::{Edge, Gate};
 use event_clock::Clock;
@@ -20,7 +20,7 @@ use std::sync::Wait;
 
 /// A node's cell, the inbox of asks to it, and the right to put answers into each client's inbox, by the clients' seats. Contracts
 /// see these, and the answers that were put.
-pub struct Worker {
+pub struct NodeWorker {
     cell: NodeCell,
     asks: Taker<Asked>,
     answers: Vec<Putter<Answered>>,
@@ -29,9 +29,9 @@ pub struct Worker {
 }
 
 // By hand, since a derived drop is proved anew wherever one is let go.
-impl Drop for Worker {
+impl Drop for NodeWorker {
     fn drop(self) {
-        let Worker {
+        let NodeWorker {
             cell: _cell,
             asks: _asks,
             answers: _answers,
@@ -40,7 +40,7 @@ impl Drop for Worker {
     }
 }
 
-impl Model for Worker {
+impl Model for NodeWorker {
     ghost use Rattle.std.specs.Prelude.{◌+◌, ◌≤◌, vec_len, vec_capacity};
     ghost use Rattle.node_serving.specs.Workers.{WorkerView};
 
@@ -51,20 +51,20 @@ impl Model for Worker {
     ghost invariant = { λ w. vec_len w.answers + vec_len w.sents ≤ vec_capacity w.sents };
 }
 
-impl Worker {
+impl NodeWorker {
     /// A worker that has served nobody.
     pub fn new(
         alloc: Global,
         cell: NodeCell,
         asks: Taker<Asked>,
         answers: Vec<Putter<Answered>>,
-    ) -> Result<Worker, NoMemory>
+    ) -> Result<NodeWorker, NoMemory>
         ensures { IfOk result (λ w.
             w ≡ record { cell = cell; asks = asks; answers = answers.items; sents = [] }) }
     {
         let mut sents = Vec::new(alloc);
         sents.reserve(answers.len())?;
-        Ok(Worker {
+        Ok(NodeWorker {
             cell,
             asks,
             answers,
@@ -117,7 +117,7 @@ impl Worker {
         ensures cell { result.0 ≡ self.cell }
         ensures sents { result.1.items ≡ self.sents }
     {
-        let Worker {
+        let NodeWorker {
             cell,
             asks: _asks,
             answers: _answers,
@@ -159,7 +159,7 @@ fn answer_to(cell: &mut NodeCell, clock: &Clock, asked: Asked) -> Answered
 // Lets the oldest ask that is held back come late, and tells whether one came.
 fn bring_one(cell: &mut NodeCell, clock: &Clock) -> bool
     requires { cell.old.charter.pass.clock ≡ clock.now }
-    ensures { CameAside cell.old cell.new }
+    ensures { HasMoreAside cell.old cell.new }
 {
     match cell.bring_late(clock) {
         Ok(Late::Delivered { .. } | Late::Lost { .. }) => true,
@@ -170,7 +170,7 @@ fn bring_one(cell: &mut NodeCell, clock: &Clock) -> bool
 // Lets the asks that are held back come late, until none does.
 fn bring_all<R: Wait>(rt: &R, cell: &mut NodeCell, clock: &Clock)
     requires { cell.old.charter.pass.clock ≡ clock.now }
-    ensures { CameAside cell.old cell.new }
+    ensures { HasMoreAside cell.old cell.new }
 {
     for _ in rt.forever() {
         if !bring_one(cell, clock) {

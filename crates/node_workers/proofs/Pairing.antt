@@ -25,7 +25,7 @@ use Rattle.crews.specs.Crews.{Beside}
 use Rattle.node_mail.specs.declared.answered.Answered.{Answered}
 use Rattle.desk_keys.specs.declared.mail.ByMail.{ByMail}
 use Rattle.desk_keys.specs.Keys.{AgreeByMail, HasAnswer, call_told}
-use Rattle.node_serving.specs.Workers.{Line, Tells, TellsOf, WasTold, HasAnswered}
+use Rattle.node_serving.specs.Workers.{AnswerPutter, Tells, TellsOf, WasTold, HasAnswered}
 use Rattle.node_serving.proofs.Answering.{none_in}
 use Rattle.run_journals.specs.Standing.{HasSideIn, HasSideOn, PairsStand}
 use Rattle.crews.proofs.Places.{at_place, same_at, place_of, contains_at, within, all_at, right_of, left_of}
@@ -81,17 +81,17 @@ module _ {T : Type 0} where
         | inr later ↦ put_on (nat_eq q p) q y (filter (λ (i : ℕ × T). nat_eq i.0 p) xs) x (of_taken p xs x later)
       ]
 
--- a cell before a phase and after it, with its worker's lines, of which the first were made so
-pub record IsServed (clients : List ℕ) (cells : List CellView) (k : ℕ) (row : List Line) (cell : CellView) : Type 0 where
+-- a cell before a phase and after it, with its worker's putters, of which the first were made so
+pub record IsServed (clients : List ℕ) (cells : List CellView) (k : ℕ) (row : List AnswerPutter) (cell : CellView) : Type 0 where
   pub old : CellView
   pub there : slice_get cells k ≡ Some old
-  pub first : List Line
-  pub numbers : (seat : ℕ) (line : Line) → slice_get first seat ≡ Some line → line.number ≡ k
+  pub first : List AnswerPutter
+  pub numbers : (seat : ℕ) (line : AnswerPutter) → slice_get first seat ≡ Some line → line.number ≡ k
   pub count : length first ≡ length clients
   pub answered : HasAnswered clients (rechartered old false) first cell row
 
--- a desk after a phase, with the way by which it reached nodes: what each line to its client put it took
-pub record IsHeard (clients : List ℕ) (olds : List DeskView) (rows : List (List Line)) (seat : ℕ) (mail : ByMail) (d : DeskView) : Type 0 where
+-- a desk after a phase, with the way by which it reached nodes: what each putter to its client put it took
+pub record IsHeard (clients : List ℕ) (olds : List DeskView) (rows : List (List AnswerPutter)) (seat : ℕ) (mail : ByMail) (d : DeskView) : Type 0 where
   pub client : slice_get clients seat ≡ Some d.id
   pub old : DeskView
   pub there : slice_get olds seat ≡ Some old
@@ -99,10 +99,10 @@ pub record IsHeard (clients : List ℕ) (olds : List DeskView) (rows : List (Lis
   pub began : mail.answers.inbox.place.began.value.entries ≡ old.entries
   pub agree : AgreeByMail d mail
   pub senders : All (λ i. i.0 < length rows) (took mail.answers)
-  pub items : (k : ℕ) (row : List Line) (line : Line) → slice_get rows k ≡ Some row → slice_get row seat ≡ Some line → items_from line.number (took mail.answers) ≡ line.put
+  pub items : (k : ℕ) (row : List AnswerPutter) (line : AnswerPutter) → slice_get rows k ≡ Some row → slice_get row seat ≡ Some line → items_from line.number (took mail.answers) ≡ line.put
 
 -- all that a phase leaves
-pub record Phase (clients : List ℕ) (cells now : List CellView) (rows : List (List Line)) (olds news : List DeskView) (mails : List ByMail) : Type 0 where
+pub record Phase (clients : List ℕ) (cells now : List CellView) (rows : List (List AnswerPutter)) (olds news : List DeskView) (mails : List ByMail) : Type 0 where
   pub served : Beside (IsServed clients cells) rows now
   pub all : length cells ≡ length rows
   pub heard : Beside (IsHeard clients olds rows) mails news
@@ -131,7 +131,7 @@ parts_in : (n : NodeEntry) (old more new : List NodeEntry) → new ≡ old ++ mo
 parts_in n old more new grew has = Contains-append_cases old more n (subst (λ (l : List NodeEntry). Contains l n) grew has)
 
 -- what each step finds is a variable of the next one, so that no proof spells out how it was found
-module _ (clients : List ℕ) (cells now : List CellView) (rows : List (List Line)) (olds news : List DeskView) (mails : List ByMail) (phase : Phase clients cells now rows olds news mails) where
+module _ (clients : List ℕ) (cells now : List CellView) (rows : List (List AnswerPutter)) (olds news : List DeskView) (mails : List ByMail) (phase : Phase clients cells now rows olds news mails) where
   -- what stood on a desk stands there
   side_later : (c n : ℕ) (act : DeskAct) (old new : DeskView) → Contains news new → IsLater old new → old.id ≡ c → Contains old.entries (desk_entry n act) → HasSideOn news c n act
   side_later c n act old new there later client stands = record {
@@ -155,7 +155,7 @@ module _ (clients : List ℕ) (cells now : List CellView) (rows : List (List Lin
   on_later c n act s = let place = place_of olds s.desk s.there in on_later_at place.0 c n act s place.1
 
   -- what stood in a cell stands there
-  side_served : (k c : ℕ) (e : DeskEntry) (s : HasSideIn cells c e) (row : List Line) (new : CellView) → slice_get cells k ≡ Some s.cell → slice_get now k ≡ Some new → IsServed clients cells k row new → HasSideIn now c e
+  side_served : (k c : ℕ) (e : DeskEntry) (s : HasSideIn cells c e) (row : List AnswerPutter) (new : CellView) → slice_get cells k ≡ Some s.cell → slice_get now k ≡ Some new → IsServed clients cells k row new → HasSideIn now c e
   side_served k c e s row new was at served = record {
     cell = new;
     there = contains_at now k new at;
@@ -175,7 +175,7 @@ module _ (clients : List ℕ) (cells now : List CellView) (rows : List (List Lin
   in_later c e s = let place = place_of cells s.cell s.there in in_later_at place.0 c e s place.1
 
   -- what a worker told stands on the desk of the client that asked
-  told_at : (k : ℕ) (row : List Line) (n : NodeEntry) (c : ℕ) (act : DeskAct) (w : WasTold clients row n) (mail : ByMail) (desk : DeskView) → slice_get rows k ≡ Some row → side n.act ≡ Some (c, act) → slice_get news w.seat ≡ Some desk → IsHeard clients olds rows w.seat mail desk → HasSideOn news c n.number act
+  told_at : (k : ℕ) (row : List AnswerPutter) (n : NodeEntry) (c : ℕ) (act : DeskAct) (w : WasTold clients row n) (mail : ByMail) (desk : DeskView) → slice_get rows k ≡ Some row → side n.act ≡ Some (c, act) → slice_get news w.seat ≡ Some desk → IsHeard clients olds rows w.seat mail desk → HasSideOn news c n.number act
   told_at k row n c act w mail desk here is at heard =
       let put : Contains (items_from w.line.number (took mail.answers)) w.answer = subst (λ (l : List Answered). Contains l w.answer) (sym (heard.items k row w.line here w.there)) w.put in
       let both = told_as n w.answer w.tells c act desk.entries is (heard.agree.heard w.line.number w.answer w.tells.told (taken_of w.line.number (took mail.answers) w.answer put) w.tells.is) in
@@ -186,18 +186,18 @@ module _ (clients : List ℕ) (cells now : List CellView) (rows : List (List Lin
         stands = both.1;
       }
 
-  told_on : (k : ℕ) (row : List Line) (n : NodeEntry) (c : ℕ) (act : DeskAct) → slice_get rows k ≡ Some row → side n.act ≡ Some (c, act) → WasTold clients row n → HasSideOn news c n.number act
+  told_on : (k : ℕ) (row : List AnswerPutter) (n : NodeEntry) (c : ℕ) (act : DeskAct) → slice_get rows k ≡ Some row → side n.act ≡ Some (c, act) → WasTold clients row n → HasSideOn news c n.number act
   told_on k row n c act here is w =
       let mail = at_place mails w.seat (subst (λ (m : ℕ). w.seat < m) phase.seats (within clients w.seat w.answer.ask.client w.client)) in
       let desk = right_of (IsHeard clients olds rows) mails news w.seat mail.0 phase.heard mail.1 in
       told_at k row n c act w mail.0 desk.0 here is desk.1 desk.2
 
-  called_of : (k : ℕ) (row : List Line) (cell : CellView) (served : IsServed clients cells k row cell) (n : NodeEntry) (c : ℕ) (act : DeskAct) → PairsStand cells olds → slice_get rows k ≡ Some row → side n.act ≡ Some (c, act)
+  called_of : (k : ℕ) (row : List AnswerPutter) (cell : CellView) (served : IsServed clients cells k row cell) (n : NodeEntry) (c : ℕ) (act : DeskAct) → PairsStand cells olds → slice_get rows k ≡ Some row → side n.act ≡ Some (c, act)
       → Contains served.old.journal n ⊎ Contains served.answered.more n → HasSideOn news c n.number act
   called_of k row cell served n c act pairs here is (inl has) = on_later c n.number act (pairs.called served.old n c act (contains_at cells k served.old served.there) has is)
   called_of k row cell served n c act pairs here is (inr has) = told_on k row n c act here is (served.answered.told n c act has is)
 
-  called_at : (k : ℕ) (row : List Line) (cell : CellView) → IsServed clients cells k row cell → (n : NodeEntry) (c : ℕ) (act : DeskAct) → PairsStand cells olds → slice_get rows k ≡ Some row → Contains cell.journal n → side n.act ≡ Some (c, act) → HasSideOn news c n.number act
+  called_at : (k : ℕ) (row : List AnswerPutter) (cell : CellView) → IsServed clients cells k row cell → (n : NodeEntry) (c : ℕ) (act : DeskAct) → PairsStand cells olds → slice_get rows k ≡ Some row → Contains cell.journal n → side n.act ≡ Some (c, act) → HasSideOn news c n.number act
   called_at k row cell served n c act pairs here has is = called_of k row cell served n c act pairs here is (parts_in n served.old.journal served.answered.more cell.journal served.answered.grew has)
 
   called : PairsStand cells olds → (cell : CellView) (n : NodeEntry) (c : ℕ) (act : DeskAct) → Contains now cell → Contains cell.journal n → side n.act ≡ Some (c, act) → HasSideOn news c n.number act
@@ -207,7 +207,7 @@ module _ (clients : List ℕ) (cells now : List CellView) (rows : List (List Lin
       called_at place.0 row.0 cell row.2 n c act pairs row.1 has is
 
   -- what a desk heard stands in the cell of the worker that told it
-  heard_of : (seat : ℕ) (mail : ByMail) (d : DeskView) (e : DeskEntry) → IsHeard clients olds rows seat mail d → (a : HasAnswer (took mail.answers) e) (row : List Line) (cell : CellView) → slice_get now a.from ≡ Some cell
+  heard_of : (seat : ℕ) (mail : ByMail) (d : DeskView) (e : DeskEntry) → IsHeard clients olds rows seat mail d → (a : HasAnswer (took mail.answers) e) (row : List AnswerPutter) (cell : CellView) → slice_get now a.from ≡ Some cell
       → (served : IsServed clients cells a.from row cell) → TellsOf clients served.answered.more seat a.answer → HasSideIn now d.id e
   heard_of seat mail d e heard a row cell at served of =
       let told : of.tells.told ≡ a.told = same_ok a.answer.told of.tells.told a.told of.tells.is a.tells in
@@ -221,7 +221,7 @@ module _ (clients : List ℕ) (cells now : List CellView) (rows : List (List Lin
         agree = of.tells.agree ∙ ap (λ (t : Told). Some (a.answer.ask.client, Call a.answer.way a.answer.ask (reply_told t))) told ∙ ap (λ (c : ℕ). Some (c, Call a.answer.way a.answer.ask (reply_told a.told))) client ∙ ap (λ (x : DeskEntry). Some (d.id, x.act)) (sym a.is);
       }
 
-  heard_line : (seat : ℕ) (mail : ByMail) (d : DeskView) (e : DeskEntry) → IsHeard clients olds rows seat mail d → (a : HasAnswer (took mail.answers) e) (row : List Line) (cell : CellView) (first line : Line) → slice_get rows a.from ≡ Some row → slice_get now a.from ≡ Some cell
+  heard_line : (seat : ℕ) (mail : ByMail) (d : DeskView) (e : DeskEntry) → IsHeard clients olds rows seat mail d → (a : HasAnswer (took mail.answers) e) (row : List AnswerPutter) (cell : CellView) (first line : AnswerPutter) → slice_get rows a.from ≡ Some row → slice_get now a.from ≡ Some cell
       → (served : IsServed clients cells a.from row cell) → slice_get served.first seat ≡ Some first → slice_get row seat ≡ Some line → HasSideIn now d.id e
   heard_line seat mail d e heard a row cell first line here at served was is =
       let number : line.number ≡ a.from = (served.answered.same.each seat first line was is).number ∙ served.numbers seat first was in
@@ -229,7 +229,7 @@ module _ (clients : List ℕ) (cells now : List CellView) (rows : List (List Lin
       let put : Contains line.put a.answer = subst (λ (l : List Answered). Contains l a.answer) all (of_taken a.from (took mail.answers) a.answer a.there) in
       heard_of seat mail d e heard a row cell at served (served.answered.done seat line a.answer a.told is put a.tells)
 
-  heard_at : (seat : ℕ) (mail : ByMail) (d : DeskView) (e : DeskEntry) → IsHeard clients olds rows seat mail d → (a : HasAnswer (took mail.answers) e) (row : List Line) (cell : CellView) → slice_get rows a.from ≡ Some row → slice_get now a.from ≡ Some cell
+  heard_at : (seat : ℕ) (mail : ByMail) (d : DeskView) (e : DeskEntry) → IsHeard clients olds rows seat mail d → (a : HasAnswer (took mail.answers) e) (row : List AnswerPutter) (cell : CellView) → slice_get rows a.from ≡ Some row → slice_get now a.from ≡ Some cell
       → IsServed clients cells a.from row cell → HasSideIn now d.id e
   heard_at seat mail d e heard a row cell here at served =
       let lt = within clients seat d.id heard.client in

@@ -21,7 +21,7 @@ use Rattle.node_mail.specs.declared.answered.Answered.{Answered}
 use Rattle.node_mail.specs.declared.answered.ClientPlace.{ClientPlace}
 use Rattle.desk_keys.specs.declared.mail.ByMail.{ByMail}
 use Rattle.desk_keys.specs.Keys.{KeysView, FloorView, IsFloor, Fit, IsByMail, IsAskPlace, AgreeByMail}
-use Rattle.node_serving.specs.Workers.{Line, WorkerView, CanServe, IsLineTo, IsSameLine, HasServed, HasAnswered}
+use Rattle.node_serving.specs.Workers.{AnswerPutter, WorkerView, CanServe, IsPutterTo, IsSamePutter, HasServed, HasAnswered}
 use Rattle.phase_threads.specs.declared.duty.Seat.{Seat}
 use Rattle.run_journals.specs.Standing.{AreCells, IsCellOf, IsDeskAt, PairsStand, HasWorked}
 use Rattle.node_workers.specs.Hands.{AreSpread}
@@ -36,7 +36,7 @@ desks_of seats = map (λ s. s.desk) seats
 abbrev pub mail_floor : ClockId → List (Taking Answered ClientPlace) → List Slot → FloorView
 mail_floor of boxes slots = record { clock = of; slots = slots; vaults = []; answers = boxes }
 
-pub open_all : {T : Type 0} {config : Numbers} {of at : ClockId} {cells : List CellView} {seats slice : List (Seat T)} {boxes : List (Taking Answered ClientPlace)} {rows : List (List Line)} {hands : List (List (Putting Asked NodePlace))} {now workers : List WorkerView} {clients : List (KeysView × T)} {floor : FloorView} {nodes : ℕ} {ids : List ℕ}
+pub open_all : {T : Type 0} {config : Numbers} {of at : ClockId} {cells : List CellView} {seats slice : List (Seat T)} {boxes : List (Taking Answered ClientPlace)} {rows : List (List AnswerPutter)} {hands : List (List (Putting Asked NodePlace))} {now workers : List WorkerView} {clients : List (KeysView × T)} {floor : FloorView} {nodes : ℕ} {ids : List ℕ}
     → length rows ≡ length cells → slice ≡ seats → ids ≡ ids_of seats → at ≡ of → workers ≡ now → Beside (IsAnswerBox of nodes) slice boxes → AreSpread nodes boxes rows → Beside (IsWorkerOf at ids rows) cells now → AreSpread (length ids) (map (λ (w : WorkerView). w.asks) now) hands
     → Beside (IsClientOf boxes hands) seats clients → floor ≡ mail_floor of boxes (slots_of cells) → AreCells config of cells → All (λ (s : Seat T). IsDeskAt config of s.desk) seats → Opened config of cells seats boxes rows hands workers clients floor
 open_all {T = T} {of = of} {at = at} {cells = cells} {seats = seats} {slice = slice} {boxes = boxes} {rows = rows} {hands = hands} {now = now} {nodes = nodes} {ids = ids} all list is same kept answers lines served asks seated floor are desks =
@@ -52,10 +52,10 @@ open_all {T = T} {of = of} {at = at} {cells = cells} {seats = seats} {slice = sl
       desks = desks;
     }
 
-module _ {T : Type 0} (config : Numbers) (of : ClockId) (row : List CellView) (seats : List (Seat T)) (boxes : List (Taking Answered ClientPlace)) (rows : List (List Line)) (hands : List (List (Putting Asked NodePlace))) (workers : List WorkerView) (clients : List (KeysView × T)) (floor : FloorView)
+module _ {T : Type 0} (config : Numbers) (of : ClockId) (row : List CellView) (seats : List (Seat T)) (boxes : List (Taking Answered ClientPlace)) (rows : List (List AnswerPutter)) (hands : List (List (Putting Asked NodePlace))) (workers : List WorkerView) (clients : List (KeysView × T)) (floor : FloorView)
     (o : Opened config of row seats boxes rows hands workers clients floor) where
-  -- the line of worker k to seat i
-  record LineAt (k i : ℕ) (line : Line) : Type 0 where
+  -- the putter of worker k to seat i
+  record PutterAt (k i : ℕ) (line : AnswerPutter) : Type 0 where
     box : Taking Answered ClientPlace
     seat : Seat T
     there : slice_get seats i ≡ Some seat
@@ -63,7 +63,7 @@ module _ {T : Type 0} (config : Numbers) (of : ClockId) (row : List CellView) (s
     is : line ≡ new_putter box.inbox k
     of_box : IsAnswerBox of (length row) i seat box
 
-  line_at : (k : ℕ) (cell : CellView) (w : WorkerView) (i : ℕ) (line : Line) → IsWorkerOf of (ids_of seats) rows k cell w → slice_get w.answers i ≡ Some line → LineAt k i line
+  line_at : (k : ℕ) (cell : CellView) (w : WorkerView) (i : ℕ) (line : AnswerPutter) → IsWorkerOf of (ids_of seats) rows k cell w → slice_get w.answers i ≡ Some line → PutterAt k i line
   line_at k cell w i line worker at =
       let lt = within w.answers i line at in
       let n = o.lines.full k w.answers worker.lines in
@@ -77,11 +77,11 @@ module _ {T : Type 0} (config : Numbers) (of : ClockId) (row : List CellView) (s
   id_at : (i : ℕ) (s : Seat T) → slice_get seats i ≡ Some s → slice_get (ids_of seats) i ≡ Some s.desk.id
   id_at i s at = get_map (λ (x : Seat T). x.desk.id) seats i s at
 
-  to_client : (k i id : ℕ) (line : Line) (l : LineAt k i line) → slice_get (ids_of seats) i ≡ Some id → IsLineTo of i id line
+  to_client : (k i id : ℕ) (line : AnswerPutter) (l : PutterAt k i line) → slice_get (ids_of seats) i ≡ Some id → IsPutterTo of i id line
   to_client k i id line l at = record {
-    ticks = ap (λ (x : Line). x.inbox.place.clock.value) l.is ∙ l.of_box.ticks;
-    client = ap (λ (x : Line). x.inbox.place.client) l.is ∙ l.of_box.client ∙ same_at (ids_of seats) i l.seat.desk.id id (id_at i l.seat l.there) at;
-    new = ap (λ (x : Line). x.put) l.is;
+    ticks = ap (λ (x : AnswerPutter). x.inbox.place.clock.value) l.is ∙ l.of_box.ticks;
+    client = ap (λ (x : AnswerPutter). x.inbox.place.client) l.is ∙ l.of_box.client ∙ same_at (ids_of seats) i l.seat.desk.id id (id_at i l.seat l.there) at;
+    new = ap (λ (x : AnswerPutter). x.put) l.is;
   }
 
   -- the worker of a cell can serve
@@ -240,12 +240,12 @@ module _ {T : Type 0} (config : Numbers) (of : ClockId) (row : List CellView) (s
       box_of : (i : ℕ) (m : ByMail) (all : HasAll floor m) → slice_get mails i ≡ Some m → slice_get boxes i ≡ Some all.first
       box_of i m all at = ap (slice_get boxes) (sym (seated i m at)) ∙ ap (λ (f : FloorView). slice_get f.answers m.seat) (sym o.is) ∙ all.there
 
-      goes_to : (k i : ℕ) (m : ByMail) (all : HasAll floor m) (first line : Line) → LineAt k i first → slice_get boxes i ≡ Some all.first → line.inbox ≡ first.inbox → IsOfMail i m line
-      goes_to k i m all first line l here inbox = inbox ∙ ap (λ (x : Line). x.inbox) l.is ∙ ap (λ (b : Taking Answered ClientPlace). b.inbox) (same_at boxes i l.box all.first l.here here) ∙ sym all.inbox
+      goes_to : (k i : ℕ) (m : ByMail) (all : HasAll floor m) (first line : AnswerPutter) → PutterAt k i first → slice_get boxes i ≡ Some all.first → line.inbox ≡ first.inbox → IsOfMail i m line
+      goes_to k i m all first line l here inbox = inbox ∙ ap (λ (x : AnswerPutter). x.inbox) l.is ∙ ap (λ (b : Taking Answered ClientPlace). b.inbox) (same_at boxes i l.box all.first l.here here) ∙ sym all.inbox
 
-      own_of : (k : ℕ) (cell : CellView) (w v : WorkerView) → IsWorkerOf of (ids_of seats) rows k cell w → HasServed w v → (i : ℕ) (m : ByMail) (line : Line) → slice_get mails i ≡ Some m → slice_get v.sents i ≡ Some line → IsOfMail i m line
+      own_of : (k : ℕ) (cell : CellView) (w v : WorkerView) → IsWorkerOf of (ids_of seats) rows k cell w → HasServed w v → (i : ℕ) (m : ByMail) (line : AnswerPutter) → slice_get mails i ≡ Some m → slice_get v.sents i ≡ Some line → IsOfMail i m line
       own_of k cell w v worker goes i m line to there =
-          let first = left_of (λ (j : ℕ) (a b : Line). IsSameLine j a b) w.answers v.sents i line goes.answered.same there in
+          let first = left_of (λ (j : ℕ) (a b : AnswerPutter). IsSamePutter j a b) w.answers v.sents i line goes.answered.same there in
           let all = (mail_at i m to).1.all in
           goes_to k i m all first.0 line (line_at k cell w i first.0 worker first.1) (box_of i m all to) first.2.inbox
 
@@ -261,10 +261,10 @@ module _ {T : Type 0} (config : Numbers) (of : ClockId) (row : List CellView) (s
           let cell = left_of (IsWorkerOf of (ids_of seats) rows) row workers k w.0 o.nodes w.1 in
           rows_of k cell.0 w.0 v cell.2 w.2
 
-      pub rows_own : All (λ (r : List Line). Beside IsOfMail mails r) (map (λ (v : WorkerView). v.sents) ends)
-      rows_own = all_from (λ (r : List Line). Beside IsOfMail mails r) (map (λ (v : WorkerView). v.sents) ends) (λ k r at.
+      pub rows_own : All (λ (r : List AnswerPutter). Beside IsOfMail mails r) (map (λ (v : WorkerView). v.sents) ends)
+      rows_own = all_from (λ (r : List AnswerPutter). Beside IsOfMail mails r) (map (λ (v : WorkerView). v.sents) ends) (λ k r at.
           let v = map_get (λ (x : WorkerView). x.sents) ends k r at in
-          subst (λ (l : List Line). Beside IsOfMail mails l) v.2 (row_own k v.0 v.1))
+          subst (λ (l : List AnswerPutter). Beside IsOfMail mails l) v.2 (row_own k v.0 v.1))
 
       rows_count : length row ≡ length (map (λ (v : WorkerView). v.sents) ends)
       rows_count = o.nodes.count ∙ served.count ∙ sym (length-map ends (λ (v : WorkerView). v.sents))
@@ -275,7 +275,7 @@ module _ {T : Type 0} (config : Numbers) (of : ClockId) (row : List CellView) (s
         old = old;
         there = there;
         first = w.answers;
-        numbers = λ i line here. ap (λ (x : Line). x.number) (line_at k old w i line worker here).is;
+        numbers = λ i line here. ap (λ (x : AnswerPutter). x.number) (line_at k old w i line worker here).is;
         count = lines_count k old w worker ∙ sym (length-map seats (λ (s : Seat T). s.desk.id));
         answered = subst (λ (c : CellView). HasAnswered (ids_of seats) c w.answers v.cell v.sents) worker.is (subst (λ (l : List ℕ). HasAnswered l w.cell w.answers v.cell v.sents) worker.box.clients goes.answered);
       }
@@ -286,15 +286,15 @@ module _ {T : Type 0} (config : Numbers) (of : ClockId) (row : List CellView) (s
           let old = left_of (IsWorkerOf of (ids_of seats) rows) row workers k w.0 o.nodes w.1 in
           served_cell k old.0 w.0 v old.1 old.2 w.2
 
-      served_as : (k : ℕ) (v : WorkerView) (r : List Line) (cell : CellView) → slice_get ends k ≡ Some v → v.sents ≡ r → slice_get (map (λ (x : WorkerView). x.cell) ends) k ≡ Some cell → IsServed (ids_of seats) row k r cell
+      served_as : (k : ℕ) (v : WorkerView) (r : List AnswerPutter) (cell : CellView) → slice_get ends k ≡ Some v → v.sents ≡ r → slice_get (map (λ (x : WorkerView). x.cell) ends) k ≡ Some cell → IsServed (ids_of seats) row k r cell
       served_as k v r cell at is to =
           subst (λ (c : CellView). IsServed (ids_of seats) row k r c) (same_at (map (λ (x : WorkerView). x.cell) ends) k v.cell cell (get_map (λ (x : WorkerView). x.cell) ends k v at) to)
-          (subst (λ (l : List Line). IsServed (ids_of seats) row k l v.cell) is (served_at k v at))
+          (subst (λ (l : List AnswerPutter). IsServed (ids_of seats) row k l v.cell) is (served_at k v at))
 
-      is_served : (k : ℕ) (r : List Line) (cell : CellView) → slice_get (map (λ (v : WorkerView). v.sents) ends) k ≡ Some r → slice_get (map (λ (v : WorkerView). v.cell) ends) k ≡ Some cell → IsServed (ids_of seats) row k r cell
+      is_served : (k : ℕ) (r : List AnswerPutter) (cell : CellView) → slice_get (map (λ (v : WorkerView). v.sents) ends) k ≡ Some r → slice_get (map (λ (v : WorkerView). v.cell) ends) k ≡ Some cell → IsServed (ids_of seats) row k r cell
       is_served k r cell at to = let v = map_get (λ (x : WorkerView). x.sents) ends k r at in served_as k v.0 r cell v.1 v.2 to
 
-      module _ (settled : All (λ (r : List Line). Beside HasAllOf mails r) (map (λ (v : WorkerView). v.sents) ends)) (sound : All (λ (y : KeysView × T). y.0.refused ≡ None) lasts)
+      module _ (settled : All (λ (r : List AnswerPutter). Beside HasAllOf mails r) (map (λ (v : WorkerView). v.sents) ends)) (sound : All (λ (y : KeysView × T). y.0.refused ≡ None) lasts)
           (agree : All (λ (y : KeysView × T). y.0.refused ≡ None → (m : ByMail) → y.0.mail ≡ Some m → AgreeByMail y.0.desk m) lasts) where
         -- a desk that heard what was put into its client's inbox
         heard_desk : (i : ℕ) (m : ByMail) (s : Seat T) (y : KeysView × T) (all : HasAll floor m) → slice_get mails i ≡ Some m → slice_get seats i ≡ Some s → IsLater s.desk y.0.desk → AgreeByMail y.0.desk m → IsAnswerBox of (length row) i s all.first
@@ -309,7 +309,7 @@ module _ {T : Type 0} (config : Numbers) (of : ClockId) (row : List CellView) (s
               began = ap (λ (b : InboxId Answered ClientPlace). b.place.began.value.entries) all.inbox ∙ ap (λ (e : DeskView). e.entries) box.began;
               agree = right;
               senders = subst (λ (n : ℕ). All (λ (j : ℕ × Answered). j.0 < n) (took m.answers)) senders all.known;
-              items = λ k r line here to. (all_at (λ (l : List Line). Beside HasAllOf mails l) (map (λ (v : WorkerView). v.sents) ends) k r settled here).each i m line at to;
+              items = λ k r line here to. (all_at (λ (l : List AnswerPutter). Beside HasAllOf mails l) (map (λ (v : WorkerView). v.sents) ends) k r settled here).each i m line at to;
             }
 
         heard_by : (i : ℕ) (m : ByMail) (s : Seat T) (y : KeysView × T) → slice_get mails i ≡ Some m → slice_get seats i ≡ Some s → MailAt i m y → IsHeard (ids_of seats) (desks_of seats) (map (λ (v : WorkerView). v.sents) ends) i m y.0.desk

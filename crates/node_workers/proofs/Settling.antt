@@ -1,4 +1,4 @@
--- Inboxes that are settled with one line after another, the last seat's first.
+-- Inboxes that are settled with one putter after another, the last seat's first.
 use Rattle.std.proofs.Common.{◌≡◌, ℕ, zero, suc, ◌≤◌, ◌<◌, List, [], ◌∷◌, ◌++◌, length, length-append, refl, sym, ap, subst, ◌∙◌, arith, inl, inr}
 use Rattle.std.specs.declared.option.Option.TheVariants.{Some}
 use Rattle.std.specs.Prelude.{◌⊎◌, slice_get, slice_set}
@@ -8,7 +8,7 @@ use Rattle.inboxes.specs.Sides.{Taking}
 use Rattle.node_mail.specs.declared.answered.Answered.{Answered}
 use Rattle.node_mail.specs.declared.answered.ClientPlace.{ClientPlace}
 use Rattle.desk_keys.specs.declared.mail.ByMail.{ByMail}
-use Rattle.node_serving.specs.Workers.{Line}
+use Rattle.node_serving.specs.Workers.{AnswerPutter}
 use Rattle.node_workers.specs.Closed.{IsOfMail, HasAllOf}
 
 pub set_same : {A : Type 0} (xs : List A) (k : ℕ) (x : A) → slice_get xs k ≡ Some x → slice_set xs k x ≡ xs
@@ -23,18 +23,18 @@ with_answers m t = record m { answers = t }
 pub answers_same : (m : ByMail) (t : Taking Answered ClientPlace) → t ≡ m.answers → with_answers m t ≡ m
 answers_same m t is = ap (with_answers m) is
 
--- the lines from this place on are settled
-pub record AreSettledFrom (mails : List ByMail) (row left : List Line) : Type 0 where
-  pub rest : (k : ℕ) (s : Line) → slice_get left k ≡ Some s → slice_get row k ≡ Some s
-  pub done : (k : ℕ) (m : ByMail) (s : Line) → length left ≤ k → slice_get mails k ≡ Some m → slice_get row k ≡ Some s → HasAllOf k m s
+-- the putters from this place on are settled
+pub record AreSettledFrom (mails : List ByMail) (row left : List AnswerPutter) : Type 0 where
+  pub rest : (k : ℕ) (s : AnswerPutter) → slice_get left k ≡ Some s → slice_get row k ≡ Some s
+  pub done : (k : ℕ) (m : ByMail) (s : AnswerPutter) → length left ≤ k → slice_get mails k ≡ Some m → slice_get row k ≡ Some s → HasAllOf k m s
 
-pub none_settled : (mails : List ByMail) (row : List Line) → AreSettledFrom mails row row
+pub none_settled : (mails : List ByMail) (row : List AnswerPutter) → AreSettledFrom mails row row
 none_settled mails row = record { rest = λ k s at. at; done = λ k m s le at here. absurd (let lt = within row k s here in omega (arith, lt, le)) }
 
-pub all_settled : (mails : List ByMail) (row left : List Line) → Beside IsOfMail mails row → AreSettledFrom mails row left → left ≡ [] → Beside HasAllOf mails row
+pub all_settled : (mails : List ByMail) (row left : List AnswerPutter) → Beside IsOfMail mails row → AreSettledFrom mails row left → left ≡ [] → Beside HasAllOf mails row
 all_settled mails row left own s none = record { count = own.count; each = λ k m x at here. s.done k m x (let e = ap length none in omega (arith, e)) at here }
 
-module _ (mails : List ByMail) (row left less : List Line) (x : Line) (own : Beside IsOfMail mails row) (s : AreSettledFrom mails row left) (is : left ≡ less ++ x ∷ []) where
+module _ (mails : List ByMail) (row left less : List AnswerPutter) (x : AnswerPutter) (own : Beside IsOfMail mails row) (s : AreSettledFrom mails row left) (is : left ≡ less ++ x ∷ []) where
   here : slice_get row (length less) ≡ Some x
   here = s.rest (length less) x (ap (λ l. slice_get l (length less)) is ∙ get_last less x [])
 
@@ -58,7 +58,7 @@ module _ (mails : List ByMail) (row left less : List Line) (x : Line) (own : Bes
             up n k (inl e) = inl (ap suc e)
             up n k (inr lt) = inr (omega arith)
 
-    done_at : (k : ℕ) (n : ByMail) (y : Line) → slice_get mails k ≡ Some n → slice_get row k ≡ Some y → (k ≡ length less) ⊎ (length left ≤ k) → HasAllOf k n y
+    done_at : (k : ℕ) (n : ByMail) (y : AnswerPutter) → slice_get mails k ≡ Some n → slice_get row k ≡ Some y → (k ≡ length less) ⊎ (length left ≤ k) → HasAllOf k n y
     done_at k n y there of (inl e) =
         let mail : m ≡ n = same_at mails (length less) m n at (ap (slice_get mails) (sym e) ∙ there) in
         let line : x ≡ y = same_at row (length less) x y here (ap (slice_get row) (sym e) ∙ of) in

@@ -16,7 +16,7 @@ use Rattle.node_mail.specs.declared.answered.Answered.{Answered}
 use Rattle.node_mail.specs.declared.answered.ClientPlace.{ClientPlace}
 use Rattle.desk_keys.specs.declared.mail.ByMail.{ByMail}
 use Rattle.desk_keys.specs.Keys.{KeysView, FloorView}
-use Rattle.node_serving.specs.Workers.{Line, WorkerView}
+use Rattle.node_serving.specs.Workers.{AnswerPutter, WorkerView}
 use Rattle.locked_nodes.specs.declared.slot.Slot.{Slot}
 use Rattle.client_desks.specs.Desks.{DeskView}
 use Rattle.phase_threads.specs.declared.duty.Seat.{Seat}
@@ -38,7 +38,7 @@ phased_as {T = T} done of cells seats now are is same r has =
     ok_also (λ (p : ClockId × Left T). HasPhased done of now are p.0 p.1) (λ (p : ClockId × Left T). HasPhased done of cells seats p.0 p.1) r
     (λ p phased. subst (λ (l : List (Seat T)). HasPhased done of cells l p.0 p.1) same (subst (λ (l : List CellView). HasPhased done of l are p.0 p.1) is phased)) has
 
-module _ {T : Type 0} (config : Numbers) (of : ClockId) (cells : List CellView) (seats : List (Seat T)) (boxes : List (Taking Answered ClientPlace)) (rows : List (List Line)) (hands : List (List (Putting Asked NodePlace))) (workers : List WorkerView) (clients : List (KeysView × T)) (floor : FloorView)
+module _ {T : Type 0} (config : Numbers) (of : ClockId) (cells : List CellView) (seats : List (Seat T)) (boxes : List (Taking Answered ClientPlace)) (rows : List (List AnswerPutter)) (hands : List (List (Putting Asked NodePlace))) (workers : List WorkerView) (clients : List (KeysView × T)) (floor : FloorView)
     (o : Opened config of cells seats boxes rows hands workers clients floor) where
   goes_by_mail : (i : ℕ) (s : Seat T) (x : KeysView × T) → IsClientOf boxes hands i s x → IsSome x.0.mail
   goes_by_mail i s x c = subst (λ (m : Option ByMail). IsSome m) (sym (ap (λ (ks : KeysView). ks.mail) c.keys)) refl

@@ -3,14 +3,14 @@ use Rattle.std.specs.Prelude.{◌≡◌, ℕ, List, slice_get}
 use Rattle.std.specs.declared.option.Option.TheVariants.{Some}
 use Rattle.inboxes.specs.Sides.{took, items_from}
 use Rattle.desk_keys.specs.declared.mail.ByMail.{ByMail}
-use Rattle.node_serving.specs.Workers.{Line}
+use Rattle.node_serving.specs.Workers.{AnswerPutter}
 
--- the line goes to the inbox out of which the client took
-abbrev pub IsOfMail : ℕ → ByMail → Line → Type 0
+-- the putter goes to the inbox out of which the client took
+abbrev pub IsOfMail : ℕ → ByMail → AnswerPutter → Type 0
 IsOfMail i m line = line.inbox ≡ m.answers.inbox
 
--- what was taken of the line is what was put into it
-abbrev pub HasAllOf : ℕ → ByMail → Line → Type 0
+-- what was taken of the putter is what was put into it
+abbrev pub HasAllOf : ℕ → ByMail → AnswerPutter → Type 0
 HasAllOf i m line = items_from line.number (took m.answers) ≡ line.put
 
 -- each way by mail is that of its seat

@@ -15,13 +15,13 @@ module _ {T : Type 0} where
   abbrev pub AreWays : List (Post T) → List ByMail → Type 0
   AreWays posts mails = map (λ m. Some m) mails ≡ map (λ x. x.0.mail) (clients_in posts)
 
-  -- the clients went by mail, and took all that was put; each node's lines go to the clients' inboxes, if these are at their seats
+  -- the clients went by mail, and took all that was put; each node's putters go to the clients' inboxes, if these are at their seats
   pub record MayClose (posts : List (Post T)) : Type 0 where
     pub ways : All (λ x. IsSome x.0.mail) (clients_in posts)
     pub done : (mails : List ByMail) → AreWays posts mails → All (λ m. IsDone m.answers) mails
     pub own : (mails : List ByMail) → AreWays posts mails → AreSeated mails → All (λ r. Beside IsOfMail mails r) (map (λ w. w.sents) (nodes_in posts))
 
-  -- no refusal came, and what was taken of each line is what was put into it
+  -- no refusal came, and what was taken of each putter is what was put into it
   pub record HaveSettled (posts : List (Post T)) : Type 0 where
     pub mails : List ByMail
     pub ways : AreWays posts mails

@@ -14,7 +14,7 @@ use Rattle.node_mail.specs.declared.answered.Answered.{Answered}
 use Rattle.node_mail.specs.declared.answered.ClientPlace.{ClientPlace}
 use Rattle.desk_keys.specs.declared.mail.ByMail.{ByMail}
 use Rattle.desk_keys.specs.Keys.{KeysView, FloorView}
-use Rattle.node_serving.specs.Workers.{Line, WorkerView}
+use Rattle.node_serving.specs.Workers.{AnswerPutter, WorkerView}
 use Rattle.run_journals.specs.Standing.{AreCells, IsDeskAt}
 use Rattle.phase_threads.specs.declared.duty.Seat.{Seat}
 use Rattle.node_workers.specs.declared.crew.Post.{Post}
@@ -36,8 +36,8 @@ pub record IsAskBox (of : ClockId) (to : Slot) (ids : List ℕ) (box : Taking As
   pub clients : box.inbox.place.clients.value ≡ ids
   pub new : box.heard ≡ []
 
--- the worker of a cell, with an inbox for its slot, and the lines at the cell's place
-pub record IsWorkerOf (of : ClockId) (ids : List ℕ) (rows : List (List Line)) (k : ℕ) (cell : CellView) (w : WorkerView) : Type 0 where
+-- the worker of a cell, with an inbox for its slot, and the putters at the cell's place
+pub record IsWorkerOf (of : ClockId) (ids : List ℕ) (rows : List (List AnswerPutter)) (k : ℕ) (cell : CellView) (w : WorkerView) : Type 0 where
   pub is : w.cell ≡ rechartered cell false
   pub own : cell.pass.clock ≡ cell.charter.pass.clock
   pub box : IsAskBox of (slot_of cell.charter) ids w.asks
@@ -57,7 +57,7 @@ abbrev pub ids_of : {T : Type 0} → List (Seat T) → List ℕ
 ids_of seats = map (λ s. s.desk.id) seats
 
 -- all that is opened
-pub record Opened {T : Type 0} (config : Numbers) (of : ClockId) (cells : List CellView) (seats : List (Seat T)) (boxes : List (Taking Answered ClientPlace)) (rows : List (List Line)) (hands : List (List (Putting Asked NodePlace))) (workers : List WorkerView) (clients : List (KeysView × T)) (floor : FloorView) : Type 0 where
+pub record Opened {T : Type 0} (config : Numbers) (of : ClockId) (cells : List CellView) (seats : List (Seat T)) (boxes : List (Taking Answered ClientPlace)) (rows : List (List AnswerPutter)) (hands : List (List (Putting Asked NodePlace))) (workers : List WorkerView) (clients : List (KeysView × T)) (floor : FloorView) : Type 0 where
   pub answers : Beside (IsAnswerBox of (length cells)) seats boxes
   pub lines : AreSpread (length cells) boxes rows
   pub nodes : Beside (IsWorkerOf of (ids_of seats) rows) cells workers
@@ -71,6 +71,6 @@ pub record Opened {T : Type 0} (config : Numbers) (of : ClockId) (cells : List C
 pub record ArePosts {T : Type 0} (of : ClockId) (cells : List CellView) (seats : List (Seat T)) (floor : FloorView) (posts : List (Post T)) : Type 0 where
   pub config : Numbers
   pub boxes : List (Taking Answered ClientPlace)
-  pub rows : List (List Line)
+  pub rows : List (List AnswerPutter)
   pub hands : List (List (Putting Asked NodePlace))
   pub opened : Opened config of cells seats boxes rows hands (nodes_in posts) (clients_in posts) floor

@@ -16,7 +16,7 @@ use node_mail::Answered;
 use phase_threads::{Duty, Seat, first_refusal};
 use std::alloc::Global;
 
-/// What posts leave: the cells, and what is left of their workers' lines, by seat; the desks with their duties, and their ways by
+/// What posts leave: the cells, and what is left of their workers' putters, by seat; the desks with their duties, and their ways by
 /// mail; and the refusal that counts.
 #[derive(Drop)]
 pub struct Parted<T> {
@@ -83,7 +83,7 @@ pub fn are_seated(mails: &[ByMail]) -> bool
     true
 }
 
-/// Settles each client's inbox with what is left of the nodes' lines to it: so what was taken of each node is what the node put.
+/// Settles each client's inbox with what is left of the nodes' putters to it: so what was taken of each node is what the node put.
 pub fn settle_all(
     alloc: Global,
     mails: &mut Vec<ByMail>,
@@ -99,7 +99,7 @@ pub fn settle_all(
     Ok(())
 }
 
-// Settles each client's inbox with what is left of one node's line to it.
+// Settles each client's inbox with what is left of one node's putter to it.
 fn settle_row(
     alloc: Global,
     mails: &mut Vec<ByMail>,

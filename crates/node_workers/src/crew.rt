@@ -2,7 +2,7 @@
 
 use crews::{Crew, Gate};
 use desk_keys::{Floor, Keys};
-use node_serving::Worker;
+use node_serving::NodeWorker;
 use phase_threads::Duty;
 use std::sync::Wait;
 
@@ -10,7 +10,7 @@ use std::sync::Wait;
 #[derive(Drop)]
 pub enum Post<T> {
     Client { keys: Keys, duty: T },
-    Node(Worker),
+    Node(NodeWorker),
 }
 
 impl<T: Duty> Crew<Post<T>> for Floor {

@@ -15,7 +15,7 @@ use inboxes::{Inbox, Putter, Putters, Taker};
 use lists::{ItemList, NoMemory};
 use locked_nodes::{NodeCell, Slot, slots_in};
 use node_mail::{Answered, Asked, ClientPlace, NodePlace};
-use node_serving::Worker;
+use node_serving::NodeWorker;
 use phase_threads::{Duty, Seat};
 use std::alloc::Global;
 use std::snapshot::Snapshot;
@@ -101,7 +101,7 @@ fn open_answer<R: Wait, T: Drop>(
     Inbox::open::<Answered, R>(rt, alloc, ROOM, nodes, &place)
 }
 
-// A worker for each cell, with an inbox for asks and a line to each client, in the cells' order; and the putters into these
+// A worker for each cell, with an inbox for asks and a putter to each client, in the cells' order; and the putters into these
 // inboxes in a hand for each client.
 fn open_nodes<R: Wait, T: Duty>(
     rt: &R,
@@ -129,7 +129,7 @@ fn open_nodes<R: Wait, T: Duty>(
         let (asks, more) = open_asks(rt, alloc, clock, cell.slot(), clients)?;
         deal(&mut putters, more)?;
         cell.known();
-        let worker = Worker::new(alloc, cell.go_on(false), asks, row.into_vec())?;
+        let worker = NodeWorker::new(alloc, cell.go_on(false), asks, row.into_vec())?;
         posts.push(Post::Node(worker))?;
     }
     Ok((posts, putters))

@@ -1,11 +1,11 @@
 use Rattle.std.proofs.Common.{◌≡◌, ◌+◌, get_or, arith, set}
 use Rattle.std.proofs.lemmas.Option.{slice_get-get_or}
-use Rattle.locked_nodes.specs.Cells.{KeptCell, HasNoLateMail}
-use Rattle.client_threads.specs.Mailed.{Brings}
+use Rattle.locked_nodes.specs.Cells.{KeptCell, HasNoLateMail, HasMoreAside}
+use Rattle.locked_nodes.proofs.Aside.{aside_none}
 use Rattle.client_threads.proofs.Stepping.{partly_all, partly_stays, partly_old, partly_long}
 use Rattle.client_threads.proofs.Stepping.Partly.{Same}
 use Rattle.client_threads.proofs.Keepers.{partly_map, partly_next, zip_right, set_all, all_of}
-use Rattle.client_threads.proofs.Mailing.{BringsAll, same_desk, keeps_then, brings_none}
+use Rattle.client_threads.proofs.Mailing.{BringsAll, same_desk, keeps_then}
 use Rattle.client_threads.proofs.mail.bring_all.Goals as goal
 
 pub loop-cell-init : goal.loop-cell-init
@@ -26,8 +26,8 @@ returns-in_err-bring-clause-cells g c =
     let x = get_or cells i c.cell-item.result in
     let y = c.bring.new.cell in
     let at = slice_get-get_or cells i c.cell-item.result (omega (arith, c.loop-cell-test.true, c.loop-cell.auto.cells)) in
-    let p = partly_map BringsAll Brings old cells i (λ x y b. b.brings) c.loop-cell.invariant.1 in
-    partly_stays Brings brings_none old (set cells i y) (i + 1) (partly_next Brings old cells i x y p at c.bring.ensures.cell)
+    let p = partly_map BringsAll HasMoreAside old cells i (λ x y b. b.brings) c.loop-cell.invariant.1 in
+    partly_stays HasMoreAside aside_none old (set cells i y) (i + 1) (partly_next HasMoreAside old cells i x y p at c.bring.ensures.cell)
 
 pub loop-cell-preserved : goal.loop-cell-preserved
 loop-cell-preserved g c =
@@ -46,8 +46,8 @@ loop-cell-preserved g c =
 pub returns-clause-cells : goal.returns-clause-cells
 returns-clause-cells g c =
     let i = c.loop-cell.cell-index in
-    let p = partly_map BringsAll Brings c.args.cells.now c.loop-cell.cells i (λ x y b. b.brings) c.loop-cell.invariant.1 in
-    partly_stays Brings brings_none c.args.cells.now c.loop-cell.cells i p
+    let p = partly_map BringsAll HasMoreAside c.args.cells.now c.loop-cell.cells i (λ x y b. b.brings) c.loop-cell.invariant.1 in
+    partly_stays HasMoreAside aside_none c.args.cells.now c.loop-cell.cells i p
 
 pub returns-clause-none : goal.returns-clause-none
 returns-clause-none g c =

@@ -4,8 +4,7 @@ use Rattle.std.specs.Prelude.{All}
 use Rattle.std.specs.List.{AllZip}
 use Rattle.std.specs.Vec.{with_items}
 use Rattle.std.proofs.lemmas.List.{with_items_is}
-use Rattle.locked_nodes.specs.Cells.{CellView, KeptCell, HasNoLateMail}
-use Rattle.client_threads.specs.Mailed.{Brings}
+use Rattle.locked_nodes.specs.Cells.{CellView, KeptCell, HasNoLateMail, HasMoreAside}
 use Rattle.client_threads.specs.Running.{plan_of}
 use Rattle.client_threads.specs.declared.state.Run.{Run}
 use Rattle.client_threads.proofs.Working.{IsMailed, open_mailed, is_worked, zip_long}
@@ -22,9 +21,9 @@ stop-requires-in-Err-clause-opened g c =
     let mid = c.in_ok-run.run' in
     let cells = c.bring_all-brought.new.cells in
     let new : Run = record { plan = mid.plan; clock = mid.clock; cells = with_items mid.cells cells; clients = mid.clients; courier = c.bring_all-brought.new.courier; keeper = mid.keeper; counted = mid.counted } in
-    let zip = subst (λ (l : List CellView). AllZip Brings l cells) c.as_mut_slice.ensures.value c.bring_all-brought.ensures.cells in
-    let is : (with_items mid.cells cells).items ≡ cells = with_items_is mid.cells cells (zip_long Brings c.as_mut_slice.result.now cells c.bring_all-brought.ensures.cells ∙ c.as_mut_slice.ensures.len) in
-    let mailed : IsMailed mid new = record { plan = refl; clock = refl; clients = refl; keeper = refl; counted = refl; courier = c.bring_all-brought.ensures.kept; cells = subst (AllZip Brings mid.cells.items) (sym is) zip } in
+    let zip = subst (λ (l : List CellView). AllZip HasMoreAside l cells) c.as_mut_slice.ensures.value c.bring_all-brought.ensures.cells in
+    let is : (with_items mid.cells cells).items ≡ cells = with_items_is mid.cells cells (zip_long HasMoreAside c.as_mut_slice.result.now cells c.bring_all-brought.ensures.cells ∙ c.as_mut_slice.ensures.len) in
+    let mailed : IsMailed mid new = record { plan = refl; clock = refl; clients = refl; keeper = refl; counted = refl; courier = c.bring_all-brought.ensures.kept; cells = subst (AllZip HasMoreAside mid.cells.items) (sym is) zip } in
     open_mailed mid new mailed c.in_ok-run.ensures.«open»
 
 pub returns-in-Ok-clause-plan : goal.returns-in-Ok-clause-plan
@@ -35,8 +34,8 @@ returns-in-Ok-clause-worked g c k between =
     let mid = c.in_ok-run.run' in
     let cells = c.bring_all-brought.new.cells in
     let new : Run = record { plan = mid.plan; clock = mid.clock; cells = with_items mid.cells cells; clients = mid.clients; courier = c.bring_all-brought.new.courier; keeper = mid.keeper; counted = mid.counted } in
-    let zip = subst (λ (l : List CellView). AllZip Brings l cells) c.as_mut_slice.ensures.value c.bring_all-brought.ensures.cells in
-    let is : (with_items mid.cells cells).items ≡ cells = with_items_is mid.cells cells (zip_long Brings c.as_mut_slice.result.now cells c.bring_all-brought.ensures.cells ∙ c.as_mut_slice.ensures.len) in
-    let mailed : IsMailed mid new = record { plan = refl; clock = refl; clients = refl; keeper = refl; counted = refl; courier = c.bring_all-brought.ensures.kept; cells = subst (AllZip Brings mid.cells.items) (sym is) zip } in
+    let zip = subst (λ (l : List CellView). AllZip HasMoreAside l cells) c.as_mut_slice.ensures.value c.bring_all-brought.ensures.cells in
+    let is : (with_items mid.cells cells).items ≡ cells = with_items_is mid.cells cells (zip_long HasMoreAside c.as_mut_slice.result.now cells c.bring_all-brought.ensures.cells ∙ c.as_mut_slice.ensures.len) in
+    let mailed : IsMailed mid new = record { plan = refl; clock = refl; clients = refl; keeper = refl; counted = refl; courier = c.bring_all-brought.ensures.kept; cells = subst (AllZip HasMoreAside mid.cells.items) (sym is) zip } in
     is_worked c.phases_work.ensures.work c.phases_close.ensures.goes_on c.phases_work.ensures.late k c.args.run mid new between (c.in_ok-run.ensures.done c.in_default.is k between.standing) mailed
     (subst (All KeptCell) (sym is) c.bring_all-brought.ensures.known) (subst (All HasNoLateMail) (sym is) c.in-Ok.ensures.none)

@@ -3,7 +3,7 @@ use Rattle.std.specs.declared.option.Option.TheVariants.{None}
 use Rattle.client_desks.specs.Later.{IsLater}
 use Rattle.desk_keys.specs.Keys.{Fit}
 use Rattle.client_work.specs.Work.{IsSame, Goes, IsAmidOrOff, StepsFit}
-use Rattle.client_work.proofs.worker.Worker.do_steps.Given as goal
+use Rattle.client_work.proofs.worker.ClientWorker.do_steps.Given as goal
 
 abbrev pub invariant-loop-step : goal.invariant-loop-step
 invariant-loop-step g l = record {

@@ -1,7 +1,7 @@
 use Rattle.std.proofs.Common.{◌≡◌, ◌+◌, ◌≤◌, ◌++◌, reverse, vec_len, vec_capacity}
-use Rattle.node_serving.proofs.worker.Worker.end.Given as goal
+use Rattle.node_serving.proofs.worker.NodeWorker.end.Given as goal
 
--- the lines that had their last word stand behind, the last seat's first
+-- the putters that had their last word stand behind, the last seat's first
 abbrev pub invariant-loop-putter : goal.invariant-loop-putter
 invariant-loop-putter g l =
     (l.self-inside.cell ≡ l.initial.self-inside.cell) × (l.self-inside.asks ≡ l.initial.self-inside.asks)

@@ -9,7 +9,7 @@ use Rattle.locked_nodes.specs.Slots.{slot_of}
 use Rattle.protocol.specs.Messages.{Message}
 use Rattle.node_serving.specs.Workers.{HasAnswered, AreAnswered, clients_of}
 use Rattle.node_serving.proofs.Answering.{IsServing, serving_none, answered_more, answered_late, asked_more, seat_within, line_of}
-use Rattle.node_serving.proofs.worker.Worker.serve.Goals as goal
+use Rattle.node_serving.proofs.worker.NodeWorker.serve.Goals as goal
 
 pub loop-init : goal.loop-init
 loop-init g c = serving_none c.args.clock.now c.args.self.now c.requires

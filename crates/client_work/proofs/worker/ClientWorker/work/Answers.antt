@@ -4,7 +4,7 @@ use Rattle.plan_followed.specs.Clients.{IsCutOff}
 use Rattle.client_work.specs.Work.{HasSteps, StepsFit, IsAmid}
 use Rattle.client_work.proofs.Phasing.{phase_amid, phase_steps}
 use Rattle.client_work.proofs.Ending.{worked}
-use Rattle.client_work.proofs.worker.Worker.work.Goals as goal
+use Rattle.client_work.proofs.worker.ClientWorker.work.Goals as goal
 
 pub do_steps-requires-clause-amid : goal.do_steps-requires-clause-amid
 do_steps-requires-clause-amid g c =

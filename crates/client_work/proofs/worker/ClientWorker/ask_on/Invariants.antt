@@ -1,5 +1,5 @@
 use Rattle.client_work.proofs.Running.{IsAsking}
-use Rattle.client_work.proofs.worker.Worker.ask_on.Given as goal
+use Rattle.client_work.proofs.worker.ClientWorker.ask_on.Given as goal
 
 abbrev pub invariant-loop : goal.invariant-loop
 invariant-loop g l =

@@ -2,7 +2,7 @@ use Rattle.std.proofs.Common.{rules, ◌≡◌, ◌∙◌, sym}
 use Rattle.std.specs.declared.option.Option.TheVariants.{None}
 use Rattle.client_work.proofs.Running.{ok_gives, begun}
 use Rattle.client_work.proofs.Ending.{stepped}
-use Rattle.client_work.proofs.worker.Worker.do_step.Goals as goal
+use Rattle.client_work.proofs.worker.ClientWorker.do_step.Goals as goal
 
 pub ask_on-requires-clause-goes : goal.ask_on-requires-clause-goes
 ask_on-requires-clause-goes g c =

@@ -4,7 +4,7 @@ use Rattle.client_desks.specs.Desks.{CanStart}
 use Rattle.client_work.specs.Work.{StepsFit}
 use Rattle.client_work.proofs.Running.{same_on, whole_on}
 use Rattle.client_work.proofs.Ending.{amid_off, amid_on, amid_more, fit_more, step_next, step_there}
-use Rattle.client_work.proofs.worker.Worker.do_steps.Goals as goal
+use Rattle.client_work.proofs.worker.ClientWorker.do_steps.Goals as goal
 
 pub returns-then-not-can_start-clause-done : goal.returns-then-not-can_start-clause-done
 returns-then-not-can_start-clause-done g c ok =

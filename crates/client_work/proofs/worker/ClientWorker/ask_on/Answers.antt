@@ -8,7 +8,7 @@ use Rattle.client_work.specs.Work.{given_by, IsWholeIn}
 use Rattle.client_work.proofs.Going.{held_whole}
 use Rattle.client_work.proofs.Asking.{asks_block}
 use Rattle.client_work.proofs.Running.{whole_on, ok_gives, may_call, asking_on, asked_out, crashed_out, noted_by}
-use Rattle.client_work.proofs.worker.Worker.ask_on.Goals as goal
+use Rattle.client_work.proofs.worker.ClientWorker.ask_on.Goals as goal
 
 pub call-requires-clause-on : goal.call-requires-clause-on
 call-requires-clause-on g c = asks_block c.loop.keys.desk c.in-Some-next_node.node c.args.block c.loop.invariant.2.on

@@ -2,7 +2,7 @@ use Rattle.std.proofs.Common.{◌∙◌, ℕ, ap, List, replicate}
 use Rattle.client_work.specs.declared.reads.GivenRead.{GivenRead}
 use Rattle.client_work.specs.Work.{latest_given}
 use Rattle.client_work.proofs.Opening.{op_whole, op_merge}
-use Rattle.client_work.proofs.worker.Worker.op_of.Goals as goal
+use Rattle.client_work.proofs.worker.ClientWorker.op_of.Goals as goal
 
 pub returns-in-Whole : goal.returns-in-Whole
 returns-in-Whole c = op_whole c.args.self.now c.args.step c.in-Whole.block c.in-Whole.value c.write_of.result c.in-Whole.is c.write_of.ensures.op c.write_of.ensures.bytes c.requires.fits

@@ -3,7 +3,7 @@ use Rattle.plan_words.specs.declared.plan.Plan.{Plan}
 use Rattle.plan_tasks.specs.Tasks.{IsClientTask}
 use Rattle.client_work.specs.Work.{phase_in}
 use Rattle.client_work.proofs.Beginning.{begins, none_done}
-use Rattle.client_work.proofs.worker.Worker.new.Goals as goal
+use Rattle.client_work.proofs.worker.ClientWorker.new.Goals as goal
 
 pub returns-clause-first : goal.returns-clause-first
 returns-clause-first c =
