@@ -122,7 +122,7 @@ fn are_at(stamps: &[Stamp], times: &[u64]) -> bool {
 }
 
 // Node 0, which keeps the first version alone.
-fn new(rt: &impl Abort, alloc: Global) -> Node
+fn new_node(rt: &impl Abort, alloc: Global) -> Node
     ensures { 0 < result.config.blocks }
 {
     Node::new(alloc, &cluster(rt), 0).expect(rt, "memory")
@@ -130,7 +130,7 @@ fn new(rt: &impl Abort, alloc: Global) -> Node
 
 #[test]
 fn refuses_by_the_first_fault(rt: HostRuntime) {
-    let mut node = new(&rt, rt.alloc());
+    let mut node = new_node(&rt, rt.alloc());
     for (block, time, digests, is_verified, byte, reason) in [
         (2, 0, 4, true, 7, Reason::BadBlock),
         (0, 0, 4, true, 7, Reason::BadLength),
@@ -154,7 +154,7 @@ fn finds_nothing_below_the_first_version(rt: HostRuntime) {
     let first = First::of(rt.alloc(), &cluster(&rt))
         .expect(&rt, "memory")
         .stamp;
-    let node = new(&rt, rt.alloc());
+    let node = new_node(&rt, rt.alloc());
     assert!(rt; read(&node, 0, Bound::Below(first)) == Ok(Said::Nothing));
     assert!(rt; read(&node, 1, Bound::All) == Ok(Said::Found(first)));
 }
@@ -169,7 +169,7 @@ fn is_written(alloc: Global, node: &mut Node, time: u64) -> bool
 #[test]
 fn keeps_one_version_of_a_stamp(rt: HostRuntime) -> Result<(), Fail> {
     let stamp = stamp_of(rt.alloc(), sound(3))?;
-    let mut node = new(&rt, rt.alloc());
+    let mut node = new_node(&rt, rt.alloc());
     assert!(rt; !node.keeps(0, &stamp));
     assert!(rt; is_written(rt.alloc(), &mut node, 3));
     assert!(rt; is_written(rt.alloc(), &mut node, 3));
@@ -182,7 +182,7 @@ fn keeps_one_version_of_a_stamp(rt: HostRuntime) -> Result<(), Fail> {
 #[test]
 fn prunes_below_the_greatest_up_to_a_stamp(rt: HostRuntime) -> Result<(), Fail> {
     let stamp = stamp_of(rt.alloc(), sound(2))?;
-    let mut node = new(&rt, rt.alloc());
+    let mut node = new_node(&rt, rt.alloc());
     assert!(rt; is_written(rt.alloc(), &mut node, 1));
     assert!(rt; is_written(rt.alloc(), &mut node, 2));
     node.prune(0, &stamp);

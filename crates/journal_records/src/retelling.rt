@@ -64,7 +64,8 @@ impl Retelling {
     fn start(&mut self, number: u64, op: &Op) -> Result<(), NoMemory>
         requires may { MayStart self.now.client op.now }
         ensures tells { (d : DeskState) → Tells self.old.id d self.old
-            → OnOk result (Tells self.old.id (desk_after d number (DeskAct.Start op.now)) self.new) }
+            → OnOk result
+            (Tells self.old.id (desk_after d number (DeskAct.Start op.now)) self.new) }
         ensures id { self.new.id ≡ self.old.id }
     {
         let start = place_of(number)?;

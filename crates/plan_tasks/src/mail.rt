@@ -148,7 +148,9 @@ fn add_flood(
     requires other_size { length other.now ≡ config.now.size }
     requires count { count ≤ time }
     ensures { OnOk result (mail.new ≡ mail.old ++ flat_map
-        (λ k. map (λ i. mix_asked (setting config.now) client i block (time - k) value.now other.now) (range_with_len 0 config.now.n)) (range_with_len 0 count)) }
+        (λ k. map
+        (λ i. mix_asked (setting config.now) client i block (time - k) value.now other.now)
+        (range_with_len 0 config.now.n)) (range_with_len 0 count)) }
 {
     let nodes = u64::from(config.n());
     for fall in 0..count {

@@ -49,7 +49,8 @@ fn add_job(
     requires in_device { device_fault config.now job.now ≡ None }
     requires fit { All (StepFits config.now) steps.old }
     requires all_fit { All (All (StepFits config.now)) phases.old }
-    ensures made { OnOk result ((work : List AnyJob) → phases.new ++ with_steps steps.new (phases_in config.now client work)
+    ensures made { OnOk result ((work : List AnyJob)
+        → phases.new ++ with_steps steps.new (phases_in config.now client work)
         ≡ phases.old ++ with_steps steps.old (phases_in config.now client (job.now ∷ work))) }
     ensures fit { OnOk result (All (StepFits config.now) steps.new) }
     ensures all_fit { OnOk result (All (All (StepFits config.now)) phases.new) }
