@@ -1,10 +1,10 @@
 use Rattle.std.proofs.Common.{◌+◌, ◌<◌, length, refl, sym, ◌∙◌, ap, subst, arith}
 use Rattle.std.specs.declared.option.Option.TheVariants.{None, Some}
 use Rattle.std.proofs.lemmas.Option.{slice_get-get_or}
-use Rattle.plan_prunes.specs.Tops.{AreListed}
-use Rattle.plan_prunes.proofs.Listing.{none_listed, left_out, put_in}
-use Rattle.plan_prunes.proofs.listed.Goals.{in-Some+in_ok-push, in_default}
-use Rattle.plan_prunes.proofs.listed.Goals as goal
+use Rattle.plan_phases.specs.Tops.{AreListed}
+use Rattle.plan_phases.proofs.Listing.{none_listed, left_out, put_in}
+use Rattle.plan_phases.proofs.prunes.listed.Goals.{in-Some+in_ok-push, in_default}
+use Rattle.plan_phases.proofs.prunes.listed.Goals as goal
 
 pub loop-block-init : goal.loop-block-init
 loop-block-init c = subst (AreListed 0 c.args.tops.now) (sym c.new-listed.ensures.items) (none_listed c.args.tops.now)

@@ -2,11 +2,11 @@ use Rattle.std.proofs.Common.{◌≡◌, ◌-◌, List, take, drop, length, Opti
 use Rattle.std.proofs.lemmas.List.{take_all, take-append-le}
 use Rattle.std.proofs.lemmas.Result.{IfOk-weaker}
 use Rattle.stamp_order.specs.declared.Stamp.{Stamp}
-use Rattle.plan_prunes.specs.declared.BlockStamp.{BlockStamp}
-use Rattle.plan_prunes.specs.Prunings.{ArePrunings}
-use Rattle.plan_prunes.specs.Tops.{AreTops, AreListed}
-use Rattle.plan_prunes.proofs.Listing.{pruned}
-use Rattle.plan_prunes.proofs.prunings.Goals as goal
+use Rattle.plan_phases.specs.declared.prunes.BlockStamp.{BlockStamp}
+use Rattle.plan_phases.specs.Prunings.{ArePrunings}
+use Rattle.plan_phases.specs.Tops.{AreTops, AreListed}
+use Rattle.plan_phases.proofs.Listing.{pruned}
+use Rattle.plan_phases.proofs.prunes.prunings.Goals as goal
 
 pub returns : goal.returns
 returns c =

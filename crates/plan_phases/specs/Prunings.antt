@@ -3,7 +3,7 @@ use Rattle.std.specs.Prelude.{◌≡◌, ℕ, List, map}
 use Rattle.std.specs.List.{Contains}
 use Rattle.stamp_order.specs.Stamps.{◌≼◌}
 use Rattle.protocol.specs.Report.{Ascend}
-use Rattle.plan_prunes.specs.declared.BlockStamp.{BlockStamp}
+use Rattle.plan_phases.specs.declared.prunes.BlockStamp.{BlockStamp}
 
 abbrev pub blocks_of : List BlockStamp → List ℕ
 blocks_of xs = map (λ x. x.block) xs

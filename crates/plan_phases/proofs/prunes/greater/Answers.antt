@@ -4,7 +4,7 @@ use Rattle.std.specs.Ordering.{is_le}
 use Rattle.stamp_order.specs.Stamps.{up_to, ◌≼◌}
 use Rattle.stamp_order.proofs.Orders.{up_to_by_fields}
 use Rattle.protocol.proofs.Order.{≼-refl, not_up_to}
-use Rattle.plan_prunes.proofs.greater.Goals as goal
+use Rattle.plan_phases.proofs.prunes.greater.Goals as goal
 
 pub returns-then-is_le-clause-top : goal.returns-then-is_le-clause-top
 returns-then-is_le-clause-top c = subst (λ o. IfSome o (λ t. t ≼ c.in-Some.top)) (sym c.in-Some.is) (≼-refl c.in-Some.top)

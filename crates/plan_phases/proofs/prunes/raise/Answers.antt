@@ -2,11 +2,11 @@ use Rattle.std.proofs.Common.{◌+◌, ◌<◌, ◌++◌, take, get_or, length, 
 use Rattle.std.specs.declared.option.Option.TheVariants.{None, Some}
 use Rattle.std.proofs.lemmas.Option.{slice_get-get_or}
 use Rattle.std.proofs.lemmas.List.Elements.{All-get_or}
-use Rattle.plan_prunes.specs.declared.BlockStamp.{BlockStamp}
-use Rattle.plan_prunes.specs.Tops.{AreTops}
-use Rattle.plan_prunes.proofs.Raising.{none_named, heard_more, passed_more}
-use Rattle.plan_prunes.proofs.raise.Goals.{in-Some, in_default}
-use Rattle.plan_prunes.proofs.raise.Goals as goal
+use Rattle.plan_phases.specs.declared.prunes.BlockStamp.{BlockStamp}
+use Rattle.plan_phases.specs.Tops.{AreTops}
+use Rattle.plan_phases.proofs.Raising.{none_named, heard_more, passed_more}
+use Rattle.plan_phases.proofs.prunes.raise.Goals.{in-Some, in_default}
+use Rattle.plan_phases.proofs.prunes.raise.Goals as goal
 
 pub loop-read-preserved : goal.loop-read-preserved
 loop-read-preserved c = λ late reads h.

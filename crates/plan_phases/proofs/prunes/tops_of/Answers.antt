@@ -4,9 +4,9 @@ use Rattle.std.proofs.lemmas.List.{length-set}
 use Rattle.std.proofs.lemmas.List.Elements.{All-get_or}
 use Rattle.std.proofs.lemmas.Option.{slice_get-get_or}
 use Rattle.stamp_order.specs.declared.Stamp.{Stamp}
-use Rattle.plan_prunes.specs.declared.BlockStamp.{BlockStamp}
-use Rattle.plan_prunes.proofs.Raising.{none_named, none_noted, noted_more}
-use Rattle.plan_prunes.proofs.tops_of.Goals as goal
+use Rattle.plan_phases.specs.declared.prunes.BlockStamp.{BlockStamp}
+use Rattle.plan_phases.proofs.Raising.{none_named, none_noted, noted_more}
+use Rattle.plan_phases.proofs.prunes.tops_of.Goals as goal
 
 -- a copy of None is None
 no_other : (copies : Option Stamp → Type 0) → ((s : Stamp) → copies (Some s) → ⊥) → (y : Option Stamp) → copies y → y ≡ None

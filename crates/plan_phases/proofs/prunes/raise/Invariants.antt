@@ -1,7 +1,7 @@
 use Rattle.std.proofs.Common.{List, ◌++◌, take}
-use Rattle.plan_prunes.specs.declared.BlockStamp.{BlockStamp}
-use Rattle.plan_prunes.specs.Tops.{AreTops}
-use Rattle.plan_prunes.proofs.raise.Given as goal
+use Rattle.plan_phases.specs.declared.prunes.BlockStamp.{BlockStamp}
+use Rattle.plan_phases.specs.Tops.{AreTops}
+use Rattle.plan_phases.proofs.prunes.raise.Given as goal
 
 -- the reads so far are noted
 abbrev pub invariant-loop-read : goal.invariant-loop-read

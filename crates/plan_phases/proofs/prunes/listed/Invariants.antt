@@ -1,5 +1,5 @@
-use Rattle.plan_prunes.specs.Tops.{AreListed}
-use Rattle.plan_prunes.proofs.listed.Given as goal
+use Rattle.plan_phases.specs.Tops.{AreListed}
+use Rattle.plan_phases.proofs.prunes.listed.Given as goal
 
 -- the blocks so far are listed
 abbrev pub invariant-loop-block : goal.invariant-loop-block

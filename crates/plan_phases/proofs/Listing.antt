@@ -9,9 +9,9 @@ use Rattle.std.proofs.lemmas.List.{take-append-drop}
 use Rattle.stamp_order.specs.declared.Stamp.{Stamp}
 use Rattle.protocol.specs.Report.{Ascend}
 use Rattle.protocol.proofs.Lists.{Contains-none, Contains-map_cases}
-use Rattle.plan_prunes.specs.declared.BlockStamp.{BlockStamp}
-use Rattle.plan_prunes.specs.Prunings.{blocks_of, ArePrunings}
-use Rattle.plan_prunes.specs.Tops.{IsTop, AreTops, AreListed}
+use Rattle.plan_phases.specs.declared.prunes.BlockStamp.{BlockStamp}
+use Rattle.plan_phases.specs.Prunings.{blocks_of, ArePrunings}
+use Rattle.plan_phases.specs.Tops.{IsTop, AreTops, AreListed}
 
 all_push : (P : ℕ → Type 0) (ns : List ℕ) (n : ℕ) → AllByRecursion P ns → P n → AllByRecursion P (ns ++ n ∷ [])
 all_push P [] n h p = (p, tt)

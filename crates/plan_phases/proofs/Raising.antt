@@ -13,9 +13,9 @@ use Rattle.stamp_order.specs.declared.Stamp.{Stamp}
 use Rattle.stamp_order.specs.Stamps.{◌≼◌}
 use Rattle.protocol.proofs.Order.{≼-trans}
 use Rattle.protocol.proofs.Lists.{Contains-map, Contains-none}
-use Rattle.plan_prunes.specs.declared.BlockStamp.{BlockStamp}
-use Rattle.plan_prunes.specs.Prunings.{blocks_of}
-use Rattle.plan_prunes.specs.Tops.{IsOneOf, IsTop, IsTopOf, AreTops}
+use Rattle.plan_phases.specs.declared.prunes.BlockStamp.{BlockStamp}
+use Rattle.plan_phases.specs.Prunings.{blocks_of}
+use Rattle.plan_phases.specs.Tops.{IsOneOf, IsTop, IsTopOf, AreTops}
 
 -- ---- lists
 

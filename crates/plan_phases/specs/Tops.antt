@@ -5,8 +5,8 @@ use Rattle.std.specs.List.{Contains, AllByRecursion}
 use Rattle.stamp_order.specs.declared.Stamp.{Stamp}
 use Rattle.stamp_order.specs.Stamps.{◌≼◌}
 use Rattle.protocol.specs.Report.{Ascend}
-use Rattle.plan_prunes.specs.declared.BlockStamp.{BlockStamp}
-use Rattle.plan_prunes.specs.Prunings.{blocks_of}
+use Rattle.plan_phases.specs.declared.prunes.BlockStamp.{BlockStamp}
+use Rattle.plan_phases.specs.Prunings.{blocks_of}
 
 abbrev pub IsOneOf : Option Stamp → Stamp → Stamp → Type 0
 IsOneOf top s r = (r ≡ s) ⊎ (top ≡ Some r)

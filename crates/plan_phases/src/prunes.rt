@@ -1,10 +1,9 @@
 //! Which blocks nodes prune after a phase of a plan, and by which stamps.
-#![tactic(auto)]
 
 ghost use Rattle.std.specs.Prelude.{◌≡◌, ◌≤◌, ◌<◌, ◌++◌, All, IfOk, IfSome, List, drop, length};
 ghost use Rattle.stamp_order.specs.Stamps.{◌≼◌};
-ghost use Rattle.plan_prunes.specs.Prunings.{ArePrunings};
-ghost use Rattle.plan_prunes.specs.Tops.{IsOneOf, AreTops, AreListed};
+ghost use Rattle.plan_phases.specs.Prunings.{ArePrunings};
+ghost use Rattle.plan_phases.specs.Tops.{IsOneOf, AreTops, AreListed};
 
 use lists::NoMemory;
 use stamp_order::Stamp;

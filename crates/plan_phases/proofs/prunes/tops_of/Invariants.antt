@@ -1,6 +1,6 @@
 use Rattle.std.proofs.Common.{◌≡◌, length, take}
-use Rattle.plan_prunes.specs.Tops.{AreTops}
-use Rattle.plan_prunes.proofs.tops_of.Given as goal
+use Rattle.plan_phases.specs.Tops.{AreTops}
+use Rattle.plan_phases.proofs.prunes.tops_of.Given as goal
 
 -- the reads so far are noted
 abbrev pub invariant-loop-read : goal.invariant-loop-read
