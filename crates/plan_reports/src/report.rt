@@ -33,8 +33,8 @@ pub fn told_history(
         return Err(NoMemory);
     }
     plan_followed::laws::followed_plans();
-    desk_records::laws::merged_lines();
-    desk_records::laws::all_records();
+    journal_records::laws::merged_lines();
+    journal_records::laws::all_records();
     let records = records_of(alloc, journals)?;
     let first = First::of(alloc, &journals.config)?;
     let history = history_of_records(alloc, records.as_slice(), &first.stamp)?;

@@ -1,6 +1,6 @@
 -- The lemma of `Ongoing`.
-use Rattle.desk_records.proofs.Ongoing.{are_told}
-use Rattle.desk_records.proofs.laws.open_records.Goals as goal
+use Rattle.journal_records.proofs.Ongoing.{are_told}
+use Rattle.journal_records.proofs.laws.open_records.Goals as goal
 
 pub returns : goal.returns
 returns c =

@@ -1,6 +1,6 @@
 -- Lemmas of `Owning`.
-use Rattle.desk_records.proofs.Owning.{worlds_have, records_are}
-use Rattle.desk_records.proofs.laws.all_records.Goals as goal
+use Rattle.journal_records.proofs.Owning.{worlds_have, records_are}
+use Rattle.journal_records.proofs.laws.all_records.Goals as goal
 
 pub returns : goal.returns
 returns c =

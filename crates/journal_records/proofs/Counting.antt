@@ -12,8 +12,8 @@ use Rattle.journals.specs.Journals.{setting_for, IsMerge}
 use Rattle.journals.specs.Merged.{OfMerged, AreRun, AreOrdered}
 use Rattle.journals.proofs.Picks.{Numbered, same_ascending}
 use Rattle.journals.proofs.Ordering.{in_order}
-use Rattle.desk_records.specs.Lines.{LinesAreThere, LinesAreCounted, LastPlaceIsCount}
-use Rattle.desk_records.proofs.SameMessages.{messages}
+use Rattle.journal_records.specs.Lines.{LinesAreThere, LinesAreCounted, LastPlaceIsCount}
+use Rattle.journal_records.proofs.SameMessages.{messages}
 
 -- ---- each late ask has its number
 

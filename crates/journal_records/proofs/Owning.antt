@@ -23,9 +23,9 @@ use Rattle.journals.specs.declared.whole.Journals.{Journals}
 use Rattle.journals.specs.Journals.{setting_for, entries_of, cluster_at, IsMerge, AreOfRun}
 use Rattle.journals.proofs.Lists.{Contains-head, Contains-none, Contains-one, Contains-rest, Contains-cons_cases}
 use Rattle.journals.proofs.Picks.{eqb_same, same_ascending}
-use Rattle.desk_records.specs.Open.{RecordsTellTasks, TasksAreRecorded, RecordsAreOfCorrect}
-use Rattle.desk_records.specs.Records.{record_of_task, client_records, last_desk, IsDeskRecord, AreAllRecords, WorldsHaveAllRecords, RecordsAreThose}
-use Rattle.desk_records.proofs.LastDesks.{limit, desk, desk_is, desk_agrees, first_life, tells_alike}
+use Rattle.journal_records.specs.Open.{RecordsTellTasks, TasksAreRecorded, RecordsAreOfCorrect}
+use Rattle.journal_records.specs.Records.{record_of_task, client_records, last_desk, IsDeskRecord, AreAllRecords, WorldsHaveAllRecords, RecordsAreThose}
+use Rattle.journal_records.proofs.LastDesks.{limit, desk, desk_is, desk_agrees, first_life, tells_alike}
 
 -- ---- the desk of a client
 

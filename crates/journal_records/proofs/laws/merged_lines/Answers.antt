@@ -1,6 +1,6 @@
 -- Lemmas of `Counting`.
-use Rattle.desk_records.proofs.Counting.{lines_there, lines_counted, last_place_is}
-use Rattle.desk_records.proofs.laws.merged_lines.Goals as goal
+use Rattle.journal_records.proofs.Counting.{lines_there, lines_counted, last_place_is}
+use Rattle.journal_records.proofs.laws.merged_lines.Goals as goal
 
 pub returns : goal.returns
 returns c = record {

@@ -16,7 +16,7 @@ use Rattle.protocol.specs.Lines.{Line, Run, IsRun, IsPlayable, plays, events}
 use Rattle.protocol.specs.Instance.{InEachRun, setting_of}
 use Rattle.protocol.specs.Laws.{OneIsReplaced, RefusesExactly, RunsComeApart}
 use Rattle.journals.proofs.Lists.{Contains-none, Contains-one, update-cases, update-same, at_update}
-use Rattle.desk_records.specs.Open.{RecordsTellTasks, TasksAreRecorded, RecordsAreOfCorrect}
+use Rattle.journal_records.specs.Open.{RecordsTellTasks, TasksAreRecorded, RecordsAreOfCorrect}
 
 -- the record is of what its client has under way, or the client came back
 abbrev Tells : Record → Option Task → ℕ → Type 0

@@ -1,9 +1,9 @@
 //! Laws of the records of runs, each the contract of a function that does nothing.
 
 ghost use Rattle.protocol.specs.Instance.{InEachRun};
-ghost use Rattle.desk_records.specs.Open.{RecordsTellTasks, TasksAreRecorded, RecordsAreOfCorrect};
-ghost use Rattle.desk_records.specs.Lines.{LinesAreThere, LinesAreCounted, LastPlaceIsCount};
-ghost use Rattle.desk_records.specs.Records.{WorldsHaveAllRecords, RecordsAreThose};
+ghost use Rattle.journal_records.specs.Open.{RecordsTellTasks, TasksAreRecorded, RecordsAreOfCorrect};
+ghost use Rattle.journal_records.specs.Lines.{LinesAreThere, LinesAreCounted, LastPlaceIsCount};
+ghost use Rattle.journal_records.specs.Records.{WorldsHaveAllRecords, RecordsAreThose};
 
 /// A record without an outcome is of what its client has under way, crashed or not, unless the client came back; and what a
 /// client has under way has its record. Each record is of a correct client.
