@@ -20,7 +20,7 @@ pub(crate) const MOST_LINES: u64 = (1 << 31) - 2;
 
 /// The history of the run that the journals tell, for which so many numbers were drawn. They are those of a run of the plan. Its
 /// records are those of the clients' journals, so none of its lines is played.
-pub fn told_history(
+pub(crate) fn told_history(
     alloc: Global,
     plan: &Plan,
     journals: &Journals,
