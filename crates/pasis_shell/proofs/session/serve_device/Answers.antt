@@ -1,5 +1,5 @@
-use Rattle.device_sessions.proofs.Sessions.{serves}
-use Rattle.device_sessions.proofs.session.serve_device.Goals as goal
+use Rattle.pasis_shell.proofs.Sessions.{serves}
+use Rattle.pasis_shell.proofs.session.serve_device.Goals as goal
 
 pub returns-clause-session : goal.returns-clause-session
 returns-clause-session g c =

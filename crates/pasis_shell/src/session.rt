@@ -1,7 +1,7 @@
 //! The session of `nbd`: a device that is served over the source and the sink.
 ghost use Rattle.std.specs.Prelude.{◌≡◌, ◌≢◌};
 ghost use Rattle.outside_io.specs.Causes.{Rose};
-ghost use Rattle.device_sessions.specs.Sessions.{Serves};
+ghost use Rattle.pasis_shell.specs.Sessions.{Serves};
 
 use call_statuses::Status;
 use nbd_front::serve;
@@ -10,7 +10,7 @@ use quorum_rules::Config;
 use std::alloc::Global;
 
 /// Serves a device of this configuration until the session ends.
-pub fn serve_device<S: Source, K: Sink>(
+pub(crate) fn serve_device<S: Source, K: Sink>(
     alloc: Global,
     config: &Config,
     source: &mut S,

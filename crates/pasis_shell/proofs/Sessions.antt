@@ -10,7 +10,7 @@ use Rattle.nbd_front.specs.declared.ending.SessionEnd.{SessionEnd}
 use Rattle.nbd_front.specs.declared.ending.SessionEnd.TheVariants as ends
 use Rattle.call_statuses.specs.Statuses.{status_of_session}
 use Rattle.call_statuses.specs.declared.status.Status.{Status}
-use Rattle.device_sessions.specs.Sessions.{Serves}
+use Rattle.pasis_shell.specs.Sessions.{Serves}
 
 module _ (c : Numbers) (left left_after taken taken_after : Option (List ℕ)) (flushed_after : ℕ) (status : Status) where
   abbrev IsOf : Result Served SessionEnd → Type 0
