@@ -1,4 +1,9 @@
-use crate::lines::{rule_lines, work_digest};
+//! Plans that numbers make.
+//!
+//! What is expected comes from another program, which draws its words by the code that the generator's authors published, and
+//! was tried on the words that they give for state 42 and stream 54.
+
+use crate::load_lines::{rule_lines, work_digest};
 use load_maker::plan_of;
 use std::test::Fail;
 

@@ -1,6 +1,6 @@
 use Rattle.std.proofs.Common.{◌≡◌, map}
 use Rattle.std.specs.List.{range_with_len}
-use Rattle.inbox_tests.proofs.two_senders.put_numbers.Given as goal
+use Rattle.thread_tests.proofs.two_senders.put_numbers.Given as goal
 
 abbrev pub invariant-loop-value : goal.invariant-loop-value
 invariant-loop-value g l =

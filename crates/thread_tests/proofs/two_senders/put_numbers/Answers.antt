@@ -1,8 +1,8 @@
 use Rattle.std.proofs.Common.{◌≡◌, ℕ, zero, suc, ◌+◌, [], ◌∷◌, ◌++◌, map, ap, ◌∙◌, arith}
 use Rattle.std.specs.List.{range_with_len}
 use Rattle.std.proofs.lemmas.List.{map-append}
-use Rattle.inbox_tests.specs.declared.two_senders.Number.{Number}
-use Rattle.inbox_tests.proofs.two_senders.put_numbers.Goals as goal
+use Rattle.thread_tests.specs.declared.two_senders.Number.{Number}
+use Rattle.thread_tests.proofs.two_senders.put_numbers.Goals as goal
 
 range_more : (a n : ℕ) → range_with_len a n ++ (a + n) ∷ [] ≡ range_with_len a (n + 1)
 range_more a zero = ap (λ k. k ∷ []) (omega arith)

@@ -1,6 +1,6 @@
 use Rattle.std.proofs.Common.{◌≡◌, false}
 use Rattle.inboxes.specs.Sides.{took}
-use Rattle.inbox_tests.proofs.two_senders.take_all.Given as goal
+use Rattle.thread_tests.proofs.two_senders.take_all.Given as goal
 
 abbrev pub invariant-loop : goal.invariant-loop
 invariant-loop g l =

@@ -1,5 +1,5 @@
 use Rattle.std.proofs.Common.{◌≡◌, All}
-use Rattle.crew_tests.proofs.posts.posts_of.Given as goal
+use Rattle.thread_tests.proofs.posts.posts_of.Given as goal
 
 -- nobody has worked at the posts so far
 abbrev pub invariant-loop-number : goal.invariant-loop-number
