@@ -2,8 +2,8 @@
 use Rattle.std.specs.Prelude.{◌≡◌, ℕ, List}
 use Rattle.protocol.specs.History.{NoClash}
 use Rattle.history_entries.specs.Books.{Book}
-use Rattle.soak_text.specs.Soaks.{soak_text}
-use Rattle.soak_text.specs.Plain.{plain_text}
+use Rattle.soak_lines.specs.Soaks.{soak_text}
+use Rattle.soak_lines.specs.Plain.{plain_text}
 use Rattle.journals.specs.declared.whole.Journals.{Journals}
 use Rattle.journals.specs.Journals.{setting_for}
 use Rattle.plan_words.specs.declared.plan.Plan.{Plan}

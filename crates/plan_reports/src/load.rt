@@ -11,7 +11,7 @@ use journals::Journals;
 use lists::NoMemory;
 use load_maker::plan_of;
 use plan_words::Plan;
-use soak_text::print_soak;
+use soak_lines::print_soak;
 use std::alloc::Global;
 
 /// How many clients a load has.
@@ -40,7 +40,7 @@ pub fn load_text(
     requires run { AreOfPlan load.now journals.now drawn }
     ensures { IfOk result (TellsLoad number journals.now) }
 {
-    soak_runs::laws::plain_loads();
+    soak_lines::laws::plain_loads();
     let history = told_history(alloc, load, journals, drawn)?;
     let text = print_soak(alloc, number, &history)?;
     Ok(text)
