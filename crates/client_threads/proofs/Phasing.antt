@@ -27,8 +27,8 @@ use Rattle.plan_phases.specs.Closed.{next_begin, HaveClosed, IsWorkedOff, AreBel
 use Rattle.run_journals.specs.Standing.{ArePlanned, HaveSeen, AreKept, JournalsBelow, CellsPrune, add_cell, node_journal, journal_at, journals_of}
 use Rattle.run_journals.specs.Ended.{AreClients}
 use Rattle.phase_threads.specs.declared.duty.Seat.{Seat}
-use Rattle.plan_prunes.specs.declared.BlockStamp.{BlockStamp}
-use Rattle.plan_prunes.specs.Prunings.{ArePrunings}
+use Rattle.plan_phases.specs.declared.prunes.BlockStamp.{BlockStamp}
+use Rattle.plan_phases.specs.Prunings.{ArePrunings}
 use Rattle.client_work.specs.declared.work.Work.{Work}
 use Rattle.client_work.specs.declared.work.Work.TheVariants.{Client, Lying, Courier}
 use Rattle.client_threads.specs.Met.{IsKeeper, HasMetCell, HasMetDesk, HasMetSeat}

@@ -20,7 +20,7 @@ use Rattle.locked_nodes.specs.Slots.{IsPlace, slot_of, slots_of}
 use Rattle.plan_words.specs.declared.plan.Plan.{Plan}
 use Rattle.plan_followed.specs.Asked.{nature}
 use Rattle.plan_followed.specs.Nodes.{Pruning, act_of, node_after}
-use Rattle.plan_prunes.specs.declared.BlockStamp.{BlockStamp}
+use Rattle.plan_phases.specs.declared.prunes.BlockStamp.{BlockStamp}
 use Rattle.run_journals.specs.Standing.{ArePlanned, HasDonePrunes, NodesPrune, add_cell, node_journal, prunes_at}
 use Rattle.run_journals.proofs.Working.{cell_below}
 use Rattle.client_threads.specs.Met.{IsKeeper}

@@ -18,7 +18,7 @@ use Rattle.locked_nodes.specs.declared.answers.Pruning.{Pruning as Answer}
 use Rattle.locked_nodes.specs.declared.answers.Pruning.TheVariants.{Pruned as PrunedAt, Skipped}
 use Rattle.locked_nodes.specs.Slots.{slot_of, slots_of}
 use Rattle.plan_followed.specs.Nodes.{act_of}
-use Rattle.plan_prunes.specs.declared.BlockStamp.{BlockStamp}
+use Rattle.plan_phases.specs.declared.prunes.BlockStamp.{BlockStamp}
 use Rattle.run_journals.specs.Standing.{node_journal}
 use Rattle.run_journals.proofs.Nodes.{journal_snoc, journal_other}
 use Rattle.client_threads.specs.Met.{IsKeeper}

@@ -9,7 +9,7 @@ use Rattle.locked_nodes.specs.Cells.{CellView, IsPrune, rechartered, state_of}
 use Rattle.locked_nodes.specs.Slots.{IsPlace}
 use Rattle.plan_words.specs.declared.plan.Plan.{Plan}
 use Rattle.plan_followed.specs.Nodes.{Pruning}
-use Rattle.plan_prunes.specs.declared.BlockStamp.{BlockStamp}
+use Rattle.plan_phases.specs.declared.prunes.BlockStamp.{BlockStamp}
 use Rattle.run_journals.specs.Standing.{HasDonePrunes, node_journal, prunes_at}
 
 abbrev pub pruning_of : BlockStamp → Pruning

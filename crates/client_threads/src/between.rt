@@ -11,7 +11,7 @@ use crate::state::Run;
 use lists::NoMemory;
 use locked_nodes::CellRefusal;
 use plan_phases::laws::phases_close;
-use plan_prunes::prunings;
+use plan_phases::prunings;
 use plan_words::Plan;
 use run_journals::laws::phases_work;
 use std::alloc::Global;

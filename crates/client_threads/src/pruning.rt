@@ -11,7 +11,7 @@ use crate::state::know_cells;
 use event_clock::{Clock, Pass};
 use lists::NoMemory;
 use locked_nodes::{CellRefusal, NodeCell, Slot, place_of, slots_in};
-use plan_prunes::BlockStamp;
+use plan_phases::BlockStamp;
 use plan_words::Plan;
 use run_journals::laws::phases_work;
 use std::alloc::Global;

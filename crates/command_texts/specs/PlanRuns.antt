@@ -7,7 +7,7 @@ use Rattle.plan_words.specs.Plans.{Fits}
 use Rattle.plan_text.specs.Plans.{Spells, plan_script}
 use Rattle.plan_reports.specs.Runs.{RunsPlan}
 use Rattle.plan_reports.specs.Traces.{TracesPlan}
-use Rattle.load_reports.specs.Told.{TellsLoad}
+use Rattle.plan_reports.specs.Loads.{TellsLoad}
 
 -- the input spells a plan that can be run
 pub record IsPlan (input : List ℕ) : Type 0 where

@@ -1,3 +1,8 @@
+mod Ongoing
+mod SameMessages
+mod Counting
+pub mod LastDesks
+pub mod Owning
 pub mod Following
 pub mod Replies
 pub mod Starts

@@ -1,2 +1,5 @@
+pub mod Open
+pub mod Lines
+pub mod Records
 pub mod Retelling
 pub mod Telling

@@ -6,7 +6,7 @@ use Rattle.journals.specs.declared.desk.DeskJournal.{DeskJournal}
 use Rattle.journals.specs.Desks.{new_desk, DeskKept}
 use Rattle.journals.specs.declared.whole.Journals.{Journals}
 use Rattle.journals.specs.Journals.{setting_for}
-use Rattle.desk_records.specs.Records.{client_records, last_desk}
+use Rattle.journal_records.specs.Records.{client_records, last_desk}
 
 -- what the journal says is what its client may do, if that isn't declared lying
 abbrev pub IsKeptDesk : Journals → DeskJournal → Type 0

@@ -1,9 +1,14 @@
 //! The records of a run in threads, made out of its clients' journals alone.
 //!
-//! Each correct client goes through its own journal once more (`retelling`), and the records of all clients are put in the
+//! The lines of all journals are a run, whose last world has the records of its history. These are known without that world: they
+//! are the records of the operations that correct clients ended, and of those that they left open (specs/Records). The contracts of
+//! `laws` say so, and that journals of a run have lines.
+//!
+//! So each correct client goes through its own journal once more (`retelling`), and the records of all clients are put in the
 //! order of their starts (`telling`). No node and no message is played again.
 #![tactic(auto)]
 
+pub mod laws;
 pub mod retelling;
 pub mod telling;
 

@@ -5,7 +5,7 @@ ghost use Rattle.protocol.specs.Seen.{record_of, phase_of};
 ghost use Rattle.protocol.specs.World.{Record as Told, stamp_of_outcome};
 ghost use Rattle.client_core.specs.Clients.{hears};
 ghost use Rattle.journals.specs.Desks.{DeskState, new_desk, desk_after, desk_after_all, desk_heard, DeskGoes, DeskKept, MayStart};
-ghost use Rattle.desk_records.specs.Records.{client_records};
+ghost use Rattle.journal_records.specs.Records.{client_records};
 ghost use Rattle.journal_records.specs.Retelling.{Tells, closed};
 
 use client_core::{Client, Heard};

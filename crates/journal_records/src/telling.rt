@@ -6,7 +6,7 @@ ghost use Rattle.protocol.specs.Report.{Ascend};
 ghost use Rattle.protocol.specs.Seen.{record_of};
 ghost use Rattle.journals.specs.Steps.{Conduct};
 ghost use Rattle.journals.specs.Journals.{AreOfRun};
-ghost use Rattle.desk_records.specs.Records.{AreAllRecords};
+ghost use Rattle.journal_records.specs.Records.{AreAllRecords};
 ghost use Rattle.journal_records.specs.Telling.{IsKeptDesk, AreKeptDesks, told_by, told_records};
 
 use crate::retelling::records_of_client;

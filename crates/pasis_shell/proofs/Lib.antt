@@ -3,3 +3,4 @@ pub mod Given
 pub mod WellFormed
 mod Legal
 mod Ending
+mod Sessions

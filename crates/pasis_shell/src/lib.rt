@@ -3,6 +3,7 @@
 #![tactic(auto)]
 
 pub mod laws;
+mod session;
 pub mod top;
 
 pub use call_statuses::{Refusal, Status};

@@ -10,13 +10,13 @@ ghost use Rattle.plan_text.specs.Plans.{Spells as SpellsPlan};
 ghost use Rattle.command_words.specs.Words.{texts, words_of, IsForm, IsNbd, IsNbdForm, RunsThreads, AskForThreads, AskForPlan, AskForLoad};
 ghost use Rattle.command_texts.specs.Texts.{AnswersFor, IsAccepted, IsGiven};
 ghost use Rattle.pasis_shell.specs.Calls.{StopsFor, Ends};
-ghost use Rattle.device_sessions.specs.Sessions.{Serves};
+ghost use Rattle.pasis_shell.specs.Sessions.{Serves};
 
+use crate::session::serve_device;
 use call_statuses::Status;
 use command_texts::{Answer, text_of};
 use command_words::{Command, command_of, nbd_of};
 use cross_sum::Bytes;
-use device_sessions::serve_device;
 use outside_io::{LIMIT, Sink, Source, read_all, write_all};
 use plan_commands::{Gate, text_in_threads};
 use std::alloc::Global;

@@ -15,6 +15,6 @@ pub fn traces_replay()
         → length t.run.made.lines ≤ event_limit plan.config
         → Replays (replay_text plan.config plan.liars (map Plain t.run.made.lines)) t.report }
 {
-    told_scripts::laws::plans_declare();
+    plan_reports::laws::plans_declare();
     script_text::laws::replays_are_spelled();
 }

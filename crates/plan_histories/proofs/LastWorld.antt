@@ -14,8 +14,8 @@ use Rattle.journals.specs.declared.whole.Journals.{Journals}
 use Rattle.journals.specs.Journals.{setting_for, at_desk, cluster_at, IsMerge, AreOfRun}
 use Rattle.journals.specs.Agreement.{IsEnded, ended_record}
 use Rattle.journals.specs.Merged.{OfMerged, AllReach, AllRecorded}
-use Rattle.desk_records.specs.Open.{RecordsTellTasks}
-use Rattle.desk_records.proofs.LastDesks.{limit, desk, desk_is, desk_agrees, first_life, tells_alike}
+use Rattle.journal_records.specs.Open.{RecordsTellTasks}
+use Rattle.journal_records.proofs.LastDesks.{limit, desk, desk_is, desk_agrees, first_life, tells_alike}
 use Rattle.plan_words.specs.declared.plan.Plan.{Plan}
 use Rattle.plan_followed.specs.Asked.{conduct_of}
 use Rattle.plan_followed.specs.Followed.{AreOfPlan}

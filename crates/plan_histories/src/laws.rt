@@ -21,7 +21,7 @@ pub fn complete_histories()
 pub fn steady_records()
     ensures { RecordsAreSteady }
 {
-    desk_records::laws::open_records();
+    journal_records::laws::open_records();
     journals::laws::merged_runs();
     plan_followed::laws::followed_plans();
 }

@@ -1,2 +1,6 @@
+mod Ascending
+mod Events
+mod Formed
+mod Loads
 mod Running
 mod Told

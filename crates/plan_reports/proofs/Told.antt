@@ -16,8 +16,8 @@ use Rattle.journals.specs.Merging.{Merged, next_world, line_of}
 use Rattle.journals.specs.declared.whole.Journals.{Journals}
 use Rattle.journals.specs.Journals.{setting_for, IsMerge, AreOfRun as AreOfRunInThreads}
 use Rattle.merge_trace.specs.Traces.{placed}
-use Rattle.desk_records.specs.Lines.{HasRun, LinesAreThere, LastPlaceIsCount}
-use Rattle.desk_records.specs.Records.{AreAllRecords, RecordsAreThose}
+use Rattle.journal_records.specs.Lines.{HasRun, LinesAreThere, LastPlaceIsCount}
+use Rattle.journal_records.specs.Records.{AreAllRecords, RecordsAreThose}
 use Rattle.plan_words.specs.declared.plan.Plan.{Plan}
 use Rattle.plan_followed.specs.Asked.{conduct_of}
 use Rattle.plan_followed.specs.Laws.{PlansRun}

@@ -1,2 +1,4 @@
+pub mod Declared
+pub mod Loads
 pub mod Runs
 pub mod Traces

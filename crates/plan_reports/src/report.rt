@@ -20,7 +20,7 @@ pub(crate) const MOST_LINES: u64 = (1 << 31) - 2;
 
 /// The history of the run that the journals tell, for which so many numbers were drawn. They are those of a run of the plan. Its
 /// records are those of the clients' journals, so none of its lines is played.
-pub fn told_history(
+pub(crate) fn told_history(
     alloc: Global,
     plan: &Plan,
     journals: &Journals,
@@ -33,8 +33,8 @@ pub fn told_history(
         return Err(NoMemory);
     }
     plan_followed::laws::followed_plans();
-    desk_records::laws::merged_lines();
-    desk_records::laws::all_records();
+    journal_records::laws::merged_lines();
+    journal_records::laws::all_records();
     let records = records_of(alloc, journals)?;
     let first = First::of(alloc, &journals.config)?;
     let history = history_of_records(alloc, records.as_slice(), &first.stamp)?;

@@ -7,7 +7,9 @@ ghost use Rattle.plan_histories.specs.Told.{IsTold};
 ghost use Rattle.plan_reports.specs.Runs.{AreOfPlanRun, IsPlanRun, ReportsWorld};
 ghost use Rattle.plan_reports.specs.Traces.{TracesPlan};
 
+use crate::laws::plans_declare;
 use crate::report::MOST_LINES;
+use crate::script::script_of;
 use cross_sum::Bytes;
 use history_texts::print;
 use journals::Journals;
@@ -17,7 +19,6 @@ use plan_words::Plan;
 use run_reports::history_of;
 use std::alloc::Global;
 use text_lines::Text;
-use told_scripts::script_of;
 use world_steps::World;
 
 /// The run that journals of a run of the plan tell.
@@ -63,7 +64,7 @@ pub fn trace_text(alloc: Global, plan: &Plan, journals: Journals) -> Result<Byte
     ensures { IfOk result (TracesPlan plan.now journals) }
 {
     plan_histories::laws::complete_histories();
-    told_scripts::laws::plans_declare();
+    plans_declare();
     let merged_run = merged(alloc, plan, &journals)?;
     let report = report_of(alloc, &merged_run.world)?;
     let MergedRun { lines, world } = merged_run;

@@ -1,6 +1,6 @@
 ghost use Rattle.std.specs.Prelude.{◌≡◌};
 
-use plan_prunes::{BlockStamp, prunings};
+use plan_phases::{BlockStamp, prunings};
 use stamp_order::Stamp;
 use std::test::Fail;
 

@@ -1,8 +1,8 @@
 use Rattle.std.proofs.Common.{ℕ, ◌<◌, All, List, ◌++◌, length, map, refl, sym, ◌∙◌, ap, subst}
 use Rattle.std.specs.Vec.{with_items}
 use Rattle.std.proofs.lemmas.List.{with_items_is, length-map}
-use Rattle.plan_prunes.specs.declared.BlockStamp.{BlockStamp}
-use Rattle.plan_prunes.specs.Prunings.{ArePrunings}
+use Rattle.plan_phases.specs.declared.prunes.BlockStamp.{BlockStamp}
+use Rattle.plan_phases.specs.Prunings.{ArePrunings}
 use Rattle.phase_threads.specs.declared.duty.Seat.{Seat}
 use Rattle.client_work.specs.declared.work.Work.{Work}
 use Rattle.plan_words.specs.declared.plan.Plan.{Plan}

@@ -3,7 +3,7 @@ use Rattle.std.proofs.lemmas.List.{take_at}
 use Rattle.std.proofs.lemmas.List.Sorted.{length_permutation}
 use Rattle.run_words.specs.declared.record.Record.{Record}
 use Rattle.protocol.specs.Seen.{record_of}
-use Rattle.desk_records.specs.Records.{AreAllRecords}
+use Rattle.journal_records.specs.Records.{AreAllRecords}
 use Rattle.std.specs.List.Sorted.{IsPermutation}
 use Rattle.journal_records.proofs.Together.{kept_desks, are_all}
 use Rattle.journal_records.proofs.telling.records_of.Goals as goal

@@ -2,7 +2,7 @@ use Rattle.std.proofs.Common.{List, ℕ, refl, subst}
 use Rattle.quorum_rules.specs.Limits.{Numbers}
 use Rattle.command_words.specs.Words.{texts, words_of}
 use Rattle.command_texts.specs.Texts.{IsAccepted}
-use Rattle.device_sessions.specs.Sessions.{Serves}
+use Rattle.pasis_shell.specs.Sessions.{Serves}
 use Rattle.pasis_shell.proofs.Accepted.{complete, some_answered}
 use Rattle.command_words.proofs.Commands.{runs_none}
 use Rattle.command_words.proofs.NbdForms.{one_nbd}

@@ -1,5 +1,0 @@
-mod Ongoing
-mod SameMessages
-mod Counting
-pub mod LastDesks
-pub mod Owning

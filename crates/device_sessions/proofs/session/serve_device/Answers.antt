@@ -1,7 +1,0 @@
-use Rattle.device_sessions.proofs.Sessions.{serves}
-use Rattle.device_sessions.proofs.session.serve_device.Goals as goal
-
-pub returns-clause-session : goal.returns-clause-session
-returns-clause-session g c =
-    serves c.args.config.now (g.S.Source.left c.args.source.now) (g.S.Source.left c.serve.new.source) (g.K.Sink.taken c.args.sink.now) (g.K.Sink.taken c.serve.new.sink)
-    (g.K.Sink.flushed c.serve.new.sink) c.of_session.result c.serve.result c.serve.ensures.done c.serve.ensures.ended c.of_session.ensures.done c.of_session.ensures.end c.serve.ensures.flushed

@@ -1,9 +1,0 @@
-use Rattle.std.proofs.Common.{◌≡◌, false}
-use Rattle.inboxes.specs.Sides.{took}
-use Rattle.inbox_tests.proofs.two_senders.take_all.Given as goal
-
-abbrev pub invariant-loop : goal.invariant-loop
-invariant-loop g l =
-    (l.taker.inbox ≡ l.initial.taker.inbox)
-    × (l.taker.senders ≡ l.initial.taker.senders)
-    × (l.lost ≡ false → l.items.items ≡ took l.taker)

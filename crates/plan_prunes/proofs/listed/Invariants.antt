@@ -1,6 +1,0 @@
-use Rattle.plan_prunes.specs.Tops.{AreListed}
-use Rattle.plan_prunes.proofs.listed.Given as goal
-
--- the blocks so far are listed
-abbrev pub invariant-loop-block : goal.invariant-loop-block
-invariant-loop-block l = AreListed l.block l.tops l.listed.items

@@ -1,2 +1,0 @@
-pub mod Prunings
-pub mod Tops

@@ -1,0 +1,4 @@
+pub mod Soaks
+pub mod Plain
+pub mod Serial
+pub mod Loads

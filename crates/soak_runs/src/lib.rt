@@ -1,4 +1,0 @@
-//! What is written of runs that numbers made.
-#![tactic(auto)]
-
-pub mod laws;

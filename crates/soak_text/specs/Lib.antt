@@ -1,2 +1,0 @@
-pub mod Soaks
-pub mod Plain

@@ -1,0 +1,11 @@
+use denote.Param.Send.{sendable}
+use Rattle.std.proofs.Crossing.{crosses}
+use Rattle.inboxes.proofs.CrossesThreads.{putter_send, sent_send}
+use Rattle.thread_tests.proofs.two_senders.Crossing.{number_send}
+use Rattle.thread_tests.proofs.two_senders.put_both.Goals as goal
+
+pub join-requires-send-F : goal.join-requires-send-F
+join-requires-send-F g c = search (sendable, crosses, number_send, putter_send) depth 30
+
+pub join-requires-send-A : goal.join-requires-send-A
+join-requires-send-A g c = search (sendable, crosses, number_send, sent_send) depth 30

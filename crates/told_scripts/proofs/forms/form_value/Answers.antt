@@ -1,5 +1,0 @@
-use Rattle.told_scripts.proofs.Formed.{value_bytes}
-use Rattle.told_scripts.proofs.forms.form_value.Goals as goal
-
-pub returns : goal.returns
-returns c = value_bytes c.args.value.now c.as_slice-bytes.ensures.each
