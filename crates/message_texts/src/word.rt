@@ -17,7 +17,7 @@ pub enum Word {
 
 impl Word {
     ghost use Rattle.std.specs.Prelude.{◌≡◌};
-    ghost use Rattle.message_texts.specs.Words.{word_text, word_of};
+    ghost use Rattle.message_texts.specs.Words.{word_of};
 
     /// The word that a field spells.
     pub fn of(field: &[u8]) -> Option<Word>
@@ -37,26 +37,6 @@ impl Word {
             b"ack" => Some(Word::Ack),
             b"refused" => Some(Word::Refused),
             _ => None,
-        }
-    }
-
-    /// How the word is spelled.
-    pub fn text(self) -> &'static [u8]
-        ensures { result.now ≡ word_text self }
-    {
-        match self {
-            Word::Ask => b"ask",
-            Word::Answer => b"answer",
-            Word::Time => b"time",
-            Word::Read => b"read",
-            Word::Write => b"write",
-            Word::All => b"all",
-            Word::AtMost => b"atmost",
-            Word::Below => b"below",
-            Word::Found => b"found",
-            Word::Nothing => b"nothing",
-            Word::Ack => b"ack",
-            Word::Refused => b"refused",
         }
     }
 }
