@@ -130,9 +130,11 @@ impl Case {
     }
 
     fn set_times(&mut self, number: &str) {
-        match number.parse() {
-            Ok(times) if times != 0 => self.times = times,
-            _ => self.is_readable = false,
+        let times: u32 = number.parse().unwrap_or(0);
+        if times == 0 {
+            self.is_readable = false;
+        } else {
+            self.times = times;
         }
     }
 
@@ -172,16 +174,16 @@ fn pace_of(text: &str) -> Pace {
     }
 }
 
+fn number_at(text: &str, place: usize) -> Option<u64> {
+    text.split(' ').nth(place)?.parse().ok()
+}
+
 // Where a number is missing, no report has such counts.
 fn ended_of(text: &str) -> Ended {
-    let number = |place: usize| text
-        .split(' ')
-        .nth(place)
-        .and_then(|field| field.parse().ok());
     Ended {
-        least: number(0).unwrap_or(u64::MAX),
-        most: number(1).unwrap_or(0),
-        pending: number(2).unwrap_or(0),
+        least: number_at(text, 0).unwrap_or(u64::MAX),
+        most: number_at(text, 1).unwrap_or(0),
+        pending: number_at(text, 2).unwrap_or(0),
     }
 }
 
