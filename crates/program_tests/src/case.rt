@@ -14,7 +14,7 @@
 //! | `has N TEXT` | so many of the lines that are written begin so, and the others aren't compared |
 //! | `replays` | what stands before the line `report` is a script, and `replay` writes for it what stands after that line |
 //! | `legal` | what stands after the line `report` is a report, and `check` finds it legal |
-//! | `ended LEAST MOST PENDING` | the last line counts so many operations done or spent, at most PENDING that haven't ended, and at most MOST in all |
+//! | `ended LEAST MOST PENDING` | LEAST operations or more are done or spent, PENDING or less are pending, all in all MOST or less |
 //! | `times N` | the case is run so often |
 //! | `each call fails` | the case is also run with each call of the source failing in turn, and with each of the sink |
 //! | `! TEXT` | a line on standard error |
