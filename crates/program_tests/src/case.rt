@@ -13,6 +13,9 @@
 //! | `ends TEXT` | the last line that is written begins so, and the others aren't compared |
 //! | `has N TEXT` | so many of the lines that are written begin so, and the others aren't compared |
 //! | `replays` | what stands before the line `report` is a script, and `replay` writes for it what stands after that line |
+//! | `legal` | what stands after the line `report` is a report, and `check` finds it legal |
+//! | `ended LEAST MOST PENDING` | LEAST operations or more are done or spent, PENDING or less are pending, all in all MOST or less |
+//! | `times N` | the case is run so often |
 //! | `each call fails` | the case is also run with each call of the source failing in turn, and with each of the sink |
 //! | `! TEXT` | a line on standard error |
 //! | `status N` | the exit status, if it isn't 0 |
@@ -26,6 +29,15 @@ use std::io::Write;
 pub struct Pace {
     pub most: usize,
     pub failing: Option<u64>,
+}
+
+/// How many operations have ended, and how many are pending.
+#[derive(Clone, Copy)]
+pub struct Ended {
+    pub least: u64,
+    /// At most so many have ended or are pending.
+    pub most: u64,
+    pub pending: u64,
 }
 
 /// What the program is given, and what must come of it.
@@ -45,6 +57,12 @@ pub struct Case {
     pub counts: Vec<(usize, String)>,
     /// What is written is a trace, whose script replays to its report.
     pub replays: bool,
+    /// What is written is a trace, whose report is legal.
+    pub is_legal: bool,
+    /// What the report's last line counts, where that is compared.
+    pub ended: Option<Ended>,
+    /// It is run so often.
+    pub times: u32,
     /// The calls fail in turn.
     pub fails_in_turn: bool,
     /// Each line is one of those that cases have.
@@ -70,6 +88,9 @@ impl Case {
             end: None,
             counts: Vec::new(alloc),
             replays: false,
+            is_legal: false,
+            ended: None,
+            times: 1,
             fails_in_turn: false,
             is_readable: true,
         })
@@ -91,6 +112,8 @@ impl Case {
             Some(("each", "call fails")) => self.fails_in_turn = true,
             Some(("ends", text)) => self.end = Some(String::from_str(alloc, text)?),
             Some(("has", count)) => self.add_count(alloc, count)?,
+            Some(("ended", counts)) => self.ended = Some(ended_of(counts)),
+            Some(("times", number)) => self.set_times(number),
             Some(("!", text)) => add_line(&mut self.told, text)?,
             Some((mark, text)) => self.add_text(mark, text)?,
             None => self.add_bare(line)?,
@@ -106,12 +129,25 @@ impl Case {
         Ok(())
     }
 
+    fn set_times(&mut self, number: &str) {
+        let times: u32 = number.parse().unwrap_or(0);
+        if times == 0 {
+            self.is_readable = false;
+        } else {
+            self.times = times;
+        }
+    }
+
     // A line with a mark alone.
     fn add_bare(&mut self, line: &str) -> io::Result<()> {
         match line {
             "" | "words" => Ok(()),
             "replays" => {
                 self.replays = true;
+                Ok(())
+            }
+            "legal" => {
+                self.is_legal = true;
                 Ok(())
             }
             _ => self.add_text(line, ""),
@@ -135,6 +171,19 @@ fn pace_of(text: &str) -> Pace {
     Pace {
         most: most.parse().unwrap_or(1),
         failing: failing.parse().ok(),
+    }
+}
+
+fn number_at(text: &str, place: usize) -> Option<u64> {
+    text.split(' ').nth(place)?.parse().ok()
+}
+
+// Where a number is missing, no report has such counts.
+fn ended_of(text: &str) -> Ended {
+    Ended {
+        least: number_at(text, 0).unwrap_or(u64::MAX),
+        most: number_at(text, 1).unwrap_or(0),
+        pending: number_at(text, 2).unwrap_or(0),
     }
 }
 

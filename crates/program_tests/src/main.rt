@@ -36,7 +36,9 @@ fn run_file<R: Files + Print + AllocGlobal + Threads + Wait + Sync>(
     let text = fs::read_to_string(rt, path)?;
     let cases = cases_of(rt.alloc(), text.as_str())?;
     for case in &cases {
-        run(rt, file, case)?;
+        for _ in 0..case.times {
+            run(rt, file, case)?;
+        }
     }
     println!(rt; "{file}: {} cases", cases.len())
 }

@@ -1,6 +1,6 @@
 //! What comes of a case.
 
-use crate::case::{Case, Pace};
+use crate::case::{Case, Ended, Pace};
 use cross_sum::Bytes;
 use lists::NoMemory;
 use outside_io::{Calls, MemorySink, MemorySource};
@@ -131,6 +131,19 @@ fn parts_of(trace: &str) -> Option<(&str, &str)> {
     Some((front, report))
 }
 
+// Whether a command that runs no threads ends well on a text, and writes just this.
+fn writes(alloc: Global, command: &str, text: Vec<u8>, output: &str) -> io::Result<bool> {
+    let input = Bytes::shared(text).map_err(error_of)?;
+    let mut words = Vec::new(alloc);
+    words.push(String::from_str(alloc, command)?)?;
+    let mut source = MemorySource::new(input, 4096, Calls::new(alloc));
+    let mut sink = MemorySink::new(alloc, 4096, Calls::new(alloc));
+    let Some(status) = alone(alloc, words.as_slice(), &mut source, &mut sink) else {
+        return Ok(false);
+    };
+    Ok(status.is_done() && sink.taken() == output.as_bytes())
+}
+
 // Whether the script of a trace replays to its report.
 fn replays(alloc: Global, trace: &str) -> io::Result<bool> {
     let Some((front, report)) = parts_of(trace) else {
@@ -138,15 +151,60 @@ fn replays(alloc: Global, trace: &str) -> io::Result<bool> {
     };
     let mut script = Vec::from_slice(alloc, front.as_bytes())?;
     script.push(b'\n')?;
-    let input = Bytes::shared(script).map_err(error_of)?;
-    let mut words = Vec::new(alloc);
-    words.push(String::from_str(alloc, "replay")?)?;
-    let mut source = MemorySource::new(input, 4096, Calls::new(alloc));
-    let mut sink = MemorySink::new(alloc, 4096, Calls::new(alloc));
-    let Some(status) = alone(alloc, words.as_slice(), &mut source, &mut sink) else {
+    writes(alloc, "replay", script, report)
+}
+
+// Whether the report of a trace is legal.
+fn is_legal(alloc: Global, trace: &str) -> io::Result<bool> {
+    let Some((_, report)) = parts_of(trace) else {
         return Ok(false);
     };
-    Ok(status.is_done() && sink.taken() == report.as_bytes())
+    let report = Vec::from_slice(alloc, report.as_bytes())?;
+    writes(alloc, "check", report, "legal\n")
+}
+
+// The number of a field NAME=NUMBER.
+fn number_of(field: Option<&str>, name: &str) -> Option<u64> {
+    field?.strip_prefix(name)?.strip_prefix('=')?.parse().ok()
+}
+
+// How many operations the last line of a report counts that were done, that were spent and that are pending.
+fn counts_of(line: &str) -> Option<(u64, u64, u64)> {
+    let mut fields = line.strip_prefix("end ")?.split(' ');
+    let done = number_of(fields.next(), "done")?;
+    let spent = number_of(fields.next(), "spent")?;
+    Some((done, spent, number_of(fields.next(), "pending")?))
+}
+
+// Whether the last line of a report counts as many operations as must have ended.
+fn counts(line: &str, wanted: &Ended) -> bool {
+    counts_of(line).is_some_and(|(done, spent, pending)| {
+        let ended = done.saturating_add(spent);
+        wanted.least <= ended
+            && ended.saturating_add(pending) <= wanted.most
+            && pending <= wanted.pending
+    })
+}
+
+// Whether so many of the lines begin so.
+fn has(text: &str, count: usize, front: &str) -> bool {
+    text.lines().filter(|line| line.starts_with(front)).count() == count
+}
+
+// Whether what was written is a trace such as the case says.
+fn is_traced(alloc: Global, case: &Case, text: &str) -> io::Result<bool> {
+    Ok((!case.replays || replays(alloc, text)?) && (!case.is_legal || is_legal(alloc, text)?))
+}
+
+// Whether the lines are such as the case says, which compares not all of them.
+fn are_lines(case: &Case, text: &str, end: &str) -> bool {
+    let last = text.lines().last().unwrap_or("");
+    last.starts_with(end)
+        && case.ended.is_none_or(|wanted| counts(last, &wanted))
+        && case
+            .counts
+            .iter()
+            .all(|(count, front)| has(text, *count, front.as_str()))
 }
 
 impl Outcome {
@@ -158,16 +216,7 @@ impl Outcome {
         let Ok(text) = str::from_utf8(self.sink.taken()) else {
             return Ok(false);
         };
-        let ends = text
-            .lines()
-            .last()
-            .is_some_and(|line| line.starts_with(end.as_str()));
-        let counts = case.counts.iter().all(|(count, front)| text
-            .lines()
-            .filter(|line| line.starts_with(front.as_str()))
-            .count()
-            == *count);
-        Ok(ends && counts && (!case.replays || replays(alloc, text)?))
+        Ok(are_lines(case, text, end.as_str()) && is_traced(alloc, case, text)?)
     }
 
     /// What is otherwise than the case says, if anything is.
