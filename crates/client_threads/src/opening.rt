@@ -8,7 +8,7 @@ ghost use Rattle.client_threads.specs.Opened.{IsUnusedPass, AreNewCells, IsNewSe
 
 use crate::state::Run;
 use client_desks::Desk;
-use client_work::{Liar, Work, ClientWorker};
+use client_work::{ClientWorker, Liar, Work};
 use event_clock::{Clock, Pass, Passes};
 use lists::{ItemList, NoMemory};
 use locked_nodes::NodeCell;
