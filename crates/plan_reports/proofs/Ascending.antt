@@ -12,7 +12,7 @@ use Rattle.std.proofs.lemmas.Bool.Decides.{nat_tests}
 use Rattle.wire_forms.specs.Liars.{IsAscending}
 use Rattle.plan_words.specs.Named.{lying_nodes, lying_clients}
 use Rattle.plan_followed.specs.Laws.{OfPlans, HasLiars}
-use Rattle.plan_reports.specs.Declared.{HasScriptLiars}
+use Rattle.plan_reports.specs.ScriptLiars.{HasScriptLiars}
 
 eqb_same : (a b : ℕ) → eqb a b ≡ true → a ≡ b
 eqb_same a b e = grind (arith, nat_tests)

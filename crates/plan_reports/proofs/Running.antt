@@ -19,7 +19,7 @@ use Rattle.event_lines.specs.declared.line.ReplayLine.TheVariants.{Plain}
 use Rattle.script_text.specs.Replays.{AreAscendingLiars, replay_text}
 use Rattle.plan_histories.specs.Shown.{HistoriesAreComplete}
 use Rattle.plan_histories.specs.Told.{IsTold, LinesAreTold}
-use Rattle.plan_reports.specs.Declared.{HasScriptLiars}
+use Rattle.plan_reports.specs.ScriptLiars.{HasScriptLiars}
 use Rattle.plan_reports.specs.Traces.{TracesPlan}
 use Rattle.plan_reports.specs.Runs.{Reports, ReportsWorld, AreOfPlanRun, IsPlanRun, RunsPlan}
 

@@ -1,4 +1,4 @@
-pub mod Declared
 pub mod Loads
 pub mod Runs
 pub mod Traces
+pub mod ScriptLiars

@@ -1,7 +1,7 @@
 //! What holds of each plan. The law is a function with nothing to do.
 
 ghost use Rattle.plan_followed.specs.Laws.{OfPlans};
-ghost use Rattle.plan_reports.specs.Declared.{HasScriptLiars};
+ghost use Rattle.plan_reports.specs.ScriptLiars.{HasScriptLiars};
 
 /// The liars of a plan that fits are nodes of its cluster, no more than may lie, and clients, each once and ascending: so a script
 /// may declare them.
