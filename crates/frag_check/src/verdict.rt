@@ -71,7 +71,8 @@ pub fn checked_block(
     ensures sound { IfOk result (λ found.
         IfSome found (λ c. sum_of code.now.n code.now.m c.block ≡ sum.now)) }
     ensures poisonous { IfOk result (λ found. IfNone found
-        (sum_of code.now.n code.now.m (decoded code.now.m size (numbers parts.now) (strings parts.now)) ≢ sum.now)) }
+        (sum_of code.now.n code.now.m
+        (decoded code.now.m size (numbers parts.now) (strings parts.now)) ≢ sum.now)) }
 {
     let block = code.decode(alloc, size, parts)?;
     let shares = code.encode(alloc, &block)?;

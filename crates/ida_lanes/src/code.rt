@@ -53,7 +53,8 @@ impl Code {
 
         // Fragments of a block decode to it.
         ensures inverse { IfOk result (λ d. (D : List ℕ) → length D ≡ size
-            → AreFragmentsOf self.now.n self.now.m D (numbers parts.now) (strings parts.now) → d ≡ D) }
+            → AreFragmentsOf self.now.n self.now.m D (numbers parts.now) (strings parts.now)
+            → d ≡ D) }
     {
         self.shape.decode::<Lanes>(alloc, size, parts)
     }

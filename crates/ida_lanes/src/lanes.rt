@@ -124,7 +124,8 @@ fn add_rest(out: &mut [u8], multiples: &Multiples, string: &[u8])
     requires same { length string.now ≡ length out.old }
     requires short { length string.now < 32 }
     ensures { EachIndex out.new (λ j. slice_index out.new j
-        ≡ total (slice_index out.old j) (product multiples.now.element (slice_index string.now j))) }
+        ≡ total (slice_index out.old j)
+        (product multiples.now.element (slice_index string.now j))) }
 {
     let mut front = [0; LANES];
     front[..string.len()].copy_from_slice(string);
