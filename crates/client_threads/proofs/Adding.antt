@@ -9,8 +9,8 @@ use Rattle.std.proofs.lemmas.Option.{get_or_from_slice_get}
 use Rattle.journals.specs.declared.node.NodeEntry.{NodeEntry}
 use Rattle.locked_nodes.specs.Cells.{CellView}
 use Rattle.locked_nodes.specs.Joined.{join}
-use Rattle.run_journals.specs.Standing.{add_cell, node_journal}
-use Rattle.run_journals.proofs.Nodes.{journal_more}
+use Rattle.phase_threads.specs.Standing.{add_cell, node_journal}
+use Rattle.phase_threads.proofs.Nodes.{journal_more}
 use Rattle.client_threads.specs.Running.{node_journals}
 
 module _ (cells : List CellView) (c : CellView) where

@@ -15,12 +15,12 @@ use Rattle.journals.specs.Steps.{side, IsOwn}
 use Rattle.locked_nodes.specs.Cells.{CellView}
 use Rattle.client_desks.specs.Desks.{DeskView, state_at}
 use Rattle.plan_words.specs.declared.plan.Plan.{Plan}
-use Rattle.plan_phases.specs.Closed.{AreBelow, AreEmpty, Begins}
+use Rattle.plan_followed.specs.Closed.{AreBelow, AreEmpty, Begins}
 use Rattle.locked_nodes.specs.Slots.{slot_of, slots_of, Cover}
-use Rattle.run_journals.specs.Standing.{IsCellOf, IsPlanned, node_journal, is_whole, HasSideIn, HasSideOn, PairsStand, ArePlanned, journals_of}
-use Rattle.run_journals.specs.Ended.{AreClients}
-use Rattle.run_journals.proofs.Nodes.{journal_cases}
-use Rattle.run_journals.proofs.Cells.{journal_is, desk_at}
+use Rattle.phase_threads.specs.Standing.{IsCellOf, IsPlanned, node_journal, is_whole, HasSideIn, HasSideOn, PairsStand, ArePlanned, journals_of}
+use Rattle.phase_threads.specs.Ended.{AreClients}
+use Rattle.phase_threads.proofs.Nodes.{journal_cases}
+use Rattle.phase_threads.proofs.Cells.{journal_is, desk_at}
 use Rattle.journals.proofs.Lists.{number_of}
 use Rattle.phase_threads.specs.declared.duty.Seat.{Seat}
 use Rattle.crews.proofs.Places.{all_from, get_map}

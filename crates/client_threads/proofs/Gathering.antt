@@ -24,8 +24,8 @@ use Rattle.plan_words.specs.declared.plan.Plan.{Plan}
 use Rattle.plan_followed.specs.Asked.{conduct_of}
 use Rattle.plan_followed.specs.Nodes.{Pruning}
 use Rattle.plan_followed.specs.Followed.{IsGivenIn, ArePrunes}
-use Rattle.plan_phases.specs.declared.prunes.BlockStamp.{BlockStamp}
-use Rattle.plan_phases.specs.Prunings.{blocks_of, ArePrunings}
+use Rattle.plan_followed.specs.declared.prunes.BlockStamp.{BlockStamp}
+use Rattle.plan_followed.specs.Prunings.{blocks_of, ArePrunings}
 use Rattle.phase_threads.specs.declared.duty.Seat.{Seat}
 use Rattle.client_work.specs.declared.reads.GivenRead.{GivenRead}
 use Rattle.client_work.specs.declared.work.Work.{Work}
@@ -37,12 +37,12 @@ use Rattle.client_threads.specs.Reads.{reads_in, reads_of, block_stamp, early_re
 use Rattle.client_threads.specs.Running.{StandsAt, desks_of}
 use Rattle.locked_nodes.specs.Cells.{CellView}
 use Rattle.journals.specs.declared.whole.Journals.{Journals}
-use Rattle.plan_phases.specs.Closed.{AreBelow}
-use Rattle.plan_phases.proofs.Later.{below_all}
-use Rattle.run_journals.specs.Standing.{journals_of}
-use Rattle.run_journals.specs.Ended.{AreClients}
-use Rattle.run_journals.proofs.Cells.{desk_at}
-use Rattle.run_journals.proofs.Ending.{entries_are}
+use Rattle.plan_followed.specs.Closed.{AreBelow}
+use Rattle.plan_followed.proofs.Later.{below_all}
+use Rattle.phase_threads.specs.Standing.{journals_of}
+use Rattle.phase_threads.specs.Ended.{AreClients}
+use Rattle.phase_threads.proofs.Cells.{desk_at}
+use Rattle.phase_threads.proofs.Ending.{entries_are}
 
 -- ---- one client's reads
 

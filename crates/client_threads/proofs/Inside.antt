@@ -9,10 +9,10 @@ use Rattle.journals.specs.Desks.{Ended}
 use Rattle.locked_nodes.specs.Cells.{KeptCell}
 use Rattle.client_desks.specs.Desks.{DeskView}
 use Rattle.plan_words.specs.declared.plan.Plan.{Plan}
-use Rattle.plan_phases.specs.declared.prunes.BlockStamp.{BlockStamp}
-use Rattle.plan_phases.specs.Prunings.{ArePrunings}
-use Rattle.plan_phases.specs.Closed.{next_begin}
-use Rattle.run_journals.specs.Standing.{AreCells, AreInside, ArePlanned, IsDeskAt}
+use Rattle.plan_followed.specs.declared.prunes.BlockStamp.{BlockStamp}
+use Rattle.plan_followed.specs.Prunings.{ArePrunings}
+use Rattle.plan_followed.specs.Closed.{next_begin}
+use Rattle.phase_threads.specs.Standing.{AreCells, AreInside, ArePlanned, IsDeskAt}
 use Rattle.phase_threads.specs.declared.duty.Seat.{Seat}
 use Rattle.client_work.specs.declared.reads.GivenRead.{GivenRead}
 use Rattle.client_work.specs.declared.work.Work.{Work}

@@ -27,11 +27,11 @@ use Rattle.plan_words.specs.declared.plan.Plan.{Plan}
 use Rattle.plan_words.specs.Named.{clients, ascending, lying_client, lying_clients, troubled_client, job_client, asking_clients}
 use Rattle.plan_words.specs.Plans.{IsFault, IsJob, Fits}
 use Rattle.plan_followed.proofs.Plans.{liar_there}
-use Rattle.plan_phases.specs.Closed.{Begins}
+use Rattle.plan_followed.specs.Closed.{Begins}
 use Rattle.plan_tasks.specs.declared.task.Task.{Task}
 use Rattle.plan_tasks.specs.Tasks.{client_of}
-use Rattle.run_journals.specs.Standing.{IsDeskAt}
-use Rattle.run_journals.specs.Ended.{AreClients}
+use Rattle.phase_threads.specs.Standing.{IsDeskAt}
+use Rattle.phase_threads.specs.Ended.{AreClients}
 use Rattle.phase_threads.specs.declared.duty.Seat.{Seat}
 use Rattle.crews.proofs.Places.{get_front, get_last, get_snoc}
 use Rattle.client_work.specs.declared.work.Work.{Work}

@@ -16,7 +16,7 @@ use Rattle.journals.specs.declared.desk.DeskEntry.{DeskEntry}
 use Rattle.journals.specs.Desks.{Ended, DeskState, new_desk, ended_by, desk_after, desk_after_all}
 use Rattle.client_desks.specs.Desks.{DeskView, state_at}
 use Rattle.client_desks.specs.Later.{IsLater}
-use Rattle.run_journals.proofs.Cells.{desk_rises}
+use Rattle.phase_threads.proofs.Cells.{desk_rises}
 use Rattle.client_work.specs.Work.{all_given}
 use Rattle.client_threads.specs.Reads.{AreParted}
 

@@ -15,7 +15,7 @@ use Rattle.journals.specs.declared.node.NodeAct.TheVariants.{Answered, Lied, Sil
 use Rattle.journals.specs.declared.node.NodeEntry.{NodeEntry}
 use Rattle.journals.specs.declared.desk.DeskEntry.{DeskEntry}
 use Rattle.journals.specs.declared.whole.Journals.{Journals}
-use Rattle.run_journals.proofs.Cells.{desk_rises}
+use Rattle.phase_threads.proofs.Cells.{desk_rises}
 use Rattle.journals.specs.Phases.{Phase}
 use Rattle.journals.specs.Steps.{side}
 use Rattle.locked_nodes.specs.Cells.{CellView, KeptCell, IsPrune}
@@ -23,12 +23,12 @@ use Rattle.locked_nodes.specs.Joined.{join}
 use Rattle.client_desks.specs.Desks.{DeskView, KeptDesk}
 use Rattle.plan_words.specs.declared.plan.Plan.{Plan}
 use Rattle.plan_followed.specs.Followed.{ArePrunes}
-use Rattle.plan_phases.specs.Closed.{next_begin, HaveClosed, IsWorkedOff, AreBelow, HavePruned, Closes}
-use Rattle.run_journals.specs.Standing.{ArePlanned, HaveSeen, AreKept, JournalsBelow, CellsPrune, add_cell, node_journal, journal_at, journals_of}
-use Rattle.run_journals.specs.Ended.{AreClients}
+use Rattle.plan_followed.specs.Closed.{next_begin, HaveClosed, IsWorkedOff, AreBelow, HavePruned, Closes}
+use Rattle.phase_threads.specs.Standing.{ArePlanned, HaveSeen, AreKept, JournalsBelow, CellsPrune, add_cell, node_journal, journal_at, journals_of}
+use Rattle.phase_threads.specs.Ended.{AreClients}
 use Rattle.phase_threads.specs.declared.duty.Seat.{Seat}
-use Rattle.plan_phases.specs.declared.prunes.BlockStamp.{BlockStamp}
-use Rattle.plan_phases.specs.Prunings.{ArePrunings}
+use Rattle.plan_followed.specs.declared.prunes.BlockStamp.{BlockStamp}
+use Rattle.plan_followed.specs.Prunings.{ArePrunings}
 use Rattle.client_work.specs.declared.work.Work.{Work}
 use Rattle.client_work.specs.declared.work.Work.TheVariants.{Client, Lying, Courier}
 use Rattle.client_threads.specs.Met.{IsKeeper, HasMetCell, HasMetDesk, HasMetSeat}

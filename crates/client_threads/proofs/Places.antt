@@ -20,9 +20,9 @@ use Rattle.locked_nodes.specs.Slots.{IsPlace, slot_of, slots_of}
 use Rattle.plan_words.specs.declared.plan.Plan.{Plan}
 use Rattle.plan_followed.specs.Asked.{nature}
 use Rattle.plan_followed.specs.Nodes.{Pruning, act_of, node_after}
-use Rattle.plan_phases.specs.declared.prunes.BlockStamp.{BlockStamp}
-use Rattle.run_journals.specs.Standing.{ArePlanned, HasDonePrunes, NodesPrune, add_cell, node_journal, prunes_at}
-use Rattle.run_journals.proofs.Working.{cell_below}
+use Rattle.plan_followed.specs.declared.prunes.BlockStamp.{BlockStamp}
+use Rattle.phase_threads.specs.Standing.{ArePlanned, HasDonePrunes, NodesPrune, add_cell, node_journal, prunes_at}
+use Rattle.phase_threads.proofs.Working.{cell_below}
 use Rattle.client_threads.specs.Met.{IsKeeper}
 use Rattle.client_threads.specs.Pruned.{IsOpenCell, HasMorePrunes, IsServed, ArePlaces, AllPrune, NodePruned, OthersStay, reopened, prunings_of}
 use Rattle.client_threads.proofs.Keepers.{all_of, keeper_then, same_keeper}

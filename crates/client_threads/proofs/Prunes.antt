@@ -18,9 +18,9 @@ use Rattle.locked_nodes.specs.declared.answers.Pruning.{Pruning as Answer}
 use Rattle.locked_nodes.specs.declared.answers.Pruning.TheVariants.{Pruned as PrunedAt, Skipped}
 use Rattle.locked_nodes.specs.Slots.{slot_of, slots_of}
 use Rattle.plan_followed.specs.Nodes.{act_of}
-use Rattle.plan_phases.specs.declared.prunes.BlockStamp.{BlockStamp}
-use Rattle.run_journals.specs.Standing.{node_journal}
-use Rattle.run_journals.proofs.Nodes.{journal_snoc, journal_other}
+use Rattle.plan_followed.specs.declared.prunes.BlockStamp.{BlockStamp}
+use Rattle.phase_threads.specs.Standing.{node_journal}
+use Rattle.phase_threads.proofs.Nodes.{journal_snoc, journal_other}
 use Rattle.client_threads.specs.Met.{IsKeeper}
 use Rattle.client_threads.specs.Pruned.{IsOpenCell, HasMorePrunes, AllPrune, NodePruned, OthersStay, prunings_of, pruning_of}
 use Rattle.client_threads.proofs.Keepers.{all_of, same_keeper, set_all}

@@ -6,7 +6,7 @@ use Rattle.quorum_rules.specs.Limits.{Numbers}
 use Rattle.event_clock.specs.Passes.{ClockId, Holder}
 use Rattle.locked_nodes.specs.Cells.{CellView}
 use Rattle.client_desks.specs.Desks.{DeskView, met_desk}
-use Rattle.run_journals.specs.Standing.{AreCells, AreInside, IsDeskAt}
+use Rattle.phase_threads.specs.Standing.{AreCells, AreInside, IsDeskAt}
 use Rattle.phase_threads.specs.declared.duty.Seat.{Seat}
 use Rattle.client_work.specs.declared.work.Work.{Work}
 use Rattle.client_threads.specs.Met.{HasMetCell, HasMetSeat}

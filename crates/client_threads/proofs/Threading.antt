@@ -18,9 +18,9 @@ use Rattle.client_desks.specs.Desks.{DeskView, desk_entry}
 use Rattle.client_desks.specs.Later.{IsLater}
 use Rattle.plan_words.specs.declared.plan.Plan.{Plan}
 use Rattle.plan_followed.specs.Asked.{holds}
-use Rattle.run_journals.specs.Standing.{IsDeskAt, AreCells, AreInside, IsPlanned, HasSideOn, PairsStand, HasWorked, ArePlanned}
-use Rattle.run_journals.specs.Ended.{AreClients}
-use Rattle.run_journals.proofs.Sharded.{holds_whole}
+use Rattle.phase_threads.specs.Standing.{IsDeskAt, AreCells, AreInside, IsPlanned, HasSideOn, PairsStand, HasWorked, ArePlanned}
+use Rattle.phase_threads.specs.Ended.{AreClients}
+use Rattle.phase_threads.proofs.Sharded.{holds_whole}
 use Rattle.phase_threads.specs.declared.duty.Seat.{Seat}
 use Rattle.phase_threads.specs.Phases.{MayPhase}
 use Rattle.crews.proofs.Places.{map_get}

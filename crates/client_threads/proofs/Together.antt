@@ -11,7 +11,7 @@ use Rattle.event_clock.specs.Passes.{ClockId, Holder, HasFullPass, IsOneFull, Ta
 use Rattle.event_clock.specs.Views.{times, times_drawn, IsDrawnOnce}
 use Rattle.locked_nodes.specs.Cells.{CellView, KeptCell}
 use Rattle.client_desks.specs.Desks.{DeskView, KeptDesk, own_numbers}
-use Rattle.run_journals.specs.Standing.{IsDeskAt, AreCells, journal_at}
+use Rattle.phase_threads.specs.Standing.{IsDeskAt, AreCells, journal_at}
 use Rattle.journals.specs.declared.desk.DeskJournal.{DeskJournal}
 use Rattle.phase_threads.specs.declared.duty.Seat.{Seat}
 use Rattle.client_work.specs.declared.work.Work.{Work}

@@ -24,11 +24,11 @@ use Rattle.plan_words.specs.Named.{job_client, clients, lying_clients, asking_cl
 use Rattle.plan_followed.specs.Asked.{steps_for, first_phases, messages, nature, crash_after}
 use Rattle.plan_followed.specs.Clients.{InEach, GoesByPlan, IsDone, all_asked}
 use Rattle.plan_followed.specs.Nodes.{node_after}
-use Rattle.plan_phases.specs.Closed.{next_begin, HaveClosed, AreWorked, FinishedAs, IsWorkedOff, GoesOn}
+use Rattle.plan_followed.specs.Closed.{next_begin, HaveClosed, AreWorked, FinishedAs, IsWorkedOff, GoesOn}
 use Rattle.locked_nodes.specs.Slots.{slot_of, slots_of, Cover}
-use Rattle.run_journals.specs.Standing.{IsCellOf, IsDeskAt, AreCells, AreInside, IsPlanned, HaveOwnSlots, HasWorked, ArePlanned, HaveSeen, PairsStand, PhasesWork, NothingLate, journals_of}
-use Rattle.run_journals.specs.Ended.{AreClients}
-use Rattle.run_journals.proofs.Cells.{journal_of, journal_is, entries_at, desk_at, rises_from}
+use Rattle.phase_threads.specs.Standing.{IsCellOf, IsDeskAt, AreCells, AreInside, IsPlanned, HaveOwnSlots, HasWorked, ArePlanned, HaveSeen, PairsStand, PhasesWork, NothingLate, journals_of}
+use Rattle.phase_threads.specs.Ended.{AreClients}
+use Rattle.phase_threads.proofs.Cells.{journal_of, journal_is, entries_at, desk_at, rises_from}
 use Rattle.phase_threads.specs.declared.duty.Seat.{Seat}
 use Rattle.client_work.specs.declared.work.Work.{Work}
 use Rattle.client_work.specs.declared.work.Work.TheVariants.{Client, Lying, Courier}

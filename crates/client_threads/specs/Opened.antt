@@ -7,7 +7,7 @@ use Rattle.client_desks.specs.Desks.{first_desk}
 use Rattle.plan_words.specs.declared.plan.Plan.{Plan}
 use Rattle.wire_forms.specs.Liars.{has_number}
 use Rattle.plan_followed.specs.Asked.{nature, crash_after}
-use Rattle.run_journals.specs.Standing.{is_whole, HaveOwnSlots}
+use Rattle.phase_threads.specs.Standing.{is_whole, HaveOwnSlots}
 use Rattle.phase_threads.specs.declared.duty.Seat.{Seat}
 use Rattle.client_work.specs.declared.work.Work.{Work}
 use Rattle.client_threads.specs.Running.{StandsAt}

@@ -9,8 +9,8 @@ use Rattle.locked_nodes.specs.Cells.{CellView, IsPrune, rechartered, state_of}
 use Rattle.locked_nodes.specs.Slots.{IsPlace}
 use Rattle.plan_words.specs.declared.plan.Plan.{Plan}
 use Rattle.plan_followed.specs.Nodes.{Pruning}
-use Rattle.plan_phases.specs.declared.prunes.BlockStamp.{BlockStamp}
-use Rattle.run_journals.specs.Standing.{HasDonePrunes, node_journal, prunes_at}
+use Rattle.plan_followed.specs.declared.prunes.BlockStamp.{BlockStamp}
+use Rattle.phase_threads.specs.Standing.{HasDonePrunes, node_journal, prunes_at}
 
 abbrev pub pruning_of : BlockStamp → Pruning
 pruning_of x = record { block = x.block; stamp = x.stamp }

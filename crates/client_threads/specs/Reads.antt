@@ -4,7 +4,7 @@ use Rattle.std.specs.List.{Contains}
 use Rattle.journals.specs.Desks.{Ended}
 use Rattle.client_desks.specs.Desks.{DeskView, state_at}
 use Rattle.phase_threads.specs.declared.duty.Seat.{Seat}
-use Rattle.plan_phases.specs.declared.prunes.BlockStamp.{BlockStamp}
+use Rattle.plan_followed.specs.declared.prunes.BlockStamp.{BlockStamp}
 use Rattle.client_work.specs.declared.reads.GivenRead.{GivenRead}
 use Rattle.client_work.specs.declared.work.Work.{Work}
 use Rattle.client_work.specs.declared.work.Work.TheVariants.{Client, Lying, Courier}

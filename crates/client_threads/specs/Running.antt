@@ -13,9 +13,9 @@ use Rattle.client_desks.specs.Later.{IsLater}
 use Rattle.plan_words.specs.declared.plan.Plan.{Plan}
 use Rattle.plan_words.specs.Named.{is_phase, clients}
 use Rattle.plan_followed.specs.Nodes.{Pruning}
-use Rattle.plan_phases.specs.Closed.{next_begin, HaveClosed, IsWorkedOff, AreBelow}
-use Rattle.run_journals.specs.Standing.{AreCells, AreInside, IsDeskAt, PairsStand, HasWorked, ArePlanned, HaveSeen, node_journal, journals_of}
-use Rattle.run_journals.specs.Ended.{AreClients}
+use Rattle.plan_followed.specs.Closed.{next_begin, HaveClosed, IsWorkedOff, AreBelow}
+use Rattle.phase_threads.specs.Standing.{AreCells, AreInside, IsDeskAt, PairsStand, HasWorked, ArePlanned, HaveSeen, node_journal, journals_of}
+use Rattle.phase_threads.specs.Ended.{AreClients}
 use Rattle.phase_threads.specs.declared.duty.Seat.{Seat}
 use Rattle.client_work.specs.declared.work.Work.{Work}
 use Rattle.client_work.specs.declared.work.Work.TheVariants.{Client, Lying, Courier}

@@ -1,6 +1,6 @@
 //! What happens between two phases.
 ghost use Rattle.std.specs.Prelude.{◌≡◌, ◌+◌, ℕ, None, IfOk};
-ghost use Rattle.run_journals.specs.Standing.{AreKept};
+ghost use Rattle.phase_threads.specs.Standing.{AreKept};
 ghost use Rattle.client_threads.specs.Running.{IsOpen, IsWorked, IsBetween, plan_of, clients_of};
 ghost use Rattle.client_threads.specs.Meeting.{HasMetAll};
 
@@ -10,10 +10,10 @@ use crate::reads::{count, gather};
 use crate::state::Run;
 use lists::NoMemory;
 use locked_nodes::CellRefusal;
-use plan_phases::laws::phases_close;
-use plan_phases::prunings;
+use phase_threads::laws::phases_work;
+use plan_followed::laws::phases_close;
+use plan_followed::prunings;
 use plan_words::Plan;
-use run_journals::laws::phases_work;
 use std::alloc::Global;
 
 /// Closes a phase of the plan's run that is worked off: one pass meets all others, the nodes prune what was read in the phase, and

@@ -5,7 +5,7 @@ ghost use Rattle.event_clock.specs.Views.{IsDrawnOnce};
 ghost use Rattle.locked_nodes.specs.Cells.{KeptCell};
 ghost use Rattle.client_desks.specs.Desks.{KeptDesk};
 ghost use Rattle.client_threads.specs.Running.{IsOpen, desks_of, node_journals, plan_of, shares_of};
-ghost use Rattle.run_journals.specs.Standing.{journal_at};
+ghost use Rattle.phase_threads.specs.Standing.{journal_at};
 ghost use Rattle.locked_nodes.specs.Joined as joined;
 
 use crate::state::Run;

@@ -3,7 +3,7 @@ ghost use Rattle.std.specs.Prelude.{◌≡◌, ◌≤◌, ◌<◌, ◌+◌, [], 
 ghost use Rattle.plan_words.specs.Plans.{Fits};
 ghost use Rattle.plan_tasks.specs.Tasks.{IsTaskOf, client_of};
 ghost use Rattle.client_threads.specs.Running.{IsBetween, plan_of};
-ghost use Rattle.run_journals.specs.Standing.{needs_whole};
+ghost use Rattle.phase_threads.specs.Standing.{needs_whole};
 ghost use Rattle.client_threads.specs.Opened.{IsUnusedPass, AreNewCells, IsNewSeat, cell_count, shards_of};
 
 use crate::state::Run;
@@ -13,7 +13,7 @@ use event_clock::{Clock, Pass, Passes};
 use lists::{ItemList, NoMemory};
 use locked_nodes::NodeCell;
 use phase_threads::Seat;
-use plan_phases::laws::phases_close;
+use plan_followed::laws::phases_close;
 use plan_tasks::{Task, crash_after, nature_of, tasks_of};
 use plan_words::{Fault, Plan};
 use std::alloc::Global;

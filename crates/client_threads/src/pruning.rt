@@ -3,7 +3,7 @@ ghost use Rattle.std.specs.Prelude.{◌≡◌, ◌≤◌, ◌<◌, All, None, If
 ghost use Rattle.std.specs.List.{AllZip};
 ghost use Rattle.locked_nodes.specs.Cells.{KeptCell};
 ghost use Rattle.locked_nodes.specs.Slots.{slots_of};
-ghost use Rattle.run_journals.specs.Standing.{ArePlanned};
+ghost use Rattle.phase_threads.specs.Standing.{ArePlanned};
 ghost use Rattle.client_threads.specs.Met.{IsKeeper};
 ghost use Rattle.client_threads.specs.Pruned.{IsOpenCell, HasMorePrunes, IsServed, ArePlaces, NodePruned, OthersStay, AllPruned, reopened};
 
@@ -11,9 +11,9 @@ use crate::state::know_cells;
 use event_clock::{Clock, Pass};
 use lists::NoMemory;
 use locked_nodes::{CellRefusal, NodeCell, Slot, place_of, slots_in};
-use plan_phases::BlockStamp;
+use phase_threads::laws::phases_work;
+use plan_followed::BlockStamp;
 use plan_words::Plan;
-use run_journals::laws::phases_work;
 use std::alloc::Global;
 
 /// Lets each of the plan's nodes prune these blocks, in order, node by node. It hands the cells back with the refusal that came,

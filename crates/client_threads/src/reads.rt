@@ -6,7 +6,7 @@ ghost use Rattle.client_threads.specs.Reads.{reads_of, early_reads, late_reads, 
 use client_work::{GivenRead, Work};
 use lists::NoMemory;
 use phase_threads::Seat;
-use plan_phases::BlockStamp;
+use plan_followed::BlockStamp;
 use std::alloc::Global;
 
 /// What all reads gave.

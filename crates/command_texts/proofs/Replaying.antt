@@ -11,12 +11,12 @@ use Rattle.protocol.specs.History.{NoClash}
 use Rattle.history_making.specs.Tellings.{Tells}
 use Rattle.history_book.specs.Judging.{IsLegal, IsInTime}
 use Rattle.world_steps.specs.Worlds.{WorldView, setting_in, world_in}
-use Rattle.run_reports.specs.Registers.{AreRegisters}
+use Rattle.script_run.specs.Registers.{AreRegisters}
 use Rattle.script_run.specs.Performing.{CommandQueues, Performs, StopsAt}
 use Rattle.line_forms.specs.declared.refusal.ScriptRefusal.{ScriptRefusal}
 use Rattle.line_forms.specs.declared.refusal.ScriptRefusal.TheVariants as scripts
-use Rattle.command_words.specs.declared.words.Command.TheVariants.{Replay}
-use Rattle.call_statuses.specs.Statuses.{refusal_of}
+use Rattle.call_words.specs.declared.words.Command.TheVariants.{Replay}
+use Rattle.call_words.specs.Statuses.{refusal_of}
 use Rattle.command_texts.specs.Texts.{Refuses}
 use Rattle.command_texts.specs.Replays.{cluster_of, IsReportOf, IsScript, Replays, Stops}
 

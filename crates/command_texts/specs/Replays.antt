@@ -15,7 +15,7 @@ use Rattle.history_texts.specs.Reports.{report_text}
 use Rattle.history_texts.specs.ReportTexts.{IsReport}
 use Rattle.history_book.specs.Judging.{IsLegal, IsInTime}
 use Rattle.world_steps.specs.Worlds.{WorldView, setting_in, world_in}
-use Rattle.run_reports.specs.Registers.{AreRegisters}
+use Rattle.script_run.specs.Registers.{AreRegisters}
 use Rattle.script_run.specs.Performing.{CommandQueues, Performs, StopsAt}
 
 -- the setting of a cluster in which these lie

@@ -7,11 +7,11 @@ use Rattle.history_book.specs.declared.judging.Flaw.{Flaw}
 use Rattle.history_texts.specs.ReportTexts.{report}
 use Rattle.command_texts.specs.Replays.{Replays, Stops}
 use Rattle.command_texts.specs.Verdicts.{Judges}
-use Rattle.command_words.specs.Words.{words_of}
-use Rattle.command_words.specs.declared.words.Command.{Command}
-use Rattle.command_words.specs.declared.words.Command.TheVariants.{Replay, Run, Trace, Check, Sum, Soak}
-use Rattle.call_statuses.specs.declared.refusal.Refusal.{Refusal}
-use Rattle.call_statuses.specs.declared.refusal.Refusal.TheVariants.{NoMemory, BadScript, ClockFull}
+use Rattle.call_words.specs.Words.{words_of}
+use Rattle.call_words.specs.declared.words.Command.{Command}
+use Rattle.call_words.specs.declared.words.Command.TheVariants.{Replay, Run, Trace, Check, Sum, Soak}
+use Rattle.call_words.specs.declared.refusal.Refusal.{Refusal}
+use Rattle.call_words.specs.declared.refusal.Refusal.TheVariants.{NoMemory, BadScript, ClockFull}
 use Rattle.quorum_rules.specs.Limits.{Numbers}
 use Rattle.line_forms.specs.declared.refusal.ScriptFault.{ScriptFault}
 use Rattle.line_forms.specs.Texts.{IsFault, IsFaultless}

@@ -4,8 +4,7 @@ ghost use Rattle.command_texts.specs.Texts.{Writes, Refuses};
 ghost use Rattle.command_texts.specs.Verdicts.{flaw_word, verdict_fields, verdict_text};
 
 use crate::text::Answer;
-use call_statuses::Refusal;
-use command_words::Command;
+use call_words::{Command, Refusal};
 use cross_sum::Bytes;
 use history_book::{Flaw, FlawKind, judge, read};
 use lists::NoMemory;

@@ -3,13 +3,11 @@ ghost use Rattle.command_texts.specs.Replays.{IsReportOf};
 ghost use Rattle.command_texts.specs.Texts.{Writes, Refuses};
 
 use crate::text::Answer;
-use call_statuses::Refusal;
-use command_words::Command;
+use call_words::{Command, Refusal};
 use cross_sum::Bytes;
 use history_book::print;
 use lists::NoMemory;
-use run_reports::last_history;
-use script_run::{World, perform};
+use script_run::{World, last_history, perform};
 use script_text::read_replay;
 use std::alloc::Global;
 

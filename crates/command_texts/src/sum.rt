@@ -5,8 +5,7 @@ ghost use Rattle.command_texts.specs.Shown.{fragment_line, fragment_lines, verif
 ghost use Rattle.command_texts.specs.Texts.{Writes, Refuses};
 
 use crate::text::Answer;
-use call_statuses::Refusal;
-use command_words::Command;
+use call_words::{Command, Refusal};
 use cross_sum::{Bytes, Hash};
 use frag_check::{Summed, code_of, summed_block};
 use lists::NoMemory;

@@ -7,3 +7,10 @@ pub mod Following
 pub mod Replies
 pub mod Starts
 pub mod Together
+mod Operations
+mod Completing
+mod Turns
+mod LastWorld
+mod Late
+mod Short
+mod ToldLines

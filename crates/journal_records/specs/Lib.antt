@@ -3,3 +3,6 @@ pub mod Lines
 pub mod Records
 pub mod Retelling
 pub mod Telling
+pub mod Shown
+pub mod Steady
+pub mod Told

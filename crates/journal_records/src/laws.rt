@@ -4,6 +4,9 @@ ghost use Rattle.protocol.specs.Instance.{InEachRun};
 ghost use Rattle.journal_records.specs.Open.{RecordsTellTasks, TasksAreRecorded, RecordsAreOfCorrect};
 ghost use Rattle.journal_records.specs.Lines.{LinesAreThere, LinesAreCounted, LastPlaceIsCount};
 ghost use Rattle.journal_records.specs.Records.{WorldsHaveAllRecords, RecordsAreThose};
+ghost use Rattle.journal_records.specs.Shown.{HistoriesAreComplete};
+ghost use Rattle.journal_records.specs.Steady.{RecordsAreSteady};
+ghost use Rattle.journal_records.specs.Told.{LinesAreTold};
 
 /// A record without an outcome is of what its client has under way, crashed or not, unless the client came back; and what a
 /// client has under way has its record. Each record is of a correct client.
@@ -37,4 +40,37 @@ pub fn all_records()
     open_records();
     protocol::laws::records();
     journals::laws::merged_runs();
+}
+
+/// In the run of a plan's journals each step of each client that neither lies nor crashes was done to its end, in order, and stands
+/// in the history or among the writes that ended as spent. A write is spent only where the times that liars sent leave it none.
+pub fn complete_histories()
+    ensures { HistoriesAreComplete }
+{
+    protocol::laws::bounds();
+    protocol::laws::records();
+    protocol::laws::spent();
+    journals::laws::merged_runs();
+    plan_followed::laws::followed_plans();
+}
+
+/// In the run of a plan none of whose clients lies or crashes no operation is left open: the records are those of the operations
+/// that the clients ended, and each client's came one after another.
+pub fn steady_records()
+    ensures { RecordsAreSteady }
+{
+    open_records();
+    journals::laws::merged_runs();
+    plan_followed::laws::followed_plans();
+}
+
+/// The lines of a plan's journals are of the kinds that tell what threads did, and name clients, nodes, blocks and values of the
+/// plan's cluster.
+pub fn told_lines()
+    ensures { LinesAreTold }
+{
+    protocol::laws::cluster();
+    journals::laws::fitting_lines();
+    plan_followed::laws::plans();
+    plan_followed::laws::followed_plans();
 }

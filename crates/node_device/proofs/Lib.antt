@@ -4,3 +4,10 @@ mod Phases
 mod Deciding
 mod Holding
 mod Operations
+mod Splits
+mod Values
+mod Moments
+mod Following
+mod Arrays
+mod Getting
+mod Commands

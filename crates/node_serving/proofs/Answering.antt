@@ -27,8 +27,8 @@ use Rattle.journals.specs.declared.desk.DeskAct.TheVariants.{Call}
 use Rattle.journals.specs.Acts.{act, late_act, answer_of}
 use Rattle.locked_nodes.specs.Cells.{reply_told}
 use Rattle.client_desks.proofs.Desking.{act_side, late_side, told_reply}
-use Rattle.node_mail.specs.declared.asked.Asked.{Asked}
-use Rattle.node_mail.specs.declared.answered.Answered.{Answered}
+use Rattle.node_serving.specs.declared.asked.Asked.{Asked}
+use Rattle.node_serving.specs.declared.answered.Answered.{Answered}
 use Rattle.node_serving.specs.Workers.{AnswerPutter, WorkerView, clients_of, CanServe, IsPutterTo, Tells, WasTold, TellsOf, IsSamePutter, HasAnswered, HasMet, asks_from, asks_told, AreAnswered}
 
 -- the items of a list of which one was replaced

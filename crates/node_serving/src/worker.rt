@@ -1,19 +1,19 @@
 //! What a node's thread has in hand, and what it does.
 ghost use Rattle.std.specs.Prelude.{◌≡◌, ◌+◌, [], Ok, IfOk};
-ghost use Rattle.node_mail.specs.Mail.{IsAskAt};
-ghost use Rattle.node_mail.specs.declared.asked.NodePlace.{NodePlace};
+ghost use Rattle.node_serving.specs.Mail.{IsAskAt};
+ghost use Rattle.node_serving.specs.declared.asked.NodePlace.{NodePlace};
 ghost use Rattle.locked_nodes.specs.declared.answers.Told.{Told};
 ghost use Rattle.journals.specs.Acts.{act, answer_of};
 ghost use Rattle.locked_nodes.specs.Cells.{HasMoreAside, number_of, state_of, told_as, with_entry};
 ghost use Rattle.locked_nodes.specs.Slots.{slot_of};
 ghost use Rattle.node_serving.specs.Workers.{CanServe, HasMet, HasServed};
 
+use crate::{Answered, Asked};
 use crews::{Edge, Gate};
 use event_clock::Clock;
 use inboxes::{Putter, Sent, Taker};
 use lists::NoMemory;
 use locked_nodes::{Late, NodeCell};
-use node_mail::{Answered, Asked};
 use std::alloc::Global;
 use std::marker::Model;
 use std::sync::Wait;

@@ -7,7 +7,7 @@ use Rattle.locked_nodes.specs.Cells.{CellView}
 use Rattle.client_desks.specs.Desks.{DeskView}
 use Rattle.client_desks.specs.Later.{IsLater}
 use Rattle.desk_keys.specs.Keys.{FloorView}
-use Rattle.run_journals.specs.Standing.{PairsStand, HasWorked}
+use Rattle.phase_threads.specs.Standing.{PairsStand, HasWorked}
 use Rattle.phase_threads.specs.declared.duty.Seat.{Seat}
 use Rattle.phase_threads.specs.declared.phase.Left.{Left}
 use Rattle.phase_threads.specs.Phases.{HasPhased}

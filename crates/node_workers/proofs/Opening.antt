@@ -7,8 +7,8 @@ use Rattle.crews.specs.Crews.{Beside}
 use Rattle.crews.proofs.Places.{at_place, same_at, within, all_at, get_snoc, get_last}
 use Rattle.event_clock.specs.Passes.{ClockId}
 use Rattle.inboxes.specs.Sides.{Putting, Taking, new_putter}
-use Rattle.node_mail.specs.declared.answered.Answered.{Answered}
-use Rattle.node_mail.specs.declared.answered.ClientPlace.{ClientPlace}
+use Rattle.node_serving.specs.declared.answered.Answered.{Answered}
+use Rattle.node_serving.specs.declared.answered.ClientPlace.{ClientPlace}
 use Rattle.phase_threads.specs.declared.duty.Seat.{Seat}
 use Rattle.desk_keys.specs.Keys.{KeysView}
 use Rattle.node_serving.specs.Workers.{WorkerView}

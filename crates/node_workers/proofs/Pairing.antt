@@ -22,12 +22,12 @@ use Rattle.client_desks.specs.Desks.{DeskView, desk_entry}
 use Rattle.locked_nodes.specs.Cells.{reply_told}
 use Rattle.client_desks.specs.Later.{IsLater}
 use Rattle.crews.specs.Crews.{Beside}
-use Rattle.node_mail.specs.declared.answered.Answered.{Answered}
+use Rattle.node_serving.specs.declared.answered.Answered.{Answered}
 use Rattle.desk_keys.specs.declared.mail.ByMail.{ByMail}
 use Rattle.desk_keys.specs.Keys.{AgreeByMail, HasAnswer, call_told}
 use Rattle.node_serving.specs.Workers.{AnswerPutter, Tells, TellsOf, WasTold, HasAnswered}
 use Rattle.node_serving.proofs.Answering.{none_in}
-use Rattle.run_journals.specs.Standing.{HasSideIn, HasSideOn, PairsStand}
+use Rattle.phase_threads.specs.Standing.{HasSideIn, HasSideOn, PairsStand}
 use Rattle.crews.proofs.Places.{at_place, same_at, place_of, contains_at, within, all_at, right_of, left_of}
 
 -- what was taken of a sender is among the sender's items, and the other way round

@@ -5,8 +5,8 @@ use Rattle.std.specs.Prelude.{◌⊎◌, slice_get, slice_set}
 use Rattle.crews.specs.Crews.{Beside}
 use Rattle.crews.proofs.Places.{same_at, within, get_front, get_last}
 use Rattle.inboxes.specs.Sides.{Taking}
-use Rattle.node_mail.specs.declared.answered.Answered.{Answered}
-use Rattle.node_mail.specs.declared.answered.ClientPlace.{ClientPlace}
+use Rattle.node_serving.specs.declared.answered.Answered.{Answered}
+use Rattle.node_serving.specs.declared.answered.ClientPlace.{ClientPlace}
 use Rattle.desk_keys.specs.declared.mail.ByMail.{ByMail}
 use Rattle.node_serving.specs.Workers.{AnswerPutter}
 use Rattle.node_workers.specs.Closed.{IsOfMail, HasAllOf}

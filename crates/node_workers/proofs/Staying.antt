@@ -10,10 +10,10 @@ use Rattle.crews.proofs.Places.{all_from, map_get, right_of, left_of}
 use Rattle.event_clock.specs.Passes.{ClockId}
 use Rattle.inboxes.specs.Sides.{Putting, Taking}
 use Rattle.locked_nodes.specs.Cells.{CellView}
-use Rattle.node_mail.specs.declared.asked.Asked.{Asked}
-use Rattle.node_mail.specs.declared.asked.NodePlace.{NodePlace}
-use Rattle.node_mail.specs.declared.answered.Answered.{Answered}
-use Rattle.node_mail.specs.declared.answered.ClientPlace.{ClientPlace}
+use Rattle.node_serving.specs.declared.asked.Asked.{Asked}
+use Rattle.node_serving.specs.declared.asked.NodePlace.{NodePlace}
+use Rattle.node_serving.specs.declared.answered.Answered.{Answered}
+use Rattle.node_serving.specs.declared.answered.ClientPlace.{ClientPlace}
 use Rattle.desk_keys.specs.declared.mail.ByMail.{ByMail}
 use Rattle.desk_keys.specs.Keys.{KeysView, FloorView}
 use Rattle.node_serving.specs.Workers.{AnswerPutter, WorkerView}

@@ -12,7 +12,7 @@ use desk_keys::ByMail;
 use inboxes::{Sents, settle};
 use lists::{ItemList, NoMemory};
 use locked_nodes::{CellRefusal, NodeCell};
-use node_mail::Answered;
+use node_serving::Answered;
 use phase_threads::{Duty, Seat, first_refusal};
 use std::alloc::Global;
 

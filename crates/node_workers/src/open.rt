@@ -2,7 +2,7 @@
 ghost use Rattle.std.specs.Prelude.{◌≡◌, ◌≤◌, [], length, map, All, IfOk};
 ghost use Rattle.crews.specs.Crews.{Beside};
 ghost use Rattle.quorum_rules.specs.Limits.{Numbers};
-ghost use Rattle.run_journals.specs.Standing.{AreCells, IsDeskAt};
+ghost use Rattle.phase_threads.specs.Standing.{AreCells, IsDeskAt};
 ghost use Rattle.node_workers.specs.Hands.{AreSpread, AreNewPutters};
 ghost use Rattle.node_workers.specs.Posts.{nodes_in, clients_in};
 ghost use Rattle.node_workers.specs.Opened.{IsAskBox, IsAnswerBox, IsWorkerOf, IsClientOf, ArePosts};
@@ -14,8 +14,7 @@ use event_clock::Clock;
 use inboxes::{Inbox, Putter, Putters, Taker};
 use lists::{ItemList, NoMemory};
 use locked_nodes::{NodeCell, Slot, slots_in};
-use node_mail::{Answered, Asked, ClientPlace, NodePlace};
-use node_serving::NodeWorker;
+use node_serving::{Answered, Asked, ClientPlace, NodePlace, NodeWorker};
 use phase_threads::{Duty, Seat};
 use std::alloc::Global;
 use std::snapshot::Snapshot;

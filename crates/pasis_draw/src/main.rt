@@ -2,7 +2,7 @@
 //! words.
 #![tactic(auto)]
 
-use call_statuses::Status;
+use call_words::Status;
 use outside_io::{StdSink, StdSource};
 use run_pictures::{PictureStatus, draw};
 use std::env;

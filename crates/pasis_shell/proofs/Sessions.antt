@@ -8,8 +8,8 @@ use Rattle.nbd_front.specs.declared.ending.Served.{Served}
 use Rattle.nbd_front.specs.declared.ending.Served.TheVariants.{Over}
 use Rattle.nbd_front.specs.declared.ending.SessionEnd.{SessionEnd}
 use Rattle.nbd_front.specs.declared.ending.SessionEnd.TheVariants as ends
-use Rattle.call_statuses.specs.Statuses.{status_of_session}
-use Rattle.call_statuses.specs.declared.status.Status.{Status}
+use Rattle.call_words.specs.Statuses.{status_of_session}
+use Rattle.call_words.specs.declared.status.Status.{Status}
 use Rattle.pasis_shell.specs.Sessions.{Serves}
 
 module _ (c : Numbers) (left left_after taken taken_after : Option (List ℕ)) (flushed_after : ℕ) (status : Status) where

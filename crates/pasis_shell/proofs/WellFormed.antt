@@ -21,14 +21,14 @@ use Rattle.plan_words.specs.declared.plan.Plan.{Plan}
 use Rattle.plan_words.specs.Plans.{Fits}
 use Rattle.plan_text.specs.Plans.{Spells as PlanSpells, plan_script}
 use Rattle.plan_text.proofs.PlanLaws.{plan_accepted}
-use Rattle.command_words.specs.Words.{words_of}
+use Rattle.call_words.specs.Words.{words_of}
 use Rattle.command_texts.specs.Replays.{cluster_of, Stops}
 use Rattle.command_texts.specs.Texts.{HasFault, IsAccepted, RunsIt, Refuses}
-use Rattle.command_words.proofs.Alone.{replay_alone, check_alone, sum_alone}
-use Rattle.command_words.specs.declared.words.Command.{Command}
-use Rattle.command_words.specs.declared.words.Command.TheVariants.{Replay, Check, Sum}
-use Rattle.call_statuses.specs.declared.refusal.Refusal.{Refusal}
-use Rattle.call_statuses.specs.declared.refusal.Refusal.TheVariants.{NoMemory, BadScript, ClockFull}
+use Rattle.call_words.proofs.Alone.{replay_alone, check_alone, sum_alone}
+use Rattle.call_words.specs.declared.words.Command.{Command}
+use Rattle.call_words.specs.declared.words.Command.TheVariants.{Replay, Check, Sum}
+use Rattle.call_words.specs.declared.refusal.Refusal.{Refusal}
+use Rattle.call_words.specs.declared.refusal.Refusal.TheVariants.{NoMemory, BadScript, ClockFull}
 
 -- ---- one command
 

@@ -18,10 +18,10 @@ ghost use Rattle.plan_words.specs.declared.plan.Plan.{Plan};
 ghost use Rattle.plan_words.specs.Plans.{Fits};
 ghost use Rattle.plan_text.specs.Plans.{Spells as SpellsPlan};
 ghost use Rattle.command_texts.specs.Texts.{HasFault, IsAccepted};
-ghost use Rattle.command_words.specs.Words.{words_of};
-ghost use Rattle.command_words.specs.declared.words.Serving.{Serving as Servings};
+ghost use Rattle.call_words.specs.Words.{words_of};
+ghost use Rattle.call_words.specs.declared.words.Serving.{Serving as Servings};
 
-use command_words::Command;
+use call_words::Command;
 
 /// What well-formed inputs are accepted, so that the program answers them unless the outside fails or memory is wanting: a
 /// script whose lines can take place one after the other, a configuration with a value of its blocks' length, and the report of

@@ -3,3 +3,8 @@ mod Closing
 mod Pairing
 mod Phasing
 pub mod Sending
+pub mod Nodes
+pub mod Cells
+pub mod Sharded
+pub mod Working
+pub mod Ending

@@ -7,8 +7,8 @@ use Rattle.std.proofs.lemmas.List.{map-append, length-map}
 use Rattle.std.proofs.lemmas.Option.{get_or_from_slice_get}
 use Rattle.quorum_rules.specs.Limits.{Numbers}
 use Rattle.inboxes.specs.Sides.{Taking}
-use Rattle.node_mail.specs.declared.answered.Answered.{Answered}
-use Rattle.node_mail.specs.declared.answered.ClientPlace.{ClientPlace}
+use Rattle.node_serving.specs.declared.answered.Answered.{Answered}
+use Rattle.node_serving.specs.declared.answered.ClientPlace.{ClientPlace}
 use Rattle.desk_keys.specs.declared.mail.ByMail.{ByMail}
 use Rattle.event_clock.specs.Passes.{ClockId}
 use Rattle.receipt_lock.specs.Chits.{Holder as Chit, Deposit, new_chit, AreNew}
@@ -22,7 +22,7 @@ use Rattle.client_desks.specs.Desks.{DeskView}
 use Rattle.locked_nodes.specs.declared.slot.Slot.{Slot}
 use Rattle.locked_nodes.specs.Slots.{slot_of, slots_of}
 use Rattle.desk_keys.specs.Keys.{KeysView, FloorView, IsHead, IsFloor, IsByChits, Reaches, IsSide, Agree, Fit}
-use Rattle.run_journals.specs.Standing.{AreCells, IsCellOf, IsDeskAt, HasSideIn, PairsStand}
+use Rattle.phase_threads.specs.Standing.{AreCells, IsCellOf, IsDeskAt, HasSideIn, PairsStand}
 use Rattle.crews.specs.Crews.{Beside}
 use Rattle.phase_threads.specs.Phased.{IsVaultOf, new_hand}
 use Rattle.crews.proofs.Places.{place_of, contains_at, all_at, all_from, get_map, map_get, right_of}

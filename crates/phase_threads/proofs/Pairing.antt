@@ -17,7 +17,7 @@ use Rattle.locked_nodes.specs.Cells.{CellView, items, rechartered, next_charter}
 use Rattle.client_desks.specs.Desks.{DeskView, desk_entry}
 use Rattle.client_desks.specs.Later.{IsLater}
 use Rattle.desk_keys.specs.Keys.{Agree, IsSide, Knows}
-use Rattle.run_journals.specs.Standing.{HasSideIn, HasSideOn, PairsStand, HasWorked}
+use Rattle.phase_threads.specs.Standing.{HasSideIn, HasSideOn, PairsStand, HasWorked}
 use Rattle.crews.specs.Crews.{Beside}
 use Rattle.phase_threads.specs.Phased.{IsVaultOf, IsClosed}
 use Rattle.crews.proofs.Places.{same_at, place_of, contains_at, get_map, map_get, within, right_of, left_of}

@@ -16,7 +16,7 @@ use Rattle.client_desks.specs.Later.{IsLater}
 use Rattle.desk_keys.specs.Keys.{KeysView, FloorView, Agree, Fit}
 use Rattle.phase_threads.specs.declared.duty.Seat.{Seat}
 use Rattle.phase_threads.specs.declared.crew.Post.{Post}
-use Rattle.run_journals.specs.Standing.{AreCells, IsDeskAt, PairsStand, HasWorked}
+use Rattle.phase_threads.specs.Standing.{AreCells, IsDeskAt, PairsStand, HasWorked}
 use Rattle.crews.specs.Crews.{Beside}
 use Rattle.phase_threads.specs.Phased.{IsVaultOf, IsPostOf, IsSeatOf, IsHandOf, IsClosed, new_hand}
 use Rattle.crews.proofs.Places.{all_at, all_from, all_zip, contains_at, get_map, map_get, right_of, left_of}

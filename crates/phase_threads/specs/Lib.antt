@@ -1,2 +1,4 @@
 pub mod Phased
 pub mod Phases
+pub mod Standing
+pub mod Ended

@@ -9,7 +9,7 @@ use Rattle.locked_nodes.specs.Cells.{CellView}
 use Rattle.locked_nodes.specs.Slots.{slots_of}
 use Rattle.client_desks.specs.Desks.{DeskView}
 use Rattle.client_desks.specs.Later.{IsLater}
-use Rattle.run_journals.specs.Standing.{AreCells, IsDeskAt, PairsStand, HasWorked}
+use Rattle.phase_threads.specs.Standing.{AreCells, IsDeskAt, PairsStand, HasWorked}
 use Rattle.phase_threads.specs.declared.duty.Seat.{Seat}
 use Rattle.phase_threads.specs.declared.phase.Left.{Left}
 

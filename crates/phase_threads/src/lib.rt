@@ -1,9 +1,15 @@
-//! A phase of a run in threads: cells come into vaults, each desk's thread does its duty, and the vaults are closed again.
+//! A phase of a run in threads: cells come into vaults, each desk's thread does its duty, and the vaults are closed again; and the
+//! journals that cells and desks make, phase after phase.
+//!
+//! A run has a cell for each node and a desk for each client (specs/Standing). Whoever runs them knows what one phase did to each cell
+//! and each desk; the contracts of `laws` tell what that says of their journals: what was closed stays closed, a phase more is closed,
+//! and at the end the journals are those of a run of the plan.
 #![tactic(auto)]
 
 mod close;
 mod crew;
 pub mod duty;
+pub mod laws;
 mod open;
 pub mod phase;
 pub mod refusal;

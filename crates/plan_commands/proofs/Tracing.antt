@@ -16,7 +16,7 @@ use Rattle.protocol.specs.Lines.{Line, StepFault, Run}
 use Rattle.protocol.specs.History.{NoClash}
 use Rattle.history_making.specs.Tellings.{Tells}
 use Rattle.history_book.specs.Judging.{IsLegal, IsInTime}
-use Rattle.run_reports.specs.Registers.{AreRegisters}
+use Rattle.script_run.specs.Registers.{AreRegisters}
 use Rattle.script_run.specs.Performing.{CommandQueues, LeadsTo, start_queues, after_line}
 use Rattle.journals.specs.declared.whole.Journals.{Journals}
 use Rattle.journals.specs.Journals.{setting_for}

@@ -6,10 +6,9 @@ ghost use Rattle.plan_followed.specs.Followed.{AreOfPlan};
 ghost use Rattle.command_texts.specs.PlanRuns.{Soaks};
 ghost use Rattle.command_texts.specs.Texts.{Writes, Refuses};
 
-use call_statuses::Refusal;
+use call_words::{Command, Refusal, Serving};
 use client_threads::{Gate, Ran, run_plan};
 use command_texts::{Answer, text_of};
-use command_words::{Command, Serving};
 use cross_sum::Bytes;
 use event_clock::RunRefusal;
 use node_workers::run_workers;

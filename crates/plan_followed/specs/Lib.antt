@@ -3,3 +3,6 @@ pub mod Clients
 pub mod Nodes
 pub mod Followed
 pub mod Laws
+pub mod Closed
+pub mod Prunings
+pub mod Tops

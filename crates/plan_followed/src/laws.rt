@@ -1,6 +1,7 @@
 //! Laws of plans and of journals that follow them, each the contract of a function that does nothing.
 
 ghost use Rattle.plan_followed.specs.Laws.{OfPlans, HasConduct, HasLiars, HasCluster, PlansPhase, PlansRun, OneMore};
+ghost use Rattle.plan_followed.specs.Closed.{Begins, GoesOn, Closes, Ends};
 
 /// A plan that fits is one of a cluster: who lies is who its rules declare lying, at most `b` nodes do, and no liar crashes.
 pub fn plans()
@@ -23,4 +24,13 @@ pub fn followed_plans()
 /// what comes next.
 pub fn entries()
     ensures { OneMore }
+{}
+
+/// In empty journals no phase is closed; whatever comes later leaves the closed phases closed; a phase closes when its clients have
+/// done their steps, nothing is held back, and the nodes have pruned; and when the last phase is done the plan is followed.
+pub fn phases_close()
+    ensures begins { Begins }
+    ensures goes_on { GoesOn }
+    ensures closes { Closes }
+    ensures ends { Ends }
 {}

@@ -6,7 +6,7 @@ use Rattle.run_words.specs.declared.line.Line.{Line}
 use Rattle.event_lines.specs.Lines.{IsEventLine}
 use Rattle.event_lines.specs.declared.line.ReplayLine.{ReplayLine}
 use Rattle.event_lines.specs.declared.line.ReplayLine.TheVariants.{Plain}
-use Rattle.plan_histories.specs.Told.{IsTold}
+use Rattle.journal_records.specs.Told.{IsTold}
 
 all_push : {X : Type 0} (P : X → Type 0) (xs : List X) (x : X) → AllByRecursion P xs → P x → AllByRecursion P (xs ++ x ∷ [])
 all_push P [] x h p = (p, tt)

@@ -1,12 +1,12 @@
 -- What is told of a load's run holds of it.
 use Rattle.std.proofs.Common.{◌≡◌, ℕ, List, ◌∙◌, subst, arith}
 use Rattle.history_entries.specs.Books.{Book}
-use Rattle.soak_lines.specs.Soaks.{soak_text}
+use Rattle.soak_loads.specs.Soaks.{soak_text}
 use Rattle.journals.specs.declared.whole.Journals.{Journals}
 use Rattle.merge_trace.specs.Traces.{placed}
 use Rattle.plan_words.specs.declared.plan.Plan.{Plan}
 use Rattle.plan_reports.specs.Runs.{TellsPlan}
-use Rattle.soak_lines.specs.Loads.{LoadsAreDone, LoadsArePlain}
+use Rattle.soak_loads.specs.Loads.{LoadsAreDone, LoadsArePlain}
 use Rattle.plan_reports.specs.Loads.{load_of, TellsLoad}
 
 pub tells_load : LoadsAreDone → LoadsArePlain → (number : ℕ) (plan : Plan) (j : Journals) → plan ≡ load_of number

@@ -17,8 +17,8 @@ use Rattle.plan_followed.specs.Laws.{OfPlans, HasLiars, PlansRun}
 use Rattle.event_lines.specs.Lines.{IsEventLine}
 use Rattle.event_lines.specs.declared.line.ReplayLine.TheVariants.{Plain}
 use Rattle.script_text.specs.Replays.{AreAscendingLiars, replay_text}
-use Rattle.plan_histories.specs.Shown.{HistoriesAreComplete}
-use Rattle.plan_histories.specs.Told.{IsTold, LinesAreTold}
+use Rattle.journal_records.specs.Shown.{HistoriesAreComplete}
+use Rattle.journal_records.specs.Told.{IsTold, LinesAreTold}
 use Rattle.plan_reports.specs.ScriptLiars.{HasScriptLiars}
 use Rattle.plan_reports.specs.Traces.{TracesPlan}
 use Rattle.plan_reports.specs.Runs.{Reports, ReportsWorld, AreOfPlanRun, IsPlanRun, RunsPlan}

@@ -10,7 +10,7 @@ use Rattle.protocol.proofs.Cluster.{cluster_valid}
 use Rattle.protocol.proofs.Firsts.{first_stamp_is}
 use Rattle.history_entries.specs.Books.{Book}
 use Rattle.history_texts.specs.Reports.{report_text}
-use Rattle.run_reports.specs.Histories.{AreOfRun, TellsHistory}
+use Rattle.script_run.specs.Histories.{AreOfRun, TellsHistory}
 use Rattle.journals.specs.Steps.{Step}
 use Rattle.journals.specs.Merging.{Merged, next_world, line_of}
 use Rattle.journals.specs.declared.whole.Journals.{Journals}
@@ -22,7 +22,7 @@ use Rattle.plan_words.specs.declared.plan.Plan.{Plan}
 use Rattle.plan_followed.specs.Asked.{conduct_of}
 use Rattle.plan_followed.specs.Laws.{PlansRun}
 use Rattle.plan_followed.specs.Followed.{AreOfPlan}
-use Rattle.plan_histories.specs.Shown.{HistoriesAreComplete}
+use Rattle.journal_records.specs.Shown.{HistoriesAreComplete}
 use Rattle.plan_reports.specs.Runs.{PlanRun, TellsPlan, RunsPlan}
 
 abbrev lines_in : List (ℕ × Line) → List Line

@@ -2,14 +2,14 @@
 use Rattle.std.specs.Prelude.{◌≡◌, ℕ, List}
 use Rattle.protocol.specs.History.{NoClash}
 use Rattle.history_entries.specs.Books.{Book}
-use Rattle.soak_lines.specs.Soaks.{soak_text}
-use Rattle.soak_lines.specs.Plain.{plain_text}
+use Rattle.soak_loads.specs.Soaks.{soak_text}
+use Rattle.soak_loads.specs.Plain.{plain_text}
 use Rattle.journals.specs.declared.whole.Journals.{Journals}
 use Rattle.journals.specs.Journals.{setting_for}
 use Rattle.plan_words.specs.declared.plan.Plan.{Plan}
-use Rattle.run_reports.specs.Histories.{TellsHistory}
+use Rattle.script_run.specs.Histories.{TellsHistory}
 use Rattle.plan_reports.specs.Runs.{PlanRun}
-use Rattle.load_maker.specs.Loads.{plan_of}
+use Rattle.soak_loads.specs.MadePlans.{plan_of}
 
 -- the load of a number: its plan for 4 clients and 200 operations
 abbrev pub load_of : ℕ → Plan

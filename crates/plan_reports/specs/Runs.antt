@@ -6,13 +6,13 @@ use Rattle.protocol.specs.Lines.{Line, IsRun}
 use Rattle.world_steps.specs.Worlds.{WorldView, setting_in, world_in}
 use Rattle.history_entries.specs.Books.{Book}
 use Rattle.history_texts.specs.Reports.{report_text}
-use Rattle.run_reports.specs.Histories.{TellsHistory}
+use Rattle.script_run.specs.Histories.{TellsHistory}
 use Rattle.journals.specs.declared.whole.Journals.{Journals}
 use Rattle.journals.specs.Journals.{setting_for, IsMerge}
 use Rattle.merge_trace.specs.Traces.{placed}
 use Rattle.plan_words.specs.declared.plan.Plan.{Plan}
 use Rattle.plan_followed.specs.Followed.{AreOfPlan}
-use Rattle.plan_histories.specs.Shown.{IsComplete}
+use Rattle.journal_records.specs.Shown.{IsComplete}
 
 -- the text is the report of the world's history
 pub record Reports (s : Setting) (w : World) (text : List ℕ) : Type 0 where

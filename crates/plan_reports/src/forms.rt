@@ -6,7 +6,7 @@ ghost use Rattle.std.specs.List.{AllByRecursion};
 ghost use Rattle.text_lines.specs.Fields.{IsBytes};
 ghost use Rattle.event_lines.specs.Lines.{IsEventLine};
 ghost use Rattle.event_lines.specs.declared.line.ReplayLine.TheVariants.{Plain};
-ghost use Rattle.plan_histories.specs.Told.{IsTold};
+ghost use Rattle.journal_records.specs.Told.{IsTold};
 
 use cross_sum::{Bytes, Hash};
 use quorum_rules::Config;

@@ -9,9 +9,8 @@ use crate::report::told_history;
 use cross_sum::Bytes;
 use journals::Journals;
 use lists::NoMemory;
-use load_maker::plan_of;
 use plan_words::Plan;
-use soak_lines::print_soak;
+use soak_loads::{plan_of, print_soak};
 use std::alloc::Global;
 
 /// How many clients a load has.
@@ -40,7 +39,7 @@ pub fn load_text(
     requires run { AreOfPlan load.now journals.now drawn }
     ensures { IfOk result (TellsLoad number journals.now) }
 {
-    soak_lines::laws::plain_loads();
+    soak_loads::laws::plain_loads();
     let history = told_history(alloc, load, journals, drawn)?;
     let text = print_soak(alloc, number, &history)?;
     Ok(text)

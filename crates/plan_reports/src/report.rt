@@ -11,7 +11,7 @@ use journal_records::records_of;
 use journals::Journals;
 use lists::NoMemory;
 use plan_words::Plan;
-use run_reports::history_of_records;
+use script_run::history_of_records;
 use std::alloc::Global;
 use wire_forms::First;
 
@@ -51,7 +51,7 @@ pub fn run_text(
     requires { AreOfPlan plan.now journals.now drawn }
     ensures { IfOk result (RunsPlan plan.now journals.now) }
 {
-    plan_histories::laws::complete_histories();
+    journal_records::laws::complete_histories();
     let history = told_history(alloc, plan, journals, drawn)?;
     let text = print(alloc, &history)?;
     Ok(text)

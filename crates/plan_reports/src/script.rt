@@ -5,7 +5,7 @@ ghost use Rattle.std.specs.List.{AllByRecursion};
 ghost use Rattle.event_lines.specs.Lines.{IsEventLine};
 ghost use Rattle.event_lines.specs.declared.line.ReplayLine.TheVariants.{Plain};
 ghost use Rattle.script_text.specs.Replays.{AreAscendingLiars, replay_text};
-ghost use Rattle.plan_histories.specs.Told.{IsTold};
+ghost use Rattle.journal_records.specs.Told.{IsTold};
 
 use crate::forms::form_line;
 use cross_sum::Bytes;

@@ -3,7 +3,7 @@
 ghost use Rattle.std.specs.Prelude.{◌≡◌, ◌++◌, ◌∷◌, [], codes, IfOk};
 ghost use Rattle.std.specs.List.{AllByRecursion};
 ghost use Rattle.text_lines.specs.Lines.{text_of_lines};
-ghost use Rattle.plan_histories.specs.Told.{IsTold};
+ghost use Rattle.journal_records.specs.Told.{IsTold};
 ghost use Rattle.plan_reports.specs.Runs.{AreOfPlanRun, IsPlanRun, ReportsWorld};
 ghost use Rattle.plan_reports.specs.Traces.{TracesPlan};
 
@@ -16,7 +16,7 @@ use journals::Journals;
 use lists::NoMemory;
 use merge_trace::{MergedRun, merge_run};
 use plan_words::Plan;
-use run_reports::history_of;
+use script_run::history_of;
 use std::alloc::Global;
 use text_lines::Text;
 use world_steps::World;
@@ -29,7 +29,7 @@ fn merged(alloc: Global, plan: &Plan, journals: &Journals) -> Result<MergedRun, 
 {
     plan_followed::laws::plans();
     plan_followed::laws::followed_plans();
-    plan_histories::laws::told_lines();
+    journal_records::laws::told_lines();
     let merged_run = merge_run(alloc, journals)?;
     Ok(merged_run)
 }
@@ -63,7 +63,7 @@ pub fn trace_text(alloc: Global, plan: &Plan, journals: Journals) -> Result<Byte
     requires { AreOfPlanRun plan.now journals }
     ensures { IfOk result (TracesPlan plan.now journals) }
 {
-    plan_histories::laws::complete_histories();
+    journal_records::laws::complete_histories();
     plans_declare();
     let merged_run = merged(alloc, plan, &journals)?;
     let report = report_of(alloc, &merged_run.world)?;

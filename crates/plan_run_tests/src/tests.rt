@@ -2,8 +2,8 @@
 
 use crate::gates::{InBetween, SideBySide};
 use client_threads::{Edge, Gate, OpenGate, Ran, run_plan};
-use journal_check::can_merge;
 use journals::{DeskAct, DeskJournal};
+use merge_trace::can_merge;
 use plan_text::read_plan;
 use std::alloc::Global;
 use std::sync::Wait;

@@ -4,7 +4,7 @@
 //! was tried on the words that they give for state 42 and stream 54.
 
 use crate::load_lines::{rule_lines, work_digest};
-use load_maker::plan_of;
+use soak_loads::plan_of;
 use std::test::Fail;
 
 #[test]

@@ -1,6 +1,6 @@
 ghost use Rattle.std.specs.Prelude.{◌≡◌};
 
-use plan_phases::{BlockStamp, prunings};
+use plan_followed::{BlockStamp, prunings};
 use stamp_order::Stamp;
 use std::test::Fail;
 

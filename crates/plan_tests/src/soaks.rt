@@ -1,5 +1,5 @@
 use history_texts::read;
-use soak_lines::print_soak;
+use soak_loads::print_soak;
 use std::test::Fail;
 
 // The digest was made by another program from the three lines without their places.

@@ -5,18 +5,17 @@ ghost use Rattle.line_forms.specs.declared.cause.Cause.{Cause};
 ghost use Rattle.outside_io.specs.Causes.{Rose};
 ghost use Rattle.command_texts.specs.Replays.{IsScript};
 ghost use Rattle.command_texts.specs.Texts.{Refuses};
-ghost use Rattle.call_statuses.specs.declared.refusal.Refusal.{Refusal as Refusals};
-ghost use Rattle.command_words.specs.declared.words.Command.TheVariants.{Replay as TheReplay};
+ghost use Rattle.call_words.specs.declared.refusal.Refusal.{Refusal as Refusals};
+ghost use Rattle.call_words.specs.declared.words.Command.TheVariants.{Replay as TheReplay};
 ghost use Rattle.run_pictures.specs.Stops.{CanStop, IsBadScript};
 
 use crate::status::{MOST_LINES, PictureRefusal, PictureStatus};
 use crate::telling::told;
-use call_statuses::{Refusal, Status};
+use call_words::{Refusal, Status};
 use cross_sum::Bytes;
 use outside_io::{Sink, Source, read_all, write_all};
 use picture_svg::{Picture, svg_of};
-use run_reports::history_of;
-use script_run::{World, perform};
+use script_run::{World, history_of, perform};
 use script_text::{Replay, read_replay};
 use std::alloc::Global;
 

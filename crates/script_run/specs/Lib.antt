@@ -1,2 +1,4 @@
 pub mod Performing
 pub mod CommandQueues
+pub mod Registers
+pub mod Histories

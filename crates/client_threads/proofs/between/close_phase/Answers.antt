@@ -1,12 +1,12 @@
 use Rattle.std.proofs.Common.{ℕ, ◌<◌, All, List, ◌++◌, length, map, refl, sym, ◌∙◌, ap, subst}
 use Rattle.std.specs.Vec.{with_items}
 use Rattle.std.proofs.lemmas.List.{with_items_is, length-map}
-use Rattle.plan_phases.specs.declared.prunes.BlockStamp.{BlockStamp}
-use Rattle.plan_phases.specs.Prunings.{ArePrunings}
+use Rattle.plan_followed.specs.declared.prunes.BlockStamp.{BlockStamp}
+use Rattle.plan_followed.specs.Prunings.{ArePrunings}
 use Rattle.phase_threads.specs.declared.duty.Seat.{Seat}
 use Rattle.client_work.specs.declared.work.Work.{Work}
 use Rattle.plan_words.specs.declared.plan.Plan.{Plan}
-use Rattle.run_journals.specs.Standing.{ArePlanned}
+use Rattle.phase_threads.specs.Standing.{ArePlanned}
 use Rattle.client_threads.specs.Pruned.{AllPruned}
 use Rattle.client_threads.specs.Reads.{reads_of, early_reads, late_reads}
 use Rattle.client_threads.specs.declared.state.Run.{Run}

@@ -4,7 +4,7 @@ use Rattle.std.specs.Vec.{with_items}
 use Rattle.std.proofs.lemmas.List.{with_items_is}
 use Rattle.locked_nodes.specs.Cells.{CellView}
 use Rattle.client_desks.specs.Desks.{DeskView}
-use Rattle.run_journals.specs.Standing.{AreCells, AreInside, IsDeskAt}
+use Rattle.phase_threads.specs.Standing.{AreCells, AreInside, IsDeskAt}
 use Rattle.phase_threads.specs.declared.duty.Seat.{Seat}
 use Rattle.client_work.specs.declared.work.Work.{Work}
 use Rattle.client_threads.specs.Met.{HasMetCell, HasMetSeat}

@@ -4,7 +4,7 @@ use Rattle.event_clock.specs.Passes.{Holder, share_of}
 use Rattle.event_clock.specs.Views.{IsDrawnOnce}
 use Rattle.locked_nodes.specs.Cells.{CellView}
 use Rattle.plan_words.specs.declared.plan.Plan.{Plan}
-use Rattle.run_journals.specs.Standing.{AreInside}
+use Rattle.phase_threads.specs.Standing.{AreInside}
 use Rattle.client_threads.specs.Running.{desks_of, plan_of}
 use Rattle.client_threads.proofs.Together.{together, all_tick, drawn_once, quiet_drawn, full_share}
 use Rattle.client_threads.proofs.closing.close.Goals as goal

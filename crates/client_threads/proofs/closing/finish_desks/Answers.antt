@@ -2,7 +2,7 @@ use Rattle.std.proofs.Common.{◌++◌, [], List, length, map, sym, ap, subst, �
 use Rattle.std.specs.Vec.Iter.{into_iter_items, into_iter_len}
 use Rattle.std.proofs.lemmas.List.Elements.{All-nil}
 use Rattle.client_desks.specs.Desks.{DeskView, KeptDesk}
-use Rattle.run_journals.specs.Standing.{journal_at}
+use Rattle.phase_threads.specs.Standing.{journal_at}
 use Rattle.phase_threads.specs.declared.duty.Seat.{Seat}
 use Rattle.client_work.specs.declared.work.Work.{Work}
 use Rattle.client_threads.specs.Running.{desks_of}

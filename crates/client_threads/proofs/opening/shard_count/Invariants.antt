@@ -1,6 +1,6 @@
 use Rattle.std.proofs.Common.{◌≡◌, drop}
 use Rattle.std.specs.List.{list_any}
-use Rattle.run_journals.specs.Standing.{needs_whole}
+use Rattle.phase_threads.specs.Standing.{needs_whole}
 use Rattle.client_threads.proofs.opening.shard_count.Given as goal
 
 abbrev pub invariant-loop-rule : goal.invariant-loop-rule

@@ -1,7 +1,7 @@
 use Rattle.std.proofs.Common.{take, set, get_or, sym, ◌∙◌, subst, List, arith}
 use Rattle.std.proofs.lemmas.List.{take_more}
 use Rattle.locked_nodes.specs.Cells.{CellView}
-use Rattle.plan_phases.specs.declared.prunes.BlockStamp.{BlockStamp}
+use Rattle.plan_followed.specs.declared.prunes.BlockStamp.{BlockStamp}
 use Rattle.client_threads.proofs.Places.{found}
 use Rattle.client_threads.proofs.Prunes.{IsPruning, none_more, prunes_none, prune_step, none_named}
 use Rattle.client_threads.proofs.pruning.prune.Goals as goal

@@ -2,7 +2,7 @@ use Rattle.std.proofs.Common.{◌≡◌, All, List, sym, ◌∙◌, ap, subst, a
 use Rattle.std.specs.Vec.{with_items}
 use Rattle.std.proofs.lemmas.List.{with_items_is}
 use Rattle.locked_nodes.specs.Cells.{CellView}
-use Rattle.run_journals.specs.Standing.{ArePlanned, node_journal, prunes_at}
+use Rattle.phase_threads.specs.Standing.{ArePlanned, node_journal, prunes_at}
 use Rattle.client_threads.specs.Pruned.{IsOpenCell, HasMorePrunes, reopened, prunings_of}
 use Rattle.client_threads.proofs.Places.{reopened_planned, reopened_open, reopened_journal, reopened_prunes, done_as, unrefused}
 use Rattle.client_threads.proofs.Working.{zip_long}

@@ -4,8 +4,8 @@ use Rattle.journals.specs.declared.whole.Journals.{Journals}
 use Rattle.plan_words.specs.declared.plan.Plan.{Plan}
 use Rattle.plan_words.specs.Plans.{Fits}
 use Rattle.plan_followed.specs.Followed.{AreOfPlan}
-use Rattle.run_journals.specs.Standing.{journals_of}
-use Rattle.run_journals.specs.Ended.{HasEnded}
+use Rattle.phase_threads.specs.Standing.{journals_of}
+use Rattle.phase_threads.specs.Ended.{HasEnded}
 use Rattle.client_threads.specs.Running.{plan_of, clients_of, cuts}
 use Rattle.client_threads.proofs.run.finish.Goals as goal
 

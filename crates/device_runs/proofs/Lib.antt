@@ -1,7 +1,0 @@
-mod Splits
-mod Values
-mod Moments
-mod Following
-mod Arrays
-mod Getting
-mod Commands

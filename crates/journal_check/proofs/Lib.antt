@@ -1,4 +1,0 @@
-mod Adding
-mod Clients
-mod Entries
-mod Fitting

@@ -1,9 +1,0 @@
-use Rattle.std.proofs.Common.{take}
-use Rattle.journals.specs.Journals.{setting_for}
-use Rattle.journal_check.specs.Numbered.{all_node_steps}
-use Rattle.journal_check.proofs.Adding.{Gone}
-use Rattle.journal_check.proofs.steps.add_nodes.Given as goal
-
--- the nodes so far were added
-abbrev pub invariant-loop-node : goal.invariant-loop-node
-invariant-loop-node l = Gone (setting_for l.journals) l.fn.numbers l.numbers (all_node_steps 0 (take l.node l.nodes))

@@ -1,3 +1,0 @@
-mod Words
-mod Blocks
-mod Fitting

@@ -1,0 +1,100 @@
+-- The blocks that have a stamp, in order.
+use Rattle.std.proofs.Common.{◌≡◌, ◌⊎◌, ℕ, ◌+◌, ◌<◌, ◌≤◌, List, [], ◌∷◌, ◌++◌, take, drop, length, get_or, All, Option, refl, sym, ◌∙◌, ap, subst, inl, inr, arith}
+use Rattle.std.specs.Prelude.{slice_get}
+use Rattle.std.specs.declared.option.Option.TheVariants.{None, Some}
+use Rattle.std.specs.List.{Contains, AllByRecursion}
+use Rattle.std.proofs.lemmas.List.Elements.{Contains-append_left, Contains-append_right, Contains-append_cases, Contains-push, Contains-push_cases, All-contains, All-drop}
+use Rattle.std.proofs.lemmas.Option.{slice_get-get_or}
+use Rattle.std.proofs.lemmas.List.{take-append-drop}
+use Rattle.stamp_order.specs.declared.Stamp.{Stamp}
+use Rattle.protocol.specs.Report.{Ascend}
+use Rattle.protocol.proofs.Lists.{Contains-none, Contains-map_cases}
+use Rattle.plan_followed.specs.declared.prunes.BlockStamp.{BlockStamp}
+use Rattle.plan_followed.specs.Prunings.{blocks_of, ArePrunings}
+use Rattle.plan_followed.specs.Tops.{IsTop, AreTops, AreListed}
+
+all_push : (P : ℕ → Type 0) (ns : List ℕ) (n : ℕ) → AllByRecursion P ns → P n → AllByRecursion P (ns ++ n ∷ [])
+all_push P [] n h p = (p, tt)
+all_push P (m ∷ ns) n h p = (h.0, all_push P ns n h.1 p)
+
+ascend_push : (ns : List ℕ) (n : ℕ) → Ascend ns → AllByRecursion (λ m. m < n) ns → Ascend (ns ++ n ∷ [])
+ascend_push [] n h l = (tt, tt)
+ascend_push (m ∷ ns) n h l = (all_push (λ k. m < k) ns n h.0 l.0, ascend_push ns n h.1 l.1)
+
+all_below : (ns : List ℕ) (a b : ℕ) → a ≤ b → AllByRecursion (λ m. m < a) ns → AllByRecursion (λ m. m < b) ns
+all_below [] a b l h = tt
+all_below (m ∷ ns) a b l h = ((let k = h.0 in omega (arith, l, k)), all_below ns a b l h.1)
+
+blocks_more : (xs : List BlockStamp) (x : BlockStamp) → blocks_of (xs ++ x ∷ []) ≡ blocks_of xs ++ x.block ∷ []
+blocks_more [] x = refl
+blocks_more (y ∷ xs) x = ap (λ (l : List ℕ). y.block ∷ l) (blocks_more xs x)
+
+pub none_listed : (tops : List (Option Stamp)) → AreListed 0 tops []
+none_listed tops = record { ascend = tt; below = tt; sound = λ x h. absurd (Contains-none x h); all = λ b s l e. absurd (omega arith) }
+
+up_to_here : (b n : ℕ) → b < n + 1 → (b < n) ⊎ (b ≡ n)
+up_to_here b n l = grind arith
+
+-- a block more that has no stamp
+pub left_out : (n : ℕ) (tops : List (Option Stamp)) (ps : List BlockStamp) → AreListed n tops ps → slice_get tops n ≡ Some None → AreListed (n + 1) tops ps
+left_out n tops ps h e = record {
+  ascend = h.ascend;
+  below = all_below (blocks_of ps) n (n + 1) (omega arith) h.below;
+  sound = h.sound;
+  all = λ b s l at. elim (up_to_here b n l) [ inl k ↦ h.all b s k at | inr q ↦ absurd (let w : slice_get tops b ≡ Some None = rw q e in cc) ];
+}
+
+-- a block more that has one
+pub put_in : (n : ℕ) (tops : List (Option Stamp)) (ps : List BlockStamp) (x : BlockStamp) → AreListed n tops ps → x.block ≡ n → slice_get tops n ≡ Some (Some x.stamp) → AreListed (n + 1) tops (ps ++ x ∷ [])
+put_in n tops ps x h own e =
+    let first : AllByRecursion (λ m. m < x.block) (blocks_of ps) = subst (λ (k : ℕ). AllByRecursion (λ m. m < k) (blocks_of ps)) (sym own) h.below in
+    record {
+      ascend = subst Ascend (sym (blocks_more ps x)) (ascend_push (blocks_of ps) x.block h.ascend first);
+      below = subst (AllByRecursion (λ m. m < n + 1)) (sym (blocks_more ps x)) (all_push (λ m. m < n + 1) (blocks_of ps) x.block (all_below (blocks_of ps) n (n + 1) (omega arith) h.below) (omega (arith, own)));
+      sound = λ y there. elim (Contains-push_cases ps x y there) [
+        | inl t ↦ h.sound y t
+        | inr q ↦ subst (λ (z : BlockStamp). slice_get tops z.block ≡ Some (Some z.stamp)) q (rw own e)
+      ];
+      all = λ b s l at. subst (λ (ns : List ℕ). Contains ns b) (sym (blocks_more ps x)) (elim (up_to_here b n l) [
+        | inl k ↦ Contains-append_left (blocks_of ps) (x.block ∷ []) b (h.all b s k at)
+        | inr q ↦ subst (λ (k : ℕ). Contains (blocks_of ps ++ x.block ∷ []) k) (own ∙ sym q) (Contains-push (blocks_of ps) x.block)
+      ]);
+    }
+
+-- ---- the whole
+
+split : (k : ℕ) (xs : List BlockStamp) (y : BlockStamp) → Contains xs y → Contains (drop k xs ++ take k xs) y
+split k xs y h = turn (Contains-append_cases (take k xs) (drop k xs) y (subst (λ (l : List BlockStamp). Contains l y) (sym (take-append-drop k xs)) h))
+  where
+    turn : Contains (take k xs) y ⊎ Contains (drop k xs) y → Contains (drop k xs ++ take k xs) y
+    turn (inl t) = Contains-append_right (drop k xs) (take k xs) y t
+    turn (inr t) = Contains-append_left (drop k xs) (take k xs) y t
+
+joined : (k : ℕ) (xs : List BlockStamp) (y : BlockStamp) → Contains (drop k xs ++ take k xs) y → Contains xs y
+joined k xs y h = subst (λ (l : List BlockStamp). Contains l y) (take-append-drop k xs) (turn (Contains-append_cases (drop k xs) (take k xs) y h))
+  where
+    turn : Contains (drop k xs) y ⊎ Contains (take k xs) y → Contains (take k xs ++ drop k xs) y
+    turn (inl t) = Contains-append_right (take k xs) (drop k xs) y t
+    turn (inr t) = Contains-append_left (take k xs) (drop k xs) y t
+
+module _ (given : List BlockStamp) (fresh blocks : ℕ) (tops : List (Option Stamp)) (ps : List BlockStamp) (h : AreTops (drop fresh given) (drop fresh given ++ take fresh given) tops) (listed : AreListed blocks tops ps) where
+  top_of : (x : BlockStamp) → Contains ps x → IsTop (drop fresh given) (drop fresh given ++ take fresh given) x.block x.stamp
+  top_of x there = h.each x.block (Some x.stamp) (listed.sound x there)
+
+  in_list : (b : ℕ) → b < blocks → Contains (blocks_of (drop fresh given)) b → (top : Option Stamp) → slice_get tops b ≡ Some top → Contains (blocks_of ps) b
+  in_list b l named None e = absurd (h.each b None e named)
+  in_list b l named (Some s) e = listed.all b s l e
+
+  pub pruned : length tops ≡ blocks → All (λ x. x.block < blocks) given → ArePrunings given (drop fresh given) ps
+  pruned long within = record {
+    ascend = listed.ascend;
+    all = λ b named.
+        let from = Contains-map_cases (λ (x : BlockStamp). x.block) (drop fresh given) b named in
+        let low : from.0.block < blocks = All-contains (λ x. x.block < blocks) (drop fresh given) from.0 (All-drop (λ x. x.block < blocks) fresh given within) from.1 in
+        let l : b < blocks = subst (λ (n : ℕ). n < blocks) (sym from.2) low in
+        let at : slice_get tops b ≡ Some (get_or tops b None) = slice_get-get_or tops b None (omega (arith, l, long)) in
+        in_list b l named (get_or tops b None) at;
+    fresh = λ x there. (top_of x there).named;
+    given = λ x there. joined fresh given x (top_of x there).given;
+    greatest = λ x y there other same. (top_of x there).greatest y (split fresh given y other) same;
+  }

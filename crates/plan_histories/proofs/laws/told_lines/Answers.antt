@@ -1,5 +1,0 @@
-use Rattle.plan_histories.proofs.Telling.{told}
-use Rattle.plan_histories.proofs.laws.told_lines.Goals as goal
-
-pub returns : goal.returns
-returns c = told c.cluster.ensures c.fitting_lines.ensures c.followed_plans.ensures.of_run

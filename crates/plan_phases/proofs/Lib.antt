@@ -1,5 +1,0 @@
-mod Listing
-mod Raising
-pub mod Later
-pub mod Turns
-pub mod Closing

@@ -1,5 +1,0 @@
-pub mod Nodes
-pub mod Cells
-pub mod Sharded
-pub mod Working
-pub mod Ending

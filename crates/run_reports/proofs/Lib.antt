@@ -1,5 +1,0 @@
-mod Accepting
-mod LastWorlds
-mod Records
-mod Reports
-mod Telling

@@ -1,0 +1,15 @@
+use Rattle.std.proofs.Common.{map}
+use Rattle.protocol.specs.Seen.{record_of}
+use Rattle.world_steps.specs.Worlds.{setting_in, world_in}
+use Rattle.script_run.proofs.LastWorlds.{are_of_run}
+use Rattle.script_run.proofs.history.history_of.Goals as goal
+
+pub history_of_records-requires : goal.history_of_records-requires
+history_of_records-requires c =
+    let v = c.args.world.now in
+    (setting_in v, world_in v, are_of_run v c.is_reached.ensures c.requires (map record_of c.records.result.now) c.first_stamp.result.now c.records.ensures c.first_stamp.ensures)
+
+pub returns : goal.returns
+returns c =
+    let v = c.args.world.now in
+    c.history_of_records.ensures (setting_in v) (world_in v) (are_of_run v c.is_reached.ensures c.requires (map record_of c.records.result.now) c.first_stamp.result.now c.records.ensures c.first_stamp.ensures)

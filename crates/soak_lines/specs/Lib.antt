@@ -1,4 +1,0 @@
-pub mod Soaks
-pub mod Plain
-pub mod Serial
-pub mod Loads

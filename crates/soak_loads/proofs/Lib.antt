@@ -1,0 +1,16 @@
+mod Records
+mod Bounded
+mod Walk
+mod Sorted
+mod Exact
+mod Values
+mod Whole
+mod OwnStamps
+mod Parts
+mod OwnedWork
+mod BlockRecords
+mod PlainPlans
+mod Loads
+mod Words
+mod Blocks
+mod Fitting

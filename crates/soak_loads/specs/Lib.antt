@@ -1,0 +1,6 @@
+pub mod Soaks
+pub mod Plain
+pub mod Serial
+pub mod Loads
+pub mod MadePlans
+pub mod Owners
