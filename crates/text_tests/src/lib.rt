@@ -1,11 +1,5 @@
-//! Texts of messages, heads and scripts, what is read of them and printed, and ranges of bytes over blocks. Tests alone.
+//! Texts of messages that no line of a script prints, and how far a text that is none begins one. Tests alone.
 #![tactic(auto)]
 
 #[cfg(test)]
-mod devices;
-#[cfg(test)]
-mod heads;
-#[cfg(test)]
 mod messages;
-#[cfg(test)]
-mod replays;
