@@ -1,4 +1,4 @@
-use lists::{Copied, ItemList, NoMemory};
+use lists::{ItemList, NoMemory};
 use std::alloc::Global;
 
 fn list_of(alloc: Global, items: &[u32]) -> Result<ItemList<u32>, NoMemory> {
@@ -7,24 +7,6 @@ fn list_of(alloc: Global, items: &[u32]) -> Result<ItemList<u32>, NoMemory> {
         list.push(*item)?;
     }
     Ok(list)
-}
-
-/// Whether a list gives 7, 8 and 9, and then the last of them.
-fn gives_three(list: &mut ItemList<u32>) -> bool {
-    list.as_slice() == [7, 8, 9].as_slice()
-        && list.get(2) == Some(&9)
-        && list.get(3).is_none()
-        && list.pop() == Some(9)
-        && list.len() == 2
-        && !list.is_empty()
-}
-
-#[test]
-fn items_come_back_in_order(rt: HostRuntime) -> Result<(), NoMemory> {
-    let mut list = list_of(rt.alloc(), &[7, 8, 9])?;
-    let holds = gives_three(&mut list);
-    assert!(rt; holds);
-    Ok(())
 }
 
 /// Whether one list's items go to the end of another's.
@@ -52,18 +34,5 @@ fn lists_are_moved_whole(rt: HostRuntime) -> Result<(), NoMemory> {
     let joined = are_joined(&mut list, &mut more);
     let moved = are_moved(rt.alloc(), &mut list);
     assert!(rt; joined == Ok(true) && moved == Ok(true));
-    Ok(())
-}
-
-fn is_copied(list: &ItemList<u32>) -> Result<bool, NoMemory> {
-    let copy = list.copy()?;
-    Ok(copy.as_slice() == list.as_slice())
-}
-
-#[test]
-fn copies_are_equal(rt: HostRuntime) -> Result<(), NoMemory> {
-    let list = list_of(rt.alloc(), &[1, 2])?;
-    let holds = is_copied(&list) == Ok(true) && 3_u8.copy() == Ok(3) && 4_u64.copy() == Ok(4);
-    assert!(rt; holds);
     Ok(())
 }

