@@ -17,33 +17,74 @@ liar node 4
 liar client 9
 ";
 
+const CLIENTS: &[u32] = &[1, 2, 9];
+
 /// Journals, and the lines that they merge into, or None where they can't be merged.
 pub struct Case {
     pub name: &'static str,
-    writes: Written,
+    clients: &'static [u32],
+    entries: &'static [(u64, Did)],
     lines: Option<&'static str>,
 }
 
-// Which journals.
+// What a client did by itself; what a node did with an ask of a client, which has its side of it; and what a node did when such an
+// ask came late, or when it pruned.
 #[derive(Clone, Copy)]
-enum Written {
-    EachKind,
-    EqualAsks,
-    AfterARefusal,
-    AskNeverSent,
-    NumberTwice,
-    NumberTwiceAtTwoNodes,
-    ClientsDescend,
-    NoSuchBlock,
-    ShortValue,
-    PruneOfNoBlock,
+enum Did {
+    // A client wrote a value to a block.
+    Write(u32, u32, &'static [u8]),
+    // A client read a block.
+    Read(u32, u32),
+    // A client crashed.
+    Crash(u32),
+    // A client's ask met a node.
+    Meet(u32, u8, Met),
+    // A client's ask came late to a node.
+    Late(u32, u8, Late),
+    // A node pruned a block.
+    Prune(u8, u32),
+}
+
+#[derive(Clone, Copy)]
+enum Met {
+    Answered,
+    Lied,
+    Held,
+    Dropped,
+    Crashed,
+    HadCrashed,
+}
+
+#[derive(Clone, Copy)]
+enum Late {
+    Delivered,
+    Lost,
+    Crashed,
 }
 
 /// The cases.
 pub const CASES: [Case; 10] = [
     Case {
         name: "each kind of entry",
-        writes: Written::EachKind,
+        clients: CLIENTS,
+        entries: &[
+            (0, Did::Write(1, 0, &[1, 2])),
+            (1, Did::Meet(1, 1, Met::Held)),
+            (2, Did::Meet(1, 2, Met::Dropped)),
+            (3, Did::Meet(1, 3, Met::Answered)),
+            (4, Did::Meet(1, 4, Met::Lied)),
+            (5, Did::Late(1, 1, Late::Delivered)),
+            (6, Did::Meet(1, 0, Met::Crashed)),
+            (7, Did::Meet(9, 2, Met::Answered)),
+            (8, Did::Meet(9, 4, Met::Lied)),
+            (9, Did::Read(2, 1)),
+            (10, Did::Meet(2, 3, Met::Held)),
+            (11, Did::Late(2, 0, Late::Lost)),
+            (12, Did::Prune(3, 0)),
+            (13, Did::Meet(1, 3, Met::HadCrashed)),
+            (14, Did::Crash(1)),
+            (15, Did::Late(1, 2, Late::Crashed)),
+        ],
         lines: Some(
             "write 1 0 x0102
 lost 1 1
@@ -60,12 +101,19 @@ lost 2 0
 prune 3 0
 lost 1 3
 crash client 1
+crash node 2
 ",
         ),
     },
     Case {
         name: "the first of equal asks",
-        writes: Written::EqualAsks,
+        clients: CLIENTS,
+        entries: &[
+            (0, Did::Meet(9, 0, Met::Answered)),
+            (1, Did::Meet(9, 1, Met::Answered)),
+            (2, Did::Meet(9, 1, Met::Answered)),
+            (3, Did::Late(9, 1, Late::Delivered)),
+        ],
         lines: Some(
             "poke ask 9 0 0 0 0 time
 poke ask 9 1 0 0 0 time
@@ -76,7 +124,12 @@ give 1 2
     },
     Case {
         name: "no run from a refused line on",
-        writes: Written::AfterARefusal,
+        clients: CLIENTS,
+        entries: &[
+            (0, Did::Write(1, 0, &[1, 2])),
+            (1, Did::Prune(0, 0)),
+            (2, Did::Late(1, 1, Late::Delivered)),
+        ],
         lines: Some(
             "write 1 0 x0102
 prune 0 0
@@ -86,7 +139,11 @@ give 1 0
     },
     Case {
         name: "an ask that was never sent",
-        writes: Written::AskNeverSent,
+        clients: CLIENTS,
+        entries: &[
+            (0, Did::Write(1, 0, &[1, 2])),
+            (1, Did::Late(2, 1, Late::Delivered)),
+        ],
         lines: Some(
             "write 1 0 x0102
 give 1 0
@@ -95,51 +152,52 @@ give 1 0
     },
     Case {
         name: "a number twice",
-        writes: Written::NumberTwice,
+        clients: CLIENTS,
+        entries: &[(0, Did::Write(1, 0, &[1, 2])), (0, Did::Prune(0, 0))],
         lines: None,
     },
     Case {
         name: "a number at two nodes",
-        writes: Written::NumberTwiceAtTwoNodes,
+        clients: CLIENTS,
+        entries: &[(5, Did::Prune(0, 0)), (5, Did::Prune(1, 0))],
         lines: None,
     },
     Case {
         name: "clients that don't ascend",
-        writes: Written::ClientsDescend,
+        clients: &[2, 1],
+        entries: &[(0, Did::Crash(2))],
         lines: None,
     },
     Case {
         name: "an operation on no block",
-        writes: Written::NoSuchBlock,
+        clients: CLIENTS,
+        entries: &[(0, Did::Write(1, 2, &[1, 2]))],
         lines: None,
     },
     Case {
         name: "a value that is no block",
-        writes: Written::ShortValue,
+        clients: CLIENTS,
+        entries: &[(0, Did::Write(1, 0, &[1]))],
         lines: None,
     },
     Case {
         name: "a prune of no block",
-        writes: Written::PruneOfNoBlock,
+        clients: CLIENTS,
+        entries: &[(0, Did::Prune(0, 2))],
         lines: None,
     },
 ];
 
-// What asks a node for its time, in the first phase of the client's first operation.
+// What asks a node for its time, in the first phase of the client's first operation. Client 9, which lies, has no operation.
 fn ask(client: u32, node: u8) -> Message {
-    asked(client, node, Tag { op: 1, phase: 1 })
-}
-
-// The same of a lying client.
-fn lie(node: u8) -> Message {
-    asked(9, node, Tag { op: 0, phase: 0 })
-}
-
-fn asked(client: u32, node: u8, tag: Tag) -> Message {
+    let number = if client == 9 { 0 } else { 1 };
     Message {
         client,
         node,
-        tag,
+        tag: Tag {
+            op: number,
+            phase: number,
+        },
         body: Body::Ask(Ask {
             block: 0,
             request: Request::Time,
@@ -154,6 +212,24 @@ fn answer(ask: &Message) -> Message {
         node: ask.node,
         tag: ask.tag,
         body: Body::Answer(Reply::TimeIs(0)),
+    }
+}
+
+fn write(alloc: Global, block: u32, value: &[u8]) -> Result<DeskAct, NoMemory> {
+    let value = Bytes::of(alloc, value)?;
+    Ok(DeskAct::Start {
+        op: Op::Write { block, value },
+    })
+}
+
+fn pruned(block: u32) -> NodeAct {
+    NodeAct::Pruned {
+        block,
+        stamp: Stamp {
+            time: 1,
+            client: 1,
+            verifier: [0; 32],
+        },
     }
 }
 
@@ -172,110 +248,64 @@ fn delivered(ask: Message) -> NodeAct {
     NodeAct::Delivered { ask, reply }
 }
 
-fn pruned(block: u32) -> NodeAct {
-    NodeAct::Pruned {
-        block,
-        stamp: Stamp {
-            time: 1,
-            client: 1,
-            verifier: [0; 32],
-        },
+fn silent(ask: Message, why: Silence) -> NodeAct {
+    NodeAct::Silent { ask, why }
+}
+
+fn act_of(ask: Message, met: Met) -> NodeAct {
+    match met {
+        Met::Answered => answered(ask),
+        Met::Lied => lied(ask),
+        Met::Held => silent(ask, Silence::Held),
+        Met::Dropped => silent(ask, Silence::Dropped),
+        Met::HadCrashed => silent(ask, Silence::Crashed),
+        Met::Crashed => NodeAct::CrashedAt { ask, late: false },
     }
 }
 
-fn write(alloc: Global, block: u32, value: &[u8]) -> Result<DeskAct, NoMemory> {
-    let value = Bytes::of(alloc, value)?;
-    Ok(DeskAct::Start {
-        op: Op::Write { block, value },
-    })
+fn way_of(met: Met) -> Way {
+    match met {
+        Met::Held => Way::Hold,
+        Met::Dropped => Way::Drop,
+        _ => Way::Call,
+    }
 }
 
-// A write of which two asks are lost, one of them comes late, one is answered and one is lied to; a node that crashes, a lying
-// client, a client that reads, and a prune.
-fn each_kind(alloc: Global, sheet: &mut Sheet) -> Result<(), NoMemory> {
-    sheet.desk(1, 0, write(alloc, 0, &[1, 2])?)?;
-    hear_nothing(sheet, 1, Way::Hold, ask(1, 1), Silence::Held)?;
-    hear_nothing(sheet, 2, Way::Drop, ask(1, 2), Silence::Dropped)?;
-    sheet.pair(3, Way::Call, &ask(1, 3), answered(ask(1, 3)))?;
-    sheet.pair(4, Way::Call, &ask(1, 4), lied(ask(1, 4)))?;
-    sheet.node(1, 5, delivered(ask(1, 1)))?;
-    crash(sheet, 6, ask(1, 0), false)?;
-    sheet.pair(7, Way::Call, &lie(2), answered(lie(2)))?;
-    sheet.pair(8, Way::Call, &lie(4), lied(lie(4)))?;
-    sheet.desk(
-        2,
-        9,
-        DeskAct::Start {
-            op: Op::Read { block: 1 },
-        },
-    )?;
-    hear_nothing(sheet, 10, Way::Hold, ask(2, 3), Silence::Held)?;
-    sheet.node(0, 11, NodeAct::LateLost { ask: ask(2, 0) })?;
-    sheet.node(3, 12, pruned(0))?;
-    hear_nothing(sheet, 13, Way::Call, ask(1, 3), Silence::Crashed)?;
-    sheet.desk(1, 14, DeskAct::Crash)
+fn late_act(ask: Message, late: Late) -> NodeAct {
+    match late {
+        Late::Delivered => delivered(ask),
+        Late::Lost => NodeAct::LateLost { ask },
+        Late::Crashed => NodeAct::CrashedAt { ask, late: true },
+    }
 }
 
-fn hear_nothing(
-    sheet: &mut Sheet,
-    number: u64,
-    way: Way,
-    ask: Message,
-    why: Silence,
-) -> Result<(), NoMemory> {
-    let same = asked(ask.client, ask.node, ask.tag);
-    sheet.pair(number, way, &same, NodeAct::Silent { ask, why })
-}
-
-fn crash(sheet: &mut Sheet, number: u64, ask: Message, late: bool) -> Result<(), NoMemory> {
-    let same = asked(ask.client, ask.node, ask.tag);
-    sheet.pair(number, Way::Call, &same, NodeAct::CrashedAt { ask, late })
-}
-
-// What is delivered late was sent twice.
-fn equal_asks(sheet: &mut Sheet) -> Result<(), NoMemory> {
-    sheet.pair(0, Way::Call, &lie(0), answered(lie(0)))?;
-    sheet.pair(1, Way::Call, &lie(1), answered(lie(1)))?;
-    sheet.pair(2, Way::Call, &lie(1), answered(lie(1)))?;
-    sheet.node(1, 3, delivered(lie(1)))
-}
-
-fn fill(alloc: Global, sheet: &mut Sheet, written: Written) -> Result<(), NoMemory> {
-    match written {
-        Written::EachKind => each_kind(alloc, sheet),
-        Written::EqualAsks => equal_asks(sheet),
-        Written::AfterARefusal => {
-            sheet.desk(1, 0, write(alloc, 0, &[1, 2])?)?;
-            sheet.node(0, 1, pruned(0))?;
-            sheet.node(1, 2, delivered(ask(1, 1)))
+fn add(alloc: Global, sheet: &mut Sheet, number: u64, did: Did) -> Result<(), NoMemory> {
+    match did {
+        Did::Write(client, block, value) => {
+            sheet.desk(client, number, write(alloc, block, value)?)
         }
-        Written::AskNeverSent => {
-            sheet.desk(1, 0, write(alloc, 0, &[1, 2])?)?;
-            sheet.node(1, 1, delivered(ask(2, 1)))
+        Did::Read(client, block) => {
+            let op = Op::Read { block };
+            sheet.desk(client, number, DeskAct::Start { op })
         }
-        Written::NumberTwice => {
-            sheet.desk(1, 0, write(alloc, 0, &[1, 2])?)?;
-            sheet.node(0, 0, pruned(0))
+        Did::Crash(client) => sheet.desk(client, number, DeskAct::Crash),
+        Did::Meet(client, node, met) => {
+            let act = act_of(ask(client, node), met);
+            sheet.pair(number, way_of(met), &ask(client, node), act)
         }
-        Written::NumberTwiceAtTwoNodes => {
-            sheet.node(0, 5, pruned(0))?;
-            sheet.node(1, 5, pruned(0))
+        Did::Late(client, node, late) => {
+            sheet.node(node, number, late_act(ask(client, node), late))
         }
-        Written::ClientsDescend => sheet.desk(2, 0, DeskAct::Crash),
-        Written::NoSuchBlock => sheet.desk(1, 0, write(alloc, 2, &[1, 2])?),
-        Written::ShortValue => sheet.desk(1, 0, write(alloc, 0, &[1])?),
-        Written::PruneOfNoBlock => sheet.node(0, 0, pruned(2)),
+        Did::Prune(node, block) => sheet.node(node, number, pruned(block)),
     }
 }
 
 /// Whether the journals of a case merge into its lines, or can't be merged where it has none.
 pub fn is_as_told(alloc: Global, case: &Case) -> Result<bool, Unmade> {
-    let clients: &[u32] = match case.writes {
-        Written::ClientsDescend => &[2, 1],
-        _ => &[1, 2, 9],
-    };
-    let mut sheet = Sheet::new(alloc, 5, clients)?;
-    fill(alloc, &mut sheet, case.writes)?;
+    let mut sheet = Sheet::new(alloc, 5, case.clients)?;
+    for (number, did) in case.entries {
+        add(alloc, &mut sheet, *number, *did)?;
+    }
     match (lines_of(alloc, HEAD.as_bytes(), sheet)?, case.lines) {
         (Some(text), Some(lines)) => Ok(text.as_slice() == lines.as_bytes()),
         (None, None) => Ok(true),

@@ -1,11 +1,8 @@
 //! Journals and the lines that they merge into. Journals written by hand show the line of each kind of entry, and which journals
-//! can't be merged. Journals of made-up runs merge into scripts that `replay` takes whole, with the operations that the clients
-//! saw end, and that `check` finds legal.
+//! can't be merged. Journals of runs in threads are merged in cases of `program_tests`.
 #![tactic(auto)]
 
-mod asker;
 mod by_hand;
-mod made_up;
 mod sheet;
 mod told;
 mod unmade;
@@ -25,9 +22,6 @@ fn tell(rt: &HostRuntime, what: &str, outcome: Result<bool, Unmade>) -> io::Resu
 fn main(rt: HostRuntime) -> io::Result<()> {
     for case in &by_hand::CASES {
         tell(&rt, case.name, by_hand::is_as_told(rt.alloc(), case))?;
-    }
-    for run in &made_up::RUNS {
-        tell(&rt, run.name, made_up::is_a_run(rt.alloc(), run))?;
     }
     Ok(())
 }

@@ -11,16 +11,14 @@ use wire_forms::Message;
 /// The journals of nodes and clients so far.
 #[derive(Drop)]
 pub struct Sheet {
-    alloc: Global,
-    pub nodes: Vec<NodeJournal>,
-    pub desks: Vec<DeskJournal>,
+    nodes: Vec<NodeJournal>,
+    desks: Vec<DeskJournal>,
 }
 
 impl Sheet {
     /// Empty journals of so many nodes and of these clients.
     pub fn new(alloc: Global, nodes: u32, clients: &[u32]) -> Result<Sheet, NoMemory> {
         let mut sheet = Sheet {
-            alloc,
             nodes: Vec::new(alloc),
             desks: Vec::new(alloc),
         };
@@ -73,13 +71,13 @@ impl Sheet {
 
     /// The journals of the nodes and of the clients.
     pub fn lists(self) -> (NodeJournals, DeskJournals) {
-        let Sheet { nodes, desks, .. } = self;
+        let Sheet { nodes, desks } = self;
         (ItemList::from_vec(nodes), ItemList::from_vec(desks))
     }
 }
 
-/// What the caller heard of it.
-pub fn reply_in(act: &NodeAct) -> Result<Option<Message>, NoMemory> {
+// What the caller heard of it.
+fn reply_in(act: &NodeAct) -> Result<Option<Message>, NoMemory> {
     match act {
         NodeAct::Answered { reply, .. } | NodeAct::Lied { reply, .. } => Ok(Some(reply.copy()?)),
         _ => Ok(None),

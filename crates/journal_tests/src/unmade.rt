@@ -1,7 +1,6 @@
 use line_forms::ScriptRefusal;
 use lists::NoMemory;
 use std::alloc::AllocError;
-use std::str::Utf8Error;
 
 /// The journals could not be made: no memory was found, or a part of them isn't what it should be.
 #[derive(Clone, Copy, Debug)]
@@ -21,12 +20,6 @@ impl From<AllocError> for Unmade {
 
 impl From<ScriptRefusal> for Unmade {
     fn from(_: ScriptRefusal) -> Unmade {
-        Unmade
-    }
-}
-
-impl From<Utf8Error> for Unmade {
-    fn from(_: Utf8Error) -> Unmade {
         Unmade
     }
 }

@@ -1,15 +1,15 @@
 //! Gates that hold clients.
 
-use client_threads::{Edge, Gate};
+use pasis_shell::{Edge, Gate};
 use std::sync::atomic::{AtomicBool, AtomicU32, Ordering};
 use std::thread;
 
-/// After so many turns a gate gives up.
+// After so many turns a gate gives up.
 const TURNS: u32 = 10_000_000;
 
-/// Something that a client came to, and whether somebody gave up waiting for it.
+// Something that a client came to, and whether somebody gave up waiting for it.
 #[derive(Drop)]
-pub struct Mark {
+struct Mark {
     is_seen: AtomicBool,
     is_given_up: AtomicBool,
 }
@@ -37,40 +37,9 @@ impl Mark {
         self.is_given_up.store(true, Ordering::SeqCst);
     }
 
-    /// Whether it was seen, and by all who waited for it.
-    pub fn is_met(&self) -> bool {
+    // Whether it was seen, and by all who waited for it.
+    fn is_met(&self) -> bool {
         self.is_seen.load(Ordering::SeqCst) && !self.is_given_up.load(Ordering::SeqCst)
-    }
-}
-
-/// Holds each of the two clients at the beginning of its operation until the other begins its own.
-#[derive(Drop)]
-pub struct SideBySide {
-    pub first: Mark,
-    pub second: Mark,
-}
-
-impl SideBySide {
-    pub fn new() -> SideBySide {
-        SideBySide {
-            first: Mark::new(),
-            second: Mark::new(),
-        }
-    }
-}
-
-impl Gate for SideBySide {
-    fn at(&self, client: u32, op: u64, edge: Edge) {
-        if op != 1 || edge != Edge::Begin {
-            return;
-        }
-        let (own, other) = if client == 1 {
-            (&self.first, &self.second)
-        } else {
-            (&self.second, &self.first)
-        };
-        own.see();
-        other.wait();
     }
 }
 
@@ -81,9 +50,9 @@ pub struct InBetween {
     other: u32,
     /// Where client 1 is held: `Locked` where nodes stand under locks, `Taken` where they have threads.
     at: Edge,
-    pub in_hand: Mark,
-    pub beside: Mark,
-    pub ended: Mark,
+    in_hand: Mark,
+    beside: Mark,
+    ended: Mark,
 }
 
 impl InBetween {
@@ -95,6 +64,11 @@ impl InBetween {
             beside: Mark::new(),
             ended: Mark::new(),
         }
+    }
+
+    /// Whether each client came to where the other waited for it, and whether the other had node 1 in hand is as told.
+    pub fn has_held(&self, beside: bool) -> bool {
+        self.in_hand.is_met() && self.ended.is_met() && self.beside.is_met() == beside
     }
 }
 
@@ -118,9 +92,9 @@ impl Gate for InBetween {
 /// ends, and sees which of five nodes were in somebody's hand.
 #[derive(Drop)]
 pub struct AllAtOnce {
-    pub begun: [Mark; 4],
-    pub ended: [AtomicU32; 4],
-    pub locked: [AtomicBool; 5],
+    begun: [Mark; 4],
+    ended: [AtomicU32; 4],
+    locked: [AtomicBool; 5],
 }
 
 impl AllAtOnce {
@@ -141,6 +115,26 @@ impl AllAtOnce {
                 AtomicBool::new(false),
             ],
         }
+    }
+
+    /// Whether all clients were there at once, each ended so many operations, and all nodes were in somebody's hand.
+    pub fn has_held(&self, ops: u32) -> bool {
+        for mark in self.begun.iter() {
+            if !mark.is_met() {
+                return false;
+            }
+        }
+        for count in self.ended.iter() {
+            if count.load(Ordering::SeqCst) != ops {
+                return false;
+            }
+        }
+        for seen in self.locked.iter() {
+            if !seen.load(Ordering::SeqCst) {
+                return false;
+            }
+        }
+        true
     }
 
     // A client begins its first operation.
