@@ -1,8 +1,15 @@
-//! Threads beside one another: crews, whose posts wait for one another or may be worked by any thread, and inboxes, with two
-//! senders and a taker. Tests alone.
+//! Threads beside one another: crews, whose posts wait for one another or may be worked by any thread; inboxes, with two senders and
+//! a taker; numbers that are drawn and receipts that are given; and cells act by act, what they tell and what stands in their
+//! journals. Tests alone.
 #![tactic(auto)]
 
+#[cfg(test)]
+mod acts;
+#[cfg(test)]
+mod clocks;
 #[cfg(test)]
 mod posts;
 #[cfg(test)]
 mod two_senders;
+#[cfg(test)]
+mod vaults;
