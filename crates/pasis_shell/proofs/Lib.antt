@@ -4,3 +4,5 @@ pub mod WellFormed
 mod Legal
 mod Ending
 mod Sessions
+mod RunsOfPlans
+mod Tracing

@@ -1,9 +1,10 @@
-//! What the words of the top call cover. Each law is a function with nothing to do.
-ghost use Rattle.std.specs.Prelude.{◌≡◌, ℕ, List, Option, None};
+//! What the words of the top call and the traces of plans cover. Each law is a function with nothing to do.
+
+ghost use Rattle.std.specs.Prelude.{◌≡◌, ℕ, List, Option, None, ◌≤◌, length, map};
 ghost use Rattle.quorum_rules.specs.Limits.{Numbers};
 ghost use Rattle.wire_forms.specs.Liars.{Liars};
 ghost use Rattle.event_lines.specs.declared.line.ReplayLine.{ReplayLine};
-ghost use Rattle.script_text.specs.Replays.{IsReplay, Spells};
+ghost use Rattle.script_text.specs.Replays.{IsReplay, Spells, event_limit, replay_text};
 ghost use Rattle.script_text.specs.Sum.{IsSum, sum_text};
 ghost use Rattle.script_run.specs.Performing.{CommandQueues, Performs};
 ghost use Rattle.history_entries.specs.Books.{Book};
@@ -20,6 +21,9 @@ ghost use Rattle.plan_text.specs.Plans.{Spells as SpellsPlan};
 ghost use Rattle.command_texts.specs.Texts.{HasFault, IsAccepted};
 ghost use Rattle.call_words.specs.Words.{words_of};
 ghost use Rattle.call_words.specs.declared.words.Serving.{Serving as Servings};
+ghost use Rattle.event_lines.specs.declared.line.ReplayLine.TheVariants.{Plain};
+ghost use Rattle.journals.specs.declared.whole.Journals.{Journals};
+ghost use Rattle.plan_reports.specs.Traces.{TracesPlan};
 
 use call_words::Command;
 
@@ -52,3 +56,15 @@ pub fn replays_are_legal()
         → NoClash (cluster_of r.config r.liars) r.queues.world → Judges text verdict flaw
         → flaw ≡ None }
 {}
+
+/// The script that a trace shows is one that `replay` takes, and it writes the trace's report, where there are no more lines than a
+/// script may have.
+pub fn traces_replay()
+    ensures { (plan : Plan) (journals : Journals) (text : List ℕ)
+        → (t : TracesPlan plan journals text)
+        → length t.run.made.lines ≤ event_limit plan.config
+        → Replays (replay_text plan.config plan.liars (map Plain t.run.made.lines)) t.report }
+{
+    plan_reports::laws::plans_declare();
+    script_text::laws::replays_are_spelled();
+}

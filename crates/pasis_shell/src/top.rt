@@ -12,12 +12,13 @@ ghost use Rattle.command_texts.specs.Texts.{AnswersFor, IsAccepted, IsGiven};
 ghost use Rattle.pasis_shell.specs.Calls.{StopsFor, Ends};
 ghost use Rattle.pasis_shell.specs.Sessions.{Serves};
 
+use crate::planned::text_in_threads;
 use crate::session::serve_device;
 use call_words::{Command, Status, command_of, nbd_of};
+use client_threads::Gate;
 use command_texts::{Answer, text_of};
 use cross_sum::Bytes;
 use outside_io::{LIMIT, Sink, Source, read_all, write_all};
-use plan_commands::{Gate, text_in_threads};
 use std::alloc::Global;
 use std::sync::Wait;
 use std::thread::Threads;

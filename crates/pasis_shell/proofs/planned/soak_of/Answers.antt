@@ -5,8 +5,8 @@ use Rattle.command_texts.specs.Texts.{Refuses}
 use Rattle.call_words.specs.Statuses.{refusal_of_run}
 use Rattle.call_words.specs.declared.words.Command.TheVariants.{Soak}
 use Rattle.call_words.specs.declared.refusal.Refusal.TheVariants.{NoMemory}
-use Rattle.plan_commands.proofs.RunsOfPlans.{soak_refuses, given_on}
-use Rattle.plan_commands.proofs.planned.soak_of.Goals as goal
+use Rattle.pasis_shell.proofs.RunsOfPlans.{soak_refuses, given_on}
+use Rattle.pasis_shell.proofs.planned.soak_of.Goals as goal
 
 pub load_text-requires-clause-run : goal.load_text-requires-clause-run
 load_text-requires-clause-run g c = rw c.count.ensures.count c.in_ok-ran.ensures.followed

@@ -1,7 +1,7 @@
 use Rattle.std.proofs.Common.{List, ℕ, subst, sym}
 use Rattle.command_texts.specs.PlanRuns.{Runs}
-use Rattle.plan_commands.proofs.RunsOfPlans.{is_plan}
-use Rattle.plan_commands.proofs.planned.run_of.Goals as goal
+use Rattle.pasis_shell.proofs.RunsOfPlans.{is_plan}
+use Rattle.pasis_shell.proofs.planned.run_of.Goals as goal
 
 pub run_text-requires : goal.run_text-requires
 run_text-requires g c = rw c.count.ensures.count c.in_ok-ran.ensures.followed

@@ -1,7 +1,7 @@
 use Rattle.std.proofs.Common.{List, ℕ, subst, sym}
 use Rattle.command_texts.specs.PlanRuns.{Traces}
-use Rattle.plan_commands.proofs.RunsOfPlans.{is_plan}
-use Rattle.plan_commands.proofs.planned.trace_of.Goals as goal
+use Rattle.pasis_shell.proofs.RunsOfPlans.{is_plan}
+use Rattle.pasis_shell.proofs.planned.trace_of.Goals as goal
 
 pub trace_text-requires : goal.trace_text-requires
 trace_text-requires g c = (c.in_ok-ran.ran.drawn.count, c.in_ok-ran.ensures.followed)

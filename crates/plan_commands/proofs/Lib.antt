@@ -1,2 +1,0 @@
-mod RunsOfPlans
-mod Tracing
