@@ -14,7 +14,9 @@ use std::io::ErrorKind;
 use std::rt::Files;
 use std::sync::Wait;
 use std::thread::Threads;
-use std::{fmt, fs, io};
+use std::{fs, io, slice};
+
+const LEGAL: &[u8] = b"legal\n";
 
 // What came of an example.
 #[derive(Clone, Copy)]
@@ -30,30 +32,16 @@ enum Outcome {
     OtherPicture,
 }
 
-impl fmt::Display for Outcome {
-    fn fmt<W: fmt::Write>(&self, f: &mut fmt::Formatter<W>) -> fmt::Result {
+impl Outcome {
+    fn text(self) -> &'static str {
         match self {
-            Outcome::Ok => write!(f, "ok"),
-            Outcome::Differs => write!(f, "differs"),
-            Outcome::Illegal => write!(f, "illegal"),
-            Outcome::OtherReport => write!(f, "other report"),
-            Outcome::OtherPicture => write!(f, "other picture"),
+            Outcome::Ok => "ok",
+            Outcome::Differs => "differs",
+            Outcome::Illegal => "illegal",
+            Outcome::OtherReport => "other report",
+            Outcome::OtherPicture => "other picture",
         }
     }
-}
-
-fn shared(text: Vec<u8>) -> io::Result<Bytes> {
-    Bytes::shared(text).map_err(|_| io::Error::from(ErrorKind::OutOfMemory))
-}
-
-// How a command ends that is given a text, and the sink that it writes to.
-fn answered(alloc: Global, word: &str, text: Vec<u8>) -> io::Result<(Status, MemorySink)> {
-    let mut words = Vec::new(alloc);
-    words.push(String::from_str(alloc, word)?)?;
-    let mut source = MemorySource::new(shared(text)?, 4096, Calls::new(alloc));
-    let mut sink = MemorySink::new(alloc, 4096, Calls::new(alloc));
-    let status = alone(alloc, words.as_slice(), &mut source, &mut sink);
-    Ok((status.unwrap_or(Status::BadWords), sink))
 }
 
 fn file_of(rt: &(impl Files + AllocGlobal), name: &str, ending: &str) -> io::Result<Vec<u8>> {
@@ -61,140 +49,200 @@ fn file_of(rt: &(impl Files + AllocGlobal), name: &str, ending: &str) -> io::Res
     fs::read(rt, path.as_str())
 }
 
-fn replayed(rt: &HostRuntime, name: &str) -> io::Result<Outcome> {
-    let (status, written) = answered(rt.alloc(), "replay", file_of(rt, name, "txt")?)?;
-    let report = file_of(rt, name, "out")?;
-    if !status.is_done() || written.taken() != report.as_slice() {
-        return Ok(Outcome::Differs);
+fn source_of(alloc: Global, text: &[u8]) -> io::Result<MemorySource> {
+    match Bytes::of(alloc, text) {
+        Ok(bytes) => Ok(MemorySource::new(bytes, 4096, Calls::new(alloc))),
+        Err(_) => Err(io::Error::from(ErrorKind::OutOfMemory)),
     }
-    let (status, verdict) = answered(rt.alloc(), "check", report)?;
-    if !status.is_done() || verdict.taken() != b"legal\n".as_slice() {
-        return Ok(Outcome::Illegal);
-    }
-    if !is_pictured(rt, name)? {
-        return Ok(Outcome::OtherPicture);
-    }
-    Ok(Outcome::Ok)
 }
 
-// Whether the picture beside a script is the one that is drawn.
-fn is_pictured(rt: &HostRuntime, name: &str) -> io::Result<bool> {
-    let script = shared(file_of(rt, name, "txt")?)?;
-    let mut source = MemorySource::new(script, 4096, Calls::new(rt.alloc()));
-    let mut sink = MemorySink::new(rt.alloc(), 4096, Calls::new(rt.alloc()));
-    let status = draw(rt.alloc(), &mut source, &mut sink);
-    let picture = file_of(rt, name, "svg")?;
-    let is_drawn = status.is_done();
-    Ok(is_drawn && sink.taken() == picture.as_slice())
+fn has_number(status: &Option<Status>, number: u8) -> bool {
+    match status {
+        Some(status) => status.number() == number,
+        None => false,
+    }
 }
 
-fn checked(rt: &HostRuntime, name: &str) -> io::Result<Outcome> {
-    let (status, written) = answered(rt.alloc(), "check", file_of(rt, name, "report")?)?;
-    let verdict = file_of(rt, name, "verdict")?;
-    let number = if verdict.as_slice() == b"legal\n".as_slice() {
-        0
+// Whether a command that is given a text ends with this number, and writes just this.
+fn ends(alloc: Global, command: &str, text: &[u8], number: u8, written: &[u8]) -> io::Result<bool> {
+    let word = String::from_str(alloc, command)?;
+    let mut source = source_of(alloc, text)?;
+    let mut sink = MemorySink::new(alloc, 4096, Calls::new(alloc));
+    let status = alone(alloc, slice::from_ref(&word), &mut source, &mut sink);
+    Ok(has_number(&status, number) && sink.taken() == written)
+}
+
+fn replays(alloc: Global, script: &[u8], report: &[u8]) -> io::Result<bool> {
+    ends(alloc, "replay", script, 0, report)
+}
+
+fn is_legal(alloc: Global, report: &[u8]) -> io::Result<bool> {
+    ends(alloc, "check", report, 0, LEGAL)
+}
+
+// Whether the picture of a script is this one.
+fn draws(alloc: Global, script: &[u8], picture: &[u8]) -> io::Result<bool> {
+    let mut source = source_of(alloc, script)?;
+    let mut sink = MemorySink::new(alloc, 4096, Calls::new(alloc));
+    let status = draw(alloc, &mut source, &mut sink);
+    Ok(status.is_done() && sink.taken() == picture)
+}
+
+// A script is replayed and drawn.
+fn of_script(alloc: Global, script: &[u8], report: &[u8], picture: &[u8]) -> io::Result<Outcome> {
+    if !replays(alloc, script, report)? {
+        Ok(Outcome::Differs)
+    } else if !is_legal(alloc, report)? {
+        Ok(Outcome::Illegal)
+    } else if !draws(alloc, script, picture)? {
+        Ok(Outcome::OtherPicture)
     } else {
-        1
-    };
-    if written.taken() == verdict.as_slice() && status.number() == number {
+        Ok(Outcome::Ok)
+    }
+}
+
+fn replayed(rt: &(impl Files + AllocGlobal), name: &str) -> io::Result<Outcome> {
+    let script = file_of(rt, name, "txt")?;
+    let report = file_of(rt, name, "out")?;
+    let picture = file_of(rt, name, "svg")?;
+    of_script(
+        rt.alloc(),
+        script.as_slice(),
+        report.as_slice(),
+        picture.as_slice(),
+    )
+}
+
+// A report is checked.
+fn of_report(alloc: Global, report: &[u8], verdict: &[u8]) -> io::Result<Outcome> {
+    let number = if verdict == LEGAL { 0 } else { 1 };
+    if ends(alloc, "check", report, number, verdict)? {
         Ok(Outcome::Ok)
     } else {
         Ok(Outcome::Differs)
     }
 }
 
-// The trace of a plan, if it was run.
-fn trace_of<R: Threads + Wait + Sync>(
-    rt: &R,
-    alloc: Global,
-    plan: Vec<u8>,
-) -> io::Result<Option<String>> {
-    let mut words = Vec::new(alloc);
-    words.push(String::from_str(alloc, "trace")?)?;
-    let mut source = MemorySource::new(shared(plan)?, 4096, Calls::new(alloc));
-    let mut sink = MemorySink::new(alloc, 4096, Calls::new(alloc));
+fn checked(rt: &(impl Files + AllocGlobal), name: &str) -> io::Result<Outcome> {
+    let report = file_of(rt, name, "report")?;
+    let verdict = file_of(rt, name, "verdict")?;
+    of_report(rt.alloc(), report.as_slice(), verdict.as_slice())
+}
+
+// The script of a trace, and its report, which stands after the line `report`.
+fn parts_of(trace: &[u8]) -> Option<(&[u8], &[u8])> {
+    let (front, report) = str::from_utf8(trace).ok()?.split_once("\nreport\n")?;
+    // The script has the newline too.
+    Some((trace.get(..=front.len())?, report.as_bytes()))
+}
+
+// A trace shows a script and its report.
+fn of_trace(alloc: Global, trace: &[u8]) -> io::Result<Outcome> {
+    let Some((script, report)) = parts_of(trace) else {
+        return Ok(Outcome::Differs);
+    };
+    if !replays(alloc, script, report)? {
+        Ok(Outcome::OtherReport)
+    } else if !is_legal(alloc, report)? {
+        Ok(Outcome::Illegal)
+    } else {
+        Ok(Outcome::Ok)
+    }
+}
+
+// Whether a trace is the one that lies beside its plan, where one does.
+fn is_kept(rt: &(impl Files + AllocGlobal), name: &str, trace: &[u8]) -> io::Result<bool> {
+    match file_of(rt, name, "trace") {
+        Ok(kept) => Ok(kept.as_slice() == trace),
+        Err(error) if error.kind() == ErrorKind::NotFound => Ok(true),
+        Err(error) => Err(error),
+    }
+}
+
+fn planned(rt: &(impl Files + AllocGlobal), name: &str) -> io::Result<MemorySource> {
+    let plan = file_of(rt, name, "plan")?;
+    source_of(rt.alloc(), plan.as_slice())
+}
+
+// What a run shows that ended so.
+fn shown(
+    rt: &(impl Files + AllocGlobal),
+    name: &str,
+    status: &Status,
+    trace: &[u8],
+) -> io::Result<Outcome> {
+    if status.is_done() && is_kept(rt, name, trace)? {
+        of_trace(rt.alloc(), trace)
+    } else {
+        Ok(Outcome::Differs)
+    }
+}
+
+// A plan is run, whose trace is the one that lies beside it if the run is the same each time.
+fn ran<R: Files + AllocGlobal + Threads + Wait + Sync>(rt: &R, name: &str) -> io::Result<Outcome> {
+    let mut source = planned(rt, name)?;
+    let word = String::from_str(rt.alloc(), "trace")?;
+    let mut sink = MemorySink::new(rt.alloc(), 4096, Calls::new(rt.alloc()));
     let status = pasis(
         rt,
-        alloc,
-        words.as_slice(),
+        rt.alloc(),
+        slice::from_ref(&word),
         &mut source,
         &mut sink,
         &OpenGate,
     );
-    match str::from_utf8(sink.taken()) {
-        Ok(trace) if status.is_done() => Ok(Some(String::from_str(alloc, trace)?)),
+    shown(rt, name, &status, sink.taken())
+}
+
+// What comes of an example, if the file is one.
+fn outcome_of<R: Files + AllocGlobal + Threads + Wait + Sync>(
+    rt: &R,
+    name: &str,
+    ending: &str,
+) -> io::Result<Option<Outcome>> {
+    match ending {
+        "txt" => Ok(Some(replayed(rt, name)?)),
+        "report" => Ok(Some(checked(rt, name)?)),
+        "plan" => Ok(Some(ran(rt, name)?)),
         _ => Ok(None),
     }
 }
 
-// What a trace shows: a script, the line `report`, and a report.
-fn shown(alloc: Global, trace: &str) -> io::Result<Outcome> {
-    let Some((front, report)) = trace.split_once("\nreport\n") else {
-        return Ok(Outcome::Differs);
-    };
-    let mut script = Vec::from_slice(alloc, front.as_bytes())?;
-    script.push(b'\n')?;
-    let (status, written) = answered(alloc, "replay", script)?;
-    if !status.is_done() || written.taken() != report.as_bytes() {
-        return Ok(Outcome::OtherReport);
-    }
-    let report = Vec::from_slice(alloc, report.as_bytes())?;
-    let (status, verdict) = answered(alloc, "check", report)?;
-    if !status.is_done() || verdict.taken() != b"legal\n".as_slice() {
-        return Ok(Outcome::Illegal);
-    }
-    Ok(Outcome::Ok)
-}
-
-// A plan is run, whose trace is the one that lies beside it if the run is the same each time.
-fn ran<R: Files + AllocGlobal + Threads + Wait + Sync>(
+fn tell<R: Files + Print + AllocGlobal + Threads + Wait + Sync>(
     rt: &R,
-    name: &str,
-    is_fixed: bool,
-) -> io::Result<Outcome> {
-    let alloc = rt.alloc();
-    let Some(trace) = trace_of(rt, alloc, file_of(rt, name, "plan")?)? else {
-        return Ok(Outcome::Differs);
-    };
-    if is_fixed && file_of(rt, name, "trace")?.as_slice() != trace.as_bytes() {
-        return Ok(Outcome::Differs);
+    file: &str,
+) -> io::Result<()> {
+    let (name, ending) = file.rsplit_once('.').unwrap_or((file, ""));
+    match outcome_of(rt, name, ending)? {
+        Some(outcome) => println!(rt; "{name} {}", outcome.text()),
+        None => Ok(()),
     }
-    shown(alloc, trace.as_str())
 }
 
-// Whether there is a file of this name and ending.
-fn has_file(files: &[String], name: &str, ending: &str) -> bool {
-    files
-        .iter()
-        .any(|file| file.strip_suffix(ending) == Some(name))
+fn add_name(names: &mut Vec<String>, alloc: Global, name: &str) -> io::Result<()> {
+    names.push(String::from_str(alloc, name)?)?;
+    Ok(())
+}
+
+fn add_files(rt: &HostRuntime, names: &mut Vec<String>) -> io::Result<()> {
+    for entry in fs::read_dir(rt, ".")? {
+        let entry = entry?;
+        add_name(names, rt.alloc(), entry.file_name())?;
+    }
+    Ok(())
 }
 
 // The names of the files, in order.
 fn files(rt: &HostRuntime) -> io::Result<Vec<String>> {
     let mut names = Vec::new(rt.alloc());
-    for entry in fs::read_dir(rt, ".")? {
-        names.push(String::from_str(rt.alloc(), entry?.file_name())?)?;
-    }
+    add_files(rt, &mut names)?;
     names.sort()?;
     Ok(names)
 }
 
 fn main(rt: HostRuntime) -> io::Result<()> {
-    let files = files(&rt)?;
-    for file in &files {
-        if let Some(name) = file.strip_suffix(".txt") {
-            let outcome = replayed(&rt, name)?;
-            println!(rt; "{name} {outcome}")?;
-        }
-        if let Some(name) = file.strip_suffix(".report") {
-            let outcome = checked(&rt, name)?;
-            println!(rt; "{name} {outcome}")?;
-        }
-        if let Some(name) = file.strip_suffix(".plan") {
-            let is_fixed = has_file(files.as_slice(), name, ".trace");
-            let outcome = ran(&rt, name, is_fixed)?;
-            println!(rt; "{name} {outcome}")?;
-        }
+    for file in &files(&rt)? {
+        tell(&rt, file.as_str())?;
     }
     Ok(())
 }

@@ -43,7 +43,7 @@ fn below(random: &mut Pcg32, limit: u32) -> u32 {
     random.next_word() % limit.max(1)
 }
 
-// One in twenty is no request, one in ten has a flag, and one in fifty leaves.
+// One in sixty is no request, one in ten has a flag, and one in fifty leaves.
 fn push_request(stream: &mut Vec<u8>, random: &mut Pcg32, size: u32) -> Result<(), Unmade> {
     let magic: [u8; 4] = if below(random, 60) == 0 {
         [0x25, 0x60, 0x95, 0x14]

@@ -88,6 +88,34 @@ impl Gate for InBetween {
     }
 }
 
+fn are_met(marks: &[Mark]) -> bool {
+    for mark in marks {
+        if !mark.is_met() {
+            return false;
+        }
+    }
+    true
+}
+
+// Whether each client has ended so many operations.
+fn have_ended(counts: &[AtomicU32], ops: u32) -> bool {
+    for count in counts {
+        if count.load(Ordering::SeqCst) != ops {
+            return false;
+        }
+    }
+    true
+}
+
+fn are_seen(nodes: &[AtomicBool]) -> bool {
+    for seen in nodes {
+        if !seen.load(Ordering::SeqCst) {
+            return false;
+        }
+    }
+    true
+}
+
 /// Holds each of four clients at the beginning of its first operation until all four are there, counts the operations that each
 /// ends, and sees which of five nodes were in somebody's hand.
 #[derive(Drop)]
@@ -119,22 +147,7 @@ impl AllAtOnce {
 
     /// Whether all clients were there at once, each ended so many operations, and all nodes were in somebody's hand.
     pub fn has_held(&self, ops: u32) -> bool {
-        for mark in self.begun.iter() {
-            if !mark.is_met() {
-                return false;
-            }
-        }
-        for count in self.ended.iter() {
-            if count.load(Ordering::SeqCst) != ops {
-                return false;
-            }
-        }
-        for seen in self.locked.iter() {
-            if !seen.load(Ordering::SeqCst) {
-                return false;
-            }
-        }
-        true
+        are_met(&self.begun) && have_ended(&self.ended, ops) && are_seen(&self.locked)
     }
 
     // A client begins its first operation.

@@ -2,7 +2,7 @@
 //! and all nodes are asked.
 
 use crate::gates::AllAtOnce;
-use crate::runs::ran;
+use crate::runs::writes;
 use std::alloc::Global;
 use std::io;
 use std::sync::Wait;
@@ -16,7 +16,6 @@ const LINE: &str =
 /// Whether a load's line is as it must be, and its clients ran.
 pub fn has_run<R: Threads + Wait + Sync>(rt: &R, alloc: Global) -> io::Result<bool> {
     let gate = AllAtOnce::new();
-    let (status, sink) = ran(rt, alloc, "soak 7", "", &gate)?;
-    let is_told = sink.taken() == LINE.as_bytes();
-    Ok(is_told && status.is_done() && gate.has_held(50))
+    let is_told = writes(rt, alloc, "soak 7", "", LINE, &gate)?;
+    Ok(is_told && gate.has_held(50))
 }

@@ -10,11 +10,8 @@ mod runs;
 use std::io;
 
 fn tell(rt: &HostRuntime, what: &str, holds: bool) -> io::Result<()> {
-    if holds {
-        println!(rt; "{what}: ok")
-    } else {
-        println!(rt; "{what}: otherwise")
-    }
+    let outcome = if holds { "ok" } else { "otherwise" };
+    println!(rt; "{what}: {outcome}")
 }
 
 fn main(rt: HostRuntime) -> io::Result<()> {

@@ -2,7 +2,7 @@
 //! the first and the second of client 1.
 
 use crate::gates::InBetween;
-use crate::runs::ran;
+use crate::runs::writes;
 use pasis_shell::Edge;
 use std::alloc::Global;
 use std::io;
@@ -79,7 +79,6 @@ pub const ORDERS: [Order; 3] = [
 /// Whether the clients came to where the gate holds them, and the report is that of the order.
 pub fn is_kept<R: Threads + Wait + Sync>(rt: &R, alloc: Global, order: &Order) -> io::Result<bool> {
     let gate = InBetween::new(order.other, order.at);
-    let (status, sink) = ran(rt, alloc, order.command, order.plan, &gate)?;
-    let is_told = sink.taken() == order.report.as_bytes();
-    Ok(is_told && status.is_done() && gate.has_held(order.beside))
+    let is_told = writes(rt, alloc, order.command, order.plan, order.report, &gate)?;
+    Ok(is_told && gate.has_held(order.beside))
 }

@@ -31,6 +31,16 @@ pub struct Pace {
     pub failing: Option<u64>,
 }
 
+impl Pace {
+    /// The same, but that this call fails.
+    pub fn failing_at(self, call: u64) -> Pace {
+        Pace {
+            most: self.most,
+            failing: Some(call),
+        }
+    }
+}
+
 /// How many operations have ended, and how many are pending.
 #[derive(Clone, Copy)]
 pub struct Ended {
@@ -53,8 +63,8 @@ pub struct Case {
     pub status: u8,
     /// How the last line that is written begins, where that is all that is compared.
     pub end: Option<String>,
-    /// How many lines begin so.
-    pub counts: Vec<(usize, String)>,
+    /// How many lines begin so: `N TEXT`.
+    pub counts: Vec<String>,
     /// What is written is a trace, whose script replays to its report.
     pub replays: bool,
     /// What is written is a trace, whose report is legal.
@@ -69,7 +79,8 @@ pub struct Case {
     pub is_readable: bool,
 }
 
-const WIDE: Pace = Pace {
+/// All at once, and no call fails.
+pub const WIDE: Pace = Pace {
     most: 4096,
     failing: None,
 };
@@ -104,29 +115,36 @@ impl Case {
     }
 
     fn add(&mut self, alloc: Global, line: &str) -> io::Result<()> {
-        match line.split_once(' ') {
-            Some(("words", words)) => self.add_words(alloc, words)?,
-            Some(("reads", pace)) => self.reads = pace_of(pace),
-            Some(("writes", pace)) => self.writes = pace_of(pace),
-            Some(("status", number)) => self.status = number.parse().unwrap_or(u8::MAX),
-            Some(("each", "call fails")) => self.fails_in_turn = true,
-            Some(("ends", text)) => self.end = Some(String::from_str(alloc, text)?),
-            Some(("has", count)) => self.add_count(alloc, count)?,
-            Some(("ended", counts)) => self.ended = Some(ended_of(counts)),
-            Some(("times", number)) => self.set_times(number),
-            Some(("!", text)) => add_line(&mut self.told, text)?,
-            Some((mark, text)) => self.add_text(mark, text)?,
-            None => self.add_bare(line)?,
+        let Some((mark, text)) = line.split_once(' ') else {
+            return self.add_bare(line);
+        };
+        if self.set(mark, text) {
+            Ok(())
+        } else {
+            self.add_text(alloc, mark, text)
         }
-        Ok(())
     }
 
-    // How many lines begin with a text.
-    fn add_count(&mut self, alloc: Global, count: &str) -> io::Result<()> {
-        let (number, text) = count.split_once(' ').unwrap_or((count, ""));
-        let number = number.parse().unwrap_or(usize::MAX);
-        self.counts.push((number, String::from_str(alloc, text)?))?;
-        Ok(())
+    // Sets what isn't text, if the mark is one of such. Whether it is.
+    fn set(&mut self, mark: &str, text: &str) -> bool {
+        match mark {
+            "reads" => self.reads = pace_of(text),
+            "writes" => self.writes = pace_of(text),
+            "status" => self.status = text.parse().unwrap_or(u8::MAX),
+            "ended" => self.ended = Some(ended_of(text)),
+            "times" => self.set_times(text),
+            "each" => self.set_each(text),
+            _ => return false,
+        }
+        true
+    }
+
+    fn set_each(&mut self, text: &str) {
+        if text == "call fails" {
+            self.fails_in_turn = true;
+        } else {
+            self.is_readable = false;
+        }
     }
 
     fn set_times(&mut self, number: &str) {
@@ -150,11 +168,32 @@ impl Case {
                 self.is_legal = true;
                 Ok(())
             }
-            _ => self.add_text(line, ""),
+            _ => self.add_lines(line, ""),
         }
     }
 
-    fn add_text(&mut self, mark: &str, text: &str) -> io::Result<()> {
+    fn add_text(&mut self, alloc: Global, mark: &str, text: &str) -> io::Result<()> {
+        match mark {
+            "words" => self.add_words(alloc, text),
+            "ends" => self.set_end(alloc, text),
+            "has" => self.add_count(alloc, text),
+            "!" => add_line(&mut self.told, text),
+            _ => self.add_lines(mark, text),
+        }
+    }
+
+    fn set_end(&mut self, alloc: Global, text: &str) -> io::Result<()> {
+        self.end = Some(String::from_str(alloc, text)?);
+        Ok(())
+    }
+
+    fn add_count(&mut self, alloc: Global, count: &str) -> io::Result<()> {
+        self.counts.push(String::from_str(alloc, count)?)?;
+        Ok(())
+    }
+
+    // A line of the input or of the output.
+    fn add_lines(&mut self, mark: &str, text: &str) -> io::Result<()> {
         if let Some(count) = mark.strip_prefix("<") {
             add_lines(&mut self.input, count, text)
         } else if let Some(count) = mark.strip_prefix(">") {
@@ -174,16 +213,18 @@ fn pace_of(text: &str) -> Pace {
     }
 }
 
-fn number_at(text: &str, place: usize) -> Option<u64> {
-    text.split(' ').nth(place)?.parse().ok()
+/// The number that follows the name in the field at a place.
+pub fn number_at(line: &str, place: usize, name: &str) -> Option<u64> {
+    let field = line.split(' ').nth(place)?;
+    field.strip_prefix(name)?.parse().ok()
 }
 
 // Where a number is missing, no report has such counts.
 fn ended_of(text: &str) -> Ended {
     Ended {
-        least: number_at(text, 0).unwrap_or(u64::MAX),
-        most: number_at(text, 1).unwrap_or(0),
-        pending: number_at(text, 2).unwrap_or(0),
+        least: number_at(text, 0, "").unwrap_or(u64::MAX),
+        most: number_at(text, 1, "").unwrap_or(0),
+        pending: number_at(text, 2, "").unwrap_or(0),
     }
 }
 
@@ -224,15 +265,21 @@ fn add_line_or_range(bytes: &mut Vec<u8>, line: &str) -> io::Result<()> {
     Ok(())
 }
 
+// A line of a file, which begins a case or is one of the last case's.
+fn add_to(cases: &mut Vec<Case>, alloc: Global, line: &str) -> io::Result<()> {
+    if let Some(name) = line.strip_prefix("# ") {
+        cases.push(Case::new(alloc, name)?)?;
+    } else if let Some(case) = cases.last_mut() {
+        case.add(alloc, line)?;
+    }
+    Ok(())
+}
+
 /// The cases of a file.
 pub fn cases_of(alloc: Global, text: &str) -> io::Result<Vec<Case>> {
     let mut cases = Vec::new(alloc);
     for line in text.lines() {
-        if let Some(name) = line.strip_prefix("# ") {
-            cases.push(Case::new(alloc, name)?)?;
-        } else if let Some(case) = cases.last_mut() {
-            case.add(alloc, line)?;
-        }
+        add_to(&mut cases, alloc, line)?;
     }
     Ok(cases)
 }

@@ -7,35 +7,38 @@ mod case;
 mod outcome;
 
 use case::{Case, cases_of};
-use outcome::{outcome_of, tells_faults};
+use outcome::{difference, tells_faults};
+use std::alloc::Global;
 use std::rt::Files;
 use std::sync::Wait;
 use std::thread::Threads;
 use std::{fs, io};
 
-fn run<R: Files + Print + AllocGlobal + Threads + Wait + Sync>(
+fn tell(rt: &impl Print, file: &str, case: &Case, what: &str) -> io::Result<()> {
+    println!(rt; "{file}: {}: {what}", case.name)
+}
+
+fn run<R: Print + AllocGlobal + Threads + Wait + Sync>(
     rt: &R,
     file: &str,
     case: &Case,
 ) -> io::Result<()> {
-    let outcome = outcome_of(rt, rt.alloc(), case)?;
-    if let Some(difference) = outcome.difference(rt.alloc(), case)? {
-        println!(rt; "{file}: {}: {difference} differs", case.name)?;
+    if let Some(what) = difference(rt, rt.alloc(), case)? {
+        tell(rt, file, case, what)?;
     }
-    if !tells_faults(rt, rt.alloc(), case)? {
-        println!(rt; "{file}: {}: a fault isn't told", case.name)?;
+    if tells_faults(rt, rt.alloc(), case)? {
+        Ok(())
+    } else {
+        tell(rt, file, case, "a fault isn't told")
     }
-    Ok(())
 }
 
-fn run_file<R: Files + Print + AllocGlobal + Threads + Wait + Sync>(
+fn run_all<R: Print + AllocGlobal + Threads + Wait + Sync>(
     rt: &R,
     file: &str,
-    path: &str,
+    cases: &[Case],
 ) -> io::Result<()> {
-    let text = fs::read_to_string(rt, path)?;
-    let cases = cases_of(rt.alloc(), text.as_str())?;
-    for case in &cases {
+    for case in cases {
         for _ in 0..case.times {
             run(rt, file, case)?;
         }
@@ -43,21 +46,46 @@ fn run_file<R: Files + Print + AllocGlobal + Threads + Wait + Sync>(
     println!(rt; "{file}: {} cases", cases.len())
 }
 
+fn read_cases(rt: &(impl Files + AllocGlobal), path: &str) -> io::Result<Vec<Case>> {
+    let text = fs::read_to_string(rt, path)?;
+    cases_of(rt.alloc(), text.as_str())
+}
+
+fn run_file<R: Files + Print + AllocGlobal + Threads + Wait + Sync>(
+    rt: &R,
+    path: &str,
+) -> io::Result<()> {
+    let Some(file) = path.strip_suffix(".cases") else {
+        return Ok(());
+    };
+    let cases = read_cases(rt, path)?;
+    run_all(rt, file, cases.as_slice())
+}
+
+fn add_name(names: &mut Vec<String>, alloc: Global, name: &str) -> io::Result<()> {
+    names.push(String::from_str(alloc, name)?)?;
+    Ok(())
+}
+
+fn add_files(rt: &HostRuntime, names: &mut Vec<String>) -> io::Result<()> {
+    for entry in fs::read_dir(rt, ".")? {
+        let entry = entry?;
+        add_name(names, rt.alloc(), entry.file_name())?;
+    }
+    Ok(())
+}
+
 // The names of the files, in order.
 fn files(rt: &HostRuntime) -> io::Result<Vec<String>> {
     let mut names = Vec::new(rt.alloc());
-    for entry in fs::read_dir(rt, ".")? {
-        names.push(String::from_str(rt.alloc(), entry?.file_name())?)?;
-    }
+    add_files(rt, &mut names)?;
     names.sort()?;
     Ok(names)
 }
 
 fn main(rt: HostRuntime) -> io::Result<()> {
     for path in &files(&rt)? {
-        if let Some(file) = path.strip_suffix(".cases") {
-            run_file(&rt, file, path.as_str())?;
-        }
+        run_file(&rt, path.as_str())?;
     }
     Ok(())
 }

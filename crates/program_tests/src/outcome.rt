@@ -1,22 +1,18 @@
 //! What comes of a case.
 
-use crate::case::{Case, Ended, Pace};
+use crate::case::{Case, Ended, Pace, WIDE, number_at};
 use cross_sum::Bytes;
 use lists::NoMemory;
 use outside_io::{Calls, MemorySink, MemorySource};
 use pasis_shell::{OpenGate, Status, alone, pasis};
 use std::alloc::Global;
-use std::io;
 use std::io::ErrorKind;
 use std::sync::Wait;
 use std::thread::Threads;
+use std::{io, slice};
 
-/// How a case ended, what was written, and what stands on standard error.
-#[derive(Drop)]
-pub struct Outcome {
-    status: Status,
-    sink: MemorySink,
-    told: Vec<u8>,
+fn error_of(_: NoMemory) -> io::Error {
+    io::Error::from(ErrorKind::OutOfMemory)
 }
 
 fn calls_of(alloc: Global, pace: Pace) -> io::Result<Calls> {
@@ -27,93 +23,102 @@ fn calls_of(alloc: Global, pace: Pace) -> io::Result<Calls> {
     Ok(calls)
 }
 
-fn error_of(_: NoMemory) -> io::Error {
-    io::Error::from(ErrorKind::OutOfMemory)
+fn source_of(alloc: Global, input: &[u8], pace: Pace) -> io::Result<MemorySource> {
+    let calls = calls_of(alloc, pace)?;
+    match Bytes::of(alloc, input) {
+        Ok(bytes) => Ok(MemorySource::new(bytes, pace.most.max(1), calls)),
+        Err(error) => Err(error_of(error)),
+    }
 }
 
-/// Runs a case.
-pub fn outcome_of<R: Threads + Wait + Sync>(
-    rt: &R,
-    alloc: Global,
-    case: &Case,
-) -> io::Result<Outcome> {
-    paced(rt, alloc, case, case.reads, case.writes)
+fn sink_of(alloc: Global, pace: Pace) -> io::Result<MemorySink> {
+    Ok(MemorySink::new(alloc, pace.most.max(1), calls_of(alloc, pace)?))
 }
 
-// Runs a case with other calls that fail.
-fn paced<R: Threads + Wait + Sync>(
+// Runs a case, whose source reads so, with a sink.
+fn status_of<R: Threads + Wait + Sync>(
     rt: &R,
     alloc: Global,
     case: &Case,
     reads: Pace,
-    writes: Pace,
-) -> io::Result<Outcome> {
-    let input = Bytes::of(alloc, case.input.as_slice()).map_err(error_of)?;
-    let mut source = MemorySource::new(input, reads.most.max(1), calls_of(alloc, reads)?);
-    let mut sink = MemorySink::new(alloc, writes.most.max(1), calls_of(alloc, writes)?);
-    let words = case.words.as_slice();
-    let status = pasis(rt, alloc, words, &mut source, &mut sink, &OpenGate);
-    let mut told = Vec::new(alloc);
-    status.tell(&mut told)?;
-    Ok(Outcome { status, sink, told })
+    sink: &mut MemorySink,
+) -> io::Result<Status> {
+    let mut source = source_of(alloc, case.input.as_slice(), reads)?;
+    Ok(pasis(
+        rt,
+        alloc,
+        case.words.as_slice(),
+        &mut source,
+        sink,
+        &OpenGate,
+    ))
+}
+
+// Which calls fail in turn.
+#[derive(Clone, Copy)]
+enum Side {
+    Source,
+    Sink,
+}
+
+// What comes of a call that is to fail.
+#[derive(Clone, Copy)]
+enum Fault {
+    // The status tells it.
+    Told,
+    // Another call was the last one, and all went well.
+    None,
+    Untold,
+}
+
+// A read fault, at which nothing is written, or a write fault, at which a beginning of the output is.
+fn fault_of(case: &Case, side: Side, status: &Status, written: &[u8]) -> Fault {
+    match (side, status) {
+        (Side::Source, Status::ReadFault) if written.is_empty() => Fault::Told,
+        (Side::Sink, Status::WriteFault) if case.output.starts_with(written) => Fault::Told,
+        (_, Status::Done) => Fault::None,
+        _ => Fault::Untold,
+    }
+}
+
+// Runs a case with this call failing.
+fn fault_at<R: Threads + Wait + Sync>(
+    rt: &R,
+    alloc: Global,
+    case: &Case,
+    side: Side,
+    call: u64,
+) -> io::Result<Fault> {
+    let (reads, writes) = match side {
+        Side::Source => (case.reads.failing_at(call), case.writes),
+        Side::Sink => (case.reads, case.writes.failing_at(call)),
+    };
+    let mut sink = sink_of(alloc, writes)?;
+    let status = status_of(rt, alloc, case, reads, &mut sink)?;
+    Ok(fault_of(case, side, &status, sink.taken()))
 }
 
 // No case has so many calls.
 const CALLS: u64 = 10_000;
 
-// Whether each call of the source that fails is a read fault, at which nothing is written.
-fn tells_read_faults<R: Threads + Wait + Sync>(
+// Whether each call of one side that fails is told. After the last call none fails.
+fn tells_faults_of<R: Threads + Wait + Sync>(
     rt: &R,
     alloc: Global,
     case: &Case,
+    side: Side,
 ) -> io::Result<bool> {
     for call in 0..CALLS {
-        let failing = Some(call);
-        let outcome = paced(
-            rt,
-            alloc,
-            case,
-            Pace {
-                failing,
-                ..case.reads
-            },
-            case.writes,
-        )?;
-        match outcome.status {
-            Status::ReadFault if outcome.sink.taken().is_empty() => {}
-            status => return Ok(status.is_done() && 0 < call),
+        match fault_at(rt, alloc, case, side, call)? {
+            Fault::Told => {}
+            Fault::None => return Ok(0 < call),
+            Fault::Untold => return Ok(false),
         }
     }
     Ok(false)
 }
 
-// Whether each call of the sink that fails is a write fault, at which a beginning of the output is written.
-fn tells_write_faults<R: Threads + Wait + Sync>(
-    rt: &R,
-    alloc: Global,
-    case: &Case,
-) -> io::Result<bool> {
-    for call in 0..CALLS {
-        let failing = Some(call);
-        let outcome = paced(
-            rt,
-            alloc,
-            case,
-            case.reads,
-            Pace {
-                failing,
-                ..case.writes
-            },
-        )?;
-        match outcome.status {
-            Status::WriteFault if case.output.starts_with(outcome.sink.taken()) => {}
-            status => return Ok(status.is_done() && 0 < call),
-        }
-    }
-    Ok(false)
-}
-
-/// Whether each fault of a case whose calls fail in turn is told. After the last call none fails.
+/// Whether each fault of a case whose calls fail in turn is told.
 pub fn tells_faults<R: Threads + Wait + Sync>(
     rt: &R,
     alloc: Global,
@@ -121,116 +126,144 @@ pub fn tells_faults<R: Threads + Wait + Sync>(
 ) -> io::Result<bool> {
     Ok(
         !case.fails_in_turn
-            || tells_read_faults(rt, alloc, case)? && tells_write_faults(rt, alloc, case)?,
+            || tells_faults_of(rt, alloc, case, Side::Source)?
+                && tells_faults_of(rt, alloc, case, Side::Sink)?,
     )
 }
 
-// What stands before the line `report`, and what stands after it.
-fn parts_of(trace: &str) -> Option<(&str, &str)> {
+// The script of a trace, and its report, which stands after the line `report`.
+fn parts_of(trace: &str) -> Option<(&[u8], &[u8])> {
     let (front, report) = trace.split_once("\nreport\n")?;
-    Some((front, report))
+    // The script has the newline too.
+    Some((trace.as_bytes().get(..=front.len())?, report.as_bytes()))
+}
+
+fn is_done(status: &Option<Status>) -> bool {
+    match status {
+        Some(status) => status.is_done(),
+        None => false,
+    }
 }
 
 // Whether a command that runs no threads ends well on a text, and writes just this.
-fn writes(alloc: Global, command: &str, text: Vec<u8>, output: &str) -> io::Result<bool> {
-    let input = Bytes::shared(text).map_err(error_of)?;
-    let mut words = Vec::new(alloc);
-    words.push(String::from_str(alloc, command)?)?;
-    let mut source = MemorySource::new(input, 4096, Calls::new(alloc));
-    let mut sink = MemorySink::new(alloc, 4096, Calls::new(alloc));
-    let Some(status) = alone(alloc, words.as_slice(), &mut source, &mut sink) else {
-        return Ok(false);
-    };
-    Ok(status.is_done() && sink.taken() == output.as_bytes())
-}
-
-// Whether the script of a trace replays to its report.
-fn replays(alloc: Global, trace: &str) -> io::Result<bool> {
-    let Some((front, report)) = parts_of(trace) else {
-        return Ok(false);
-    };
-    let mut script = Vec::from_slice(alloc, front.as_bytes())?;
-    script.push(b'\n')?;
-    writes(alloc, "replay", script, report)
-}
-
-// Whether the report of a trace is legal.
-fn is_legal(alloc: Global, trace: &str) -> io::Result<bool> {
-    let Some((_, report)) = parts_of(trace) else {
-        return Ok(false);
-    };
-    let report = Vec::from_slice(alloc, report.as_bytes())?;
-    writes(alloc, "check", report, "legal\n")
-}
-
-// The number of a field NAME=NUMBER.
-fn number_of(field: Option<&str>, name: &str) -> Option<u64> {
-    field?.strip_prefix(name)?.strip_prefix('=')?.parse().ok()
-}
-
-// How many operations the last line of a report counts that were done, that were spent and that are pending.
-fn counts_of(line: &str) -> Option<(u64, u64, u64)> {
-    let mut fields = line.strip_prefix("end ")?.split(' ');
-    let done = number_of(fields.next(), "done")?;
-    let spent = number_of(fields.next(), "spent")?;
-    Some((done, spent, number_of(fields.next(), "pending")?))
-}
-
-// Whether the last line of a report counts as many operations as must have ended.
-fn counts(line: &str, wanted: &Ended) -> bool {
-    counts_of(line).is_some_and(|(done, spent, pending)| {
-        let ended = done.saturating_add(spent);
-        wanted.least <= ended
-            && ended.saturating_add(pending) <= wanted.most
-            && pending <= wanted.pending
-    })
-}
-
-// Whether so many of the lines begin so.
-fn has(text: &str, count: usize, front: &str) -> bool {
-    text.lines().filter(|line| line.starts_with(front)).count() == count
+fn writes(alloc: Global, command: &str, text: &[u8], output: &[u8]) -> io::Result<bool> {
+    let word = String::from_str(alloc, command)?;
+    let mut source = source_of(alloc, text, WIDE)?;
+    let mut sink = sink_of(alloc, WIDE)?;
+    let status = alone(alloc, slice::from_ref(&word), &mut source, &mut sink);
+    Ok(is_done(&status) && sink.taken() == output)
 }
 
 // Whether what was written is a trace such as the case says.
 fn is_traced(alloc: Global, case: &Case, text: &str) -> io::Result<bool> {
-    Ok((!case.replays || replays(alloc, text)?) && (!case.is_legal || is_legal(alloc, text)?))
-}
-
-// Whether the lines are such as the case says, which compares not all of them.
-fn are_lines(case: &Case, text: &str, end: &str) -> bool {
-    let last = text.lines().last().unwrap_or("");
-    last.starts_with(end)
-        && case.ended.is_none_or(|wanted| counts(last, &wanted))
-        && case
-            .counts
-            .iter()
-            .all(|(count, front)| has(text, *count, front.as_str()))
-}
-
-impl Outcome {
-    // Whether what was written is what the case says of it.
-    fn is_written(&self, alloc: Global, case: &Case) -> io::Result<bool> {
-        let Some(end) = &case.end else {
-            return Ok(self.sink.taken() == case.output.as_slice());
-        };
-        let Ok(text) = str::from_utf8(self.sink.taken()) else {
-            return Ok(false);
-        };
-        Ok(are_lines(case, text, end.as_str()) && is_traced(alloc, case, text)?)
+    if !case.replays && !case.is_legal {
+        return Ok(true);
     }
+    let Some((script, report)) = parts_of(text) else {
+        return Ok(false);
+    };
+    Ok(
+        (!case.replays || writes(alloc, "replay", script, report)?)
+            && (!case.is_legal || writes(alloc, "check", report, b"legal\n")?),
+    )
+}
 
-    /// What is otherwise than the case says, if anything is.
-    pub fn difference(&self, alloc: Global, case: &Case) -> io::Result<Option<&'static str>> {
-        if !case.is_readable {
-            Ok(Some("a line of the case"))
-        } else if self.status.number() != case.status {
-            Ok(Some("the status"))
-        } else if self.told.as_slice() != case.told.as_slice() {
-            Ok(Some("the line on standard error"))
-        } else if !self.is_written(alloc, case)? {
-            Ok(Some("the output"))
-        } else {
-            Ok(None)
+// Whether the last line of a report counts as many operations as must have ended.
+fn counts(line: &str, wanted: &Ended) -> bool {
+    let (Some(done), Some(spent), Some(pending)) = (
+        number_at(line, 1, "done="),
+        number_at(line, 2, "spent="),
+        number_at(line, 3, "pending="),
+    ) else {
+        return false;
+    };
+    let ended = done.saturating_add(spent);
+    line.starts_with("end ")
+        && wanted.least <= ended
+        && ended.saturating_add(pending) <= wanted.most
+        && pending <= wanted.pending
+}
+
+// How many of the lines begin so.
+fn number_with(text: &str, front: &str) -> usize {
+    let mut found = 0usize;
+    for line in text.lines() {
+        if line.starts_with(front) {
+            found = found.saturating_add(1);
         }
     }
+    found
+}
+
+// Whether so many of the lines begin as a count N TEXT says.
+fn has(text: &str, count: &str) -> bool {
+    let (number, front) = count.split_once(' ').unwrap_or((count, ""));
+    number_with(text, front) == number.parse().unwrap_or(usize::MAX)
+}
+
+fn has_counts(case: &Case, text: &str) -> bool {
+    for count in &case.counts {
+        if !has(text, count.as_str()) {
+            return false;
+        }
+    }
+    true
+}
+
+// Whether the last line is such as the case says.
+fn is_last(case: &Case, line: &str, end: &str) -> bool {
+    match &case.ended {
+        Some(wanted) => line.starts_with(end) && counts(line, wanted),
+        None => line.starts_with(end),
+    }
+}
+
+// Whether what was written is what the case says of it.
+fn is_written(alloc: Global, case: &Case, written: &[u8]) -> io::Result<bool> {
+    let Some(end) = &case.end else {
+        return Ok(written == case.output.as_slice());
+    };
+    let Ok(text) = str::from_utf8(written) else {
+        return Ok(false);
+    };
+    let last = text.lines().last().unwrap_or("");
+    Ok(is_last(case, last, end.as_str()) && has_counts(case, text) && is_traced(alloc, case, text)?)
+}
+
+// Whether a status stands on standard error as the case says.
+fn is_told(alloc: Global, case: &Case, status: &Status) -> io::Result<bool> {
+    let mut told = Vec::new(alloc);
+    status.tell(&mut told)?;
+    Ok(told.as_slice() == case.told.as_slice())
+}
+
+// What is otherwise than the case says, if anything is.
+fn compared(
+    alloc: Global,
+    case: &Case,
+    status: &Status,
+    written: &[u8],
+) -> io::Result<Option<&'static str>> {
+    if !case.is_readable {
+        Ok(Some("a line of the case differs"))
+    } else if status.number() != case.status {
+        Ok(Some("the status differs"))
+    } else if !is_told(alloc, case, status)? {
+        Ok(Some("the line on standard error differs"))
+    } else if !is_written(alloc, case, written)? {
+        Ok(Some("the output differs"))
+    } else {
+        Ok(None)
+    }
+}
+
+/// Runs a case. What is otherwise than it says, if anything is.
+pub fn difference<R: Threads + Wait + Sync>(
+    rt: &R,
+    alloc: Global,
+    case: &Case,
+) -> io::Result<Option<&'static str>> {
+    let mut sink = sink_of(alloc, case.writes)?;
+    let status = status_of(rt, alloc, case, case.reads, &mut sink)?;
+    compared(alloc, case, &status, sink.taken())
 }

@@ -1,4 +1,5 @@
-ghost use Rattle.std.specs.Prelude.{◌≡◌};
+ghost use Rattle.std.specs.Prelude.{◌≡◌, ◌-◌, ◌<◌, ◌^◌};
+ghost use Rattle.protocol.specs.Seen.{phase_of};
 ghost use Rattle.quorum_rules.specs.Faults.{numbers};
 ghost use Rattle.quorum_rules.specs.declared.Edition.TheVariants.{One};
 
@@ -12,16 +13,15 @@ use std::process::Abort;
 use wire_forms::{Body, Message, Op, Reply, Tag};
 
 // What a message does to a client, or would do.
-#[derive(Clone, Copy, PartialEq, Eq)]
+#[derive(Clone, Copy)]
 enum Said {
     Unchanged,
     More,
     Sends,
-    Ends,
 }
 
-// Three nodes, none of which is faulty; one block of two bytes, whole at each node.
-fn cluster(rt: &impl Abort) -> Config
+/// Three nodes, none of which is faulty; one block of two bytes, whole at each node.
+pub fn cluster(rt: &impl Abort) -> Config
     ensures { result ≡ numbers One 3 0 0 2 1 2 1 }
 {
     Config::new(3, 0, 0, 2, 1, 2, 1).expect(rt, "valid")
@@ -32,27 +32,29 @@ fn writing(rt: &impl Abort, alloc: Global) -> Client {
     let value = Bytes::of(alloc, &[1, 0]).expect(rt, "memory");
     assert!(rt; value.len() == 2);
     let mut client = Client::new(alloc, &cluster(rt), 7).expect(rt, "memory");
-    let write = Op::Write { block: 0, value };
-    let asks = client.start(&write).expect(rt, "memory");
-    assert!(rt; asks.len() == 3 && client.ops() == 1);
+    let asks = client
+        .start(&Op::Write { block: 0, value })
+        .expect(rt, "memory")
+        .len();
+    assert!(rt; asks == 3 && client.ops() == 1);
     client
 }
 
-fn said_by(heard: &Heard) -> Said {
+fn is_said(heard: &Heard, said: Said) -> bool {
     match heard {
-        Heard::Unchanged => Said::Unchanged,
-        Heard::More => Said::More,
-        Heard::Send(_) => Said::Sends,
-        Heard::Ended(_) => Said::Ends,
+        Heard::Unchanged => matches!(said, Said::Unchanged),
+        Heard::More => matches!(said, Said::More),
+        Heard::Send(_) => matches!(said, Said::Sends),
+        Heard::Ended(_) => false,
     }
 }
 
-fn would_say(step: &Step) -> Said {
+fn would_say(step: &Step, said: Said) -> bool {
     match step {
-        Step::Ignored => Said::Unchanged,
-        Step::Counts { .. } => Said::More,
-        Step::EndsPhase(PhaseEnd::Begins(..)) => Said::Sends,
-        Step::EndsPhase(PhaseEnd::Ends(_)) => Said::Ends,
+        Step::Ignored => matches!(said, Said::Unchanged),
+        Step::Counts { .. } => matches!(said, Said::More),
+        Step::EndsPhase(PhaseEnd::Begins(..)) => matches!(said, Said::Sends),
+        Step::EndsPhase(PhaseEnd::Ends(_)) => false,
     }
 }
 
@@ -75,20 +77,37 @@ fn state(client: &Client) -> (u64, [bool; 3]) {
     (client.phase(), answered)
 }
 
-// What a node's time, addressed to this client, would do, and what it then does.
-fn prepared(rt: &impl Abort, client: &mut Client, to: u32, node: u8) -> (Said, Said) {
-    let message = answer(client, to, node, 1, Reply::TimeIs(4));
-    assert!(rt; client.phase() < u64::MAX);
+// Whether a message would do this, and nothing is done yet.
+fn prepares(client: &Client, message: &Message, said: Said) -> bool
+    requires { phase_of client.now.seen.task < 2 ^ 64 - 1 }
+{
     let before = state(client);
-    let would = would_say(&client.prepare(&message).expect(rt, "memory"));
-    assert!(rt; state(client) == before);
-    (would, said_by(&client.hear(&message).expect(rt, "memory")))
+    match client.prepare(message) {
+        Ok(step) => would_say(&step, said) && state(client) == before,
+        Err(_) => false,
+    }
 }
 
-// A copy of a client at work hears times: one that is another client's, one of a node that there isn't, and three that count.
-#[test]
-fn prepares_what_is_then_done(rt: HostRuntime) {
-    let mut client = writing(&rt, rt.alloc()).copy().expect(&rt, "memory");
+// Whether a message does this.
+fn hears(client: &mut Client, message: &Message, said: Said) -> bool
+    requires { phase_of client.old.seen.task < 2 ^ 64 - 1 }
+{
+    match client.hear(message) {
+        Ok(heard) => is_said(&heard, said),
+        Err(_) => false,
+    }
+}
+
+// Whether a node's time, addressed to this client, would do this, and then does it.
+fn is_prepared(client: &mut Client, to: u32, node: u8, said: Said) -> bool {
+    if client.phase() == u64::MAX {
+        return false;
+    }
+    let message = answer(client, to, node, 1, Reply::TimeIs(4));
+    prepares(client, &message, said) && hears(client, &message, said)
+}
+
+fn are_prepared(client: &mut Client) -> bool {
     for (to, node, said) in [
         (8, 0, Said::Unchanged),
         (7, 3, Said::Unchanged),
@@ -96,7 +115,16 @@ fn prepares_what_is_then_done(rt: HostRuntime) {
         (7, 1, Said::More),
         (7, 2, Said::Sends),
     ] {
-        assert!(rt; prepared(&rt, &mut client, to, node) == (said, said));
+        if !is_prepared(client, to, node, said) {
+            return false;
+        }
     }
-    assert!(rt; matches!(client.outstanding(3), Ok(None)));
+    matches!(client.outstanding(3), Ok(None))
+}
+
+// A copy of a client at work hears times: one that is another client's, one of a node that there isn't, and three that count.
+#[test]
+fn prepares_what_is_then_done(rt: HostRuntime) {
+    let mut client = writing(&rt, rt.alloc()).copy().expect(&rt, "memory");
+    assert!(rt; are_prepared(&mut client));
 }

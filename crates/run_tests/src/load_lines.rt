@@ -1,22 +1,24 @@
 //! Operations as the lines of a plan's text.
 
-use cross_sum::sha;
+use cross_sum::{Hash, sha};
 use lists::NoMemory;
 use plan_words::Job;
 use std::alloc::Global;
 use text_lines::Text;
 use wire_forms::Op;
 
-/// The hexadecimal digest of the lines of a plan's operations.
-pub fn work_digest(alloc: Global, work: &[Job]) -> Result<Text, NoMemory> {
+/// The digest of the lines of a plan's operations.
+pub fn work_digest(alloc: Global, work: &[Job]) -> Result<Hash, NoMemory> {
     let mut lines = Text::new(alloc);
     for job in work {
-        add_job(&mut lines, job)?;
-        lines.add_newline()?;
+        add_line(&mut lines, job)?;
     }
-    let mut digest = Text::new(alloc);
-    digest.add_hex(&sha(lines.as_slice()))?;
-    Ok(digest)
+    Ok(sha(lines.as_slice()))
+}
+
+fn add_line(text: &mut Text, job: &Job) -> Result<(), NoMemory> {
+    add_job(text, job)?;
+    text.add_newline()
 }
 
 fn add_job(text: &mut Text, job: &Job) -> Result<(), NoMemory> {

@@ -7,7 +7,6 @@ use quorum_rules::Config;
 use stamp_order::{Bound, Stamp};
 use std::alloc::Global;
 use std::process::Abort;
-use std::test::Fail;
 use wire_forms::{Ask, First, Reason, Reply, Request, Version};
 
 // What a node replies.
@@ -40,8 +39,8 @@ fn sound(time: u64) -> Draft {
     }
 }
 
-// Five nodes, one of which may lie; blocks of two bytes in two fragments of one; two blocks.
-fn cluster(rt: &impl Abort) -> Config {
+/// Five nodes, one of which may lie; blocks of two bytes in two fragments of one; two blocks.
+pub fn cluster(rt: &impl Abort) -> Config {
     Config::new(5, 1, 1, 3, 2, 2, 2).expect(rt, "valid")
 }
 
@@ -105,20 +104,18 @@ fn read(node: &Node, block: u32, bound: Bound) -> Result<Said, NoMemory> {
     Ok(said_by(&node.reply_to(&ask)?))
 }
 
-// Whether the versions of block 0 have these times, in order of acceptance.
-fn has_times(node: &Node, times: &[u64]) -> Result<bool, NoMemory>
+// Whether block 0 has two versions of these times, in order of acceptance.
+fn has_times(node: &Node, first: u64, second: u64) -> bool
     requires { 0 < node.now.config.blocks }
 {
-    let stamps = node.versions(0)?;
-    Ok(are_at(stamps.as_slice(), times))
+    match node.versions(0) {
+        Ok(stamps) => are_at(stamps.as_slice(), first, second),
+        Err(_) => false,
+    }
 }
 
-fn are_at(stamps: &[Stamp], times: &[u64]) -> bool {
-    stamps.len() == times.len()
-        && stamps
-            .iter()
-            .zip(times)
-            .all(|(stamp, time)| stamp.time == *time)
+fn are_at(stamps: &[Stamp], first: u64, second: u64) -> bool {
+    stamps.len() == 2 && stamps[0].time == first && stamps[1].time == second
 }
 
 // Node 0, which keeps the first version alone.
@@ -128,9 +125,7 @@ fn new_node(rt: &impl Abort, alloc: Global) -> Node
     Node::new(alloc, &cluster(rt), 0).expect(rt, "memory")
 }
 
-#[test]
-fn refuses_by_the_first_fault(rt: HostRuntime) {
-    let mut node = new_node(&rt, rt.alloc());
+fn refuses_all(alloc: Global, node: &mut Node) -> bool {
     for (block, time, digests, is_verified, byte, reason) in [
         (2, 0, 4, true, 7, Reason::BadBlock),
         (0, 0, 4, true, 7, Reason::BadLength),
@@ -144,9 +139,22 @@ fn refuses_by_the_first_fault(rt: HostRuntime) {
             is_verified,
             byte,
         };
-        let said = written(rt.alloc(), &mut node, block, draft);
-        assert!(rt; said == Ok(Said::Refuses(reason)));
+        if written(alloc, node, block, draft) != Ok(Said::Refuses(reason)) {
+            return false;
+        }
     }
+    true
+}
+
+#[test]
+fn refuses_by_the_first_fault(rt: HostRuntime) {
+    let mut node = new_node(&rt, rt.alloc());
+    assert!(rt; refuses_all(rt.alloc(), &mut node));
+}
+
+fn finds(node: &Node, first: Stamp) -> bool {
+    read(node, 0, Bound::Below(first)) == Ok(Said::Nothing)
+        && read(node, 1, Bound::All) == Ok(Said::Found(first))
 }
 
 #[test]
@@ -154,27 +162,32 @@ fn finds_nothing_below_the_first_version(rt: HostRuntime) {
     let first = First::of(rt.alloc(), &cluster(&rt))
         .expect(&rt, "memory")
         .stamp;
-    let node = new_node(&rt, rt.alloc());
-    assert!(rt; read(&node, 0, Bound::Below(first)) == Ok(Said::Nothing));
-    assert!(rt; read(&node, 1, Bound::All) == Ok(Said::Found(first)));
+    assert!(rt; finds(&new_node(&rt, rt.alloc()), first));
 }
 
-// Whether the node acknowledges a write of this time at block 0.
-fn is_written(alloc: Global, node: &mut Node, time: u64) -> bool
+// Whether the node acknowledges a write of time 3 at block 0.
+fn is_written(alloc: Global, node: &mut Node) -> bool
     ensures { node.new.config ≡ node.old.config }
 {
-    written(alloc, node, 0, sound(time)) == Ok(Said::Acknowledges)
+    written(alloc, node, 0, sound(3)) == Ok(Said::Acknowledges)
+}
+
+// Whether a version that is written twice is kept once.
+fn keeps_one(alloc: Global, node: &mut Node, stamp: &Stamp) -> bool
+    requires { 0 < node.old.config.blocks }
+{
+    let is_new = !node.keeps(0, stamp);
+    let is_written_twice = is_written(alloc, node) && is_written(alloc, node);
+    is_new
+        && is_written_twice
+        && node.keeps(0, stamp)
+        && has_times(node, 0, 3)
+        && node.greatest_time(0) == 3
 }
 
 #[test]
-fn keeps_one_version_of_a_stamp(rt: HostRuntime) -> Result<(), Fail> {
-    let stamp = stamp_of(rt.alloc(), sound(3))?;
+fn keeps_one_version_of_a_stamp(rt: HostRuntime) {
+    let stamp = stamp_of(rt.alloc(), sound(3)).expect(&rt, "memory");
     let mut node = new_node(&rt, rt.alloc());
-    assert!(rt; !node.keeps(0, &stamp));
-    assert!(rt; is_written(rt.alloc(), &mut node, 3));
-    assert!(rt; is_written(rt.alloc(), &mut node, 3));
-    assert!(rt; node.keeps(0, &stamp));
-    assert!(rt; has_times(&node, &[0, 3]) == Ok(true));
-    assert!(rt; node.greatest_time(0) == 3);
-    Ok(())
+    assert!(rt; keeps_one(rt.alloc(), &mut node, &stamp));
 }

@@ -1,4 +1,4 @@
-use quorum_rules::Config;
+use crate::nodes::cluster;
 use read_core::{Reader, Reading};
 use std::alloc::Global;
 use std::process::Abort;
@@ -11,11 +11,6 @@ enum Said {
     // The answers of the nodes 0, 2 and 3 aren't valid.
     Outvoted,
     Other,
-}
-
-// Five nodes, one of which may lie; blocks of two bytes in two fragments of one; two blocks.
-fn cluster(rt: &impl Abort) -> Config {
-    Config::new(5, 1, 1, 3, 2, 2, 2).expect(rt, "valid")
 }
 
 // A read that has asked five nodes.
@@ -63,13 +58,17 @@ fn heard_first(rt: &impl Abort, alloc: Global, reader: &mut Reader, node: u8) ->
     heard(rt, reader, node, &found)
 }
 
+fn is_outvoted(rt: &impl Abort, alloc: Global, reader: &mut Reader) -> bool {
+    heard_first(rt, alloc, reader, 1) == Said::More
+        && heard_nothing(rt, reader, 0) == Said::More
+        && heard_nothing(rt, reader, 2) == Said::More
+        && heard_nothing(rt, reader, 3) == Said::Outvoted
+        && reader.is_over()
+}
+
 // Only node 1 finds a version.
 #[test]
 fn too_few_valid_answers_outvote_a_read(rt: HostRuntime) {
     let mut reader = begun(&rt, rt.alloc());
-    assert!(rt; heard_first(&rt, rt.alloc(), &mut reader, 1) == Said::More);
-    for (node, said) in [(0, Said::More), (2, Said::More), (3, Said::Outvoted)] {
-        assert!(rt; heard_nothing(&rt, &mut reader, node) == said);
-    }
-    assert!(rt; reader.is_over());
+    assert!(rt; is_outvoted(&rt, rt.alloc(), &mut reader));
 }

@@ -1,6 +1,6 @@
+use crate::nodes::cluster;
 use cross_sum::Bytes;
 use lists::Copied;
-use quorum_rules::Config;
 use std::alloc::Global;
 use std::process::Abort;
 use wire_forms::{Reply, Tag};
@@ -20,11 +20,6 @@ enum Said {
     Spent,
     // The write was over before.
     Nothing,
-}
-
-// Five nodes, one of which may be faulty and lie; blocks of two bytes in two fragments of one; two blocks.
-fn cluster(rt: &impl Abort) -> Config {
-    Config::new(5, 1, 1, 3, 2, 2, 2).expect(rt, "valid")
 }
 
 // A write that has asked five nodes for their times.
@@ -78,14 +73,21 @@ fn storing(rt: &impl Abort, alloc: Global) -> Writer {
     writer
 }
 
+// Whether the fourth acknowledgement ends the write.
+fn is_stored_at_four(rt: &impl Abort, writer: &mut Writer) -> bool {
+    for node in 0..3u8 {
+        if acked(rt, writer, node) != Said::More {
+            return false;
+        }
+    }
+    writer.has_answered(2)
+        && !writer.has_answered(4)
+        && matches!(writer.outstanding(4), Ok(Some(_)))
+        && acked(rt, writer, 4) == Said::Wrote { time: 5, client: 7 }
+}
+
 #[test]
 fn is_stored_at_four_acknowledgements(rt: HostRuntime) {
     let mut copy = storing(&rt, rt.alloc()).copy().expect(&rt, "memory");
-    for node in 0..3u8 {
-        assert!(rt; acked(&rt, &mut copy, node) == Said::More);
-    }
-    assert!(rt; copy.has_answered(2) && !copy.has_answered(4));
-    assert!(rt; matches!(copy.outstanding(4), Ok(Some(_))));
-    let stored = Said::Wrote { time: 5, client: 7 };
-    assert!(rt; acked(&rt, &mut copy, 4) == stored);
+    assert!(rt; is_stored_at_four(&rt, &mut copy));
 }

@@ -2,42 +2,28 @@ ghost use Rattle.std.specs.Prelude.{◌≡◌, ◌+◌, ◌≤◌, [], ◌∷◌
 ghost use Rattle.event_clock.specs.Views.{IsDrawnOnce};
 ghost use Rattle.event_clock.specs.Passes.{left_of};
 
-use event_clock::{Clock, Drawn, Pass, Passes};
+use crate::pairs::{list_of, pair_of};
+use event_clock::{Clock, Drawn, Pass};
 use lists::NoMemory;
 use std::alloc::Global;
 use std::test::Fail;
 use std::thread::{Threads, join};
 
-// A clock, and its two passes.
-fn clock_of_two(alloc: Global) -> Result<(Clock, Pass, Pass), NoMemory>
+/// A clock, and its two passes.
+pub fn clock_of_two(alloc: Global) -> Result<(Clock, Pass, Pass), NoMemory>
     ensures passes { IfOk result (λ r. r.0.passes ≡ 2) }
-    ensures first { IfOk result (λ r. (r.1.clock ≡ r.0) × (r.1.number ≡ 0) × (r.1.drawn ≡ [])) }
-    ensures second { IfOk result (λ r. (r.2.clock ≡ r.0) × (r.2.number ≡ 1) × (r.2.drawn ≡ [])) }
+    ensures first { IfOk result (λ r. (r.1.clock ≡ r.0) × (r.1.drawn ≡ [])) }
+    ensures second { IfOk result (λ r. (r.2.clock ≡ r.0) × (r.2.drawn ≡ [])) }
 {
-    let (clock, mut passes) = Clock::start(alloc, 2)?;
-    let Some(second) = passes.pop() else {
-        unreachable!()
-    };
-    let Some(first) = passes.pop() else {
-        unreachable!()
-    };
+    let (clock, passes) = Clock::start(alloc, 2)?;
+    let (first, second) = pair_of(passes);
     Ok((clock, first, second))
-}
-
-fn both(alloc: Global, first: Pass, second: Pass) -> Result<Passes, NoMemory>
-    ensures { IfOk result (λ passes. passes ≡ first ∷ second ∷ []) }
-{
-    let mut passes = Passes::new(alloc);
-    passes.push(first)?;
-    passes.push(second)?;
-    Ok(passes)
 }
 
 fn draw_many(clock: &Clock, mut pass: Pass, times: u32) -> Pass
     requires own { pass.clock ≡ clock.now }
     requires left { times ≤ left_of pass }
     ensures own { result.clock ≡ pass.clock }
-    ensures number { result.number ≡ pass.number }
     ensures drawn { length result.drawn ≡ length pass.drawn + times }
 {
     for _ in 0..times {
@@ -57,23 +43,34 @@ fn draw_side_by_side<R: Threads + Sync>(rt: &R, alloc: Global) -> Result<Drawn, 
         || draw_many(&clock, first, 1000),
         || draw_many(&clock, second, 1000),
     );
-    Ok(clock.close(both(alloc, first, second)?))
+    Ok(clock.close(list_of(alloc, first, second)?))
 }
 
 #[test]
 fn two_threads_draw(rt: HostRuntime) -> Result<(), Fail> {
-    let drawn = draw_side_by_side(&rt, rt.alloc())?;
-    assert_eq!(rt; drawn.count(), 2000);
+    let count = draw_side_by_side(&rt, rt.alloc())?.count();
+    assert!(rt; count == 2000);
     Ok(())
 }
 
+// Whether a note of a pass that drew one number lets the other pass see that number.
+fn heeds(clock: &Clock, first: &mut Pass, second: &mut Pass) -> bool
+    requires first { (first.old.clock ≡ clock.now) × (first.old.drawn ≡ []) }
+    requires second { second.old.clock ≡ clock.now }
+{
+    clock.draw(first);
+    let note = clock.note(first);
+    let is_before = first.seen() == 1 && second.seen() == 0;
+    clock.heed(second, note);
+    is_before && second.seen() == 1
+}
+
+fn note_is_heeded(alloc: Global) -> Result<bool, NoMemory> {
+    let (clock, mut first, mut second) = clock_of_two(alloc)?;
+    Ok(heeds(&clock, &mut first, &mut second))
+}
+
 #[test]
-fn a_note_is_heeded(rt: HostRuntime) -> Result<(), Fail> {
-    let (clock, mut first, mut second) = clock_of_two(rt.alloc())?;
-    clock.draw(&mut first);
-    let note = clock.note(&mut first);
-    assert!(rt; first.seen() == 1 && second.seen() == 0);
-    clock.heed(&mut second, note);
-    assert_eq!(rt; second.seen(), 1);
-    Ok(())
+fn a_note_is_heeded(rt: HostRuntime) {
+    assert!(rt; note_is_heeded(rt.alloc()) == Ok(true));
 }

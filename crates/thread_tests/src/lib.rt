@@ -8,6 +8,8 @@ mod acts;
 #[cfg(test)]
 mod clocks;
 #[cfg(test)]
+mod pairs;
+#[cfg(test)]
 mod posts;
 #[cfg(test)]
 mod two_senders;

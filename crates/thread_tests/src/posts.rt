@@ -24,13 +24,21 @@ fn posts_of(alloc: Global, count: u32) -> Result<Vec<Post>, NoMemory>
     Ok(posts)
 }
 
-// Whether these are all posts in order, each worked so often.
-fn are_worked(posts: &[Post], count: usize, rounds: u32) -> bool {
+// Whether these are all posts in order, each worked once.
+fn are_worked(posts: Vec<Post>, count: usize) -> bool {
     let mut fit = posts.len() == count;
     for i in 0..posts.len() {
-        fit = fit && posts[i].number as usize == i && posts[i].rounds == rounds;
+        fit = fit && posts[i].number as usize == i && posts[i].rounds == 1;
     }
     fit
+}
+
+// Whether there was a thread for each post, and each was worked once.
+fn are_all_worked(started: Started<Post>, count: usize) -> bool {
+    match started {
+        Started::Whole(posts) => are_worked(posts, count),
+        Started::Nobody(_) => false,
+    }
 }
 
 // Whoever works at a post waits until all others do.
@@ -74,23 +82,16 @@ fn posts_that_wait_for_one_another_end(rt: HostRuntime) -> Result<(), Fail> {
     let crew = Meeting {
         all: Barrier::new(3),
     };
-    match each_at_once(&rt, rt.alloc(), &OpenGate, &crew, posts)? {
-        Started::Whole(posts) => assert!(&rt; are_worked(posts.as_slice(), 3, 1)),
-        Started::Nobody(posts) => {
-            assert!(&rt; are_worked(posts.as_slice(), 3, 0));
-            return Err(Fail::new("a thread couldn't be made"));
-        }
-    }
+    let started = each_at_once(&rt, rt.alloc(), &OpenGate, &crew, posts)?;
+    assert!(&rt; are_all_worked(started, 3));
     Ok(())
 }
 
 #[test]
 fn no_post_is_a_crew_too(rt: HostRuntime) -> Result<(), Fail> {
     let posts = posts_of(rt.alloc(), 0)?;
-    match each_at_once(&rt, rt.alloc(), &OpenGate, &Alone, posts)? {
-        Started::Whole(posts) => assert!(&rt; posts.is_empty()),
-        Started::Nobody(_) => return Err(Fail::new("no thread was wanted")),
-    }
+    let started = each_at_once(&rt, rt.alloc(), &OpenGate, &Alone, posts)?;
+    assert!(&rt; are_all_worked(started, 0));
     Ok(())
 }
 
@@ -98,6 +99,6 @@ fn no_post_is_a_crew_too(rt: HostRuntime) -> Result<(), Fail> {
 fn each_post_is_worked_once(rt: HostRuntime) -> Result<(), Fail> {
     let mut posts = posts_of(rt.alloc(), 5)?;
     each(&rt, &OpenGate, &Alone, posts.as_mut_slice());
-    assert!(&rt; are_worked(posts.as_slice(), 5, 1));
+    assert!(&rt; are_worked(posts, 5));
     Ok(())
 }

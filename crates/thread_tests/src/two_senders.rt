@@ -1,9 +1,10 @@
 ghost use Rattle.std.specs.Prelude.{◌≡◌, [], ◌∷◌, map, IfOk, OnOk, ⊤};
 ghost use Rattle.std.specs.List.{range_with_len};
 ghost use Rattle.std.specs.Thread.{IsSync};
-ghost use Rattle.inboxes.specs.Sides.{took, items_from, IsDone};
+ghost use Rattle.inboxes.specs.Sides.{new_putter, took, items_from, IsDone};
 
-use inboxes::{Inbox, Mail, Putter, Sent, Sents, Taker, settle};
+use crate::pairs::{list_of, pair_of};
+use inboxes::{Inbox, Mail, Putter, Sent, Taker, settle};
 use lists::NoMemory;
 use std::alloc::Global;
 use std::sync::Wait;
@@ -44,7 +45,6 @@ fn take_all<R: Wait>(
 ) -> (Taker<Number>, Result<Taken, NoMemory>)
     requires { taker.heard ≡ [] }
     ensures inbox { result.0.inbox ≡ taker.inbox }
-    ensures senders { result.0.senders ≡ taker.senders }
     ensures done { IsDone result.0 }
     ensures items { IfOk result.1 (λ v. v.items ≡ took result.0) }
 {
@@ -64,28 +64,13 @@ fn inbox_of_two<R: Wait>(
     rt: &R,
     alloc: Global,
 ) -> Result<(Taker<Number>, Putter<Number>, Putter<Number>), NoMemory>
-    ensures taker { IfOk result (λ r. (r.0.senders ≡ 2) × (r.0.heard ≡ [])) }
-    ensures inboxes { IfOk result (λ r. (r.1.inbox ≡ r.0.inbox) × (r.2.inbox ≡ r.0.inbox)) }
-    ensures numbers { IfOk result (λ r. (r.1.number ≡ 0) × (r.2.number ≡ 1)) }
-    ensures put { IfOk result (λ r. (r.1.put ≡ []) × (r.2.put ≡ [])) }
+    ensures taker { IfOk result (λ r. r.0.heard ≡ []) }
+    ensures first { IfOk result (λ r. r.1 ≡ new_putter r.0.inbox 0) }
+    ensures second { IfOk result (λ r. r.2 ≡ new_putter r.0.inbox 1) }
 {
-    let (taker, mut putters) = Inbox::open::<Number, R>(rt, alloc, 4, 2, &())?;
-    let Some(second) = putters.pop() else {
-        unreachable!()
-    };
-    let Some(first) = putters.pop() else {
-        unreachable!()
-    };
+    let (taker, putters) = Inbox::open::<Number, R>(rt, alloc, 4, 2, &())?;
+    let (first, second) = pair_of(putters);
     Ok((taker, first, second))
-}
-
-fn both(alloc: Global, one: Sent<Number>, two: Sent<Number>) -> Result<Sents<Number>, NoMemory>
-    ensures { IfOk result (λ sents. sents ≡ one ∷ two ∷ []) }
-{
-    let mut sents = Sents::new(alloc);
-    sents.push(one)?;
-    sents.push(two)?;
-    Ok(sents)
 }
 
 // Two threads put numbers.
@@ -121,7 +106,7 @@ fn settle_two(
     ensures one { OnOk result (items_from 0 (took taker) ≡ one.put) }
     ensures two { OnOk result (items_from 1 (took taker) ≡ two.put) }
 {
-    settle(&mut taker, both(alloc, one, two)?);
+    settle(&mut taker, list_of(alloc, one, two)?);
     Ok(())
 }
 
@@ -168,11 +153,15 @@ fn counted_of(items: &[(u32, Number)], sender: u32) -> u64 {
     next
 }
 
+// Whether a hundred numbers came of each of two senders.
+fn are_counted(items: Taken) -> bool {
+    let items = items.as_slice();
+    items.len() == 200 && counted_of(items, 0) == 100 && counted_of(items, 1) == 100
+}
+
 #[test]
 fn two_threads_send(rt: HostRuntime) -> Result<(), Fail> {
     let items = send_side_by_side(&rt, rt.alloc(), 100)?;
-    assert_eq!(rt; items.len(), 200);
-    assert_eq!(rt; counted_of(items.as_slice(), 0), 100);
-    assert_eq!(rt; counted_of(items.as_slice(), 1), 100);
+    assert!(rt; are_counted(items));
     Ok(())
 }

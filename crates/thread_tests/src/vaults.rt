@@ -2,6 +2,7 @@ ghost use Rattle.std.specs.Prelude.{◌≡◌, ◌+◌, ◌-◌, ◌≤◌, ◌<
 ghost use Rattle.receipt_lock.specs.Turns.{placed_from};
 ghost use Rattle.receipt_lock.specs.Chits.{left_more};
 
+use crate::pairs::{list_of, pair_of};
 use lists::NoMemory;
 use receipt_lock::laws::each_entry_has_one_receipt;
 use receipt_lock::{Chit, Chits, Kept, Vault};
@@ -37,23 +38,9 @@ fn vault_of_two(alloc: Global) -> Result<(Vault<Log>, Chit<Log>, Chit<Log>), NoM
     let log = Log {
         entries: Vec::new(alloc),
     };
-    let (vault, mut chits) = Vault::new(alloc, log, 2)?;
-    let Some(second) = chits.pop() else {
-        unreachable!()
-    };
-    let Some(first) = chits.pop() else {
-        unreachable!()
-    };
+    let (vault, chits) = Vault::new(alloc, log, 2)?;
+    let (first, second) = pair_of(chits);
     Ok((vault, first, second))
-}
-
-fn both(alloc: Global, first: Chit<Log>, second: Chit<Log>) -> Result<Chits<Log>, NoMemory>
-    ensures { IfOk result (λ chits. chits ≡ first ∷ second ∷ []) }
-{
-    let mut chits = Chits::new(alloc);
-    chits.push(first)?;
-    chits.push(second)?;
-    Ok(chits)
 }
 
 // Adds an entry to a log that has so many.
@@ -70,7 +57,7 @@ fn add_at<R: Wait + Abort>(
     ensures { chit.new ≡ left_more chit.old (placed_from at entries.now) }
 {
     let mut log = vault.take(rt, chit);
-    assert_eq!(rt; log.entries(), at);
+    assert!(rt; log.entries() == at);
     log.entries.extend_from_slice(entries).expect(rt, "memory");
     vault.give(chit, log);
 }
@@ -85,14 +72,17 @@ fn take_turns<R: Wait + Abort>(rt: &R, alloc: Global) -> Result<(Vault<Log>, Chi
     let (vault, mut first, mut second) = vault_of_two(alloc)?;
     add_at(rt, &vault, &mut first, 0, &[7]);
     add_at(rt, &vault, &mut second, 1, &[8, 9]);
-    Ok((vault, both(alloc, first, second)?))
+    Ok((vault, list_of(alloc, first, second)?))
+}
+
+fn has(log: Log, entries: &[u64]) -> bool {
+    log.entries.as_slice() == entries
 }
 
 #[test]
 fn one_thread_takes_turns(rt: HostRuntime) -> Result<(), Fail> {
     let (vault, chits) = take_turns(&rt, rt.alloc())?;
-    let log = vault.close(chits);
-    assert_eq!(rt; log.entries.as_slice(), [7, 8, 9].as_slice());
+    assert!(rt; has(vault.close(chits), &[7, 8, 9]));
     Ok(())
 }
 
@@ -151,14 +141,14 @@ fn take_turns_side_by_side<R: Threads + Wait + Abort + Sync>(
             ensures mine { length result.mine ≡ length second.mine + 1000 }
         { add_many(rt, &vault, second, 1000) },
     );
-    let chits = both(alloc, first, second)?;
+    let chits = list_of(alloc, first, second)?;
     each_entry_has_one_receipt::<u64>();
     Ok(vault.close(chits))
 }
 
 #[test]
 fn two_threads_take_turns(rt: HostRuntime) -> Result<(), Fail> {
-    let log = take_turns_side_by_side(&rt, rt.alloc())?;
-    assert_eq!(rt; log.entries.len(), 2000);
+    let entries = take_turns_side_by_side(&rt, rt.alloc())?.entries();
+    assert!(rt; entries == 2000);
     Ok(())
 }

@@ -4,5 +4,4 @@ use Rattle.thread_tests.proofs.clocks.draw_many.Given as goal
 abbrev pub invariant-loop : goal.invariant-loop
 invariant-loop l =
     (l.pass.clock ≡ l.initial.pass.clock)
-    × (l.pass.number ≡ l.initial.pass.number)
     × (length l.pass.drawn ≡ length l.initial.pass.drawn + l.counter)

@@ -1,5 +1,5 @@
 use Rattle.std.proofs.Common.{sym, ◌∙◌}
-use Rattle.thread_tests.proofs.acts.told_by.Goals as goal
+use Rattle.thread_tests.proofs.acts.tells.Goals as goal
 
 pub step-requires-clause-ask : goal.step-requires-clause-ask
 step-requires-clause-ask c =
