@@ -55,6 +55,6 @@ none_left a b (inl same) none = subst HasNoLateMail (sym same) none
 none_left a b (inr d) none = subst HasNoLateMail (sym d.2) (none_one a d.0 d.1 d.3 none)
 
 -- all that was held back came
-pub record BringsAll (old new : CellView) : Type 0 where
-  pub brings : HasMoreAside old new
+pub record HasAllAside (old new : CellView) : Type 0 where
+  pub more : HasMoreAside old new
   pub none : HasNoLateMail new

@@ -1,1 +1,7 @@
 pub mod Replaying
+mod Ascending
+mod Events
+mod Formed
+mod Loads
+mod Running
+mod Told

@@ -3,3 +3,7 @@ pub mod Verdicts
 pub mod Shown
 pub mod PlanRuns
 pub mod Texts
+pub mod Loads
+pub mod Runs
+pub mod Traces
+pub mod ScriptLiars

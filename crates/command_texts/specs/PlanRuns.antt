@@ -5,9 +5,9 @@ use Rattle.journals.specs.declared.whole.Journals.{Journals}
 use Rattle.plan_words.specs.declared.plan.Plan.{Plan}
 use Rattle.plan_words.specs.Plans.{Fits}
 use Rattle.plan_text.specs.Plans.{Spells, plan_script}
-use Rattle.plan_reports.specs.Runs.{RunsPlan}
-use Rattle.plan_reports.specs.Traces.{TracesPlan}
-use Rattle.plan_reports.specs.Loads.{TellsLoad}
+use Rattle.command_texts.specs.Runs.{RunsPlan}
+use Rattle.command_texts.specs.Traces.{TracesPlan}
+use Rattle.command_texts.specs.Loads.{TellsLoad}
 
 -- the input spells a plan that can be run
 pub record IsPlan (input : List ℕ) : Type 0 where

@@ -58,17 +58,17 @@ pub none_in : {A : Type 0} (xs : List A) (x : A) → xs ≡ [] → Contains xs x
 none_in xs x none (k, lt, is) = let few = ap length none in omega (arith, lt, few)
 
 -- a worker that has answered nobody
-same_line : (seat : ℕ) (x y : AnswerPutter) → x ≡ y → IsSamePutter seat x y
-same_line seat x y same = record { inbox = ap (λ (l : AnswerPutter). l.inbox) (sym same); number = ap (λ (l : AnswerPutter). l.number) (sym same) }
+same_putter : (seat : ℕ) (x y : AnswerPutter) → x ≡ y → IsSamePutter seat x y
+same_putter seat x y same = record { inbox = ap (λ (l : AnswerPutter). l.inbox) (sym same); number = ap (λ (l : AnswerPutter). l.number) (sym same) }
 
-pub answered_none : (clients : List ℕ) (cell : CellView) (lines : List AnswerPutter) → ((seat : ℕ) (line : AnswerPutter) → slice_get lines seat ≡ Some line → line.put ≡ []) → HasAnswered clients cell lines cell lines
-answered_none clients cell lines new = record {
+pub answered_none : (clients : List ℕ) (cell : CellView) (answer_putters : List AnswerPutter) → ((seat : ℕ) (answer_putter : AnswerPutter) → slice_get answer_putters seat ≡ Some answer_putter → answer_putter.put ≡ []) → HasAnswered clients cell answer_putters cell answer_putters
+answered_none clients cell answer_putters new = record {
   charter = refl;
   more = [];
   grew = sym (append-nil cell.journal);
-  same = record { count = refl; each = λ i x y a b. same_line i x y (same_at lines i x y a b) };
+  same = record { count = refl; each = λ i x y a b. same_putter i x y (same_at answer_putters i x y a b) };
   told = λ n c act has is. absurd (none_in [] n refl has);
-  done = λ seat line a t at has is. absurd (none_in line.put a (new seat line at) has);
+  done = λ seat answer_putter a t at has is. absurd (none_in answer_putter.put a (new seat answer_putter at) has);
 }
 
 -- what was asked from a seat, with one ask more
@@ -98,35 +98,35 @@ module _ (seat from : ℕ) (q : Asked) where
       ∙ append-nil (asks_from seat asks)
 
 -- the putters after an answer was put into one of them
-module _ (lines : List AnswerPutter) (seat : ℕ) (line : AnswerPutter) (here : slice_get lines seat ≡ Some line) (a : Answered) where
+module _ (answer_putters : List AnswerPutter) (seat : ℕ) (answer_putter : AnswerPutter) (here : slice_get answer_putters seat ≡ Some answer_putter) (a : Answered) where
   abbrev after : List AnswerPutter
-  after = slice_set lines seat (put_more line a)
+  after = slice_set answer_putters seat (put_more answer_putter a)
 
-  new_line : slice_get after seat ≡ Some (put_more line a)
-  new_line = set_here lines seat line (put_more line a) here
+  new_answer_putter : slice_get after seat ≡ Some (put_more answer_putter a)
+  new_answer_putter = set_here answer_putters seat answer_putter (put_more answer_putter a) here
 
-  kept_by : (clients : List ℕ) (n : NodeEntry) (w : WasTold clients lines n) → (w.seat ≡ seat) ⊎ (w.seat ≢ seat) → WasTold clients after n
+  kept_by : (clients : List ℕ) (n : NodeEntry) (w : WasTold clients answer_putters n) → (w.seat ≡ seat) ⊎ (w.seat ≢ seat) → WasTold clients after n
   kept_by clients n w (inl is) =
-      let same : w.line ≡ line = same_at lines seat w.line line (ap (slice_get lines) (sym is) ∙ w.there) here in
+      let same : w.answer_putter ≡ answer_putter = same_at answer_putters seat w.answer_putter answer_putter (ap (slice_get answer_putters) (sym is) ∙ w.there) here in
       record {
         seat = seat;
-        line = put_more line a;
-        there = new_line;
+        answer_putter = put_more answer_putter a;
+        there = new_answer_putter;
         answer = w.answer;
         client = ap (slice_get clients) (sym is) ∙ w.client;
-        put = Contains-append_left line.put (a ∷ []) w.answer (subst (λ (l : AnswerPutter). Contains l.put w.answer) same w.put);
+        put = Contains-append_left answer_putter.put (a ∷ []) w.answer (subst (λ (l : AnswerPutter). Contains l.put w.answer) same w.put);
         tells = w.tells;
       }
   kept_by clients n w (inr apart) =
-      record { seat = w.seat; line = w.line; there = set_elsewhere lines seat w.seat w.line (put_more line a) apart w.there; answer = w.answer; client = w.client; put = w.put; tells = w.tells }
+      record { seat = w.seat; answer_putter = w.answer_putter; there = set_elsewhere answer_putters seat w.seat w.answer_putter (put_more answer_putter a) apart w.there; answer = w.answer; client = w.client; put = w.put; tells = w.tells }
 
-  kept : (clients : List ℕ) (n : NodeEntry) → WasTold clients lines n → WasTold clients after n
+  kept : (clients : List ℕ) (n : NodeEntry) → WasTold clients answer_putters n → WasTold clients after n
   kept clients n w = kept_by clients n w (same_or w.seat seat)
 
   told_now : (clients : List ℕ) (n : NodeEntry) → slice_get clients seat ≡ Some a.ask.client → Tells n a → WasTold clients after n
-  told_now clients n client tells = record { seat = seat; line = put_more line a; there = new_line; answer = a; client = client; put = Contains-push line.put a; tells = tells }
+  told_now clients n client tells = record { seat = seat; answer_putter = put_more answer_putter a; there = new_answer_putter; answer = a; client = client; put = Contains-push answer_putter.put a; tells = tells }
 
-  module _ (clients : List ℕ) (old now new : CellView) (first : List AnswerPutter) (so : HasAnswered clients old first now lines) (met : HasMet now a new) (client : slice_get clients seat ≡ Some a.ask.client) where
+  module _ (clients : List ℕ) (old now new : CellView) (first : List AnswerPutter) (so : HasAnswered clients old first now answer_putters) (met : HasMet now a new) (client : slice_get clients seat ≡ Some a.ask.client) where
     abbrev all_more : List NodeEntry
     all_more = so.more ++ met.tail
 
@@ -147,83 +147,83 @@ module _ (lines : List AnswerPutter) (seat : ℕ) (line : AnswerPutter) (here : 
           tells = subst (Tells entry.0) same (met.told entry.0 entry.1);
         }
 
-    done_put : (s : ℕ) (b : Answered) (t : Told) → s ≡ seat → b.told ≡ Ok t → Contains line.put b ⊎ (a ≡ b) → TellsOf clients all_more s b
-    done_put s b t at is (inl has) = of_old s b (so.done s line b t (ap (slice_get lines) at ∙ here) has is)
+    done_put : (s : ℕ) (b : Answered) (t : Told) → s ≡ seat → b.told ≡ Ok t → Contains answer_putter.put b ⊎ (a ≡ b) → TellsOf clients all_more s b
+    done_put s b t at is (inl has) = of_old s b (so.done s answer_putter b t (ap (slice_get answer_putters) at ∙ here) has is)
     done_put s b t at is (inr same) = of_new s b t at same is
 
-    done_of : (s : ℕ) (l : AnswerPutter) (b : Answered) (t : Told) → Contains l.put b → b.told ≡ Ok t → ((s ≡ seat) × (l ≡ put_more line a)) ⊎ ((s ≢ seat) × (slice_get lines s ≡ Some l)) → TellsOf clients all_more s b
-    done_of s l b t has is (inl h) = done_put s b t h.0 is (Contains-push_cases line.put a b (subst (λ (x : AnswerPutter). Contains x.put b) h.1 has))
+    done_of : (s : ℕ) (l : AnswerPutter) (b : Answered) (t : Told) → Contains l.put b → b.told ≡ Ok t → ((s ≡ seat) × (l ≡ put_more answer_putter a)) ⊎ ((s ≢ seat) × (slice_get answer_putters s ≡ Some l)) → TellsOf clients all_more s b
+    done_of s l b t has is (inl h) = done_put s b t h.0 is (Contains-push_cases answer_putter.put a b (subst (λ (x : AnswerPutter). Contains x.put b) h.1 has))
     done_of s l b t has is (inr h) = of_old s b (so.done s l b t h.1 has is)
 
-    line_kept : (s : ℕ) (x y : AnswerPutter) → slice_get first s ≡ Some x → ((s ≡ seat) × (y ≡ put_more line a)) ⊎ ((s ≢ seat) × (slice_get lines s ≡ Some y)) → IsSamePutter s x y
-    line_kept s x y at (inl h) =
-        let was = so.same.each s x line at (ap (slice_get lines) h.0 ∙ here) in
+    putter_kept : (s : ℕ) (x y : AnswerPutter) → slice_get first s ≡ Some x → ((s ≡ seat) × (y ≡ put_more answer_putter a)) ⊎ ((s ≢ seat) × (slice_get answer_putters s ≡ Some y)) → IsSamePutter s x y
+    putter_kept s x y at (inl h) =
+        let was = so.same.each s x answer_putter at (ap (slice_get answer_putters) h.0 ∙ here) in
         record { inbox = ap (λ (l : AnswerPutter). l.inbox) h.1 ∙ was.inbox; number = ap (λ (l : AnswerPutter). l.number) h.1 ∙ was.number }
-    line_kept s x y at (inr h) = so.same.each s x y at h.1
+    putter_kept s x y at (inr h) = so.same.each s x y at h.1
 
     pub answered_more : HasAnswered clients old first new after
     answered_more = record {
       charter = met.charter ∙ so.charter;
       more = all_more;
       grew = met.grew ∙ ap (λ l. l ++ met.tail) so.grew ∙ append_assoc old.journal so.more met.tail;
-      same = record { count = so.same.count ∙ sym (length-set lines seat (put_more line a)); each = λ s x y at to. line_kept s x y at (get_set lines seat s y (put_more line a) to) };
+      same = record { count = so.same.count ∙ sym (length-set answer_putters seat (put_more answer_putter a)); each = λ s x y at to. putter_kept s x y at (get_set answer_putters seat s y (put_more answer_putter a) to) };
       told = λ n c act has is. told_of n c act is (Contains-append_cases so.more met.tail n has);
-      done = λ s l b t at has is. done_of s l b t has is (get_set lines seat s l (put_more line a) at);
+      done = λ s l b t at has is. done_of s l b t has is (get_set answer_putters seat s l (put_more answer_putter a) at);
     }
 
   -- and the asks with the one to which it is the answer
   module _ (asks : List (ℕ × Asked)) (from : ℕ) (q : Asked) (own : q.seat ≡ seat)
-      (is : (a.way ≡ q.way) × (a.ask ≡ q.ask)) (so : AreAnswered asks lines) where
+      (is : (a.way ≡ q.way) × (a.ask ≡ q.ask)) (so : AreAnswered asks answer_putters) where
     asked_at : (s : ℕ) (l : AnswerPutter)
-        → ((s ≡ seat) × (l ≡ put_more line a)) ⊎ ((s ≢ seat) × (slice_get lines s ≡ Some l))
+        → ((s ≡ seat) × (l ≡ put_more answer_putter a)) ⊎ ((s ≢ seat) × (slice_get answer_putters s ≡ Some l))
         → asks_told l.put ≡ asks_from s (asks ++ (from, q) ∷ [])
     asked_at s l (inl h) =
         ap (λ (x : AnswerPutter). asks_told x.put) h.1
-        ∙ map-append (λ (x : Answered). (x.way, x.ask)) line.put (a ∷ [])
-        ∙ (λ j. so seat line here j ++ (is.0 j, is.1 j) ∷ [])
+        ∙ map-append (λ (x : Answered). (x.way, x.ask)) answer_putter.put (a ∷ [])
+        ∙ (λ j. so seat answer_putter here j ++ (is.0 j, is.1 j) ∷ [])
         ∙ sym (one_more seat from q asks own)
         ∙ ap (λ k. asks_from k (asks ++ (from, q) ∷ [])) (sym h.0)
     asked_at s l (inr h) = so s l h.1 ∙ sym (none_more s from q asks (λ e. h.0 (sym e ∙ own)))
 
     pub asked_more : AreAnswered (asks ++ (from, q) ∷ []) after
-    asked_more s l at = asked_at s l (get_set lines seat s l (put_more line a) at)
+    asked_more s l at = asked_at s l (get_set answer_putters seat s l (put_more answer_putter a) at)
 
 -- what has no client's side is told to nobody
-module _ (clients : List ℕ) (old now new : CellView) (first lines : List AnswerPutter) (so : HasAnswered clients old first now lines) (late : HasMoreAside now new) where
-  told_before : (n : NodeEntry) (c : ℕ) (act : DeskAct) → side n.act ≡ Some (c, act) → Contains so.more n ⊎ Contains late.more n → WasTold clients lines n
+module _ (clients : List ℕ) (old now new : CellView) (first answer_putters : List AnswerPutter) (so : HasAnswered clients old first now answer_putters) (late : HasMoreAside now new) where
+  told_before : (n : NodeEntry) (c : ℕ) (act : DeskAct) → side n.act ≡ Some (c, act) → Contains so.more n ⊎ Contains late.more n → WasTold clients answer_putters n
   told_before n c act is (inl has) = so.told n c act has is
   told_before n c act is (inr has) = let none = late.aside n has in absurd cc
 
   done_before : (seat : ℕ) (a : Answered) → TellsOf clients so.more seat a → TellsOf clients (so.more ++ late.more) seat a
   done_before seat a of = record { entry = of.entry; there = Contains-append_left so.more late.more of.entry of.there; client = of.client; tells = of.tells }
 
-  pub answered_late : HasAnswered clients old first new lines
+  pub answered_late : HasAnswered clients old first new answer_putters
   answered_late = record {
     charter = late.charter ∙ so.charter;
     more = so.more ++ late.more;
     grew = late.grew ∙ ap (λ l. l ++ late.more) so.grew ∙ append_assoc old.journal so.more late.more;
     same = so.same;
     told = λ n c act has is. told_before n c act is (Contains-append_cases so.more late.more n has);
-    done = λ seat line a t at has is. done_before seat a (so.done seat line a t at has is);
+    done = λ seat answer_putter a t at has is. done_before seat a (so.done seat answer_putter a t at has is);
   }
 
 -- the putter of a seat, when a worker starts and later
-line_at : (of : ClockId) (clients : List ℕ) (lines : List AnswerPutter) (seat : ℕ) (line : AnswerPutter) → Beside (IsPutterTo of) clients lines → slice_get lines seat ≡ Some line → (id : ℕ) × (slice_get clients seat ≡ Some id) × IsPutterTo of seat id line
-line_at of clients lines seat line to at =
-    left_of (IsPutterTo of) clients lines seat line to at
+putter_at : (of : ClockId) (clients : List ℕ) (answer_putters : List AnswerPutter) (seat : ℕ) (answer_putter : AnswerPutter) → Beside (IsPutterTo of) clients answer_putters → slice_get answer_putters seat ≡ Some answer_putter → (id : ℕ) × (slice_get clients seat ≡ Some id) × IsPutterTo of seat id answer_putter
+putter_at of clients answer_putters seat answer_putter to at =
+    left_of (IsPutterTo of) clients answer_putters seat answer_putter to at
 
-pub new_lines : (of : ClockId) (clients : List ℕ) (lines : List AnswerPutter) → Beside (IsPutterTo of) clients lines → (seat : ℕ) (line : AnswerPutter) → slice_get lines seat ≡ Some line → line.put ≡ []
-new_lines of clients lines to seat line at = (line_at of clients lines seat line to at).2.new
+pub new_answer_putters : (of : ClockId) (clients : List ℕ) (answer_putters : List AnswerPutter) → Beside (IsPutterTo of) clients answer_putters → (seat : ℕ) (answer_putter : AnswerPutter) → slice_get answer_putters seat ≡ Some answer_putter → answer_putter.put ≡ []
+new_answer_putters of clients answer_putters to seat answer_putter at = (putter_at of clients answer_putters seat answer_putter to at).2.new
 
-pub seat_within : (of : ClockId) (clients : List ℕ) (old : CellView) (first : List AnswerPutter) (now : CellView) (lines : List AnswerPutter) → Beside (IsPutterTo of) clients first → HasAnswered clients old first now lines → (seat id : ℕ) → slice_get clients seat ≡ Some id → seat < length lines
-seat_within of clients old first now lines to so seat id at = let lt = within clients seat id at in omega (arith, lt, to.count, so.same.count)
+pub seat_within : (of : ClockId) (clients : List ℕ) (old : CellView) (first : List AnswerPutter) (now : CellView) (answer_putters : List AnswerPutter) → Beside (IsPutterTo of) clients first → HasAnswered clients old first now answer_putters → (seat id : ℕ) → slice_get clients seat ≡ Some id → seat < length answer_putters
+seat_within of clients old first now answer_putters to so seat id at = let lt = within clients seat id at in omega (arith, lt, to.count, so.same.count)
 
-pub line_of : (of : ClockId) (clients : List ℕ) (old : CellView) (first : List AnswerPutter) (now : CellView) (lines : List AnswerPutter) → Beside (IsPutterTo of) clients first → HasAnswered clients old first now lines → (seat id : ℕ) (line : AnswerPutter) → slice_get clients seat ≡ Some id → slice_get lines seat ≡ Some line
-    → (line.inbox.place.clock.value ≡ of) × (line.inbox.place.client ≡ id)
-line_of of clients old first now lines to so seat id line at here =
-    let lt = within lines seat line here in
+pub putter_of : (of : ClockId) (clients : List ℕ) (old : CellView) (first : List AnswerPutter) (now : CellView) (answer_putters : List AnswerPutter) → Beside (IsPutterTo of) clients first → HasAnswered clients old first now answer_putters → (seat id : ℕ) (answer_putter : AnswerPutter) → slice_get clients seat ≡ Some id → slice_get answer_putters seat ≡ Some answer_putter
+    → (answer_putter.inbox.place.clock.value ≡ of) × (answer_putter.inbox.place.client ≡ id)
+putter_of of clients old first now answer_putters to so seat id answer_putter at here =
+    let lt = within answer_putters seat answer_putter here in
     let was = at_place first seat (omega (arith, lt, so.same.count)) in
-    let same = (so.same.each seat was.0 line was.1 here).inbox in
+    let same = (so.same.each seat was.0 answer_putter was.1 here).inbox in
     let is = to.each seat id was.0 at was.1 in
     (ap (λ i. i.place.clock.value) same ∙ is.ticks, ap (λ i. i.place.client) same ∙ is.client)
 
@@ -282,10 +282,10 @@ pub record IsServing (old new : WorkerView) : Type 0 where
 
 pub serving_none : (of : ClockId) (w : WorkerView) → CanServe of w → IsServing w w
 serving_none of w can =
-    let new = new_lines of (clients_of w) w.answers can.lines in
+    let new = new_answer_putters of (clients_of w) w.answers can.answer_putters in
     record {
       asks = refl;
-      asked = λ seat line at. ap asks_told (new seat line at) ∙ ap (λ h. asks_from seat (took_in h)) (sym can.new);
+      asked = λ seat answer_putter at. ap asks_told (new seat answer_putter at) ∙ ap (λ h. asks_from seat (took_in h)) (sym can.new);
       answered = answered_none (clients_of w) w.cell w.answers new;
       none = can.none;
     }

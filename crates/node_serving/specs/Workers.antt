@@ -37,10 +37,10 @@ abbrev pub clients_of : WorkerView → List ℕ
 clients_of w = w.asks.inbox.place.clients.value
 
 -- a putter to this client's inbox, by this clock, into which nothing was put yet
-pub record IsPutterTo (of : ClockId) (seat id : ℕ) (line : AnswerPutter) : Type 0 where
-  pub ticks : line.inbox.place.clock.value ≡ of
-  pub client : line.inbox.place.client ≡ id
-  pub new : line.put ≡ []
+pub record IsPutterTo (of : ClockId) (seat id : ℕ) (answer_putter : AnswerPutter) : Type 0 where
+  pub ticks : answer_putter.inbox.place.clock.value ≡ of
+  pub client : answer_putter.inbox.place.client ≡ id
+  pub new : answer_putter.put ≡ []
 
 -- a worker that has served nobody: the inbox is that of its cell's slot, nothing was taken out of it,
 -- and there is a putter to each client
@@ -49,7 +49,7 @@ pub record CanServe (of : ClockId) (w : WorkerView) : Type 0 where
   pub ticks : w.asks.inbox.place.clock.value ≡ of
   pub slot : w.asks.inbox.place.slot ≡ slot_of w.cell.charter
   pub new : w.asks.heard ≡ []
-  pub lines : Beside (IsPutterTo of) (clients_of w) w.answers
+  pub answer_putters : Beside (IsPutterTo of) (clients_of w) w.answers
   pub none : w.sents ≡ []
 
 -- the answer tells of the node's entry: it has the entry's number, and the call that is the client's side of it
@@ -60,13 +60,13 @@ pub record Tells (n : NodeEntry) (a : Answered) : Type 0 where
   pub agree : side n.act ≡ Some (a.ask.client, Call a.way a.ask (reply_told told))
 
 -- an answer that tells of the entry was put into the inbox of the client that asked
-pub record WasTold (clients : List ℕ) (lines : List AnswerPutter) (n : NodeEntry) : Type 0 where
+pub record WasTold (clients : List ℕ) (answer_putters : List AnswerPutter) (n : NodeEntry) : Type 0 where
   pub seat : ℕ
-  pub line : AnswerPutter
-  pub there : slice_get lines seat ≡ Some line
+  pub answer_putter : AnswerPutter
+  pub there : slice_get answer_putters seat ≡ Some answer_putter
   pub answer : Answered
   pub client : slice_get clients seat ≡ Some answer.ask.client
-  pub put : Contains line.put answer
+  pub put : Contains answer_putter.put answer
   pub tells : Tells n answer
 
 -- the client of this seat asked, and the answer tells of one of these entries
@@ -83,13 +83,13 @@ pub record IsSamePutter (seat : ℕ) (old new : AnswerPutter) : Type 0 where
 
 -- the cell has these entries more, and answers were put: each entry that has a client's side was told to that client, and each
 -- answer that tells of an entry tells of one of these
-pub record HasAnswered (clients : List ℕ) (old : CellView) (first : List AnswerPutter) (new : CellView) (lines : List AnswerPutter) : Type 0 where
+pub record HasAnswered (clients : List ℕ) (old : CellView) (first : List AnswerPutter) (new : CellView) (answer_putters : List AnswerPutter) : Type 0 where
   pub charter : new.charter ≡ old.charter
   pub more : List NodeEntry
   pub grew : new.journal ≡ old.journal ++ more
-  pub same : Beside IsSamePutter first lines
-  pub told : (n : NodeEntry) (c : ℕ) (act : DeskAct) → Contains more n → side n.act ≡ Some (c, act) → WasTold clients lines n
-  pub done : (seat : ℕ) (line : AnswerPutter) (a : Answered) (t : Told) → slice_get lines seat ≡ Some line → Contains line.put a → a.told ≡ Ok t → TellsOf clients more seat a
+  pub same : Beside IsSamePutter first answer_putters
+  pub told : (n : NodeEntry) (c : ℕ) (act : DeskAct) → Contains more n → side n.act ≡ Some (c, act) → WasTold clients answer_putters n
+  pub done : (seat : ℕ) (answer_putter : AnswerPutter) (a : Answered) (t : Told) → slice_get answer_putters seat ≡ Some answer_putter → Contains answer_putter.put a → a.told ≡ Ok t → TellsOf clients more seat a
 
 -- the cell met what was asked: the answer tells of each entry that it has more, and of one if it tells of any
 pub record HasMet (old : CellView) (a : Answered) (new : CellView) : Type 0 where
@@ -109,9 +109,9 @@ asks_told answers = map (λ a. (a.way, a.ask)) answers
 
 -- each seat was answered just what it asked, in its order
 abbrev pub AreAnswered : List (ℕ × Asked) → List AnswerPutter → Type 0
-AreAnswered asks lines =
-    (seat : ℕ) (line : AnswerPutter) → slice_get lines seat ≡ Some line
-    → asks_told line.put ≡ asks_from seat asks
+AreAnswered asks answer_putters =
+    (seat : ℕ) (answer_putter : AnswerPutter) → slice_get answer_putters seat ≡ Some answer_putter
+    → asks_told answer_putter.put ≡ asks_from seat asks
 
 -- all asks were taken, up to the last word of each who asks, and answered; each putter has had its last word
 pub record HasServed (old new : WorkerView) : Type 0 where

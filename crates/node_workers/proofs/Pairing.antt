@@ -86,7 +86,7 @@ pub record IsServed (clients : List ℕ) (cells : List CellView) (k : ℕ) (row 
   pub old : CellView
   pub there : slice_get cells k ≡ Some old
   pub first : List AnswerPutter
-  pub numbers : (seat : ℕ) (line : AnswerPutter) → slice_get first seat ≡ Some line → line.number ≡ k
+  pub numbers : (seat : ℕ) (answer_putter : AnswerPutter) → slice_get first seat ≡ Some answer_putter → answer_putter.number ≡ k
   pub count : length first ≡ length clients
   pub answered : HasAnswered clients (rechartered old false) first cell row
 
@@ -99,7 +99,7 @@ pub record IsHeard (clients : List ℕ) (olds : List DeskView) (rows : List (Lis
   pub began : mail.answers.inbox.place.began.value.entries ≡ old.entries
   pub agree : AgreeByMail d mail
   pub senders : All (λ i. i.0 < length rows) (took mail.answers)
-  pub items : (k : ℕ) (row : List AnswerPutter) (line : AnswerPutter) → slice_get rows k ≡ Some row → slice_get row seat ≡ Some line → items_from line.number (took mail.answers) ≡ line.put
+  pub items : (k : ℕ) (row : List AnswerPutter) (answer_putter : AnswerPutter) → slice_get rows k ≡ Some row → slice_get row seat ≡ Some answer_putter → items_from answer_putter.number (took mail.answers) ≡ answer_putter.put
 
 -- all that a phase leaves
 pub record Phase (clients : List ℕ) (cells now : List CellView) (rows : List (List AnswerPutter)) (olds news : List DeskView) (mails : List ByMail) : Type 0 where
@@ -177,8 +177,8 @@ module _ (clients : List ℕ) (cells now : List CellView) (rows : List (List Ans
   -- what a worker told stands on the desk of the client that asked
   told_at : (k : ℕ) (row : List AnswerPutter) (n : NodeEntry) (c : ℕ) (act : DeskAct) (w : WasTold clients row n) (mail : ByMail) (desk : DeskView) → slice_get rows k ≡ Some row → side n.act ≡ Some (c, act) → slice_get news w.seat ≡ Some desk → IsHeard clients olds rows w.seat mail desk → HasSideOn news c n.number act
   told_at k row n c act w mail desk here is at heard =
-      let put : Contains (items_from w.line.number (took mail.answers)) w.answer = subst (λ (l : List Answered). Contains l w.answer) (sym (heard.items k row w.line here w.there)) w.put in
-      let both = told_as n w.answer w.tells c act desk.entries is (heard.agree.heard w.line.number w.answer w.tells.told (taken_of w.line.number (took mail.answers) w.answer put) w.tells.is) in
+      let put : Contains (items_from w.answer_putter.number (took mail.answers)) w.answer = subst (λ (l : List Answered). Contains l w.answer) (sym (heard.items k row w.answer_putter here w.there)) w.put in
+      let both = told_as n w.answer w.tells c act desk.entries is (heard.agree.heard w.answer_putter.number w.answer w.tells.told (taken_of w.answer_putter.number (took mail.answers) w.answer put) w.tells.is) in
       record {
         desk = desk;
         there = contains_at news w.seat desk at;
@@ -221,13 +221,13 @@ module _ (clients : List ℕ) (cells now : List CellView) (rows : List (List Ans
         agree = of.tells.agree ∙ ap (λ (t : Told). Some (a.answer.ask.client, Call a.answer.way a.answer.ask (reply_told t))) told ∙ ap (λ (c : ℕ). Some (c, Call a.answer.way a.answer.ask (reply_told a.told))) client ∙ ap (λ (x : DeskEntry). Some (d.id, x.act)) (sym a.is);
       }
 
-  heard_line : (seat : ℕ) (mail : ByMail) (d : DeskView) (e : DeskEntry) → IsHeard clients olds rows seat mail d → (a : HasAnswer (took mail.answers) e) (row : List AnswerPutter) (cell : CellView) (first line : AnswerPutter) → slice_get rows a.from ≡ Some row → slice_get now a.from ≡ Some cell
-      → (served : IsServed clients cells a.from row cell) → slice_get served.first seat ≡ Some first → slice_get row seat ≡ Some line → HasSideIn now d.id e
-  heard_line seat mail d e heard a row cell first line here at served was is =
-      let number : line.number ≡ a.from = (served.answered.same.each seat first line was is).number ∙ served.numbers seat first was in
-      let all : items_from a.from (took mail.answers) ≡ line.put = ap (λ (p : ℕ). items_from p (took mail.answers)) (sym number) ∙ heard.items a.from row line here is in
-      let put : Contains line.put a.answer = subst (λ (l : List Answered). Contains l a.answer) all (of_taken a.from (took mail.answers) a.answer a.there) in
-      heard_of seat mail d e heard a row cell at served (served.answered.done seat line a.answer a.told is put a.tells)
+  heard_putter : (seat : ℕ) (mail : ByMail) (d : DeskView) (e : DeskEntry) → IsHeard clients olds rows seat mail d → (a : HasAnswer (took mail.answers) e) (row : List AnswerPutter) (cell : CellView) (first answer_putter : AnswerPutter) → slice_get rows a.from ≡ Some row → slice_get now a.from ≡ Some cell
+      → (served : IsServed clients cells a.from row cell) → slice_get served.first seat ≡ Some first → slice_get row seat ≡ Some answer_putter → HasSideIn now d.id e
+  heard_putter seat mail d e heard a row cell first answer_putter here at served was is =
+      let number : answer_putter.number ≡ a.from = (served.answered.same.each seat first answer_putter was is).number ∙ served.numbers seat first was in
+      let all : items_from a.from (took mail.answers) ≡ answer_putter.put = ap (λ (p : ℕ). items_from p (took mail.answers)) (sym number) ∙ heard.items a.from row answer_putter here is in
+      let put : Contains answer_putter.put a.answer = subst (λ (l : List Answered). Contains l a.answer) all (of_taken a.from (took mail.answers) a.answer a.there) in
+      heard_of seat mail d e heard a row cell at served (served.answered.done seat answer_putter a.answer a.told is put a.tells)
 
   heard_at : (seat : ℕ) (mail : ByMail) (d : DeskView) (e : DeskEntry) → IsHeard clients olds rows seat mail d → (a : HasAnswer (took mail.answers) e) (row : List AnswerPutter) (cell : CellView) → slice_get rows a.from ≡ Some row → slice_get now a.from ≡ Some cell
       → IsServed clients cells a.from row cell → HasSideIn now d.id e
@@ -236,8 +236,8 @@ module _ (clients : List ℕ) (cells now : List CellView) (rows : List (List Ans
       let n = served.count in
       let m = served.answered.same.count in
       let first = at_place served.first seat (omega (arith, lt, n)) in
-      let line = at_place row seat (omega (arith, lt, n, m)) in
-      heard_line seat mail d e heard a row cell first.0 line.0 here at served first.1 line.1
+      let answer_putter = at_place row seat (omega (arith, lt, n, m)) in
+      heard_putter seat mail d e heard a row cell first.0 answer_putter.0 here at served first.1 answer_putter.1
 
   heard_in : (seat : ℕ) (mail : ByMail) (d : DeskView) (e : DeskEntry) → IsHeard clients olds rows seat mail d → HasAnswer (took mail.answers) e → HasSideIn now d.id e
   heard_in seat mail d e heard a =

@@ -39,11 +39,11 @@ mail_floor of boxes slots = record { clock = of; slots = slots; vaults = []; ans
 pub open_all : {T : Type 0} {config : Numbers} {of at : ClockId} {cells : List CellView} {seats slice : List (Seat T)} {boxes : List (Taking Answered ClientPlace)} {rows : List (List AnswerPutter)} {hands : List (List (Putting Asked NodePlace))} {now workers : List WorkerView} {clients : List (KeysView × T)} {floor : FloorView} {nodes : ℕ} {ids : List ℕ}
     → length rows ≡ length cells → slice ≡ seats → ids ≡ ids_of seats → at ≡ of → workers ≡ now → Beside (IsAnswerBox of nodes) slice boxes → AreSpread nodes boxes rows → Beside (IsWorkerOf at ids rows) cells now → AreSpread (length ids) (map (λ (w : WorkerView). w.asks) now) hands
     → Beside (IsClientOf boxes hands) seats clients → floor ≡ mail_floor of boxes (slots_of cells) → AreCells config of cells → All (λ (s : Seat T). IsDeskAt config of s.desk) seats → Opened config of cells seats boxes rows hands workers clients floor
-open_all {T = T} {of = of} {at = at} {cells = cells} {seats = seats} {slice = slice} {boxes = boxes} {rows = rows} {hands = hands} {now = now} {nodes = nodes} {ids = ids} all list is same kept answers lines served asks seated floor are desks =
-    let count : nodes ≡ length cells = sym lines.count ∙ all in
+open_all {T = T} {of = of} {at = at} {cells = cells} {seats = seats} {slice = slice} {boxes = boxes} {rows = rows} {hands = hands} {now = now} {nodes = nodes} {ids = ids} all list is same kept answers answer_putters served asks seated floor are desks =
+    let count : nodes ≡ length cells = sym answer_putters.count ∙ all in
     record {
       answers = subst (λ n. Beside (IsAnswerBox of n) seats boxes) count (subst (λ (l : List (Seat T)). Beside (IsAnswerBox of nodes) l boxes) list answers);
-      lines = subst (λ n. AreSpread n boxes rows) count lines;
+      answer_putters = subst (λ n. AreSpread n boxes rows) count answer_putters;
       nodes = subst (λ (l : List WorkerView). Beside (IsWorkerOf of (ids_of seats) rows) cells l) (sym kept) (subst (λ l. Beside (IsWorkerOf of l rows) cells now) is (subst (λ c. Beside (IsWorkerOf c ids rows) cells now) same served));
       asks = subst (λ (l : List WorkerView). AreSpread (length (ids_of seats)) (map (λ (w : WorkerView). w.asks) l) hands) (sym kept) (subst (λ (l : List ℕ). AreSpread (length l) (map (λ (w : WorkerView). w.asks) now) hands) is asks);
       seated = seated;
@@ -55,30 +55,30 @@ open_all {T = T} {of = of} {at = at} {cells = cells} {seats = seats} {slice = sl
 module _ {T : Type 0} (config : Numbers) (of : ClockId) (row : List CellView) (seats : List (Seat T)) (boxes : List (Taking Answered ClientPlace)) (rows : List (List AnswerPutter)) (hands : List (List (Putting Asked NodePlace))) (workers : List WorkerView) (clients : List (KeysView × T)) (floor : FloorView)
     (o : Opened config of row seats boxes rows hands workers clients floor) where
   -- the putter of worker k to seat i
-  record PutterAt (k i : ℕ) (line : AnswerPutter) : Type 0 where
+  record PutterAt (k i : ℕ) (answer_putter : AnswerPutter) : Type 0 where
     box : Taking Answered ClientPlace
     seat : Seat T
     there : slice_get seats i ≡ Some seat
     here : slice_get boxes i ≡ Some box
-    is : line ≡ new_putter box.inbox k
+    is : answer_putter ≡ new_putter box.inbox k
     of_box : IsAnswerBox of (length row) i seat box
 
-  line_at : (k : ℕ) (cell : CellView) (w : WorkerView) (i : ℕ) (line : AnswerPutter) → IsWorkerOf of (ids_of seats) rows k cell w → slice_get w.answers i ≡ Some line → PutterAt k i line
-  line_at k cell w i line worker at =
-      let lt = within w.answers i line at in
-      let n = o.lines.full k w.answers worker.lines in
+  putter_at : (k : ℕ) (cell : CellView) (w : WorkerView) (i : ℕ) (answer_putter : AnswerPutter) → IsWorkerOf of (ids_of seats) rows k cell w → slice_get w.answers i ≡ Some answer_putter → PutterAt k i answer_putter
+  putter_at k cell w i answer_putter worker at =
+      let lt = within w.answers i answer_putter at in
+      let n = o.answer_putters.full k w.answers worker.answer_putters in
       let box = at_place boxes i (omega (arith, lt, n)) in
       let seat = left_of (IsAnswerBox of (length row)) seats boxes i box.0 o.answers box.1 in
-      record { box = box.0; seat = seat.0; there = seat.1; here = box.1; is = o.lines.each k i w.answers line box.0 worker.lines at box.1; of_box = seat.2 }
+      record { box = box.0; seat = seat.0; there = seat.1; here = box.1; is = o.answer_putters.each k i w.answers answer_putter box.0 worker.answer_putters at box.1; of_box = seat.2 }
 
-  lines_count : (k : ℕ) (cell : CellView) (w : WorkerView) → IsWorkerOf of (ids_of seats) rows k cell w → length w.answers ≡ length seats
-  lines_count k cell w worker = o.lines.full k w.answers worker.lines ∙ sym o.answers.count
+  putters_count : (k : ℕ) (cell : CellView) (w : WorkerView) → IsWorkerOf of (ids_of seats) rows k cell w → length w.answers ≡ length seats
+  putters_count k cell w worker = o.answer_putters.full k w.answers worker.answer_putters ∙ sym o.answers.count
 
   id_at : (i : ℕ) (s : Seat T) → slice_get seats i ≡ Some s → slice_get (ids_of seats) i ≡ Some s.desk.id
   id_at i s at = get_map (λ (x : Seat T). x.desk.id) seats i s at
 
-  to_client : (k i id : ℕ) (line : AnswerPutter) (l : PutterAt k i line) → slice_get (ids_of seats) i ≡ Some id → IsPutterTo of i id line
-  to_client k i id line l at = record {
+  to_client : (k i id : ℕ) (answer_putter : AnswerPutter) (l : PutterAt k i answer_putter) → slice_get (ids_of seats) i ≡ Some id → IsPutterTo of i id answer_putter
+  to_client k i id answer_putter l at = record {
     ticks = ap (λ (x : AnswerPutter). x.inbox.place.clock.value) l.is ∙ l.of_box.ticks;
     client = ap (λ (x : AnswerPutter). x.inbox.place.client) l.is ∙ l.of_box.client ∙ same_at (ids_of seats) i l.seat.desk.id id (id_at i l.seat l.there) at;
     new = ap (λ (x : AnswerPutter). x.put) l.is;
@@ -91,9 +91,9 @@ module _ {T : Type 0} (config : Numbers) (of : ClockId) (row : List CellView) (s
     ticks = worker.box.ticks;
     slot = worker.box.slot ∙ ap (λ (x : CellView). slot_of x.charter) (sym worker.is);
     new = worker.box.new;
-    lines = record {
-      count = ap length worker.box.clients ∙ length-map seats (λ (s : Seat T). s.desk.id) ∙ sym (lines_count k cell w worker);
-      each = λ i id line there here. to_client k i id line (line_at k cell w i line worker here) (ap (λ (l : List ℕ). slice_get l i) (sym worker.box.clients) ∙ there);
+    answer_putters = record {
+      count = ap length worker.box.clients ∙ length-map seats (λ (s : Seat T). s.desk.id) ∙ sym (putters_count k cell w worker);
+      each = λ i id answer_putter there here. to_client k i id answer_putter (putter_at k cell w i answer_putter worker here) (ap (λ (l : List ℕ). slice_get l i) (sym worker.box.clients) ∙ there);
     };
     none = worker.none;
   }
@@ -240,18 +240,18 @@ module _ {T : Type 0} (config : Numbers) (of : ClockId) (row : List CellView) (s
       box_of : (i : ℕ) (m : ByMail) (all : HasAll floor m) → slice_get mails i ≡ Some m → slice_get boxes i ≡ Some all.first
       box_of i m all at = ap (slice_get boxes) (sym (seated i m at)) ∙ ap (λ (f : FloorView). slice_get f.answers m.seat) (sym o.is) ∙ all.there
 
-      goes_to : (k i : ℕ) (m : ByMail) (all : HasAll floor m) (first line : AnswerPutter) → PutterAt k i first → slice_get boxes i ≡ Some all.first → line.inbox ≡ first.inbox → IsOfMail i m line
-      goes_to k i m all first line l here inbox = inbox ∙ ap (λ (x : AnswerPutter). x.inbox) l.is ∙ ap (λ (b : Taking Answered ClientPlace). b.inbox) (same_at boxes i l.box all.first l.here here) ∙ sym all.inbox
+      goes_to : (k i : ℕ) (m : ByMail) (all : HasAll floor m) (first answer_putter : AnswerPutter) → PutterAt k i first → slice_get boxes i ≡ Some all.first → answer_putter.inbox ≡ first.inbox → IsOfMail i m answer_putter
+      goes_to k i m all first answer_putter l here inbox = inbox ∙ ap (λ (x : AnswerPutter). x.inbox) l.is ∙ ap (λ (b : Taking Answered ClientPlace). b.inbox) (same_at boxes i l.box all.first l.here here) ∙ sym all.inbox
 
-      own_of : (k : ℕ) (cell : CellView) (w v : WorkerView) → IsWorkerOf of (ids_of seats) rows k cell w → HasServed w v → (i : ℕ) (m : ByMail) (line : AnswerPutter) → slice_get mails i ≡ Some m → slice_get v.sents i ≡ Some line → IsOfMail i m line
-      own_of k cell w v worker goes i m line to there =
-          let first = left_of (λ (j : ℕ) (a b : AnswerPutter). IsSamePutter j a b) w.answers v.sents i line goes.answered.same there in
+      own_of : (k : ℕ) (cell : CellView) (w v : WorkerView) → IsWorkerOf of (ids_of seats) rows k cell w → HasServed w v → (i : ℕ) (m : ByMail) (answer_putter : AnswerPutter) → slice_get mails i ≡ Some m → slice_get v.sents i ≡ Some answer_putter → IsOfMail i m answer_putter
+      own_of k cell w v worker goes i m answer_putter to there =
+          let first = left_of (λ (j : ℕ) (a b : AnswerPutter). IsSamePutter j a b) w.answers v.sents i answer_putter goes.answered.same there in
           let all = (mail_at i m to).1.all in
-          goes_to k i m all first.0 line (line_at k cell w i first.0 worker first.1) (box_of i m all to) first.2.inbox
+          goes_to k i m all first.0 answer_putter (putter_at k cell w i first.0 worker first.1) (box_of i m all to) first.2.inbox
 
       rows_of : (k : ℕ) (cell : CellView) (w v : WorkerView) → IsWorkerOf of (ids_of seats) rows k cell w → HasServed w v → Beside IsOfMail mails v.sents
       rows_of k cell w v worker goes = record {
-        count = count_mails ∙ sym count_lasts ∙ sym (lines_count k cell w worker) ∙ goes.answered.same.count;
+        count = count_mails ∙ sym count_lasts ∙ sym (putters_count k cell w worker) ∙ goes.answered.same.count;
         each = own_of k cell w v worker goes;
       }
 
@@ -275,8 +275,8 @@ module _ {T : Type 0} (config : Numbers) (of : ClockId) (row : List CellView) (s
         old = old;
         there = there;
         first = w.answers;
-        numbers = λ i line here. ap (λ (x : AnswerPutter). x.number) (line_at k old w i line worker here).is;
-        count = lines_count k old w worker ∙ sym (length-map seats (λ (s : Seat T). s.desk.id));
+        numbers = λ i answer_putter here. ap (λ (x : AnswerPutter). x.number) (putter_at k old w i answer_putter worker here).is;
+        count = putters_count k old w worker ∙ sym (length-map seats (λ (s : Seat T). s.desk.id));
         answered = subst (λ (c : CellView). HasAnswered (ids_of seats) c w.answers v.cell v.sents) worker.is (subst (λ (l : List ℕ). HasAnswered l w.cell w.answers v.cell v.sents) worker.box.clients goes.answered);
       }
 
@@ -309,7 +309,7 @@ module _ {T : Type 0} (config : Numbers) (of : ClockId) (row : List CellView) (s
               began = ap (λ (b : InboxId Answered ClientPlace). b.place.began.value.entries) all.inbox ∙ ap (λ (e : DeskView). e.entries) box.began;
               agree = right;
               senders = subst (λ (n : ℕ). All (λ (j : ℕ × Answered). j.0 < n) (took m.answers)) senders all.known;
-              items = λ k r line here to. (all_at (λ (l : List AnswerPutter). Beside HasAllOf mails l) (map (λ (v : WorkerView). v.sents) ends) k r settled here).each i m line at to;
+              items = λ k r answer_putter here to. (all_at (λ (l : List AnswerPutter). Beside HasAllOf mails l) (map (λ (v : WorkerView). v.sents) ends) k r settled here).each i m answer_putter at to;
             }
 
         heard_by : (i : ℕ) (m : ByMail) (s : Seat T) (y : KeysView × T) → slice_get mails i ≡ Some m → slice_get seats i ≡ Some s → MailAt i m y → IsHeard (ids_of seats) (desks_of seats) (map (λ (v : WorkerView). v.sents) ends) i m y.0.desk

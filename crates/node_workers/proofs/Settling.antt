@@ -61,8 +61,8 @@ module _ (mails : List ByMail) (row left less : List AnswerPutter) (x : AnswerPu
     done_at : (k : ℕ) (n : ByMail) (y : AnswerPutter) → slice_get mails k ≡ Some n → slice_get row k ≡ Some y → (k ≡ length less) ⊎ (length left ≤ k) → HasAllOf k n y
     done_at k n y there of (inl e) =
         let mail : m ≡ n = same_at mails (length less) m n at (ap (slice_get mails) (sym e) ∙ there) in
-        let line : x ≡ y = same_at row (length less) x y here (ap (slice_get row) (sym e) ∙ of) in
-        subst (λ u. HasAllOf k u y) mail (subst (λ u. HasAllOf k m u) line items)
+        let same : x ≡ y = same_at row (length less) x y here (ap (slice_get row) (sym e) ∙ of) in
+        subst (λ u. HasAllOf k u y) mail (subst (λ u. HasAllOf k m u) same items)
     done_at k n y there of (inr le) = s.done k n y le there of
 
     pub settled_more : AreSettledFrom mails row less

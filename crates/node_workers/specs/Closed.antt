@@ -7,11 +7,11 @@ use Rattle.node_serving.specs.Workers.{AnswerPutter}
 
 -- the putter goes to the inbox out of which the client took
 abbrev pub IsOfMail : ℕ → ByMail → AnswerPutter → Type 0
-IsOfMail i m line = line.inbox ≡ m.answers.inbox
+IsOfMail i m answer_putter = answer_putter.inbox ≡ m.answers.inbox
 
 -- what was taken of the putter is what was put into it
 abbrev pub HasAllOf : ℕ → ByMail → AnswerPutter → Type 0
-HasAllOf i m line = items_from line.number (took m.answers) ≡ line.put
+HasAllOf i m answer_putter = items_from answer_putter.number (took m.answers) ≡ answer_putter.put
 
 -- each way by mail is that of its seat
 abbrev pub AreSeated : List ByMail → Type 0

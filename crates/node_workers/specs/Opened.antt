@@ -41,7 +41,7 @@ pub record IsWorkerOf (of : ClockId) (ids : List ℕ) (rows : List (List AnswerP
   pub is : w.cell ≡ rechartered cell false
   pub own : cell.pass.clock ≡ cell.charter.pass.clock
   pub box : IsAskBox of (slot_of cell.charter) ids w.asks
-  pub lines : slice_get rows k ≡ Some w.answers
+  pub answer_putters : slice_get rows k ≡ Some w.answers
   pub none : w.sents ≡ []
 
 -- the keys of a seat's desk and its duty, with the taker and the putters at the seat's place
@@ -59,7 +59,7 @@ ids_of seats = map (λ s. s.desk.id) seats
 -- all that is opened
 pub record Opened {T : Type 0} (config : Numbers) (of : ClockId) (cells : List CellView) (seats : List (Seat T)) (boxes : List (Taking Answered ClientPlace)) (rows : List (List AnswerPutter)) (hands : List (List (Putting Asked NodePlace))) (workers : List WorkerView) (clients : List (KeysView × T)) (floor : FloorView) : Type 0 where
   pub answers : Beside (IsAnswerBox of (length cells)) seats boxes
-  pub lines : AreSpread (length cells) boxes rows
+  pub answer_putters : AreSpread (length cells) boxes rows
   pub nodes : Beside (IsWorkerOf of (ids_of seats) rows) cells workers
   pub asks : AreSpread (length (ids_of seats)) (map (λ w. w.asks) workers) hands
   pub seated : Beside (IsClientOf boxes hands) seats clients

@@ -40,9 +40,9 @@ pub fn open_posts<R: Wait, T: Duty>(
     let nodes = cells.len() as u32;
     let slots = slots_in(alloc, cells.as_slice())?;
     let clients = clients_of(alloc, seats.as_slice())?;
-    let (boxes, lines) = open_answers(rt, alloc, &clock, nodes, seats.as_slice())?;
+    let (boxes, answer_putters) = open_answers(rt, alloc, &clock, nodes, seats.as_slice())?;
     let floor = Floor::by_mail(alloc, clock, slots, &boxes);
-    let (posts, putters) = open_nodes(rt, alloc, floor.clock(), cells, &clients, lines)?;
+    let (posts, putters) = open_nodes(rt, alloc, floor.clock(), cells, &clients, answer_putters)?;
     let posts = open_clients(alloc, posts, seats, boxes, putters)?;
     Ok((floor, posts))
 }
@@ -108,21 +108,21 @@ fn open_nodes<R: Wait, T: Duty>(
     clock: &Clock,
     cells: Vec<NodeCell>,
     clients: &ItemList<u32>,
-    mut lines: Hands<Putter<Answered>>,
+    mut answer_putters: Hands<Putter<Answered>>,
 ) -> Result<(Vec<Post<T>>, Hands<Putter<Asked>>), NoMemory>
     requires count { (1 ≤ length clients.now) × (length clients.now ≤ 65536) }
-    requires lines { length lines.items ≡ length cells.items }
+    requires answer_putters { length answer_putters.items ≡ length cells.items }
     ensures nodes { IfOk result (λ r.
-        Beside (IsWorkerOf clock.now clients.now lines.items) cells.items (nodes_in r.0.items)) }
+        Beside (IsWorkerOf clock.now clients.now answer_putters.items) cells.items (nodes_in r.0.items)) }
     ensures clients { IfOk result (λ r. clients_in r.0.items ≡ []) }
     ensures putters { IfOk result (λ r.
         AreSpread (length clients.now) (map (λ w. w.asks) (nodes_in r.0.items)) r.1.items) }
 {
     let mut posts = Vec::new(alloc);
     let mut putters = empty_hands(alloc, clients.len() as u32)?;
-    lines.reverse();
+    answer_putters.reverse();
     for cell in cells {
-        let Some(row) = lines.pop() else {
+        let Some(row) = answer_putters.pop() else {
             unreachable!()
         };
         let (asks, more) = open_asks(rt, alloc, clock, cell.slot(), clients)?;

@@ -23,9 +23,9 @@ use Rattle.journals.specs.Journals.{setting_for}
 use Rattle.merge_trace.specs.Traces.{placed}
 use Rattle.plan_words.specs.declared.plan.Plan.{Plan}
 use Rattle.plan_followed.specs.Laws.{OfPlans}
-use Rattle.plan_reports.specs.ScriptLiars.{HasScriptLiars}
-use Rattle.plan_reports.specs.Runs.{Reports}
-use Rattle.plan_reports.specs.Traces.{TracesPlan}
+use Rattle.command_texts.specs.ScriptLiars.{HasScriptLiars}
+use Rattle.command_texts.specs.Runs.{Reports}
+use Rattle.command_texts.specs.Traces.{TracesPlan}
 use Rattle.command_texts.specs.Replays.{cluster_of, Replays}
 
 module _ (s : Setting) (c : Numbers) where

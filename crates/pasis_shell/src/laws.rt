@@ -23,7 +23,7 @@ ghost use Rattle.call_words.specs.Words.{words_of};
 ghost use Rattle.call_words.specs.declared.words.Serving.{Serving as Servings};
 ghost use Rattle.event_lines.specs.declared.line.ReplayLine.TheVariants.{Plain};
 ghost use Rattle.journals.specs.declared.whole.Journals.{Journals};
-ghost use Rattle.plan_reports.specs.Traces.{TracesPlan};
+ghost use Rattle.command_texts.specs.Traces.{TracesPlan};
 
 use call_words::Command;
 
@@ -65,6 +65,6 @@ pub fn traces_replay()
         → length t.run.made.lines ≤ event_limit plan.config
         → Replays (replay_text plan.config plan.liars (map Plain t.run.made.lines)) t.report }
 {
-    plan_reports::laws::plans_declare();
+    command_texts::laws::plans_declare();
     script_text::laws::replays_are_spelled();
 }

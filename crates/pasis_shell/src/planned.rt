@@ -8,11 +8,10 @@ ghost use Rattle.command_texts.specs.Texts.{Writes, Refuses};
 
 use call_words::{Command, Refusal, Serving};
 use client_threads::{Gate, Ran, run_plan};
-use command_texts::{Answer, text_of};
+use command_texts::{Answer, load_of, load_text, run_text, text_of, trace_text};
 use cross_sum::Bytes;
 use event_clock::RunRefusal;
 use node_workers::run_workers;
-use plan_reports::{load_of, load_text, run_text, trace_text};
 use plan_text::read_plan;
 use plan_words::Plan;
 use std::alloc::Global;

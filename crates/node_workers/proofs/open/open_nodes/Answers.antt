@@ -21,11 +21,11 @@ loop-cell-init g c =
     let count : length c.in_ok-putters.putters.items ≡ length c.args.clients.now = search rules in (
       [],
       (sym gives.0, gives.1 ∙ c.args.cells.ok.0 ∙ ap length (sym gives.0)),
-      subst (UpTo (IsWorkerOf c.args.clock.now c.args.clients.now c.args.lines.items) c.args.cells.items) (sym nodes) (up_to_none (IsWorkerOf c.args.clock.now c.args.clients.now c.args.lines.items) c.args.cells.items),
+      subst (UpTo (IsWorkerOf c.args.clock.now c.args.clients.now c.args.answer_putters.items) c.args.cells.items) (sym nodes) (up_to_none (IsWorkerOf c.args.clock.now c.args.clients.now c.args.answer_putters.items) c.args.cells.items),
       ap length nodes,
       ap (λ l. clients_in l) none,
       subst (λ l. AreSpread (length c.args.clients.now) (map (λ (w : WorkerView). w.asks) l) c.in_ok-putters.putters.items) (sym nodes) (none_spread (length c.args.clients.now) c.in_ok-putters.putters.items count c.in_ok-putters.ensures.empty),
-      all_left c.args.lines.items c.reverse.new.self.items c.reverse.ensures.items,
+      all_left c.args.answer_putters.items c.reverse.new.self.items c.reverse.ensures.items,
     )
 
 pub loop-cell-preserved : goal.loop-cell-preserved
@@ -35,7 +35,7 @@ loop-cell-preserved g c =
     let cells = c.args.cells.items in
     let clock = c.args.clock.now in
     let clients = c.args.clients.now in
-    let lines = c.args.lines.items in
+    let answer_putters = c.args.answer_putters.items in
     let cell = c.in-Some.cell in
     let rest = into_iter_items c.next.new.self in
     let worker = c.in_ok-worker.worker in
@@ -47,8 +47,8 @@ loop-cell-preserved g c =
     let nodes : nodes_in c.push.new.self.items ≡ nodes_in was ++ worker ∷ [] = ap (λ l. nodes_in l) pushed ∙ node_nodes was (Node worker) worker refl in
     let none : clients_in c.push.new.self.items ≡ clients_in was = ap (λ l. clients_in l) pushed ∙ node_clients was (Node worker) worker refl in
     let at : slice_get cells (length (nodes_in was)) ≡ Some cell = here_of cells inv.0 rest cell (length (nodes_in was)) (inv.1.0 ∙ ap (λ l. inv.0 ++ l) steps.0) inv.3 in
-    let next = next_left lines c.loop-cell.lines.items c.pop.new.self.items c.in-Some-pop.row (length inv.0) inv.6 c.in-Some-pop.ensures.items in
-    let of : IsWorkerOf clock clients lines (length (nodes_in was)) cell worker = record {
+    let next = next_left answer_putters c.loop-cell.answer_putters.items c.pop.new.self.items c.in-Some-pop.row (length inv.0) inv.6 c.in-Some-pop.ensures.items in
+    let of : IsWorkerOf clock clients answer_putters (length (nodes_in was)) cell worker = record {
       is = ap (λ (w : WorkerView). w.cell) is ∙ c.go_on.ensures;
       own = c.known.ensures.own.0;
       box = record {
@@ -57,7 +57,7 @@ loop-cell-preserved g c =
         clients = ap (λ (w : WorkerView). w.asks.inbox.place.clients.value) is ∙ box.clients;
         new = ap (λ (w : WorkerView). w.asks.heard) is ∙ box.new;
       };
-      lines = ap (slice_get lines) inv.3 ∙ next.1 ∙ ap (λ l. Some l) (sym (ap (λ (w : WorkerView). w.answers) is ∙ c.into_vec.ensures));
+      answer_putters = ap (slice_get answer_putters) inv.3 ∙ next.1 ∙ ap (λ l. Some l) (sym (ap (λ (w : WorkerView). w.answers) is ∙ c.into_vec.ensures));
       none = ap (λ (w : WorkerView). w.sents) is;
     } in
     let boxes : map (λ (w : WorkerView). w.asks) (nodes_in c.push.new.self.items) ≡ map (λ (w : WorkerView). w.asks) (nodes_in was) ++ asks ∷ [] =
@@ -65,15 +65,15 @@ loop-cell-preserved g c =
     let spread = spread_more (length clients) (map (λ (w : WorkerView). w.asks) (nodes_in was)) c.loop-cell.putters.items c.deal.new.hands.items asks c.in_ok-asks.more inv.5 c.in_ok-asks.ensures.putters c.in_ok-deal.ensures in (
       inv.0 ++ cell ∷ [],
       walk_on cells inv.0 (into_iter_items c.loop-cell.cell-iterator) rest cell (into_iter_len c.loop-cell.cell-iterator) (into_iter_len c.next.new.self) inv.1 steps.0 steps.1,
-      subst (UpTo (IsWorkerOf clock clients lines) cells) (sym nodes) (up_to_more (IsWorkerOf clock clients lines) cells (nodes_in was) cell worker inv.2 at of),
+      subst (UpTo (IsWorkerOf clock clients answer_putters) cells) (sym nodes) (up_to_more (IsWorkerOf clock clients answer_putters) cells (nodes_in was) cell worker inv.2 at of),
       ap length nodes ∙ length-append (nodes_in was) (worker ∷ []) ∙ ap (λ n. n + 1) inv.3 ∙ sym (length-append inv.0 (cell ∷ [])),
       none ∙ inv.4,
       subst (λ l. AreSpread (length clients) l c.deal.new.hands.items) (sym boxes) spread,
-      subst (AreLeft lines c.pop.new.self.items) (sym (length-append inv.0 (cell ∷ []))) next.0,
+      subst (AreLeft answer_putters c.pop.new.self.items) (sym (length-append inv.0 (cell ∷ []))) next.0,
     )
 
 pub returns-clause-nodes : goal.returns-clause-nodes
 returns-clause-nodes g c =
     let inv = c.loop-cell.invariant in
     let all = walk_end c.args.cells.items inv.0 (into_iter_items c.loop-cell.cell-iterator) (into_iter_len c.loop-cell.cell-iterator) inv.1 c.in-None.ensures.steps.0 in
-    up_to_all (IsWorkerOf c.args.clock.now c.args.clients.now c.args.lines.items) c.args.cells.items (nodes_in c.loop-cell.posts.items) inv.2 (inv.3 ∙ ap length (sym all))
+    up_to_all (IsWorkerOf c.args.clock.now c.args.clients.now c.args.answer_putters.items) c.args.cells.items (nodes_in c.loop-cell.posts.items) inv.2 (inv.3 ∙ ap length (sym all))

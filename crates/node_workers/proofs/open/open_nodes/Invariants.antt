@@ -13,8 +13,8 @@ use Rattle.node_workers.proofs.open.open_nodes.Given as goal
 abbrev pub invariant-loop-cell : goal.invariant-loop-cell
 invariant-loop-cell g l =
     (done : List CellView) × Walked l.fn.cells.items done (into_iter_items l.cell-iterator) (into_iter_len l.cell-iterator)
-    × UpTo (IsWorkerOf l.clock l.clients l.fn.lines.items) l.fn.cells.items (nodes_in l.posts.items)
+    × UpTo (IsWorkerOf l.clock l.clients l.fn.answer_putters.items) l.fn.cells.items (nodes_in l.posts.items)
     × (length (nodes_in l.posts.items) ≡ length done)
     × (clients_in l.posts.items ≡ [])
     × AreSpread (length l.clients) (map (λ (w : WorkerView). w.asks) (nodes_in l.posts.items)) l.putters.items
-    × AreLeft l.fn.lines.items l.lines.items (length done)
+    × AreLeft l.fn.answer_putters.items l.answer_putters.items (length done)

@@ -8,7 +8,7 @@ use Rattle.locked_nodes.specs.declared.charter.Charter.{Charter}
 use Rattle.locked_nodes.specs.Slots.{slot_of}
 use Rattle.protocol.specs.Messages.{Message}
 use Rattle.node_serving.specs.Workers.{HasAnswered, AreAnswered, clients_of}
-use Rattle.node_serving.proofs.Answering.{IsServing, serving_none, answered_more, answered_late, asked_more, seat_within, line_of}
+use Rattle.node_serving.proofs.Answering.{IsServing, serving_none, answered_more, answered_late, asked_more, seat_within, putter_of}
 use Rattle.node_serving.proofs.worker.NodeWorker.serve.Goals as goal
 
 pub loop-init : goal.loop-init
@@ -45,7 +45,7 @@ index_mut-putter-requires g c =
     let so = subst (IsServing w) (sym c.self.view_is) c.loop.invariant in
     let asked = c.in-Some-take.asked in
     let client = ap (λ i. slice_get i.place.clients.value asked.seat) (sym so.asks) ∙ c.in-Some-take.ensures.fits.client in
-    let lt = seat_within c.args.clock.now (clients_of w) w.cell w.answers now.cell now.answers.items c.requires.lines so.answered asked.seat asked.ask.client client in
+    let lt = seat_within c.args.clock.now (clients_of w) w.cell w.answers now.cell now.answers.items c.requires.answer_putters so.answered asked.seat asked.ask.client client in
     omega (arith, lt, now.answers.ok.0)
 
 pub put-requires : goal.put-requires
@@ -56,11 +56,11 @@ put-requires g c =
     let asked = c.in-Some-take.asked in
     let client = ap (λ i. slice_get i.place.clients.value asked.seat) (sym so.asks) ∙ c.in-Some-take.ensures.fits.client in
     let putter = c.index_mut-putter.result.now in
-    let lt = seat_within c.args.clock.now (clients_of w) w.cell w.answers now.cell now.answers.items c.requires.lines so.answered asked.seat asked.ask.client client in
+    let lt = seat_within c.args.clock.now (clients_of w) w.cell w.answers now.cell now.answers.items c.requires.answer_putters so.answered asked.seat asked.ask.client client in
     let at : slice_get now.answers.items asked.seat ≡ Some putter = slice_get_read now.answers.items (length now.answers.items) asked.seat putter refl lt c.index_mut-putter.ensures.value in
-    let line = line_of c.args.clock.now (clients_of w) w.cell w.answers now.cell now.answers.items c.requires.lines so.answered asked.seat asked.ask.client putter client at in
+    let answer_putter = putter_of c.args.clock.now (clients_of w) w.cell w.answers now.cell now.answers.items c.requires.answer_putters so.answered asked.seat asked.ask.client putter client at in
     let answer = c.answer_to-answer.ensures in
-    record { clock = answer.clock ∙ sym line.0; client = ap (λ (m : Message). m.client) answer.to.1 ∙ sym line.1; seen = answer.seen }
+    record { clock = answer.clock ∙ sym answer_putter.0; client = ap (λ (m : Message). m.client) answer.to.1 ∙ sym answer_putter.1; seen = answer.seen }
 
 pub bring_one-came-requires : goal.bring_one-came-requires
 bring_one-came-requires g c =
@@ -75,16 +75,16 @@ loop-preserved g c =
     let asked = c.in-Some-take.asked in
     let client = ap (λ i. slice_get i.place.clients.value asked.seat) (sym so.asks) ∙ c.in-Some-take.ensures.fits.client in
     let putter = c.index_mut-putter.result.now in
-    let lt = seat_within c.args.clock.now (clients_of w) w.cell w.answers now.cell now.answers.items c.requires.lines so.answered asked.seat asked.ask.client client in
+    let lt = seat_within c.args.clock.now (clients_of w) w.cell w.answers now.cell now.answers.items c.requires.answer_putters so.answered asked.seat asked.ask.client client in
     let at : slice_get now.answers.items asked.seat ≡ Some putter = slice_get_read now.answers.items (length now.answers.items) asked.seat putter refl lt c.index_mut-putter.ensures.value in
     let answer = c.answer_to-answer in
     let more = answered_more now.answers.items asked.seat putter at answer.result (clients_of w) w.cell now.cell answer.new.cell w.answers so.answered answer.ensures.met (client ∙ ap (λ (m : Message). Some m.client) (sym answer.ensures.to.1)) in
     let put : HasAnswered (clients_of w) w.cell w.answers answer.new.cell (slice_set now.answers.items asked.seat c.put.new.self) = subst (λ p. HasAnswered (clients_of w) w.cell w.answers answer.new.cell (slice_set now.answers.items asked.seat p)) (sym c.put.ensures) more in
-    let lines = slice_set now.answers.items asked.seat (put_more putter answer.result) in
+    let answer_putters = slice_set now.answers.items asked.seat (put_more putter answer.result) in
     let to = asked_more now.answers.items asked.seat putter at answer.result (took now.asks)
     c.in-Some-take.field-0-0 asked refl answer.ensures.to so.asked in
-    let all : AreAnswered (took c.take.new.self) lines =
-    subst (λ l. AreAnswered l lines) (sym c.in-Some-take.ensures.took) to in
+    let all : AreAnswered (took c.take.new.self) answer_putters =
+    subst (λ l. AreAnswered l answer_putters) (sym c.in-Some-take.ensures.took) to in
     record {
       asks = ap (λ t. t.inbox) c.in-Some-take.ensures.some.1 ∙ so.asks;
       asked = subst (λ p. AreAnswered (took c.take.new.self) (slice_set now.answers.items asked.seat p))

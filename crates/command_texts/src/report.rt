@@ -1,0 +1,58 @@
+//! The report of a run of a plan.
+
+ghost use Rattle.std.specs.Prelude.{IfOk};
+ghost use Rattle.plan_followed.specs.Followed.{AreOfPlan};
+ghost use Rattle.command_texts.specs.Runs.{RunsPlan, TellsPlan};
+
+use cross_sum::Bytes;
+use history_entries::History;
+use history_texts::print;
+use journal_records::records_of;
+use journals::Journals;
+use lists::NoMemory;
+use plan_words::Plan;
+use script_run::history_of_records;
+use std::alloc::Global;
+use wire_forms::First;
+
+/// The most numbers of which a history is told, which is more than memory has room for.
+pub(crate) const MOST_LINES: u64 = (1 << 31) - 2;
+
+/// The history of the run that the journals tell, for which so many numbers were drawn. They are those of a run of the plan. Its
+/// records are those of the clients' journals, so none of its lines is played.
+pub(crate) fn told_history(
+    alloc: Global,
+    plan: &Plan,
+    journals: &Journals,
+    drawn: u64,
+) -> Result<History, NoMemory>
+    requires { AreOfPlan plan.now journals.now drawn }
+    ensures { IfOk result (TellsPlan plan.now journals.now) }
+{
+    if drawn > MOST_LINES {
+        return Err(NoMemory);
+    }
+    plan_followed::laws::followed_plans();
+    journal_records::laws::merged_lines();
+    journal_records::laws::all_records();
+    let records = records_of(alloc, journals)?;
+    let first = First::of(alloc, &journals.config)?;
+    let history = history_of_records(alloc, records.as_slice(), &first.stamp)?;
+    Ok(history)
+}
+
+/// The report of that history, which has each operation of each client that neither lies nor crashes.
+pub fn run_text(
+    alloc: Global,
+    plan: &Plan,
+    journals: &Journals,
+    drawn: u64,
+) -> Result<Bytes, NoMemory>
+    requires { AreOfPlan plan.now journals.now drawn }
+    ensures { IfOk result (RunsPlan plan.now journals.now) }
+{
+    journal_records::laws::complete_histories();
+    let history = told_history(alloc, plan, journals, drawn)?;
+    let text = print(alloc, &history)?;
+    Ok(text)
+}

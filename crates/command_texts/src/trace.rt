@@ -1,0 +1,76 @@
+//! The trace of a run of a plan: its lines as a script, and its report.
+
+ghost use Rattle.std.specs.Prelude.{◌≡◌, ◌++◌, ◌∷◌, [], codes, IfOk};
+ghost use Rattle.std.specs.List.{AllByRecursion};
+ghost use Rattle.text_lines.specs.Lines.{text_of_lines};
+ghost use Rattle.journal_records.specs.Told.{IsTold};
+ghost use Rattle.command_texts.specs.Runs.{AreOfPlanRun, IsPlanRun, ReportsWorld};
+ghost use Rattle.command_texts.specs.Traces.{TracesPlan};
+
+use crate::laws::plans_declare;
+use crate::report::MOST_LINES;
+use crate::script::script_of;
+use cross_sum::Bytes;
+use history_texts::print;
+use journals::Journals;
+use lists::NoMemory;
+use merge_trace::{MergedRun, merge_run};
+use plan_words::Plan;
+use script_run::history_of;
+use std::alloc::Global;
+use text_lines::Text;
+use world_steps::World;
+
+/// The run that journals of a run of the plan tell.
+fn merged(alloc: Global, plan: &Plan, journals: &Journals) -> Result<MergedRun, NoMemory>
+    requires { AreOfPlanRun plan.now journals.now }
+    ensures run { IfOk result (λ r. IsPlanRun plan.now journals.now r.lines r.world) }
+    ensures told { IfOk result (λ r. AllByRecursion (IsTold plan.now.config) r.lines) }
+{
+    plan_followed::laws::plans();
+    plan_followed::laws::followed_plans();
+    journal_records::laws::told_lines();
+    let merged_run = merge_run(alloc, journals)?;
+    Ok(merged_run)
+}
+
+/// The report of the history of a world.
+fn report_of(alloc: Global, world: &World) -> Result<Bytes, NoMemory>
+    ensures { IfOk result (λ text. ReportsWorld world.now text) }
+{
+    if world.place() > MOST_LINES {
+        return Err(NoMemory);
+    }
+    let history = history_of(alloc, world)?;
+    print(alloc, &history)
+}
+
+/// A script, the line `report` and a report, as one text.
+fn joined(alloc: Global, script: &Bytes, report: &Bytes) -> Result<Bytes, NoMemory>
+    ensures { IfOk result (λ text.
+        text ≡ script.now ++ text_of_lines (codes "report" ∷ []) ++ report.now) }
+{
+    let mut text = Text::new(alloc);
+    text.add(script.as_slice())?;
+    text.add(b"report\n")?;
+    text.add(report.as_slice())?;
+    text.into_bytes()
+}
+
+/// The lines of the run that the journals tell as a script, the line `report`, and the run's report. The journals are those of a
+/// run of the plan.
+pub fn trace_text(alloc: Global, plan: &Plan, journals: Journals) -> Result<Bytes, NoMemory>
+    requires { AreOfPlanRun plan.now journals }
+    ensures { IfOk result (TracesPlan plan.now journals) }
+{
+    journal_records::laws::complete_histories();
+    plans_declare();
+    let merged_run = merged(alloc, plan, &journals)?;
+    let report = report_of(alloc, &merged_run.world)?;
+    let MergedRun { lines, world } = merged_run;
+    drop(world);
+    let Journals { config, liars, .. } = journals;
+    let script = script_of(alloc, config, liars, lines)?;
+    let text = joined(alloc, &script, &report)?;
+    Ok(text)
+}

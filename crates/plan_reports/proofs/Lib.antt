@@ -1,6 +1,0 @@
-mod Ascending
-mod Events
-mod Formed
-mod Loads
-mod Running
-mod Told

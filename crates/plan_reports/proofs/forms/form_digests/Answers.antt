@@ -1,5 +1,0 @@
-use Rattle.plan_reports.proofs.Formed.{digest_more}
-use Rattle.plan_reports.proofs.forms.form_digests.Goals as goal
-
-pub loop-digest-preserved : goal.loop-digest-preserved
-loop-digest-preserved c = digest_more c.args.digests.now c.loop-digest.digest-index c.loop-digest-test.true c.loop-digest.invariant c.form_digest.ensures

@@ -1,5 +1,0 @@
-use Rattle.plan_reports.proofs.Formed.{value_bytes}
-use Rattle.plan_reports.proofs.forms.form_value.Goals as goal
-
-pub returns : goal.returns
-returns c = value_bytes c.args.value.now c.as_slice-bytes.ensures.each

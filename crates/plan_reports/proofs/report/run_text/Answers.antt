@@ -1,5 +1,0 @@
-use Rattle.plan_reports.proofs.Told.{runs_told}
-use Rattle.plan_reports.proofs.report.run_text.Goals as goal
-
-pub returns : goal.returns
-returns c = runs_told c.complete_histories.ensures c.args.plan.now c.args.journals.now c.in_ok-history.history c.in_ok-history.ensures c.in_ok-text.text c.in_ok-text.ensures

@@ -1,4 +1,0 @@
-pub mod Loads
-pub mod Runs
-pub mod Traces
-pub mod ScriptLiars
