@@ -16,7 +16,7 @@ use Rattle.line_forms.specs.declared.cause.Cause.TheVariants.{UnknownWord, Wrong
 use Rattle.history_entries.specs.declared.entry.Kind.{Kind}
 use Rattle.history_entries.specs.declared.entry.Entry.{Entry}
 use Rattle.history_entries.specs.declared.entry.Spent.{Spent}
-use Rattle.history_texts.specs.declared.reading.Numbers.{Numbers}
+use Rattle.history_texts.specs.declared.numbers.Numbers.{Numbers}
 use Rattle.history_texts.specs.Reports.{entry_fields}
 use Rattle.history_texts.specs.ReportTexts.{◌>>=◌, kind_told, numbers_told, numbers_in, entry_told, entry_with, entry_causes, value_causes, has_other_kind, has_other_size, is_bad_value, is_zero_mark, is_not_above, stands_above, last_of, IsRightAfter, MayFollow, IsTold}
 use Rattle.history_entries.specs.Orders.{key_cmp}

@@ -19,7 +19,7 @@ use Rattle.history_entries.specs.declared.entry.Kind.{Kind}
 use Rattle.history_entries.specs.declared.entry.Kind.TheVariants.{Read, Write, Foreign}
 use Rattle.history_entries.specs.declared.entry.Entry.{Entry as EntryRecord}
 use Rattle.history_entries.specs.declared.entry.Spent.{Spent as SpentRecord}
-use Rattle.history_texts.specs.declared.reading.Numbers.{Numbers}
+use Rattle.history_texts.specs.declared.numbers.Numbers.{Numbers}
 use Rattle.history_texts.specs.declared.reading.ReportLine.TheVariants.{Entry}
 use Rattle.history_texts.specs.Reports.{kind_word, place_text, stamp_text, entry_fields}
 use Rattle.history_texts.specs.ReportTexts.{◌>>=◌, IsPlaceOrNone, HasPlaces, IsTold, MayFollow, last_of, stamp_told, start_told, end_told, numbers_told, entry_told, entry_with, entry_causes, value_causes, has_other_size, is_bad_value, stands_above, begins_with_digit, line_cause, field}

@@ -11,8 +11,8 @@ use Rattle.text_lines.proofs.Numbers.{number_of-some}
 use Rattle.text_lines.proofs.Joined.{only_part, Lacks-decimal}
 use Rattle.history_entries.specs.declared.entry.Kind.{Kind}
 use Rattle.history_entries.specs.declared.entry.Kind.TheVariants.{Read, Write, Foreign}
-use Rattle.history_texts.specs.declared.reading.StampNumbers.{StampNumbers}
-use Rattle.history_texts.specs.declared.reading.Numbers.{Numbers}
+use Rattle.history_texts.specs.declared.numbers.StampNumbers.{StampNumbers}
+use Rattle.history_texts.specs.declared.numbers.Numbers.{Numbers}
 use Rattle.history_texts.specs.Reports.{kind_word, place_text}
 use Rattle.history_texts.specs.ReportTexts.{◌>>=◌, kind_told, stamp_of_parts, stamp_told, some_place, no_place, start_told, end_told, numbers_told, IsPlace, IsPlaceOrNone, HasPlaces}
 

@@ -17,8 +17,8 @@ use Rattle.history_entries.specs.declared.entry.Kind.TheVariants.{Read, Write, F
 use Rattle.history_entries.specs.declared.entry.Entry.{Entry}
 use Rattle.history_entries.specs.declared.entry.Spent.{Spent}
 use Rattle.history_entries.specs.declared.entry.Counts.{Counts}
-use Rattle.history_texts.specs.declared.reading.StampNumbers.{StampNumbers}
-use Rattle.history_texts.specs.declared.reading.Numbers.{Numbers}
+use Rattle.history_texts.specs.declared.numbers.StampNumbers.{StampNumbers}
+use Rattle.history_texts.specs.declared.numbers.Numbers.{Numbers}
 use Rattle.history_entries.specs.Books.{Book}
 use Rattle.history_entries.specs.Orders.{key_cmp}
 

@@ -7,7 +7,7 @@ use Rattle.line_forms.specs.Tables.{first_of}
 use Rattle.history_texts.specs.Reports.{spent_fields}
 use Rattle.history_texts.specs.ReportTexts.{field, spent_numbers, spent_told, spent_causes, is_not_later, last_of, MayFollowSpent}
 use Rattle.history_texts.proofs.OtherLines.{spent_right, four_texts}
-use Rattle.history_texts.proofs.reading.spent_in.Goals as goal
+use Rattle.history_texts.proofs.spent_line.spent_in.Goals as goal
 
 pub returns : goal.returns
 returns c =

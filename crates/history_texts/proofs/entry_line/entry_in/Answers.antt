@@ -10,7 +10,7 @@ use Rattle.history_entries.specs.declared.entry.Entry.{Entry}
 use Rattle.history_texts.specs.Reports.{entry_fields}
 use Rattle.history_texts.specs.ReportTexts.{kind_told, numbers_told, entry_with, entry_causes, entry_told, value_causes, MayFollow, IsRightAfter}
 use Rattle.history_texts.proofs.EntryLines.{Seven, no_numbers, with_numbers, follows, seven_texts}
-use Rattle.history_texts.proofs.reading.entry_in.Goals as goal
+use Rattle.history_texts.proofs.entry_line.entry_in.Goals as goal
 
 pub returns-in_default-numbers_of : goal.returns-in_default-numbers_of
 returns-in_default-numbers_of c =

@@ -7,7 +7,7 @@ use Rattle.line_forms.specs.Tables.{first_of}
 use Rattle.history_texts.specs.Reports.{end_fields}
 use Rattle.history_texts.specs.ReportTexts.{field, count_numbers, end_causes, has_other_name, done_count, AreCounts}
 use Rattle.history_texts.proofs.OtherLines.{counts_right, six_texts}
-use Rattle.history_texts.proofs.reading.counts_in.Goals as goal
+use Rattle.history_texts.proofs.end_line.counts_in.Goals as goal
 
 pub returns : goal.returns
 returns c =

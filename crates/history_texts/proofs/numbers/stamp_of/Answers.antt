@@ -1,6 +1,6 @@
 use Rattle.std.proofs.Common.{sym}
 use Rattle.history_texts.proofs.Spelling.{no_dot, one_dot, no_time, no_writer, no_mark, a_stamp}
-use Rattle.history_texts.proofs.reading.stamp_of.Goals as goal
+use Rattle.history_texts.proofs.numbers.stamp_of.Goals as goal
 
 pub returns-in_err-time : goal.returns-in_err-time
 returns-in_err-time c = rw c.from_residual.ensures (sym (no_dot c.args.field.now c.in_err-time.ensures.parts))
