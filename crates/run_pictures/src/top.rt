@@ -3,6 +3,7 @@ ghost use Rattle.std.specs.Prelude.{◌≡◌, ◌≢◌, ◌<◌, ℕ, IfOk, If
 ghost use Rattle.wire_forms.specs.Liars.{AreLiars};
 ghost use Rattle.line_forms.specs.declared.cause.Cause.{Cause};
 ghost use Rattle.outside_io.specs.Causes.{Rose};
+ghost use Rattle.outside_io.specs.Written.{AllFlushed};
 ghost use Rattle.command_texts.specs.Replays.{IsScript};
 ghost use Rattle.command_texts.specs.Texts.{Refuses};
 ghost use Rattle.call_words.specs.declared.refusal.Refusal.{Refusal as Refusals};
@@ -108,6 +109,10 @@ pub fn draw<S: Source, K: Sink>(alloc: Global, source: &mut S, sink: &mut K) -> 
         → Rose K.last (K.faults sink.old) (K.faults sink.new) }
     ensures unwritten { result ≢ PictureStatus.Replay Status.Done → result
         ≢ PictureStatus.Replay Status.WriteFault → sink.new ≡ sink.old }
+    ensures flushed { result ≡ PictureStatus.Replay Status.Done
+        → AllFlushed (K.taken sink.new) (K.flushed sink.new) }
+    ensures unflushed { result ≡ PictureStatus.Replay Status.WriteFault
+        → K.flushed sink.new ≡ K.flushed sink.old }
 {
     let text = match text_of(alloc, source) {
         Ok(text) => text,
