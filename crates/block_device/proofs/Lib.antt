@@ -1,5 +1,5 @@
-mod Touching
-mod Merges
+pub mod Touching
+pub mod Merges
 mod Fitting
 mod Doing
-mod Reading
+pub mod Reading

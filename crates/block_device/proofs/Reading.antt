@@ -26,7 +26,7 @@ pub get_keeps : (c : Numbers) (d : Device) (start len : ℕ) → (after (steps_o
 get_keeps c d start len = held_after c.size start len (touched c (Get start len)) d
 
 -- ---- neighbouring blocks as one string
-byte_in : (size : ℕ) (held : ℕ → List ℕ) (k at : ℕ) → at < size → get_or (held k) at 0 ≡ byte_at size held (k * size + at)
+pub byte_in : (size : ℕ) (held : ℕ → List ℕ) (k at : ℕ) → at < size → get_or (held k) at 0 ≡ byte_at size held (k * size + at)
 unfolding byte_at
 byte_in size held k at h =
     ap (λ j. get_or (held j) at 0) (sym (div-mul-add k size at h))

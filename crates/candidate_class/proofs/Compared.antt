@@ -12,7 +12,7 @@ use Rattle.protocol.specs.Messages.{flat, Version}
 use Rattle.protocol.specs.Setting.{Setting, first_stamp, digest_at, same}
 use Rattle.protocol.specs.Operations.{is_whole}
 use Rattle.protocol.proofs.Rounds.{same-≡, same-refl}
-use Rattle.protocol.proofs.Counting.{cases_bool}
+use Rattle.std.proofs.lemmas.Bool.{cases_Bool}
 
 pub same_by_fields : (s t : Stamp) → is_eq (by_fields s t) ≡ same_stamp s t
 unfolding same_stamp stamp_cmp
@@ -35,7 +35,7 @@ lengths_tell a b c d false h = elim (eqb_tells a b) [
 
 pub same_tells : (xs ys : List ℕ) (r : Bool) → (r ≡ true → xs ≡ ys) × (xs ≡ ys → r ≡ true) → same xs ys ≡ r
 same_tells xs ys true h = let e = h.0 refl in rw e (same-refl ys)
-same_tells xs ys false h = elim (cases_bool (same xs ys)) [ inl e ↦ absurd (let t = h.1 (same-≡ xs ys e) in cc) | inr e ↦ e ]
+same_tells xs ys false h = elim (cases_Bool (same xs ys)) [ inl e ↦ absurd (let t = h.1 (same-≡ xs ys e) in cc) | inr e ↦ e ]
 
 -- a comparison with an entry of a list
 pub entry_tells : (ds : List (List ℕ)) (i : ℕ) (d : List ℕ) (r : Bool) → i < length ds → (r ≡ true → slice_get ds i ≡ Some d) × (slice_get ds i ≡ Some d → r ≡ true)

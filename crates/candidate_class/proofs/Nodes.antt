@@ -13,10 +13,10 @@ use Rattle.protocol.specs.Messages.{Reply, Version}
 use Rattle.protocol.specs.Setting.{Setting}
 use Rattle.protocol.specs.Operations.{stamp_of, valid, stamps, carries}
 use Rattle.protocol.proofs.Seeing.{funext, at_list}
-use Rattle.protocol.proofs.Lists.{Contains-head, Contains-rest}
 use Rattle.candidate_class.specs.Answers.{by_node, AreOfNodes}
 use Rattle.candidate_class.specs.Stamps.{is_stamp}
 use Rattle.candidate_class.specs.declared.answers.Answer.{Answer}
+use Rattle.lists.proofs.Members.{Contains-head, Contains-rest}
 
 -- one more answer, of another node
 pub by_node-push : (answers : List Answer) (a : Answer) → ((c : Answer) → Contains answers c → c.node ≡ a.node → ⊥) → (i : ℕ) → by_node (answers ++ a ∷ []) i ≡ update (by_node answers) a.node (Some a.reply) i

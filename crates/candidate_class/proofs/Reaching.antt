@@ -9,7 +9,7 @@ use Rattle.protocol.specs.Reach.{reaches, greater, greatest, highest}
 use Rattle.protocol.specs.Operations.{is_there}
 use Rattle.protocol.proofs.Counting.{count_within, some_passes}
 use Rattle.protocol.proofs.Order.{≼-refl, ≼-trans, not_up_to, stamps_order}
-use Rattle.protocol.proofs.Highest.{highest_reaches, highest_is}
+use Rattle.protocol.proofs.Highest.{highest_reaches, highest_is, upto_last}
 
 pub count-next : (k : ℕ) (p : ℕ → Bool) → count (k + 1) p ≡ count k p + cond (p k) 1 0
 count-next k p = rw add-one refl
@@ -24,24 +24,21 @@ NoneIs n f = (i : ℕ) → i < n → is_there (f i) ≡ true → ⊥
 abbrev AllReach : ℕ → (ℕ → Option Stamp) → Stamp → Type 0
 AllReach n f x = (i : ℕ) → i < n → is_there (f i) ≡ true → reaches up_to x (f i) ≡ true
 
-below_last : (n : ℕ) (P : ℕ → Type 0) → ((i : ℕ) → i < n → P i) → P n → (i : ℕ) → i < suc n → P i
-below_last n P h last i l = let c : (i ≡ n) ⊎ (i < n) = grind arith in elim c [ inl e ↦ rw e last | inr m ↦ h i m ]
-
 lower : (x y : Stamp) (o : Option Stamp) → y ≼ x → reaches up_to x o ≡ true → reaches up_to y o ≡ true
 lower x y None h k = k
 lower x y (Some v) h k = ≼-trans y x v h k
 
 least_with : (n : ℕ) (f : ℕ → Option Stamp) (v : Stamp) → f n ≡ Some v → NoneIs n f ⊎ ((x : Stamp) × AllReach n f x) → (x : Stamp) × AllReach (suc n) f x
-least_with n f v e (inl none) = (v, below_last n (λ i. is_there (f i) ≡ true → reaches up_to v (f i) ≡ true) (λ i l t. absurd (none i l t)) (λ t. rw e (≼-refl v)))
+least_with n f v e (inl none) = (v, upto_last n (λ i. is_there (f i) ≡ true → reaches up_to v (f i) ≡ true) (λ i l t. absurd (none i l t)) (λ t. rw e (≼-refl v)))
 least_with n f v e (inr (x, all)) = at (up_to v x) refl
   where
     at : (b : Bool) → up_to v x ≡ b → (y : Stamp) × AllReach (suc n) f y
-    at true h = (v, below_last n (λ i. is_there (f i) ≡ true → reaches up_to v (f i) ≡ true) (λ i l t. lower x v (f i) h (all i l t)) (λ t. rw e (≼-refl v)))
-    at false h = (x, below_last n (λ i. is_there (f i) ≡ true → reaches up_to x (f i) ≡ true) all (λ t. rw e (not_up_to v x h)))
+    at true h = (v, upto_last n (λ i. is_there (f i) ≡ true → reaches up_to v (f i) ≡ true) (λ i l t. lower x v (f i) h (all i l t)) (λ t. rw e (≼-refl v)))
+    at false h = (x, upto_last n (λ i. is_there (f i) ≡ true → reaches up_to x (f i) ≡ true) all (λ t. rw e (not_up_to v x h)))
 
 least_past : (n : ℕ) (f : ℕ → Option Stamp) → f n ≡ None → NoneIs n f ⊎ ((x : Stamp) × AllReach n f x) → NoneIs (suc n) f ⊎ ((x : Stamp) × AllReach (suc n) f x)
-least_past n f e (inl none) = inl (below_last n (λ i. is_there (f i) ≡ true → ⊥) none (λ t. let g : is_there None ≡ true = rw e at t in cc))
-least_past n f e (inr (x, all)) = inr (x, below_last n (λ i. is_there (f i) ≡ true → reaches up_to x (f i) ≡ true) all (λ t. absurd (let g : is_there None ≡ true = rw e at t in cc)))
+least_past n f e (inl none) = inl (upto_last n (λ i. is_there (f i) ≡ true → ⊥) none (λ t. let g : is_there None ≡ true = rw e at t in cc))
+least_past n f e (inr (x, all)) = inr (x, upto_last n (λ i. is_there (f i) ≡ true → reaches up_to x (f i) ≡ true) all (λ t. absurd (let g : is_there None ≡ true = rw e at t in cc)))
 
 least : (n : ℕ) (f : ℕ → Option Stamp) → NoneIs n f ⊎ ((x : Stamp) × AllReach n f x)
 least zero f = inl (λ i l t. omega arith)

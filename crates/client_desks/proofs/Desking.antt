@@ -40,19 +40,8 @@ use Rattle.locked_nodes.specs.declared.charter.Item.TheVariants.{Head, Entry}
 use Rattle.locked_nodes.specs.Cells.{CellView, CameLate, state_of, loses, Rises, told_as, with_seen, with_entry, entry, items}
 use Rattle.client_desks.specs.Desks.{DeskView, state_at, reply_by, ending, asks_of, CanCall, AddPair, Calls, Delivers, own_of, own_numbers, numbers_of, IsDesk, desk_entry, heard}
 use Rattle.locked_nodes.specs.Cells.{reply_told}
-
--- numbers that rise, with one more
-pub rises_snoc : (low : ℕ) (xs : List ℕ) (high n : ℕ) → Rises low xs high → high ≤ n → Rises low (xs ++ n ∷ []) (n + 1)
-rises_snoc low [] high n rises le = (omega (arith, rises, le), omega arith)
-rises_snoc low (x ∷ xs) high n rises le = (rises.0, rises_snoc (x + 1) xs high n rises.1 le)
-
-pub rises_more : (low : ℕ) (xs : List ℕ) (high more : ℕ) → Rises low xs high → high ≤ more → Rises low xs more
-rises_more low [] high more rises le = omega (arith, rises, le)
-rises_more low (x ∷ xs) high more rises le = (rises.0, rises_more (x + 1) xs high more rises.1 le)
-
-state_snoc : (d : DeskState) (es : List DeskEntry) (e : DeskEntry) → desk_after_all d (es ++ e ∷ []) ≡ desk_after (desk_after_all d es) e.number e.act
-state_snoc d [] e = refl
-state_snoc d (x ∷ es) e = state_snoc (desk_after d x.number x.act) es e
+use Rattle.journals.proofs.Lists.{state_snoc}
+use Rattle.locked_nodes.proofs.Growing.{rises_snoc, rises_more}
 
 kept_snoc : (lying : Bool) (d : DeskState) (es : List DeskEntry) (e : DeskEntry) → DeskKept lying d es → ActsAs lying (desk_after_all d es) e.act → DeskKept lying d (es ++ e ∷ [])
 kept_snoc lying d [] e kept may = (may, tt)
@@ -225,10 +214,6 @@ asks_node s id (Some t) node ask is = ap (λ (m : Message). m.node) (sym (picked
 pub asks_client : (s : Setting) (id : ℕ) (task : Option SeenTask) (node : ℕ) (ask : Message) → outstanding_of s id task node ≡ Some ask → ask.client ≡ id
 asks_client s id None node ask is = cc
 asks_client s id (Some t) node ask is = ap (λ (m : Message). m.client) (sym (picked (nat_lt node s.n) (outstanding s id (task_at 0 t) node) ask is))
-
-pub some_in : {A : Type 0} (o : Option A) → IsSome o → (x : A) × (o ≡ Some x)
-some_in None is = absurd cc
-some_in (Some x) is = (x, refl)
 
 -- of a desk, where the answer is one
 pub asks_to : (answer : Result (Option Message) NoMemory) (d : DeskView) (node : ℕ) → IfOk answer (λ ask. ask ≡ asks_of d node) → IfOk answer (λ ask. IfSome ask (λ m. (m.node ≡ node) × (m.client ≡ d.id)))

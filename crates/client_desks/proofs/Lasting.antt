@@ -5,15 +5,12 @@ use Rattle.journals.specs.declared.desk.DeskEntry.{DeskEntry}
 use Rattle.locked_nodes.specs.Cells.{Rises}
 use Rattle.client_desks.specs.Desks.{DeskView, numbers_of, desk_entry}
 use Rattle.client_desks.specs.Later.{IsLater, GoesOn, OwnIsLater, CallIsLater, KeptIsLater}
+use Rattle.locked_nodes.proofs.Growing.{rises_append}
 
 -- numbers that rise from a higher bound rise from a lower one
 rises_from : (low high : ℕ) (xs : List ℕ) (top : ℕ) → low ≤ high → Rises high xs top → Rises low xs top
 rises_from low high [] top le rises = omega (arith, rises, le)
 rises_from low high (x ∷ xs) top le rises = let at = rises.0 in (omega (arith, at, le), rises.1)
-
-rises_on : (low : ℕ) (xs : List ℕ) (mid : ℕ) (ys : List ℕ) (high : ℕ) → Rises low xs mid → Rises mid ys high → Rises low (xs ++ ys) high
-rises_on low [] mid ys high first then = rises_from low mid ys high first then
-rises_on low (x ∷ xs) mid ys high first then = (first.0, rises_on (x + 1) xs mid ys high first.1 then)
 
 pub same_desk : (d : DeskView) → IsLater d d
 same_desk d = record {
@@ -36,7 +33,7 @@ goes_on a b c one two = record {
   number = two.number ∙ one.number;
   more = one.more ++ two.more;
   entries = two.entries ∙ ap (λ l. l ++ two.more) one.entries ∙ append_assoc a.entries one.more two.more;
-  rises = subst (λ l. Rises a.pass.seen l c.pass.seen) (sym (map-append (λ (e : DeskEntry). e.number) one.more two.more)) (rises_on a.pass.seen (numbers_of one.more) b.pass.seen (numbers_of two.more) c.pass.seen one.rises two.rises);
+  rises = subst (λ l. Rises a.pass.seen l c.pass.seen) (sym (map-append (λ (e : DeskEntry). e.number) one.more two.more)) (rises_append a.pass.seen (numbers_of one.more) b.pass.seen (numbers_of two.more) c.pass.seen one.rises two.rises);
 }
 
 pub own_later : OwnIsLater

@@ -5,7 +5,6 @@ use Rattle.std.proofs.Math.Nat.{mod-lt}
 use Rattle.std.specs.declared.option.Option.TheVariants.{Some}
 use Rattle.std.specs.List.{Contains, AllZip, All}
 use Rattle.std.proofs.lemmas.List.Elements.{All-nil, All-cons, All-head, All-tail, All-contains}
-use Rattle.protocol.proofs.Lists.{Contains-none, Contains-head, Contains-map_cases}
 use Rattle.event_clock.specs.Passes.{ClockId}
 use Rattle.journals.specs.declared.node.NodeEntry.{NodeEntry}
 use Rattle.journals.specs.declared.desk.DeskAct.{DeskAct}
@@ -21,7 +20,6 @@ use Rattle.phase_threads.specs.Standing.{IsCellOf, IsPlanned, node_journal, is_w
 use Rattle.phase_threads.specs.Ended.{AreClients}
 use Rattle.phase_threads.proofs.Nodes.{journal_cases}
 use Rattle.phase_threads.proofs.Cells.{journal_is, desk_at}
-use Rattle.journals.proofs.Lists.{number_of}
 use Rattle.phase_threads.specs.declared.duty.Seat.{Seat}
 use Rattle.crews.proofs.Places.{all_from, get_map}
 use Rattle.client_work.specs.declared.work.Work.{Work}
@@ -30,6 +28,7 @@ use Rattle.client_threads.specs.Opened.{IsNewCell, AreNewCells, IsNewSeat, shard
 use Rattle.client_threads.specs.Reads.{IsPartedAs, IsParted}
 use Rattle.client_threads.specs.Running.{desks_of, clients_of, plan_of, journals_in, StandsAt, LiarsNamed, IsOpen, IsBetween}
 use Rattle.client_threads.specs.declared.state.Run.{Run}
+use Rattle.lists.proofs.Members.{Contains-head, Contains-none, Contains-map_cases, place_of}
 
 -- a node has one cell or so many
 pub shards_cases : (plan : Plan) (shards i : ℕ) → (shards_of plan shards i ≡ 1) ⊎ (shards_of plan shards i ≡ shards)
@@ -90,7 +89,7 @@ no_pairs plan shards clock cells seats c s = record { called = called; answered 
   where
     called : (cell : CellView) (n : NodeEntry) (k : ℕ) (act : DeskAct) → Contains cells cell → Contains cell.journal n → side n.act ≡ Some (k, act) → HasSideOn (desks_of seats) k n.number act
     called cell n k act among there is =
-        let at = number_of cells cell among in
+        let at = place_of cells cell among in
         let none = cell_empty plan shards clock cell.charter.number cell.charter.shard cell (c.each at.0 cell at.1) in
         absurd (Contains-none n (subst (λ (es : List NodeEntry). Contains es n) none there))
 
@@ -110,7 +109,7 @@ journals_empty plan shards some clock cells seats c s = record {
   liars = refl;
   nodes = λ i. journal_is plan.config cells (cells_planned plan shards some clock cells c).inside i ∙ no_entries (node_journal cells i) (λ e there.
       let q = journal_cases cells i e there in
-      let at = number_of cells q.cell q.there in
+      let at = place_of cells q.cell q.there in
       let none = cell_empty plan shards clock q.cell.charter.number q.cell.charter.shard q.cell (c.each at.0 q.cell at.1) in
       Contains-none e (subst (λ (es : List NodeEntry). Contains es e) none q.stands));
   desks = λ k. elim (desk_at (desks_of seats) k).is [

@@ -13,7 +13,6 @@ use Rattle.protocol.specs.Operations.{Outcome}
 use Rattle.protocol.specs.World.{stamp_given}
 use Rattle.run_words.specs.declared.outcome.Outcome.TheVariants.{Wrote, Spent, Gave, Outvoted}
 use Rattle.protocol.specs.Report.{Ascend}
-use Rattle.protocol.proofs.Lists.{Contains-none, Contains-head, Contains-rest, Contains-cons_cases, Contains-map, Contains-map_cases}
 use Rattle.journals.specs.Desks.{Ended, DeskState, new_desk, desk_after_all}
 use Rattle.journals.specs.Steps.{Gives}
 use Rattle.journals.specs.declared.desk.DeskEntry.{DeskEntry}
@@ -43,6 +42,7 @@ use Rattle.phase_threads.specs.Standing.{journals_of}
 use Rattle.phase_threads.specs.Ended.{AreClients}
 use Rattle.phase_threads.proofs.Cells.{desk_at}
 use Rattle.phase_threads.proofs.Ending.{entries_are}
+use Rattle.lists.proofs.Members.{Contains-head, Contains-none, Contains-rest, Contains-cons_cases, Contains-map_cases, Contains-map}
 
 -- ---- one client's reads
 

@@ -3,7 +3,6 @@ use Rattle.std.proofs.Common.{◌≡◌, ℕ, ◌+◌, ◌<◌, ◌≤◌, List,
 use Rattle.std.specs.List.{Contains, AllZip, All}
 use Rattle.std.proofs.Math.Seq.{drop-append_seam}
 use Rattle.std.proofs.lemmas.List.Elements.{Contains-append_cases, Contains-append_left, Contains-append_right, All-nil, All-cons, All-contains, filter_map-append}
-use Rattle.protocol.proofs.Lists.{Contains-head, Contains-rest}
 use Rattle.event_clock.specs.Passes.{ClockId}
 use Rattle.journals.specs.Desks.{Ended}
 use Rattle.locked_nodes.specs.Cells.{KeptCell}
@@ -27,6 +26,7 @@ use Rattle.client_threads.specs.declared.state.Run.{Run}
 use Rattle.client_threads.proofs.Gathering.{FromSeat, from_early, from_late, reads_are}
 use Rattle.client_threads.proofs.Phasing.{zip_left, works_met, parted_on, pruned_fixed}
 use Rattle.client_threads.proofs.Working.{IsFixedAs, fixed_same, cells_fixed, inside_fixed, planned_fixed, zip_map, zip_long}
+use Rattle.lists.proofs.Members.{Contains-head, Contains-rest}
 
 -- ---- reads
 

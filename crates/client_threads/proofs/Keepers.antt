@@ -4,7 +4,7 @@ use Rattle.std.specs.Prelude.{slice_get}
 use Rattle.std.specs.declared.option.Option.TheVariants.{Some}
 use Rattle.std.specs.List.{AllZip, All}
 use Rattle.std.proofs.lemmas.List.Elements.{All-nil, All-cons, All-head, All-tail}
-use Rattle.std.proofs.lemmas.Option.{slice_get-get_or, slice_get_within, get_or_from_slice_get}
+use Rattle.std.proofs.lemmas.Option.{slice_get-get_or}
 use Rattle.event_clock.specs.Passes.{Holder, met}
 use Rattle.locked_nodes.specs.Cells.{CellView, KeptCell, met_cell}
 use Rattle.client_desks.specs.Desks.{DeskView, KeptDesk, met_desk}
@@ -105,9 +105,6 @@ at_any P xs i x lt is p d =
 
 pub item_at : {X : Type 0} (xs : List X) (i : ℕ) (x : X) → i < length xs → x ≡ get_or xs i x → slice_get xs i ≡ Some x
 item_at xs i x lt is = slice_get-get_or xs i x lt ∙ ap (λ y. Some y) (sym is)
-
-pub all_of : {X : Type 0} (P : X → Type 0) (xs : List X) (i : ℕ) (x : X) → All P xs → slice_get xs i ≡ Some x → P x
-all_of P xs i x all at = subst P (get_or_from_slice_get xs i x x at) (all i x (slice_get_within xs i x at))
 
 pub partly_next : {X : Type 0} (R : X → X → Type 0) (xs ys : List X) (i : ℕ) (x y : X) → Partly R xs ys i → slice_get ys i ≡ Some x → R x y → Partly R xs (set ys i y) (i + 1)
 partly_next R xs ys i x y p at r = (let e : suc i ≡ i + 1 = omega arith in subst (Partly R xs (set ys i y)) e (partly_more R xs ys i x y p at r))

@@ -1,14 +1,14 @@
 -- What comes late to cells, and a desk that only sees more.
-use Rattle.std.proofs.Common.{◌≡◌, ℕ, true, false, List, [], ◌∷◌, ◌++◌, drop, refl, sym, ◌∙◌, ap, subst, inl, inr, arith}
+use Rattle.std.proofs.Common.{◌≡◌, ℕ, true, false, [], drop, refl, sym, ◌∙◌, ap, subst, inl, inr, arith}
 use Rattle.std.specs.declared.option.Option.TheVariants.{None}
 use Rattle.journals.specs.declared.node.NodeAct.{NodeAct}
 use Rattle.journals.specs.declared.node.NodeAct.TheVariants.{Answered, Lied, Silent, CrashedAt, Delivered, LateLost, Pruned}
-use Rattle.journals.specs.declared.node.NodeEntry.{NodeEntry}
-use Rattle.journals.specs.Acts.{NodeState, after, after_all}
+use Rattle.journals.specs.Acts.{NodeState, after}
 use Rattle.journals.specs.Steps.{side}
 use Rattle.locked_nodes.specs.Cells.{CellView, HasNoLateMail, state_of, first_state, entry, with_entry, with_seen, HasMoreAside}
 use Rattle.locked_nodes.proofs.Aside.{aside_none, aside_one}
 use Rattle.client_desks.specs.Desks.{DeskView, KeepsDesk, Delivers}
+use Rattle.locked_nodes.proofs.Growing.{after_all_snoc}
 
 -- ---- desks
 
@@ -42,13 +42,9 @@ still_none s (Delivered ask reply) alone none = ap (drop 1) none
 still_none s (LateLost ask) alone none = ap (drop 1) none
 still_none s (Pruned block stamp) alone none = none
 
-pub after_one : (s : NodeState) (es : List NodeEntry) (e : NodeEntry) → after_all s (es ++ e ∷ []) ≡ after (after_all s es) e.act
-after_one s [] e = refl
-after_one s (x ∷ es) e = after_one (after s x.act) es e
-
 none_one : (a : CellView) (n : ℕ) (done : NodeAct) → side done ≡ None → HasNoLateMail a → HasNoLateMail (with_entry a n done)
 none_one a n done alone none =
-    ap (λ (s : NodeState). s.late) (after_one (first_state a.charter) a.journal (entry n done)) ∙ still_none (state_of a) done alone none
+    ap (λ (s : NodeState). s.late) (after_all_snoc (first_state a.charter) a.journal (entry n done)) ∙ still_none (state_of a) done alone none
 
 pub none_left : (a b : CellView) → Delivers a b → HasNoLateMail a → HasNoLateMail b
 none_left a b (inl same) none = subst HasNoLateMail (sym same) none

@@ -10,30 +10,23 @@ use Rattle.std.proofs.lemmas.Bool.{cases_Bool, ltb-true, ltb-false, eqb-true, eq
 use Rattle.std.proofs.lemmas.List.Elements.{Contains-get_or, Contains-append_left, Contains-append_cases, All-contains}
 use Rattle.std.proofs.lemmas.Option.{slice_get_within}
 use Rattle.protocol.specs.Report.{Ascend}
-use Rattle.journals.proofs.Lists.{number_of}
-use Rattle.protocol.proofs.Lists.{Contains-none, Contains-head, Contains-rest, Contains-cons_cases, Contains-map, Contains-map_cases, Contains-slice_get}
-use Rattle.quorum_rules.specs.Limits.{Numbers}
 use Rattle.wire_forms.specs.Liars.{has_number, IsClientNumber}
 use Rattle.event_clock.specs.Passes.{ClockId, Holder, IsUnused, unused}
 use Rattle.locked_nodes.specs.Cells.{CellView}
 use Rattle.locked_nodes.specs.declared.slot.Slot.{Slot}
 use Rattle.locked_nodes.specs.Slots.{slot_of}
 use Rattle.client_desks.specs.Desks.{DeskView, first_desk}
-use Rattle.plan_words.specs.declared.fault.Fault.{Fault}
-use Rattle.plan_words.specs.declared.fault.Fault.TheVariants.{LiarNode, LiarSound, LiarMix, LiarFlood, CrashNode, CrashClient, Drop, Hold}
-use Rattle.plan_words.specs.declared.job.Job.{Job}
-use Rattle.plan_words.specs.declared.job.Job.TheVariants.{Block, Device, Phase}
 use Rattle.plan_words.specs.declared.plan.Plan.{Plan}
 use Rattle.plan_words.specs.Named.{clients, ascending, lying_client, lying_clients, troubled_client, job_client, asking_clients}
 use Rattle.plan_words.specs.Plans.{IsFault, IsJob, Fits}
 use Rattle.plan_followed.proofs.Plans.{liar_there}
 use Rattle.plan_followed.specs.Closed.{Begins}
-use Rattle.plan_tasks.specs.declared.task.Task.{Task}
-use Rattle.plan_tasks.specs.Tasks.{client_of}
+use Rattle.client_work.specs.declared.task.Task.{Task}
+use Rattle.client_work.specs.Tasks.{client_of}
 use Rattle.phase_threads.specs.Standing.{IsDeskAt}
 use Rattle.phase_threads.specs.Ended.{AreClients}
 use Rattle.phase_threads.specs.declared.duty.Seat.{Seat}
-use Rattle.crews.proofs.Places.{get_front, get_last, get_snoc}
+use Rattle.crews.proofs.Places.{get_snoc}
 use Rattle.client_work.specs.declared.work.Work.{Work}
 use Rattle.client_work.specs.declared.work.Work.TheVariants.{Client, Lying}
 use Rattle.client_work.specs.declared.worker.ClientWorker.{ClientWorker}
@@ -43,6 +36,9 @@ use Rattle.client_threads.specs.Opened.{IsUnusedPass, IsNewCell, AreNewCells, Is
 use Rattle.client_threads.specs.declared.state.Run.{Run}
 use Rattle.client_threads.specs.Running.{desks_of, plan_of, LiarsNamed, IsBetween}
 use Rattle.client_threads.proofs.Beginning.{shards_cases, cells_planned, is_first}
+use Rattle.lists.proofs.Members.{Contains-head, Contains-none, Contains-rest, Contains-cons_cases, Contains-map_cases, Contains-map, place_of, get_left, slice_get-seam, Contains-slice_get}
+use Rattle.protocol.proofs.Starts.{starts_few}
+use Rattle.plan_followed.proofs.Phases.{troubled_there, worker_there}
 
 -- ---- cells
 
@@ -81,8 +77,8 @@ one_new plan shards clock n s cells more cell h is new = subst (AreNewCells plan
     ]
   ];
   all = λ i t first l. elim (cut i t first) [
-    | inl was ↦ (let c = h.all i t was l in (c.0, c.1, get_front cells (cell ∷ []) c.0 c.1 c.2, c.3, c.4))
-    | inr q ↦ (length cells, cell, get_last cells cell [], number ∙ sym q.0, shard ∙ sym q.1)
+    | inl was ↦ (let c = h.all i t was l in (c.0, c.1, get_left cells (cell ∷ []) c.0 c.1 c.2, c.3, c.4))
+    | inr q ↦ (length cells, cell, slice_get-seam cells cell [], number ∙ sym q.0, shard ∙ sym q.1)
   ];
 })
   where
@@ -215,17 +211,6 @@ from_ascending ks q h = elim (fold_from ks [] q h) [ inl is ↦ is | inr none �
 
 -- ---- how many clients there are
 
-ascend_few : (most : ℕ) (x : ℕ) (xs : List ℕ) → Ascend (x ∷ xs) → ((y : ℕ) → Contains (x ∷ xs) y → y ≤ most) → x + length xs ≤ most
-ascend_few most x [] up all = let top = all x (Contains-head x []) in omega (arith, top)
-ascend_few most x (y ∷ ys) up all =
-    let rest = ascend_few most y ys up.1 (λ z k. all z (Contains-rest z x (y ∷ ys) k)) in
-    let above : x < y = up.0.0 in
-    omega (arith, rest, above)
-
-few : (most : ℕ) (xs : List ℕ) → Ascend xs → ((y : ℕ) → Contains xs y → y ≤ most) → length xs ≤ most + 1
-few most [] up all = omega arith
-few most (x ∷ xs) up all = let n = ascend_few most x xs up all in omega (arith, n)
-
 -- what holds of each thing with a number holds of the numbers
 named_is : {X : Type 0} (h : X → Option ℕ) (Q : X → Type 0) (P : ℕ → Type 0) → ((x : X) (k : ℕ) → Q x → h x ≡ Some k → P k) → (xs : List X) → AllByRecursion Q xs → (q : ℕ) → Contains (filter_map h xs) q → P q
 named_is h Q P to [] a q there = absurd (Contains-none q there)
@@ -235,29 +220,11 @@ named_is {X} h Q P to (x ∷ xs) a q there = at (h x) refl (λ l. named_is h Q P
     at None e rest l = rest l
     at (Some k) e rest l = elim (Contains-cons_cases q k (filter_map h xs) l) [ inl is ↦ subst P (sym is) (to x k a.0 e) | inr later ↦ rest later ]
 
-some_same : (a b : ℕ) → ◌≡◌ {A = Option ℕ} (Some a) (Some b) → IsClientNumber a → IsClientNumber b
-some_same a b e h = let same : a ≡ b = cc in subst IsClientNumber same h
-
-trouble_there : (c : Numbers) (rule : Fault) (k : ℕ) → IsFault c rule → troubled_client rule ≡ Some k → IsClientNumber k
-trouble_there c (LiarNode node rule) k h e = absurd (cc)
-trouble_there c (LiarSound client block time value count) k h e = absurd (cc)
-trouble_there c (LiarMix client block time value other count) k h e = absurd (cc)
-trouble_there c (LiarFlood client block time value other count) k h e = absurd (cc)
-trouble_there c (CrashNode node count) k h e = absurd (cc)
-trouble_there c (CrashClient client count) k h e = some_same client k e h.0
-trouble_there c (Drop client node count) k h e = some_same client k e h.0
-trouble_there c (Hold client node count) k h e = some_same client k e h.0
-
-worker_there : (c : Numbers) (job : Job) (k : ℕ) → IsJob c job → job_client job ≡ Some k → IsClientNumber k
-worker_there c (Block client op) k h e = some_same client k e h.0
-worker_there c (Device client op) k h e = some_same client k e h.0
-worker_there c Phase k h e = absurd (cc)
-
 client_there : (plan : Plan) → Fits plan → (q : ℕ) → Contains (clients plan.rules plan.work) q → IsClientNumber q
 client_there plan h q there = elim (Contains-append_cases (lying_clients plan.rules) (asking_clients plan.rules plan.work) q there) [
   | inl lies ↦ named_is lying_client (IsFault plan.config) IsClientNumber (liar_there plan.config) plan.rules h.fitting.each_rule q lies
   | inr asks ↦ elim (Contains-append_cases (filter_map troubled_client plan.rules) (filter_map job_client plan.work) q asks) [
-    | inl trouble ↦ named_is troubled_client (IsFault plan.config) IsClientNumber (trouble_there plan.config) plan.rules h.fitting.each_rule q trouble
+    | inl trouble ↦ named_is troubled_client (IsFault plan.config) IsClientNumber (troubled_there plan.config) plan.rules h.fitting.each_rule q trouble
     | inr works ↦ named_is job_client (IsJob plan.config) IsClientNumber (worker_there plan.config) plan.work h.fitting.each_job q works
   ]
 ]
@@ -265,7 +232,7 @@ client_there plan h q there = elim (Contains-append_cases (lying_clients plan.ru
 -- at most 1000 clients, whose numbers are from 1 to 1000
 pub clients_few : (plan : Plan) → Fits plan → length (ascending (clients plan.rules plan.work)) ≤ 1001
 clients_few plan h =
-    let n = few 1000 (ascending (clients plan.rules plan.work)) (fold_ascends (clients plan.rules plan.work) [] tt) (λ y there. (client_there plan h y (from_ascending (clients plan.rules plan.work) y there)).1) in
+    let n = starts_few 1000 (ascending (clients plan.rules plan.work)) (fold_ascends (clients plan.rules plan.work) [] tt) (λ y there. (client_there plan h y (from_ascending (clients plan.rules plan.work) y there)).1) in
     omega (arith, n)
 
 mapped : {X Y : Type 0} (f : X → Y) (xs : List X) → length (map f xs) ≡ length xs
@@ -336,7 +303,7 @@ liar_new plan pass c d w none is lies same ready = record {
 -- passes that have drawn nothing
 pub all_unused : (clock : ClockId) (passes : List Holder) (n : ℕ) → length passes ≡ n → IsUnused clock passes n → All (IsUnusedPass clock) passes
 all_unused clock passes n count each = all_by (IsUnusedPass clock) passes (λ p there.
-    let at = number_of passes p there in
+    let at = place_of passes p there in
     let is : unused clock at.0 ≡ p = same_at passes at.0 (unused clock at.0) p (each at.0 (let lt = slice_get_within passes at.0 p at.1 in omega (arith, lt, count))) at.1 in
     record { ticks = sym (ap (λ (h : Holder). h.clock) is); drawn = sym (ap (λ (h : Holder). h.drawn) is) })
   where

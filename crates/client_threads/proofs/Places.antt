@@ -8,7 +8,6 @@ use Rattle.std.proofs.Math.Nat.{mod-eq_of_lt}
 use Rattle.std.proofs.lemmas.Nat.{mod_below}
 use Rattle.std.proofs.lemmas.Option.{slice_get_read, slice_get_within, get_or_from_slice_get}
 use Rattle.std.proofs.lemmas.List.Elements.{All-head, All-tail, All-map, Contains-get_or}
-use Rattle.protocol.proofs.Lists.{Contains-none, Contains-slice_get}
 use Rattle.locked_nodes.proofs.Joins.{below_tells}
 use Rattle.event_clock.specs.Passes.{ClockId, Holder}
 use Rattle.journals.specs.declared.node.NodeEntry.{NodeEntry}
@@ -25,9 +24,10 @@ use Rattle.phase_threads.specs.Standing.{ArePlanned, HasDonePrunes, NodesPrune, 
 use Rattle.phase_threads.proofs.Working.{cell_below}
 use Rattle.client_threads.specs.Met.{IsKeeper}
 use Rattle.client_threads.specs.Pruned.{IsOpenCell, HasMorePrunes, IsServed, ArePlaces, AllPrune, NodePruned, OthersStay, reopened, prunings_of}
-use Rattle.client_threads.proofs.Keepers.{all_of, keeper_then, same_keeper}
+use Rattle.client_threads.proofs.Keepers.{keeper_then, same_keeper}
 use Rattle.client_threads.proofs.Prunes.{none_more, more_then, same_may, slots_same}
 use Rattle.client_threads.proofs.Working.{zip_then, zip_all, IsFixedAs, planned_fixed}
+use Rattle.lists.proofs.Members.{Contains-none, get_new, slice_get-push, all_at, Contains-slice_get}
 
 -- ---- places
 
@@ -49,26 +49,16 @@ pub record ArePlacesTo (slots : List Slot) (node : ℕ) (places : List ℕ) (cou
 pub no_places : (slots : List Slot) (node : ℕ) → ArePlacesTo slots node [] 0
 no_places slots node = record { long = refl; each = λ s l. absurd (omega (arith, l)) }
 
--- what stands at a place stands there in a longer list
-get_more : {X : Type 0} (xs : List X) (y : X) (k : ℕ) (x : X) → slice_get xs k ≡ Some x → slice_get (xs ++ y ∷ []) k ≡ Some x
-get_more [] y k x at = absurd (Contains-none x (Contains-slice_get [] k x at))
-get_more (a ∷ xs) y zero x at = at
-get_more (a ∷ xs) y (suc k) x at = get_more xs y k x at
-
-get_last : {X : Type 0} (xs : List X) (y : X) → slice_get (xs ++ y ∷ []) (length xs) ≡ Some y
-get_last [] y = refl
-get_last (a ∷ xs) y = get_last xs y
-
 pub one_place : (slots : List Slot) (node : ℕ) (places : List ℕ) (count place : ℕ) → ArePlacesTo slots node places count → IsPlace slots place node count → ArePlacesTo slots node (places ++ place ∷ []) (count + 1)
 one_place slots node places count place h is = record {
   long = length-append places (place ∷ []) ∙ ap (λ (n : ℕ). n + 1) h.long;
   each = λ s l. elim (below_tells s count) [
-    | inl before ↦ (let q = h.each s before.1 in record { place = q.place; there = get_more places place s q.place q.there; is = q.is })
+    | inl before ↦ (let q = h.each s before.1 in record { place = q.place; there = slice_get-push places place s q.place q.there; is = q.is })
     | inr last ↦ (
         let e : s ≡ count = (let m = last.1 in omega (arith, l, m)) in
         record {
           place = place;
-          there = ap (slice_get (places ++ place ∷ [])) (e ∙ sym h.long) ∙ get_last places place;
+          there = ap (slice_get (places ++ place ∷ [])) (e ∙ sym h.long) ∙ get_new places place;
           is = subst (λ (n : ℕ). IsPlace slots place node n) (sym e) is;
         }
         )
@@ -77,7 +67,7 @@ one_place slots node places count place h is = record {
 
 -- a slot of the node has as many cells beside it as all of them
 shards_are : (slots : List Slot) (node : ℕ) (h : IsServed slots node) (place block : ℕ) (p : IsPlace slots place node block) → p.slot.shards ≡ h.shards
-shards_are slots node h place block p = all_of (λ (s : Slot). s.node ≡ node → s.shards ≡ h.shards) slots place p.slot h.alike p.there p.is.of
+shards_are slots node h place block p = all_at (λ (s : Slot). s.node ≡ node → s.shards ≡ h.shards) slots place p.slot h.alike p.there p.is.of
 
 pub all_places : (slots : List Slot) (node : ℕ) (places : List ℕ) (place shards : ℕ) (h : IsServed slots node) (p : IsPlace slots place node 0) → shards ≡ p.slot.shards → ArePlacesTo slots node places shards → ArePlaces slots node places
 all_places slots node places place shards h p is to = record {
@@ -104,7 +94,7 @@ all_places slots node places place shards h p is to = record {
     count = is ∙ shards_are slots node h place 0 p
 
     some : 0 < shards
-    some = subst (λ (m : ℕ). 0 < m) (sym is) (all_of (λ (s : Slot). 0 < s.shards) slots place p.slot h.some p.there)
+    some = subst (λ (m : ℕ). 0 < m) (sym is) (all_at (λ (s : Slot). 0 < s.shards) slots place p.slot h.some p.there)
 
 -- ---- the cell at a place
 

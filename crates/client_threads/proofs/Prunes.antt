@@ -5,7 +5,7 @@ use Rattle.std.specs.declared.option.Option.TheVariants.{Some}
 use Rattle.std.specs.List.{AllZip, All, AllByRecursion}
 use Rattle.std.proofs.lemmas.List.{map-append}
 use Rattle.std.proofs.lemmas.List.Elements.{Contains-append_cases, All-nil, All-cons, All-head, All-tail, All-append, recursion_from_All}
-use Rattle.protocol.proofs.Lists.{append_nil, Contains-none, Contains-one}
+use Rattle.protocol.proofs.Lists.{append_nil}
 use Rattle.event_clock.specs.Passes.{ClockId, Holder}
 use Rattle.journals.specs.declared.node.Nature.{Nature}
 use Rattle.journals.specs.declared.node.Nature.TheVariants.{Honest, Lying as Lies}
@@ -23,8 +23,9 @@ use Rattle.phase_threads.specs.Standing.{node_journal}
 use Rattle.phase_threads.proofs.Nodes.{journal_snoc, journal_other}
 use Rattle.client_threads.specs.Met.{IsKeeper}
 use Rattle.client_threads.specs.Pruned.{IsOpenCell, HasMorePrunes, AllPrune, NodePruned, OthersStay, prunings_of, pruning_of}
-use Rattle.client_threads.proofs.Keepers.{all_of, same_keeper, set_all}
+use Rattle.client_threads.proofs.Keepers.{same_keeper, set_all}
 use Rattle.client_threads.proofs.Working.{beside_at}
+use Rattle.lists.proofs.Members.{Contains-none, Contains-one, all_at}
 
 -- ---- a cell with prunes more
 
@@ -101,7 +102,7 @@ set_same (a ∷ xs) (suc k) x at = ap (λ (l : List _). a ∷ l) (set_same xs k 
 may_is : (node k : ℕ) (may : Bool) (old now : List CellView) (cell : CellView) → AllPrune node may old → AllZip HasMorePrunes old now → slice_get now k ≡ Some cell → cell.charter.number ≡ node → can_prune (state_of cell) cell.charter.nature ≡ may
 may_is node k may old now cell alike z at is =
     let q = beside_at HasMorePrunes old now z k cell at in
-    same_may q.0 cell q.2 ∙ all_of (λ (c : CellView). c.charter.number ≡ node → can_prune (state_of c) c.charter.nature ≡ may) old k q.0 alike q.1 (ap (λ c. c.number) (sym q.2.charter) ∙ is)
+    same_may q.0 cell q.2 ∙ all_at (λ (c : CellView). c.charter.number ≡ node → can_prune (state_of c) c.charter.nature ≡ may) old k q.0 alike q.1 (ap (λ c. c.number) (sym q.2.charter) ∙ is)
 
 -- ---- the prunes of a node
 
@@ -149,7 +150,7 @@ module _ (clock : ClockId) (first keeper : Holder) (all : List BlockStamp) (node
   after_it n = with_entry cell n (Pruned x.block x.stamp)
 
   c : IsOpenCell clock keeper.seen all cell
-  c = all_of (IsOpenCell clock keeper.seen all) now k cell h.cells at
+  c = all_at (IsOpenCell clock keeper.seen all) now k cell h.cells at
 
   under : (n : ℕ) → keeper.seen ≤ n → All (λ c. AllByRecursion (λ e. e.number < n) c.journal) now
   under n le = λ i d lt. recursion_from_All (λ (e : NodeEntry). e.number < n) (get_or now i d).journal (λ j z within. (let b = (h.cells i d lt).below j z within in omega (arith, b, le)))

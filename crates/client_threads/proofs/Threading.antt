@@ -3,7 +3,6 @@ use Rattle.std.proofs.Common.{◌≡◌, ◌⊎◌, ℕ, zero, suc, ◌+◌, ◌
 use Rattle.std.specs.List.{Contains, AllZip, All}
 use Rattle.std.proofs.lemmas.List.Elements.{Contains-append_cases, Contains-append_left, All-nil, All-cons, All-head, All-tail, All-contains}
 use Rattle.protocol.specs.Report.{Ascend}
-use Rattle.protocol.proofs.Lists.{Contains-none, Contains-one, Contains-slice_get}
 use Rattle.plan_words.specs.Named.{clients}
 use Rattle.wire_forms.specs.Liars.{has_number}
 use Rattle.event_clock.specs.Passes.{ClockId}
@@ -30,6 +29,7 @@ use Rattle.client_work.specs.Work.{Ready, Done}
 use Rattle.client_threads.specs.Running.{desks_of, clients_of, plan_of, StandsAt, cuts, LiarsNamed, IsOpen, IsStanding, HasDonePhase}
 use Rattle.client_threads.specs.declared.state.Run.{Run}
 use Rattle.client_threads.proofs.Working.{IsFixedAs, zip_all, zip_long, cells_fixed, inside_fixed, planned_fixed}
+use Rattle.lists.proofs.Members.{Contains-none, Contains-one, Contains-slice_get}
 
 -- ---- before the phase
 

@@ -4,7 +4,6 @@ use Rattle.std.specs.List.{Contains, All}
 use Rattle.std.proofs.lemmas.List.{map_push}
 use Rattle.std.proofs.lemmas.List.Sums.{sum_by_push}
 use Rattle.std.proofs.lemmas.List.Elements.{Contains-get_or, All-append, All-push, All-contains}
-use Rattle.protocol.proofs.Lists.{Contains-map, Contains-map_cases}
 use Rattle.quorum_rules.specs.Limits.{Numbers}
 use Rattle.event_clock.specs.declared.rule.Share.{Share}
 use Rattle.event_clock.specs.Passes.{ClockId, Holder, HasFullPass, IsOneFull, Tally, share_of}
@@ -20,6 +19,7 @@ use Rattle.client_threads.proofs.Threading.{desks_pushed}
 use Rattle.client_threads.proofs.Rounds.{cells_tick}
 use Rattle.crews.proofs.Places.{Walked, walk_on}
 use Rattle.client_threads.proofs.Walking.{made_more}
+use Rattle.lists.proofs.Members.{Contains-map_cases, Contains-map}
 
 -- all passes, in the order in which they are put together
 abbrev pub passes_of : List CellView → List DeskView → Holder → Holder → List Holder

@@ -10,7 +10,6 @@ use Rattle.std.proofs.lemmas.List.{append-nil}
 use Rattle.protocol.specs.Messages.{Message}
 use Rattle.wire_forms.specs.Liars.{has_number}
 use Rattle.quorum_rules.specs.Limits.{Numbers}
-use Rattle.protocol.proofs.Lists.{Contains-none, Contains-head, Contains-rest, Contains-map_cases, Contains-slice_get}
 use Rattle.journals.specs.declared.desk.DeskEntry.{DeskEntry}
 use Rattle.journals.specs.declared.node.NodeEntry.{NodeEntry}
 use Rattle.journals.specs.Phases.{Phase}
@@ -38,6 +37,7 @@ use Rattle.client_threads.specs.Running.{desks_of, clients_of, plan_of, journals
 use Rattle.client_threads.specs.declared.state.Run.{Run}
 use Rattle.client_threads.proofs.Pairs.{HasMoreAlone, HasSameEntries, pairs_on}
 use Rattle.client_threads.proofs.Parting.{parted_on}
+use Rattle.lists.proofs.Members.{Contains-head, Contains-none, Contains-rest, Contains-map_cases, Contains-slice_get}
 
 -- ---- lists beside each other
 

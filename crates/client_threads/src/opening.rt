@@ -1,20 +1,19 @@
 //! The beginning of a run.
 ghost use Rattle.std.specs.Prelude.{◌≡◌, ◌≤◌, ◌<◌, ◌+◌, [], map, All, length, IfOk, OnOk};
 ghost use Rattle.plan_words.specs.Plans.{Fits};
-ghost use Rattle.plan_tasks.specs.Tasks.{IsTaskOf, client_of};
+ghost use Rattle.client_work.specs.Tasks.{IsTaskOf, client_of};
 ghost use Rattle.client_threads.specs.Running.{IsBetween, plan_of};
 ghost use Rattle.phase_threads.specs.Standing.{needs_whole};
 ghost use Rattle.client_threads.specs.Opened.{IsUnusedPass, AreNewCells, IsNewSeat, cell_count, shards_of};
 
 use crate::state::Run;
 use client_desks::Desk;
-use client_work::{ClientWorker, Liar, Work};
+use client_work::{ClientWorker, Liar, Task, Work, crash_after, nature_of, tasks_of};
 use event_clock::{Clock, Pass, Passes};
 use lists::{ItemList, NoMemory};
 use locked_nodes::NodeCell;
 use phase_threads::Seat;
 use plan_followed::laws::phases_close;
-use plan_tasks::{Task, crash_after, nature_of, tasks_of};
 use plan_words::{Fault, Plan};
 use std::alloc::Global;
 use std::snapshot::Snapshot;

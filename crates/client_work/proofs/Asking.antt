@@ -24,8 +24,9 @@ use Rattle.desk_keys.specs.Keys.{IsAskOn, AsksOn}
 use Rattle.client_work.specs.declared.worker.ClientWorker.{ClientWorker}
 use Rattle.client_work.specs.declared.reads.GivenRead.{GivenRead}
 use Rattle.client_work.specs.Work.{given_by, all_given, asks_left, Counts, HasReads, Goes, IsWholeIn, counted, HasCounted, IsOn}
-use Rattle.client_work.proofs.Heard.{state_snoc, numbered, EndedWith, GoesOnWith, told_on, told_end}
+use Rattle.client_work.proofs.Heard.{numbered, EndedWith, GoesOnWith, told_on, told_end}
 use Rattle.client_work.proofs.Going.{state_is, same_times, counts_more, way_is}
+use Rattle.journals.proofs.Lists.{state_snoc}
 
 abbrev read_of : ℕ → Stamp → List ℕ → GivenRead
 read_of block stamp value = record { block = block; stamp = stamp; value = value }

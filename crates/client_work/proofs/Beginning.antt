@@ -11,10 +11,10 @@ use Rattle.client_desks.specs.Desks.{DeskView}
 use Rattle.plan_followed.specs.Asked.{drops, holds, client_crash}
 use Rattle.plan_followed.specs.Clients.{InEach, GoesByPlan, IsDone}
 use Rattle.plan_followed.proofs.Entries as followed
-use Rattle.plan_tasks.specs.declared.task.Ways.{Ways}
-use Rattle.plan_tasks.specs.declared.task.ClientTask.{ClientTask}
-use Rattle.plan_tasks.specs.Phases.{all_steps}
-use Rattle.plan_tasks.specs.Tasks.{ways_of, IsClientTask}
+use Rattle.client_work.specs.declared.task.Ways.{Ways}
+use Rattle.client_work.specs.declared.task.ClientTask.{ClientTask}
+use Rattle.client_work.specs.Phases.{all_steps}
+use Rattle.client_work.specs.Tasks.{ways_of, IsClientTask}
 use Rattle.client_work.specs.declared.worker.ClientWorker.{ClientWorker}
 use Rattle.client_work.specs.declared.reads.GivenRead.{GivenRead}
 use Rattle.client_work.specs.Work.{ways_left, asks_left, phase_in, steps_of_first, HasSteps, Counts, HasReads, IsReady}

@@ -19,17 +19,14 @@ use Rattle.client_desks.specs.Desks.{DeskView, state_at, with_own, desk_entry}
 use Rattle.plan_followed.specs.Asked.{drops, holds, client_crash}
 use Rattle.plan_followed.specs.Clients.{client_after, times, starts, asks, asks_of, way_of, op_of}
 use Rattle.plan_followed.proofs.Entries as followed
-use Rattle.plan_tasks.specs.declared.task.Ways.{Ways}
+use Rattle.client_work.specs.declared.task.Ways.{Ways}
 use Rattle.client_work.specs.declared.worker.ClientWorker.{ClientWorker}
 use Rattle.client_work.specs.Work.{all_given, ways_left, asks_left, every_step, IsItsDesk, Counts, HasReads, Goes, counted, HasCounted, HoldsWhole}
-use Rattle.client_work.proofs.Heard.{state_snoc, times_snoc}
+use Rattle.client_work.proofs.Heard.{times_snoc}
+use Rattle.lists.proofs.Members.{set_at}
+use Rattle.journals.proofs.Lists.{state_snoc}
 
 -- ---- lists
-
-put_same : {A : Type 0} (xs : List A) (k : ℕ) (x y : A) → slice_get xs k ≡ Some x → slice_get (slice_set xs k y) k ≡ Some y
-put_same [] k x y e = absurd (cc)
-put_same (z ∷ xs) zero x y e = refl
-put_same (z ∷ xs) (suc k) x y e = put_same xs k x y e
 
 put_other : {A : Type 0} (xs : List A) (k i : ℕ) (y : A) → i ≢ k → slice_get (slice_set xs k y) i ≡ slice_get xs i
 put_other [] k i y e = refl
@@ -146,7 +143,7 @@ counts_more w es n way way' ask reply w' below up h c = subst (λ (x : ClientWor
 
     at_node : slice_get (counted w ask.node c.was).ways ask.node ≡ Some (ways_left d k (times (asks_of ask.node) (es ++ e ∷ [])))
     at_node =
-        put_same w.ways ask.node c.was (ways_left c.was.drops c.was.holds 1) c.there
+        set_at w.ways ask.node c.was (ways_left c.was.drops c.was.holds 1) c.there
         ∙ ap (λ (x : Ways). Some (ways_left x.drops x.holds 1)) was_is
         ∙ ap Some (one_less d k (times (asks_of ask.node) es))
         ∙ ap (λ (x : ℕ). Some (ways_left d k x)) (sym (more_times (asks_of ask.node) es e hit))

@@ -24,10 +24,6 @@ use Rattle.client_work.specs.Work.{given_by, all_given}
 
 -- ---- one entry more
 
-pub state_snoc : (d : DeskState) (es : List DeskEntry) (e : DeskEntry) → desk_after_all d (es ++ e ∷ []) ≡ desk_after (desk_after_all d es) e.number e.act
-state_snoc d [] e = refl
-state_snoc d (x ∷ es) e = state_snoc (desk_after d x.number x.act) es e
-
 pub times_snoc : (test : DeskAct → Bool) (es : List DeskEntry) (e : DeskEntry) → times test (es ++ e ∷ []) ≡ times test es + cond (test e.act) 1 0
 times_snoc test es e = sum_by_push (λ (x : DeskEntry). cond (test x.act) 1 0) es e
 

@@ -1,3 +1,7 @@
+pub mod TaskSteps
+pub mod Folding
+pub mod OncePaired
+pub mod Mails
 pub mod Heard
 pub mod Going
 pub mod Asking

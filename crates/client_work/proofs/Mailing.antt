@@ -9,7 +9,7 @@ use Rattle.client_desks.specs.Desks.{DeskView, desk_entry}
 use Rattle.desk_keys.specs.Keys.{HasAsked, HasSent}
 use Rattle.plan_words.specs.declared.plan.Plan.{Plan}
 use Rattle.plan_followed.specs.Clients.{asked, all_asked}
-use Rattle.plan_tasks.specs.Tasks.{IsSendable}
+use Rattle.client_work.specs.Tasks.{IsSendable}
 use Rattle.client_work.specs.declared.liar.Liar.{Liar}
 use Rattle.client_work.specs.Work.{HasMail}
 

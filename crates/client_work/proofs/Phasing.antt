@@ -18,11 +18,12 @@ use Rattle.journals.specs.declared.desk.DeskAct.TheVariants.{Start}
 use Rattle.journals.specs.Desks.{DeskState, Ended, new_desk}
 use Rattle.client_desks.specs.Desks.{DeskView, CanStart, state_at, with_own, desk_entry}
 use Rattle.plan_followed.specs.Clients.{IsCutOff, IsDone, times, starts, value_given, value_in, op_of}
-use Rattle.plan_tasks.specs.Phases.{all_steps}
+use Rattle.client_work.specs.Phases.{all_steps}
 use Rattle.client_work.specs.declared.worker.ClientWorker.{ClientWorker}
 use Rattle.client_work.specs.Work.{given_by, all_given, latest_given, phase_in, steps_of_first, every_step, HasSteps, StepsFit, Goes, Stands, IsAmid, IsAmidOrOff, IsOn, block_in, DidStep}
-use Rattle.client_work.proofs.Heard.{state_snoc, numbered}
+use Rattle.client_work.proofs.Heard.{numbered}
 use Rattle.client_work.proofs.Going.{state_is, more_times}
+use Rattle.journals.proofs.Lists.{state_snoc}
 
 -- ---- reads
 

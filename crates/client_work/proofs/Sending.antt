@@ -1,7 +1,5 @@
 -- The work of a thread may go to another thread.
-use denote.Param.Send.{IsSend, IsSync, sendable}
-use denote.RattleType.{RattleType}
-use denote.Param.Send.{Frees, part_keyless}
+use denote.Param.Send.{IsSend, sendable}
 use denote.Param.Send.{recorded_send, enum_send}
 use denote.Enum.Declared.{shape as variants_of}
 use Rattle.std.proofs.Crossing as std
@@ -9,7 +7,6 @@ use Rattle.std.proofs.MapsCrossing as maps
 use Rattle.std.proofs.MapsCrossingOver as over
 use Rattle.std.specs.declared.alloc.Allocator as allocator
 use Rattle.atomic_table.specs.contracts.send_lease.SendLease as lease
-use Rattle.atomic_table.proofs.Rights.{right_send}
 use Rattle.cross_sum.specs.contracts.bytes.Bytes as bytes
 use Rattle.cross_sum.specs.contracts.sum.CrossSum as sum
 use Rattle.wire_forms.specs.contracts.message.Message as message
@@ -17,20 +14,12 @@ use Rattle.client_work.specs.contracts.reads.GivenRead as given
 use Rattle.client_work.specs.contracts.worker.ClientWorker as worker
 use Rattle.client_work.specs.contracts.liar.Liar as liar
 use Rattle.client_work.specs.contracts.work.Work as work
-
-lease_send : (T A : RattleType) (g : allocator.Ghosts A.Denot) → IsSend A → Frees g g.dealloc_token → IsSend (lease.the_row T A g)
-lease_send T A g s f = right_send T A g f
-
-lease_sync : (T A : RattleType) (g : allocator.Ghosts A.Denot) → IsSend A → Frees g g.dealloc_token → IsSync (lease.the_row T A g)
-lease_sync T A g s f = record { shared = λ d b o ν q. part_keyless (lease.the_row T A g) (right_send T A g f) q d b o }
+use Rattle.node_serving.proofs.Sending.{lease_sync, lease_send, message_send}
 
 ruleset all = (lease_send, lease_sync, sendable, std.crosses, maps.crosses, over.crosses)
 
 bytes_send : IsSend bytes.the_row
 bytes_send = search all depth 60 fits 50000
-
-message_send : IsSend message.the_row
-message_send = search all depth 60 fits 50000
 
 given_send : IsSend given.the_row
 given_send = search (all, bytes_send) depth 40

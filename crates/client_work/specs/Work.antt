@@ -20,9 +20,9 @@ use Rattle.journals.specs.Desks.{Ended, DeskState, FitsOp}
 use Rattle.client_desks.specs.Desks.{DeskView, state_at, task_at}
 use Rattle.plan_followed.specs.Asked.{steps_for, first_phases, drops, holds, client_crash, messages}
 use Rattle.plan_followed.specs.Clients.{InEach, GoesByPlan, IsDone, IsCutOff, client_after, times, starts, asks, asks_of, all_asked, op_of, way_of, last_of, turn_after}
-use Rattle.plan_tasks.specs.declared.task.Ways.{Ways}
-use Rattle.plan_tasks.specs.Phases.{all_steps}
-use Rattle.plan_tasks.specs.Tasks.{IsSendable}
+use Rattle.client_work.specs.declared.task.Ways.{Ways}
+use Rattle.client_work.specs.Phases.{all_steps}
+use Rattle.client_work.specs.Tasks.{IsSendable}
 use Rattle.client_work.specs.declared.reads.GivenRead.{GivenRead}
 use Rattle.client_work.specs.declared.work.Work.{Work}
 use Rattle.client_work.specs.declared.work.Work.TheVariants.{Client, Lying, Courier}

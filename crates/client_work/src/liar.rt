@@ -1,6 +1,6 @@
 //! What a lying client has still to send.
 ghost use Rattle.std.specs.Prelude.{◌≡◌, [], true};
-ghost use Rattle.plan_tasks.specs.Tasks.{IsLiarTask};
+ghost use Rattle.client_work.specs.Tasks.{IsLiarTask};
 ghost use Rattle.client_desks.specs.Desks.{DeskView};
 ghost use Rattle.client_work.specs.Work.{HasMail};
 

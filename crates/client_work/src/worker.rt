@@ -6,15 +6,15 @@ ghost use Rattle.protocol.specs.Count.{one_more};
 ghost use Rattle.plan_words.specs.Plans.{Fits};
 ghost use Rattle.client_desks.specs.Desks.{DeskView};
 ghost use Rattle.plan_followed.specs.Clients.{way_of};
-ghost use Rattle.plan_tasks.specs.Tasks.{IsClientTask};
+ghost use Rattle.client_work.specs.Tasks.{IsClientTask};
 ghost use Rattle.client_work.specs.Work.{given_by, phase_at, IsReady, HasCounted, IsWholeIn, IsOpOf, ways_left};
 
 use crate::reads::{GivenRead, latest};
+use crate::{ClientTask, Ways};
 use block_device::{BlockStep, BlockSteps, merge};
 use cross_sum::Bytes;
 use journals::Way;
 use lists::{ItemList, NoMemory};
-use plan_tasks::{ClientTask, Ways};
 use plan_words::Plan;
 use quorum_rules::Config;
 use run_words::Outcome;

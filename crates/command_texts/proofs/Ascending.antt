@@ -1,7 +1,6 @@
 -- Numbers that are put in their places one after the other ascend.
-use Rattle.std.proofs.Common.{◌≡◌, ℕ, ◌<◌, true, List, [], ◌∷◌, sym, inl, inr, arith, ltb, eqb}
+use Rattle.std.proofs.Common.{◌≡◌, ℕ, ◌<◌, List, [], ◌∷◌, inl, inr, arith, ltb, eqb}
 use Rattle.std.proofs.lemmas.Bool.{cases_Bool}
-use Rattle.std.specs.Cmp.{nat_cmp_is}
 use Rattle.std.specs.Prelude.{fold}
 use Rattle.std.specs.List.{AllByRecursion}
 use Rattle.std.specs.List.Sorted.{IsStrictlySortedBy}
@@ -13,18 +12,7 @@ use Rattle.wire_forms.specs.Liars.{IsAscending}
 use Rattle.plan_words.specs.Named.{lying_nodes, lying_clients}
 use Rattle.plan_followed.specs.Laws.{OfPlans, HasLiars}
 use Rattle.command_texts.specs.ScriptLiars.{HasScriptLiars}
-
-eqb_same : (a b : ℕ) → eqb a b ≡ true → a ≡ b
-eqb_same a b e = grind (arith, nat_tests)
-
-less_of : (x y : ℕ) → nat_cmp x y ≡ Less → x < y
-less_of x y e = elim (cases_Bool (ltb x y)) [
-  | inl lt ↦ grind (arith, nat_tests)
-  | inr ge ↦ elim (cases_Bool (eqb x y)) [ inl same ↦ absurd (let q = rw (ge, same) at e in cc) | inr other ↦ absurd (let q = rw (ge, other) at e in cc) ]
-]
-
-less_is : (x y : ℕ) → x < y → nat_cmp x y ≡ Less
-less_is x y l = sym (nat_cmp_is x y Less l)
+use Rattle.lists.proofs.Orders.{nat_less, less_of}
 
 inserted : (x : ℕ) (xs : List ℕ) (k : ℕ) (P : List ℕ → Type 0) → (k < x → P (k ∷ x ∷ xs)) → P (x ∷ xs) → (x < k → P (x ∷ insert_key nat_cmp xs k)) → P (insert_key nat_cmp (x ∷ xs) k)
 inserted x xs k P before here after =
@@ -39,12 +27,12 @@ all_inserted P (x ∷ xs) k h p = inserted x xs k (AllByRecursion P) (λ l. (p, 
 
 all_above : (x k : ℕ) (xs : List ℕ) → k < x → AllByRecursion (λ y. nat_cmp x y ≡ Less) xs → AllByRecursion (λ y. nat_cmp k y ≡ Less) xs
 all_above x k [] l h = tt
-all_above x k (y ∷ ys) l h = (less_is k y (let m = less_of x y h.0 in omega (arith, l, m)), all_above x k ys l h.1)
+all_above x k (y ∷ ys) l h = (nat_less k y (let m = less_of x y h.0 in omega (arith, l, m)), all_above x k ys l h.1)
 
 insert_ascends : (ks : List ℕ) (k : ℕ) → IsAscending ks → IsAscending (insert_key nat_cmp ks k)
 unfolding IsStrictlySortedBy
 insert_ascends [] k h = (tt, tt)
-insert_ascends (x ∷ xs) k h = inserted x xs k IsAscending (λ l. ((less_is k x l, all_above x k xs l h.0), h)) h (λ l. (all_inserted (λ y. nat_cmp x y ≡ Less) xs k h.0 (less_is x k l), insert_ascends xs k h.1))
+insert_ascends (x ∷ xs) k h = inserted x xs k IsAscending (λ l. ((nat_less k x l, all_above x k xs l h.0), h)) h (λ l. (all_inserted (λ y. nat_cmp x y ≡ Less) xs k h.0 (nat_less x k l), insert_ascends xs k h.1))
 
 fold_ascends : (numbers ks : List ℕ) → IsAscending ks → IsAscending (fold (insert_key nat_cmp) ks numbers)
 fold_ascends [] ks h = h

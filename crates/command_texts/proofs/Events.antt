@@ -1,5 +1,5 @@
 -- What a loop over told lines made of the lines so far.
-use Rattle.std.proofs.Common.{◌≡◌, ℕ, ◌+◌, List, [], ◌∷◌, ◌++◌, length, map, refl, sym, ◌∙◌, ap, subst, arith, append_assoc, append-nil}
+use Rattle.std.proofs.Common.{◌≡◌, ℕ, ◌+◌, List, [], ◌∷◌, ◌++◌, length, map, sym, ◌∙◌, ap, subst, arith, append_assoc, append-nil}
 use Rattle.std.specs.List.{AllByRecursion}
 use Rattle.quorum_rules.specs.Limits.{Numbers}
 use Rattle.run_words.specs.declared.line.Line.{Line}
@@ -7,10 +7,7 @@ use Rattle.event_lines.specs.Lines.{IsEventLine}
 use Rattle.event_lines.specs.declared.line.ReplayLine.{ReplayLine}
 use Rattle.event_lines.specs.declared.line.ReplayLine.TheVariants.{Plain}
 use Rattle.journal_records.specs.Told.{IsTold}
-
-all_push : {X : Type 0} (P : X → Type 0) (xs : List X) (x : X) → AllByRecursion P xs → P x → AllByRecursion P (xs ++ x ∷ [])
-all_push P [] x h p = (p, tt)
-all_push P (y ∷ xs) x h p = (h.0, all_push P xs x h.1 p)
+use Rattle.lists.proofs.Members.{all_push, nil_of}
 
 -- the events so far, and the lines that are left, so many
 pub record AreMade (c : Numbers) (lines rest : List Line) (left : ℕ) (events : List ReplayLine) : Type 0 where
@@ -40,10 +37,6 @@ goes_on c lines old new left fewer line events more e one f is h =
       fine = subst (AllByRecursion (IsEventLine c)) (sym f) (all_push (IsEventLine c) events (Plain line) h.fine is);
       told = (subst (AllByRecursion (IsTold c)) e h.told).1;
     }
-
-nil_of : {A : Type 0} (xs : List A) → 0 ≡ length xs → xs ≡ []
-nil_of [] is = refl
-nil_of (x ∷ xs) is = absurd (omega arith)
 
 pub ends : (c : Numbers) (lines rest : List Line) (left : ℕ) (events : List ReplayLine) → left ≡ 0 → AreMade c lines rest left events → events ≡ map Plain lines
 ends c lines rest left events none h = sym (append-nil events) ∙ ap (λ (l : List Line). events ++ map Plain l) (sym (nil_of rest (sym none ∙ h.count))) ∙ h.made

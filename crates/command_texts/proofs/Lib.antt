@@ -1,3 +1,7 @@
+pub mod Alone
+pub mod Commands
+pub mod WordForms
+pub mod NbdForms
 pub mod Replaying
 mod Ascending
 mod Events

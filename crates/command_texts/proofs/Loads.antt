@@ -1,6 +1,6 @@
 -- What is told of a load's run holds of it.
 use Rattle.std.proofs.Common.{◌≡◌, ℕ, List, ◌∙◌, subst, arith}
-use Rattle.history_entries.specs.Books.{Book}
+use Rattle.history_making.specs.Books.{Book}
 use Rattle.soak_loads.specs.Soaks.{soak_text}
 use Rattle.journals.specs.declared.whole.Journals.{Journals}
 use Rattle.merge_trace.specs.Traces.{placed}

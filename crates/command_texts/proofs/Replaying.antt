@@ -15,8 +15,8 @@ use Rattle.script_run.specs.Registers.{AreRegisters}
 use Rattle.script_run.specs.Performing.{CommandQueues, Performs, StopsAt}
 use Rattle.line_forms.specs.declared.refusal.ScriptRefusal.{ScriptRefusal}
 use Rattle.line_forms.specs.declared.refusal.ScriptRefusal.TheVariants as scripts
-use Rattle.call_words.specs.declared.words.Command.TheVariants.{Replay}
-use Rattle.call_words.specs.Statuses.{refusal_of}
+use Rattle.command_texts.specs.declared.words.Command.TheVariants.{Replay}
+use Rattle.command_texts.specs.Statuses.{refusal_of}
 use Rattle.command_texts.specs.Texts.{Refuses}
 use Rattle.command_texts.specs.Replays.{cluster_of, IsReportOf, IsScript, Replays, Stops}
 

@@ -8,8 +8,8 @@ use Rattle.protocol.specs.World.{World, Record}
 use Rattle.protocol.specs.Lines.{Line, IsRun}
 use Rattle.protocol.proofs.Cluster.{cluster_valid}
 use Rattle.protocol.proofs.Firsts.{first_stamp_is}
-use Rattle.history_entries.specs.Books.{Book}
-use Rattle.history_texts.specs.Reports.{report_text}
+use Rattle.history_making.specs.Books.{Book}
+use Rattle.history_book.specs.Reports.{report_text}
 use Rattle.script_run.specs.Histories.{AreOfRun, TellsHistory}
 use Rattle.journals.specs.Steps.{Step}
 use Rattle.journals.specs.Merging.{Merged, next_world, line_of}

@@ -1,3 +1,5 @@
+pub mod Words
+pub mod Statuses
 pub mod Replays
 pub mod Verdicts
 pub mod Shown

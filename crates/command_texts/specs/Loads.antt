@@ -1,7 +1,7 @@
 -- What is told of the run of a load.
 use Rattle.std.specs.Prelude.{◌≡◌, ℕ, List}
 use Rattle.protocol.specs.History.{NoClash}
-use Rattle.history_entries.specs.Books.{Book}
+use Rattle.history_making.specs.Books.{Book}
 use Rattle.soak_loads.specs.Soaks.{soak_text}
 use Rattle.soak_loads.specs.Plain.{plain_text}
 use Rattle.journals.specs.declared.whole.Journals.{Journals}

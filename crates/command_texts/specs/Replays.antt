@@ -9,10 +9,10 @@ use Rattle.script_text.specs.Replays.{IsReplay, Spells, replay_script}
 use Rattle.protocol.specs.Setting.{Setting, first_stamp}
 use Rattle.protocol.specs.Instance.{setting_of}
 use Rattle.protocol.specs.History.{Entry, NoClash}
-use Rattle.history_entries.specs.Books.{Book}
+use Rattle.history_making.specs.Books.{Book}
 use Rattle.history_making.specs.Tellings.{Tells}
-use Rattle.history_texts.specs.Reports.{report_text}
-use Rattle.history_texts.specs.ReportTexts.{IsReport}
+use Rattle.history_book.specs.Reports.{report_text}
+use Rattle.history_book.specs.ReportTexts.{IsReport}
 use Rattle.history_book.specs.Judging.{IsLegal, IsInTime}
 use Rattle.world_steps.specs.Worlds.{WorldView, setting_in, world_in}
 use Rattle.script_run.specs.Registers.{AreRegisters}

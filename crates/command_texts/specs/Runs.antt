@@ -4,8 +4,8 @@ use Rattle.protocol.specs.Setting.{Setting}
 use Rattle.protocol.specs.World.{World}
 use Rattle.protocol.specs.Lines.{Line, IsRun}
 use Rattle.world_steps.specs.Worlds.{WorldView, setting_in, world_in}
-use Rattle.history_entries.specs.Books.{Book}
-use Rattle.history_texts.specs.Reports.{report_text}
+use Rattle.history_making.specs.Books.{Book}
+use Rattle.history_book.specs.Reports.{report_text}
 use Rattle.script_run.specs.Histories.{TellsHistory}
 use Rattle.journals.specs.declared.whole.Journals.{Journals}
 use Rattle.journals.specs.Journals.{setting_for, IsMerge}

@@ -3,7 +3,7 @@ use Rattle.std.specs.Prelude.{ℕ, ◌+◌, List, [], ◌∷◌, ◌++◌, codes
 use Rattle.hex.specs.Hex.{encode_lower}
 use Rattle.cross_sum.specs.Digest.{digest}
 use Rattle.gf_field.specs.Fragments.{fragments_of}
-use Rattle.block_rows.specs.Sums.{verifier_of}
+use Rattle.ida_code.specs.Sums.{verifier_of}
 use Rattle.text_lines.specs.Fields.{value_text}
 use Rattle.text_lines.specs.Lines.{line_of_fields, text_of_lines}
 

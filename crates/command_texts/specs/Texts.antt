@@ -4,14 +4,14 @@ use Rattle.std.specs.declared.option.Option.TheVariants.{None}
 use Rattle.std.specs.Io.KnownBytes.{Consumes, IsAtEnd}
 use Rattle.outside_io.specs.declared.reading.TheConstants.{LIMIT}
 use Rattle.history_book.specs.declared.judging.Flaw.{Flaw}
-use Rattle.history_texts.specs.ReportTexts.{report}
+use Rattle.history_book.specs.ReportTexts.{report}
 use Rattle.command_texts.specs.Replays.{Replays, Stops}
 use Rattle.command_texts.specs.Verdicts.{Judges}
-use Rattle.call_words.specs.Words.{words_of}
-use Rattle.call_words.specs.declared.words.Command.{Command}
-use Rattle.call_words.specs.declared.words.Command.TheVariants.{Replay, Run, Trace, Check, Sum, Soak}
-use Rattle.call_words.specs.declared.refusal.Refusal.{Refusal}
-use Rattle.call_words.specs.declared.refusal.Refusal.TheVariants.{NoMemory, BadScript, ClockFull}
+use Rattle.command_texts.specs.Words.{words_of}
+use Rattle.command_texts.specs.declared.words.Command.{Command}
+use Rattle.command_texts.specs.declared.words.Command.TheVariants.{Replay, Run, Trace, Check, Sum, Soak}
+use Rattle.command_texts.specs.declared.refusal.Refusal.{Refusal}
+use Rattle.command_texts.specs.declared.refusal.Refusal.TheVariants.{NoMemory, BadScript, ClockFull}
 use Rattle.quorum_rules.specs.Limits.{Numbers}
 use Rattle.line_forms.specs.declared.refusal.ScriptFault.{ScriptFault}
 use Rattle.line_forms.specs.Texts.{IsFault, IsFaultless}

@@ -3,14 +3,14 @@ use Rattle.std.specs.Prelude.{◌≡◌, ℕ, List, [], ◌∷◌, codes, decima
 use Rattle.std.specs.declared.option.Option.TheVariants.{None, Some}
 use Rattle.text_lines.specs.Lines.{line_of_fields, text_of_lines}
 use Rattle.line_forms.specs.Texts.{IsFaultless}
-use Rattle.history_entries.specs.declared.entry.Entry.{Entry}
+use Rattle.history_making.specs.declared.entry.Entry.{Entry}
 use Rattle.history_book.specs.declared.judging.FlawKind.{FlawKind}
 use Rattle.history_book.specs.declared.judging.FlawKind.TheVariants.{Value, Time}
 use Rattle.history_book.specs.declared.judging.Flaw.{Flaw}
-use Rattle.history_entries.specs.Books.{Book}
+use Rattle.history_making.specs.Books.{Book}
 use Rattle.history_book.specs.Judging.{IsLegal, IsInTime, TellsFirstFlaw}
-use Rattle.history_texts.specs.Reports.{report_text}
-use Rattle.history_texts.specs.ReportTexts.{IsReport, report}
+use Rattle.history_book.specs.Reports.{report_text}
+use Rattle.history_book.specs.ReportTexts.{IsReport, report}
 
 -- the history is one of plain registers and in time; or this is its first flaw, and it isn't
 abbrev pub IsVerdict : List Entry → Option Flaw → Type 0

@@ -4,7 +4,7 @@ ghost use Rattle.command_texts.specs.Texts.{Writes, Refuses};
 ghost use Rattle.command_texts.specs.Verdicts.{flaw_word, verdict_fields, verdict_text};
 
 use crate::text::Answer;
-use call_words::{Command, Refusal};
+use crate::{Command, Refusal};
 use cross_sum::Bytes;
 use history_book::{Flaw, FlawKind, judge, read};
 use lists::NoMemory;

@@ -3,7 +3,7 @@ ghost use Rattle.command_texts.specs.Replays.{IsReportOf};
 ghost use Rattle.command_texts.specs.Texts.{Writes, Refuses};
 
 use crate::text::Answer;
-use call_words::{Command, Refusal};
+use crate::{Command, Refusal};
 use cross_sum::Bytes;
 use history_book::print;
 use lists::NoMemory;

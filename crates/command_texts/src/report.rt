@@ -5,8 +5,8 @@ ghost use Rattle.plan_followed.specs.Followed.{AreOfPlan};
 ghost use Rattle.command_texts.specs.Runs.{RunsPlan, TellsPlan};
 
 use cross_sum::Bytes;
-use history_entries::History;
-use history_texts::print;
+use history_book::print;
+use history_making::History;
 use journal_records::records_of;
 use journals::Journals;
 use lists::NoMemory;

@@ -5,7 +5,7 @@ ghost use Rattle.command_texts.specs.Shown.{fragment_line, fragment_lines, verif
 ghost use Rattle.command_texts.specs.Texts.{Writes, Refuses};
 
 use crate::text::Answer;
-use call_words::{Command, Refusal};
+use crate::{Command, Refusal};
 use cross_sum::{Bytes, Hash};
 use frag_check::{Summed, code_of, summed_block};
 use lists::NoMemory;

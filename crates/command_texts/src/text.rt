@@ -1,11 +1,11 @@
 ghost use Rattle.std.specs.Prelude.{◌≡◌, ◌<◌, ◌^◌, length, IfOk, IfErr};
 ghost use Rattle.command_texts.specs.Texts.{Writes, Refuses};
-ghost use Rattle.call_words.specs.Words.{RunsThreads};
+ghost use Rattle.command_texts.specs.Words.{RunsThreads};
 
 use crate::check::verdict_of;
 use crate::replay::report_of;
 use crate::sum::sum_of;
-use call_words::{Command, Refusal};
+use crate::{Command, Refusal};
 use cross_sum::Bytes;
 use history_book::Flaw;
 use std::alloc::Global;

@@ -11,7 +11,7 @@ use crate::laws::plans_declare;
 use crate::report::MOST_LINES;
 use crate::script::script_of;
 use cross_sum::Bytes;
-use history_texts::print;
+use history_book::print;
 use journals::Journals;
 use lists::NoMemory;
 use merge_trace::{MergedRun, merge_run};

@@ -2,46 +2,21 @@
 use Rattle.std.proofs.Common.{◌≡◌, ◌≢◌, ℕ, zero, suc, ◌+◌, ◌<◌, ◌≤◌, List, [], ◌∷◌, ◌++◌, length, map, refl, sym, ap, subst, ◌∙◌, arith, inl, inr, length-append, get_or, append_assoc, append-nil, take, drop}
 use Rattle.std.specs.declared.option.Option.TheVariants.{Some}
 use Rattle.std.specs.Prelude.{◌⊎◌, All, slice_get, slice_set}
-use Rattle.std.specs.List.{AllZip, Contains}
+use Rattle.std.specs.List.{AllZip}
 use Rattle.std.proofs.Math.Seq.{take-append_seam}
 use Rattle.std.proofs.lemmas.List.Elements.{All-nil, All-push}
-use Rattle.std.proofs.lemmas.Option.{slice_get_within, slice_get-get_or, get_or_from_slice_get}
+use Rattle.std.proofs.lemmas.Option.{slice_get-get_or, get_or_from_slice_get}
 use Rattle.crews.specs.Crews.{Beside}
+use Rattle.lists.proofs.Members.{nil_of, all_at, slice_get-seam, at_place, within}
 
 pub at_head : {A : Type 0} (x y : A) (xs : List A) → slice_get (x ∷ xs) 0 ≡ Some y → x ≡ y
 at_head x y xs at = cc
 
--- the item at a place within a list
-pub at_place : {A : Type 0} (xs : List A) (i : ℕ) → i < length xs → (x : A) × (slice_get xs i ≡ Some x)
-at_place [] i lt = absurd (omega arith)
-at_place (x ∷ xs) zero lt = (x, refl)
-at_place (x ∷ xs) (suc i) lt = at_place xs i (omega arith)
-
 pub same_at : {A : Type 0} (xs : List A) (i : ℕ) (x y : A) → slice_get xs i ≡ Some x → slice_get xs i ≡ Some y → x ≡ y
 same_at xs i x y a b = let e : Some x ≡ Some y = sym a ∙ b in cc
 
--- what a list contains stands at a place
-pub place_of : {A : Type 0} (xs : List A) (x : A) → Contains xs x → (k : ℕ) × (slice_get xs k ≡ Some x)
-place_of xs x (k, lt, is) = (k, slice_get-get_or xs k x lt ∙ ap (λ y. Some y) is)
-
-pub contains_at : {A : Type 0} (xs : List A) (k : ℕ) (x : A) → slice_get xs k ≡ Some x → Contains xs x
-contains_at xs k x at = (k, slice_get_within xs k x at, get_or_from_slice_get xs k x x at)
-
-pub all_at : {A : Type 0} (P : A → Type 0) (xs : List A) (k : ℕ) (x : A) → All P xs → slice_get xs k ≡ Some x → P x
-all_at P xs k x all at = subst P (get_or_from_slice_get xs k x x at) (all k x (slice_get_within xs k x at))
-
 pub all_from : {A : Type 0} (P : A → Type 0) (xs : List A) → ((k : ℕ) (x : A) → slice_get xs k ≡ Some x → P x) → All P xs
 all_from P xs f k d lt = f k (get_or xs k d) (slice_get-get_or xs k d lt)
-
--- the items of a list with one more
-pub get_front : {A : Type 0} (xs ys : List A) (i : ℕ) (x : A) → slice_get xs i ≡ Some x → slice_get (xs ++ ys) i ≡ Some x
-get_front [] ys i x at = absurd cc
-get_front (y ∷ xs) ys zero x at = at
-get_front (y ∷ xs) ys (suc i) x at = get_front xs ys i x at
-
-pub get_last : {A : Type 0} (xs : List A) (x : A) (ys : List A) → slice_get (xs ++ x ∷ ys) (length xs) ≡ Some x
-get_last [] x ys = refl
-get_last (y ∷ xs) x ys = get_last xs x ys
 
 moved_on : {A : Type 0} (z : A) (xs : List A) (i : ℕ) (x y : A) → (slice_get xs i ≡ Some x) ⊎ ((i ≡ length xs) × (x ≡ y)) → (slice_get (z ∷ xs) (suc i) ≡ Some x) ⊎ ((suc i ≡ length (z ∷ xs)) × (x ≡ y))
 moved_on z xs i x y (inl h) = inl h
@@ -52,9 +27,6 @@ get_snoc [] y zero x at = let e : x ≡ y = cc in inr (refl, e)
 get_snoc [] y (suc i) x at = absurd cc
 get_snoc (z ∷ xs) y zero x at = inl at
 get_snoc (z ∷ xs) y (suc i) x at = moved_on z xs i x y (get_snoc xs y i x at)
-
-pub within : {A : Type 0} (xs : List A) (i : ℕ) (x : A) → slice_get xs i ≡ Some x → i < length xs
-within xs i x at = slice_get_within xs i x at
 
 pub get_map : {A B : Type 0} (f : A → B) (xs : List A) (k : ℕ) (x : A) → slice_get xs k ≡ Some x → slice_get (map f xs) k ≡ Some (f x)
 get_map f [] k x at = absurd cc
@@ -116,16 +88,12 @@ walk_on all done rest next x n m walked is one =
       omega (arith, few, walked.1, one),
     )
 
-nil_of : {A : Type 0} (xs : List A) → 0 ≡ length xs → xs ≡ []
-nil_of [] is = refl
-nil_of (x ∷ xs) is = absurd (omega arith)
-
 pub walk_end : {A : Type 0} (all done rest : List A) (n : ℕ) → Walked all done rest n → n ≡ 0 → all ≡ done
 walk_end all done rest n walked none = walked.0 ∙ ap (λ l. done ++ l) (nil_of rest (sym none ∙ walked.1)) ∙ append-nil done
 
 -- what holds of all items holds of the one that is taken next
 pub walked_at : {A : Type 0} (P : A → Type 0) (all done rest next : List A) (x : A) (n : ℕ) → Walked all done rest n → rest ≡ x ∷ next → All P all → P x
-walked_at P all done rest next x n walked is each = all_at P (done ++ x ∷ next) (length done) x (subst (All P) (walked.0 ∙ ap (λ l. done ++ l) is) each) (get_last done x next)
+walked_at P all done rest next x n walked is each = all_at P (done ++ x ∷ next) (length done) x (subst (All P) (walked.0 ∙ ap (λ l. done ++ l) is) each) (slice_get-seam done x next)
 
 -- a list that is filled while another one is walked
 module _ {X Y : Type 0} (R : ℕ → X → Y → Type 0) where

@@ -37,7 +37,8 @@ use Rattle.desk_keys.specs.declared.mail.ByMail.{ByMail}
 use Rattle.desk_keys.specs.Keys.{FloorView, IsHead, IsFloor, KeysView, Knows, IsSide, Agree, Agrees, AreKeys, IsByChits, IsByMail, IsAskPlace, Reaches, Fit, refusal_in, HasAsked, HasCalled, HasSent, AddSides, AddCall, AddSent, AddAnswer, AddHeard, AddTold, IsSameMail, HasEnded, LeavesNoSide}
 use Rattle.desk_keys.proofs.Mailing.{agree_answer, agree_own_mail, agree_ended}
 use Rattle.crews.proofs.Places.{get_set}
-use Rattle.desk_keys.proofs.Lists.{only_one, set_at, still_there}
+use Rattle.desk_keys.proofs.Lists.{still_there}
+use Rattle.lists.proofs.Members.{Contains-none, Contains-one, set_at, at_place}
 
 -- the chit knows what it knew
 pub knows_more : (was now : Chit Item) (more : List (ℕ × Item)) (n : NodeEntry) → now.vault ≡ was.vault → now.mine ≡ was.mine ++ more → Knows was n → Knows now n
@@ -108,7 +109,7 @@ same_entry : (x y : ℕ × Item) (n m : NodeEntry) → x ≡ y → x.1 ≡ Entry
 same_entry x y n m is a b = let e : Entry n ≡ Entry m = sym a ∙ ap (λ (z : ℕ × Item). z.1) is ∙ b in cc
 
 one_entry : (place p : ℕ) (n m : NodeEntry) → Contains {X = ℕ × Item} ((place, Entry m) ∷ []) (p, Entry n) → n ≡ m
-one_entry place p n m has = same_entry (p, Entry n) (place, Entry m) n m (only_one {X = ℕ × Item} (p, Entry n) (place, Entry m) has) refl refl
+one_entry place p n m has = same_entry (p, Entry n) (place, Entry m) n m (Contains-one {X = ℕ × Item} (p, Entry n) (place, Entry m) has) refl refl
 
 stand_one : (id number place : ℕ) (done : NodeAct) (a : DeskAct) → side done ≡ Some (id, a) → Stand id ((place, Entry (entry number done)) ∷ []) (desk_entry number a ∷ [])
 stand_one id number place done a agree p n c act has is =
@@ -120,7 +121,7 @@ stand_one id number place done a agree p n c act has is =
 asked_one : (id number place : ℕ) (done : NodeAct) (a : DeskAct) (chits : List (Chit Item)) (k : ℕ) (was now : Chit Item) → slice_get chits k ≡ Some was → now.mine ≡ was.mine ++ (place, Entry (entry number done)) ∷ [] → side done ≡ Some (id, a)
     → (e : DeskEntry) → Contains (desk_entry number a ∷ []) e → IsOwn e.act ⊎ IsSide id (slice_set chits k now) e
 asked_one id number place done a chits k was now at mine agree e has =
-    let same : e ≡ desk_entry number a = only_one e (desk_entry number a) has in
+    let same : e ≡ desk_entry number a = Contains-one e (desk_entry number a) has in
     let s : IsSide id (slice_set chits k now) (desk_entry number a) = record {
       node = k;
       chit = now;
@@ -147,16 +148,13 @@ none_some o x a b = let h : None ≡ Some x = sym a ∙ b in absurd cc
 stand_none : (id : ℕ) (more : List (ℕ × Item)) → ((p : ℕ) (n : NodeEntry) → Contains more (p, Entry n) → side n.act ≡ None) → Stand id more []
 stand_none id more none p n c act has is = absurd (none_some (side n.act) (c, act) (none p n has) is)
 
-contains_none : {X : Type 0} (x : X) → Contains [] x → ⊥
-contains_none x has = let lt = has.1 in omega arith
-
 agree_no_side : (old new : DeskView) (chits : List (Chit Item)) (k : ℕ) (was now : Chit Item) (more : List (ℕ × Item)) → Agree old chits → slice_get chits k ≡ Some was → now.vault ≡ was.vault → now.mine ≡ was.mine ++ more → KeepsDesk old new
     → ((p : ℕ) (n : NodeEntry) → Contains more (p, Entry n) → side n.act ≡ None) → Agree new (slice_set chits k now)
 agree_no_side old new chits k was now more agree at own mine kept none =
-    agree_more old new chits k was now more [] agree at own mine (ap (λ (d : DeskView). d.id) kept.same) (ap (λ (d : DeskView). d.entries) kept.same ∙ sym (append-nil old.entries)) (stand_none old.id more none) (λ e has. absurd (contains_none e has))
+    agree_more old new chits k was now more [] agree at own mine (ap (λ (d : DeskView). d.id) kept.same) (ap (λ (d : DeskView). d.entries) kept.same ∙ sym (append-nil old.entries)) (stand_none old.id more none) (λ e has. absurd (Contains-none e has))
 
 pub agree_kept : (old new : DeskView) (chits : List (Chit Item)) (k : ℕ) (was now : Chit Item) → Agree old chits → slice_get chits k ≡ Some was → now.vault ≡ was.vault → KeepsDesk old new → LeavesNoSide was now → Agree new (slice_set chits k now)
-agree_kept old new chits k was now agree at own kept (inl same) = agree_no_side old new chits k was now [] agree at own (same ∙ sym (append-nil was.mine)) kept (λ p n has. absurd (contains_none {X = ℕ × Item} (p, Entry n) has))
+agree_kept old new chits k was now agree at own kept (inl same) = agree_no_side old new chits k was now [] agree at own (same ∙ sym (append-nil was.mine)) kept (λ p n has. absurd (Contains-none {X = ℕ × Item} (p, Entry n) has))
 agree_kept old new chits k was now agree at own kept (inr h) =
     let n = h.0 in
     let done = h.1 in
@@ -165,7 +163,7 @@ agree_kept old new chits k was now agree at own kept (inr h) =
 
 -- a start or a crash
 own_asked : (id n : ℕ) (a : DeskAct) (chits : List (Chit Item)) → IsOwn a → (e : DeskEntry) → Contains (desk_entry n a ∷ []) e → IsOwn e.act ⊎ IsSide id chits e
-own_asked id n a chits own e has = inl (subst (λ (x : DeskEntry). IsOwn x.act) (sym (only_one e (desk_entry n a) has)) own)
+own_asked id n a chits own e has = inl (subst (λ (x : DeskEntry). IsOwn x.act) (sym (Contains-one e (desk_entry n a) has)) own)
 
 pub agree_own : (old new : DeskView) (chits : List (Chit Item)) (n : ℕ) (a : DeskAct) → Agree old chits → IsOwn a → new ≡ with_own old n a → Agree new chits
 agree_own old new chits n a agree own is =
@@ -305,11 +303,6 @@ same_at f g (a ∷ xs) (b ∷ ys) zero x y same at there =
     ap f l ∙ e ∙ ap g (sym r)
 same_at f g (a ∷ xs) (b ∷ ys) (suc i) x y same at there = same_at f g xs ys i x y (let e : map f xs ≡ map g ys = cc in e) at there
 
-something_at : {A : Type 0} (xs : List A) (k : ℕ) → k < length xs → (x : A) × (slice_get xs k ≡ Some x)
-something_at [] k lt = absurd (omega arith)
-something_at (x ∷ xs) zero lt = (x, refl)
-something_at (x ∷ xs) (suc k) lt = something_at xs k (omega arith)
-
 pub place_in : (chits : List (Chit Item)) (floor : FloorView) (place node block : ℕ) → IsByChits chits floor → IsPlace floor.slots place node block → place < length floor.vaults
 place_in chits floor place node block h p =
     let within = slice_get_within floor.slots place p.slot p.there in
@@ -323,7 +316,7 @@ chit_in chits floor place h within =
 -- the cell at a place is in a slot
 pub head_at : (config : Numbers) (chits : List (Chit Item)) (floor : FloorView) (place : ℕ) (v : Deposit Item) → IsFloor config floor → IsByChits chits floor → slice_get floor.vaults place ≡ Some v → (s : Slot) × IsHead config floor.clock s v.id.begun
 head_at config chits floor place v h by there =
-    let s = something_at floor.slots place (let within = slice_get_within floor.vaults place v there in let count = by.count in omega (arith, within, count)) in
+    let s = at_place floor.slots place (let within = slice_get_within floor.vaults place v there in let count = by.count in omega (arith, within, count)) in
     (s.0, h.each place s.0 v s.1 there)
 
 pub chit_at : (chits : List (Chit Item)) (floor : FloorView) (i : ℕ) (c : Chit Item) (v : Deposit Item) → IsByChits chits floor → slice_get floor.vaults i ≡ Some v → c ≡ get_or chits i c → slice_get chits i ≡ Some c
@@ -342,7 +335,7 @@ module _ (id new : ℕ) (was now : ByMail) (floor : FloorView) (is : new ≡ id)
 
   ask_place : (k : ℕ) (p : AskPutter) (s : Slot) → slice_get now.asks.items k ≡ Some p → slice_get floor.slots k ≡ Some s → IsAskPlace floor.clock s now.seat new p.inbox.place
   ask_place k p s at there =
-      let before = something_at was.asks.items k (let within = slice_get_within now.asks.items k p at in omega (arith, within, asks_length)) in
+      let before = at_place was.asks.items k (let within = slice_get_within now.asks.items k p at in omega (arith, within, asks_length)) in
       let inbox : p.inbox ≡ before.0.inbox = same_at (λ (x : AskPutter). x.inbox) (λ (x : AskPutter). x.inbox) now.asks.items was.asks.items k p before.0 same.asks at before.1 in
       subst (λ n. IsAskPlace floor.clock s now.seat n p.inbox.place) (sym is)
       (subst (λ seat. IsAskPlace floor.clock s seat id p.inbox.place) (sym same.seat) (subst (λ (i : InboxId Asked NodePlace). IsAskPlace floor.clock s was.seat id i.place) (sym inbox) (by.each k before.0 s before.1 there)))

@@ -1,4 +1,4 @@
 mod Lists
 mod Turns
-mod Mailing
+pub mod Mailing
 mod Keying

@@ -2,20 +2,10 @@
 use Rattle.std.proofs.Common.{◌≡◌, ℕ, zero, suc, List, [], ◌∷◌, get_or, ◌<◌, refl, sym, arith, inl, inr}
 use Rattle.std.specs.declared.option.Option.TheVariants.{Some}
 use Rattle.std.specs.Prelude.{◌⊎◌, slice_get, slice_set}
-use Rattle.std.specs.List.{Contains}
 
 contains_one : {X : Type 0} (x y : X) (k : ℕ) → k < 1 → get_or (y ∷ []) k x ≡ x → x ≡ y
 contains_one x y zero lt is = sym is
 contains_one x y (suc k) lt is = absurd (omega arith)
-
-pub only_one : {X : Type 0} (x y : X) → Contains (y ∷ []) x → x ≡ y
-only_one x y (k, lt, is) = contains_one x y k lt is
-
--- the new item stands where it was put
-pub set_at : {A : Type 0} (xs : List A) (k : ℕ) (x y : A) → slice_get xs k ≡ Some x → slice_get (slice_set xs k y) k ≡ Some y
-set_at [] k x y at = absurd cc
-set_at (z ∷ xs) zero x y at = refl
-set_at (z ∷ xs) (suc k) x y at = set_at xs k x y at
 
 -- an item stands there still, or it was the one that was replaced
 pub still_there : {A : Type 0} (xs : List A) (k i : ℕ) (x y w : A) → slice_get xs k ≡ Some x → slice_get xs i ≡ Some w → ((w ≡ x) × (slice_get (slice_set xs k y) i ≡ Some y)) ⊎ (slice_get (slice_set xs k y) i ≡ Some w)

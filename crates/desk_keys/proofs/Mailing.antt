@@ -31,7 +31,7 @@ use Rattle.node_serving.specs.declared.answered.ClientPlace.{ClientPlace}
 use Rattle.desk_keys.specs.declared.mail.ByMail.{ByMail}
 use Rattle.desk_keys.specs.Keys.{FloorView, IsAskOn, AsksOn, IsAskPlace, IsByMail, CanAsk, call_told, HasAnswer, AgreeByMail, IsSameMail, HasTaken, AddAnswer}
 use Rattle.desk_keys.proofs.Turns.{on_shard, is_whole}
-use Rattle.desk_keys.proofs.Lists.{only_one}
+use Rattle.lists.proofs.Members.{Contains-one}
 
 -- an ask to the slot's node, on a block of its shard
 can_ask : (clock : ClockId) (slot : Slot) (seat id node block : ℕ) (way : Way) (ask : Message) (place : NodePlace) → IsAskPlace clock slot seat id place → IsFor slot node block
@@ -80,7 +80,7 @@ module _ (old : ByMail) (place : ℕ) (inbox now : Putting Asked NodePlace) (ite
   pub same_lasts : TookLasts old.answers answers → IsSameMail old (record { seat = old.seat; asks = with_item old.asks place now; answers = answers })
   same_lasts lasts = same_after (lasts_same old.answers answers lasts)
 
-same_told : (r : Result Told CellRefusal) (t u : Told) → r ≡ Ok t → r ≡ Ok u → t ≡ u
+pub same_told : (r : Result Told CellRefusal) (t u : Told) → r ≡ Ok t → r ≡ Ok u → t ≡ u
 same_told r t u one other = let e : Ok t ≡ Ok u = sym one ∙ other in cc
 
 -- an answer that was taken says the same after more were taken
@@ -109,7 +109,7 @@ module _ (old new : DeskView) (was now : ByMail) (way : Way) (ask : Message) (to
       let one : ℕ × Answered = (taken.from, taken.answer) in
       subst (λ l. Contains l (call_told a t)) (sym entries) (elim (Contains-append_cases (took was.answers) (one ∷ []) (from, a) (subst (λ (l : List (ℕ × Answered)). Contains l (from, a)) taken.grew has)) [
         | inl before ↦ Contains-append_left old.entries (e ∷ []) (call_told a t) (agree.heard from a t before tells)
-        | inr after ↦ subst (Contains (old.entries ++ e ∷ [])) (sym (told_is a t (ap (λ (x : ℕ × Answered). x.1) (only_one {X = ℕ × Answered} (from, a) one after)) tells)) (Contains-push old.entries e)
+        | inr after ↦ subst (Contains (old.entries ++ e ∷ [])) (sym (told_is a t (ap (λ (x : ℕ × Answered). x.1) (Contains-one {X = ℕ × Answered} (from, a) one after)) tells)) (Contains-push old.entries e)
       ])
 
   began : was.answers.inbox ≡ now.answers.inbox
@@ -137,7 +137,7 @@ module _ (old new : DeskView) (was now : ByMail) (way : Way) (ask : Message) (to
     heard = heard;
     asked = λ x has. elim (Contains-append_cases old.entries (e ∷ []) x (subst (λ l. Contains l x) entries has)) [
       | inl before ↦ asked_before x (agree.asked x before)
-      | inr after ↦ inr (inr (subst (HasAnswer (took now.answers)) (sym (only_one x e after)) answered))
+      | inr after ↦ inr (inr (subst (HasAnswer (took now.answers)) (sym (Contains-one x e after)) answered))
     ];
   }
 
@@ -160,6 +160,6 @@ agree_own_mail old new mail n a agree own is =
       heard = λ from x t has tells. subst (λ l. Contains l (call_told x t)) (sym list) (Contains-append_left old.entries (e ∷ []) (call_told x t) (agree.heard from x t has tells));
       asked = λ x has. elim (Contains-append_cases old.entries (e ∷ []) x (subst (λ l. Contains l x) list has)) [
         | inl before ↦ agree.asked x before
-        | inr after ↦ inl (subst (λ (y : DeskEntry). IsOwn y.act) (sym (only_one x e after)) own)
+        | inr after ↦ inl (subst (λ (y : DeskEntry). IsOwn y.act) (sym (Contains-one x e after)) own)
       ];
     }

@@ -2,7 +2,6 @@
 use Rattle.std.proofs.Common.{◌≡◌, ℕ, ◌%◌, List, [], ◌∷◌, ◌++◌, length, map, Option, Result, Ok, Err, refl, sym, ap, subst, ◌∙◌, inl, inr, append-nil}
 use Rattle.std.specs.declared.option.Option.TheVariants.{Some}
 use Rattle.std.specs.Prelude.{IfOk, OnOk, drop}
-use Rattle.std.proofs.lemmas.List.{map-append}
 use Rattle.quorum_rules.specs.Limits.{Numbers}
 use Rattle.protocol.specs.Operations.{Outcome}
 use Rattle.protocol.specs.Instance.{setting}
@@ -14,7 +13,6 @@ use Rattle.receipt_lock.specs.Chits.{Holder as Chit, took, gave, found_list}
 use Rattle.journals.specs.declared.desk.Way.{Way}
 use Rattle.journals.specs.declared.desk.Way.TheVariants.{Call as ByCall, Drop, Hold}
 use Rattle.journals.specs.declared.node.NodeAct.{NodeAct}
-use Rattle.journals.specs.declared.node.NodeEntry.{NodeEntry}
 use Rattle.locked_nodes.specs.declared.answers.CellRefusal.{CellRefusal}
 use Rattle.locked_nodes.specs.declared.charter.Charter.{Charter}
 use Rattle.locked_nodes.specs.declared.charter.Item.{Item}
@@ -22,7 +20,7 @@ use Rattle.locked_nodes.specs.declared.charter.Item.TheVariants.{Head, Entry}
 use Rattle.locked_nodes.specs.Cells.{CellView, IsShare, IsWhole, Serves, HoldsWhole, entry, items, with_entry}
 use Rattle.locked_nodes.specs.declared.slot.Slot.{Slot}
 use Rattle.locked_nodes.specs.Slots.{slot_of, IsFor}
-use Rattle.client_desks.proofs.Desking.{asks_node}
+use Rattle.client_desks.proofs.Desking.{asks_node, items_snoc}
 use Rattle.client_desks.specs.Desks.{DeskView, CanCall, state_at, task_at, asks_of, done_by, reply_by, ending, AddPair, Calls, Delivers}
 use Rattle.desk_keys.specs.Keys.{IsHead, IsAskOn, AsksOn, HasLeft, AddSides, AddCall, AddSent, LeavesNoSide}
 
@@ -67,10 +65,6 @@ module _ (config : Numbers) (clock : ClockId) (slot : Slot) (begun : List Item) 
 
   pub whole_way : (way : Way) → (way ≡ Hold → slot.shards ≡ 1) → HoldsWhole cell.charter way
   whole_way way may = subst (λ (s : Slot). IsWhole s.shards way) (sym slot_is) (is_whole slot way may)
-
--- the chit gets the entry that the cell got
-items_snoc : (cell : CellView) (n : ℕ) (a : NodeAct) → items (with_entry cell n a) ≡ items cell ++ Entry (entry n a) ∷ []
-items_snoc cell n a = ap (λ l. Head cell.charter ∷ l) (map-append (λ (e : NodeEntry). Entry e) cell.journal (entry n a ∷ []))
 
 drop_front : {X : Type 0} (xs ys : List X) → drop (length xs) (xs ++ ys) ≡ ys
 drop_front [] ys = refl

@@ -1,7 +1,6 @@
 //! A client's desk, with its way to the nodes.
 ghost use Rattle.std.specs.Prelude.{◌≡◌, ◌↔◌, ℕ, ◌<◌, ◌≤◌, All, [], None, Some, Ok, Err, true, IfOk, OnOk, OnErr, IsSome, length};
-ghost use Rattle.protocol.specs.Messages.{IsFormedBody};
-ghost use Rattle.liar_rules.specs.Answers.{IsAsk};
+ghost use Rattle.protocol.specs.Messages.{IsFormedBody, IsAsk};
 ghost use Rattle.event_clock.specs.Passes.{left_of};
 ghost use Rattle.journals.specs.Desks.{FitsOp};
 ghost use Rattle.client_desks.specs.Desks.{IsUp, CanStart, CanCall, with_own, KeepsDesk};

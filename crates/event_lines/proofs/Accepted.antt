@@ -1,77 +1,31 @@
 -- The text of an event line has nothing wrong.
-use Rattle.std.proofs.Common.{◌≡◌, ◌≢◌, lit<, lit≤, ℕ, suc, ◌^◌, ◌<◌, ◌≤◌, Bool, true, false, not, ◌&&◌, eqb, ltb, leb, List, [], ◌∷◌, length, Option, Some, None, refl, sym, ap, ◌∙◌, arith}
+use Rattle.std.proofs.Common.{◌≡◌, ◌≢◌, lit<, lit≤, ℕ, ◌^◌, ◌<◌, ◌≤◌, Bool, true, false, not, eqb, List, [], ◌∷◌, length, Option, Some, None, refl, sym, ap, ◌∙◌, arith}
 use Rattle.std.specs.Prelude.{codes, decimal, if◌then◌else◌}
 use Rattle.std.specs.Str.{bytes_eq}
-use Rattle.std.proofs.lemmas.Fmt.{decimal_nonempty}
 use Rattle.std.proofs.lemmas.Bool.{eq-eqb}
-use Rattle.std.proofs.lemmas.Bool.Decides.{nat_tests}
 use Rattle.quorum_rules.specs.Limits.{Numbers}
 use Rattle.quorum_rules.specs.declared.Edition.{Edition}
 use Rattle.text_lines.specs.Lines.{fields_of, line_of_fields}
-use Rattle.text_lines.specs.Fields.{value_text, IsBytes}
-use Rattle.text_lines.proofs.Numbers.{number_of-decimal}
+use Rattle.text_lines.specs.Fields.{value_text}
 use Rattle.text_lines.proofs.Values.{value_of-text}
 use Rattle.text_lines.proofs.Joined.{parts-joined}
 use Rattle.wire_forms.specs.declared.rule.Rule.{Rule}
 use Rattle.wire_forms.specs.declared.rule.Rule.TheVariants.{Silent, Old, Top, Bad}
 use Rattle.run_words.specs.declared.line.Line.{Line}
 use Rattle.run_words.specs.declared.line.Line.TheVariants.{Write, Read, Resend, Call, Give, Hear, Lost, CrashNode, CrashClient, Lie, Tell, Poke, False, Sound, Mix, Prune, Back, Restart}
-use Rattle.line_forms.specs.Kinds.{Kind, client, node, block, any_u64, is_other_word, is_bad_number, is_outside, is_bad_value, some_field, has_empty_field, form_cause}
-use Rattle.line_forms.specs.Kinds.Kind.{word, number, value, bytes}
+use Rattle.line_forms.specs.Kinds.{Kind, client, node, block, any_u64, is_other_word, some_field, form_cause}
+use Rattle.line_forms.specs.Kinds.Kind.{word, value, bytes}
 use Rattle.line_forms.specs.declared.cause.Cause.{Cause}
 use Rattle.line_forms.specs.declared.cause.Cause.TheVariants.{UnknownWord}
 use Rattle.event_lines.specs.declared.line.ReplayLine.{ReplayLine}
 use Rattle.event_lines.specs.declared.line.ReplayLine.TheVariants.{Plain, Put, Get, Next}
-use Rattle.wire_forms.specs.Liars.{IsClientNumber}
 use Rattle.event_lines.specs.Lines.{IsNode, IsBlock, IsValue, IsEventLine, event_fields, event_text, rule_text}
 use Rattle.event_lines.specs.Forms.{rule, in_two, fields_cause, message_cause, line_cause, event_cause}
 use Rattle.event_lines.specs.Messages.{Part, are_of}
 use Rattle.event_lines.proofs.Lacking.{event_lacks}
 use Rattle.event_lines.proofs.Messages.{any_fits, ask_fits, answer_fits}
-
--- nothing is wrong with a field of this kind
-record Fine (kind : Kind) (field : List ℕ) : Type 0 where
-  words : is_other_word kind field ≡ false
-  full : eqb (length field) 0 ≡ false
-  numbers : is_bad_number kind field ≡ false
-  inside : is_outside kind field ≡ false
-  values : is_bad_value kind field ≡ false
-
--- nothing is wrong with the fields of this form
-abbrev AreFine : List Kind → List (List ℕ) → Type 0
-AreFine [] [] = Unit {0}
-AreFine (kind ∷ form) (field ∷ fields) = Fine kind field × AreFine form fields
-AreFine _ _ = ⊥
-
--- a test that fine fields do not pass
-none_passes : (test : Kind → List ℕ → Bool) → ((kind : Kind) (field : List ℕ) → Fine kind field → test kind field ≡ false) → (form : List Kind) (fields : List (List ℕ)) → AreFine form fields → some_field test form fields ≡ false
-none_passes test never [] [] h = refl
-none_passes test never [] (field ∷ fields) h = absurd h
-none_passes test never (kind ∷ form) [] h = absurd h
-none_passes test never (kind ∷ form) (field ∷ fields) h = rw (never kind field h.0) (none_passes test never form fields h.1)
-
-as_many : (form : List Kind) (fields : List (List ℕ)) → AreFine form fields → length fields ≡ length form
-as_many [] [] h = refl
-as_many [] (field ∷ fields) h = absurd h
-as_many (kind ∷ form) [] h = absurd h
-as_many (kind ∷ form) (field ∷ fields) h = ap (λ (n : ℕ). suc n) (as_many form fields h.1)
-
-none_empty : (form : List Kind) (fields : List (List ℕ)) → AreFine form fields → has_empty_field fields ≡ false
-none_empty [] [] h = refl
-none_empty [] (field ∷ fields) h = absurd h
-none_empty (kind ∷ form) [] h = absurd h
-none_empty (kind ∷ form) (field ∷ fields) h = rw (h.0.full) (none_empty form fields h.1)
-
-fine : (form : List Kind) (fields : List (List ℕ)) → AreFine form fields → form_cause form fields ≡ None
-fine form fields h =
-    rw (
-      none_passes is_other_word (λ kind field f. f.words) form fields h,
-      eq-eqb (length fields) (length form) (as_many form fields h),
-      none_empty form fields h,
-      none_passes is_bad_number (λ kind field f. f.numbers) form fields h,
-      none_passes is_outside (λ kind field f. f.inside) form fields h,
-      none_passes is_bad_value (λ kind field f. f.values) form fields h,
-    ) refl
+use Rattle.lists.proofs.Tests.{not_zero}
+use Rattle.line_forms.proofs.Fine.{AreFine, none_passes, fine, a_number, a_client, a_u64, some_bytes, Fine}
 
 with_words : (b : Bool) (x y : Option Cause) → b ≡ false → x ≡ None → (if not b then x else y) ≡ None
 with_words b x y e h = rw e h
@@ -81,50 +35,19 @@ only_form form fields h = with_words (some_field is_other_word form fields) (for
 
 -- ---- fields
 
-not_zero : (n : ℕ) → 0 < n → eqb n 0 ≡ false
-not_zero n h = grind arith
-
-in_range : (from end n : ℕ) → from ≤ n → n < end → not (leb from n && ltb n end) ≡ false
-in_range from end n a b = grind (arith, nat_tests)
-
-a_number : (limit from end n : ℕ) → limit ≤ 2 ^ 64 → n < limit → from ≤ n → n < end → Fine (number limit from end) (decimal n)
-a_number limit from end n small lt low high =
-    let is = number_of-decimal limit n small lt in record {
-      words = refl;
-      full = not_zero (length (decimal n)) (decimal_nonempty n (omega arith));
-      numbers = rw is refl;
-      inside = rw is (in_range from end n low high);
-      values = refl;
-    }
-
-a_client : (n : ℕ) → IsClientNumber n → Fine client (decimal n)
-a_client n h = a_number (2 ^ 32) 1 1001 n (lit≤ tt) (omega arith) h.0 (omega arith)
-
-a_node : (c : Numbers) (n : ℕ) → IsNode c n → Fine (node c.n) (decimal n)
+pub a_node : (c : Numbers) (n : ℕ) → IsNode c n → Fine (node c.n) (decimal n)
 a_node c n h = a_number (2 ^ 8) 0 c.n n (lit≤ tt) h.typed (omega arith) h.there
 
-a_block : (c : Numbers) (n : ℕ) → IsBlock c n → Fine (block c.blocks) (decimal n)
+pub a_block : (c : Numbers) (n : ℕ) → IsBlock c n → Fine (block c.blocks) (decimal n)
 a_block c n h = a_number (2 ^ 32) 0 c.blocks n (lit≤ tt) h.typed (omega arith) h.there
 
-a_u64 : (n : ℕ) → n < 2 ^ 64 → Fine any_u64 (decimal n)
-a_u64 n h = a_number (2 ^ 64) 0 (2 ^ 64) n (lit≤ tt) h (omega arith) h
-
-a_value : (c : Numbers) (v : List ℕ) → IsValue c v → Fine (value c.size) (value_text v)
+pub a_value : (c : Numbers) (v : List ℕ) → IsValue c v → Fine (value c.size) (value_text v)
 a_value c v h = record {
   words = refl;
   full = not_zero (length (value_text v)) (omega arith);
   numbers = refl;
   inside = refl;
   values = rw (value_of-text v h.bytes, eq-eqb (length v) c.size h.whole) refl;
-}
-
-some_bytes : (v : List ℕ) → IsBytes v → Fine bytes (value_text v)
-some_bytes v h = record {
-  words = refl;
-  full = not_zero (length (value_text v)) (omega arith);
-  numbers = refl;
-  inside = refl;
-  values = rw (value_of-text v h) refl;
 }
 
 a_rule : (r : Rule) → r ≢ Silent → Fine rule (rule_text r)

@@ -32,7 +32,7 @@ use Rattle.event_lines.proofs.Messages.{any_fits, first_form}
 abbrev is_high : List ℕ → Bool
 is_high text = list_all (λ byte. ltb 46 byte) text
 
-other_byte : (byte mark : ℕ) → mark < 46 → ltb 46 byte ≡ true → eqb byte mark ≡ false
+pub other_byte : (byte mark : ℕ) → mark < 46 → ltb 46 byte ≡ true → eqb byte mark ≡ false
 other_byte byte mark low h = grind (arith, nat_tests)
 
 high_lacks : (mark : ℕ) (text : List ℕ) → mark < 46 → is_high text ≡ true → Lacks mark text

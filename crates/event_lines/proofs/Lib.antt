@@ -4,6 +4,5 @@ pub mod Lacking
 pub mod Lines
 pub mod Messages
 pub mod Parts
-pub mod Texts
 pub mod Unique
 pub mod Words

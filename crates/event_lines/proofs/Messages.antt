@@ -1,10 +1,10 @@
 -- The forms have the fields of messages' texts, and no others.
-use Rattle.std.proofs.Common.{◌≡◌, lit<, lit≤, ℕ, zero, suc, get_or, ◌^◌, ◌<◌, Bool, true, false, not, ◌||◌, List, [], ◌∷◌, ◌++◌, length, Option, Some, None, Result, Ok, Err, refl, sym, ap, ◌∙◌, arith, inl, inr, ◌⊎◌}
+use Rattle.std.proofs.Common.{◌≡◌, lit<, lit≤, ℕ, zero, suc, get_or, ◌^◌, ◌<◌, Bool, true, false, not, List, [], ◌∷◌, ◌++◌, length, Option, Some, None, Result, Ok, Err, refl, sym, ap, ◌∙◌, arith, inl, inr, ◌⊎◌}
 use Rattle.std.specs.Prelude.{codes, decimal, IsErrAnd, ◌↔◌}
 use Rattle.std.specs.List.{list_any, AllByRecursion}
 use Rattle.std.specs.Str.{bytes_eq}
 use Rattle.std.proofs.Math.Bool.{or-true}
-use Rattle.std.proofs.lemmas.Bool.{cases_Bool, both_ways, and_parts}
+use Rattle.std.proofs.lemmas.Bool.{cases_Bool, both_ways, and_parts, or_cases}
 use Rattle.std.proofs.lemmas.Slice.Eq.{bytes_eq-Decides}
 use Rattle.text_lines.specs.Lines.{fields_of}
 use Rattle.text_lines.proofs.Joined.{line_from_fields, some_part}
@@ -227,14 +227,9 @@ answer_told reply fields h told =
       f.are ∙ ap (λ (x : List (List ℕ)). codes "answer" ∷ decimal f.client ∷ decimal f.node ∷ decimal f.op ∷ decimal f.phase ∷ x) r.2,
     )
 
--- one of two tests
-either : (a b : Bool) → (a || b) ≡ true → (a ≡ true) ⊎ (b ≡ true)
-either true b h = inl refl
-either false b h = inr h
-
 -- a form of the list has the fields, or none has
 pub first_form : (form : List Part) (forms : List (List Part)) (fields : List (List ℕ)) → are_of (form ∷ forms) fields ≡ true → (are_parts form fields ≡ true) ⊎ (are_of forms fields ≡ true)
-first_form form forms fields h = either (are_parts form fields) (are_of forms fields) h
+first_form form forms fields h = or_cases (are_parts form fields) (are_of forms fields) h
 
 any_ask : (forms : List (List Part)) (fields : List (List ℕ)) → are_of forms fields ≡ true → AllByRecursion (λ form. are_parts form fields ≡ true → Asked fields) forms → Asked fields
 any_ask [] fields h told = absurd cc

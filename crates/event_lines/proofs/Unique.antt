@@ -99,10 +99,10 @@ node_back c n h = number_back (2 ^ 8) n (lit≤ tt) h.typed
 block_back : (c : Numbers) (n : ℕ) → IsBlock c n → unwrap_or (number_of (2 ^ 32) (decimal n)) 0 ≡ n
 block_back c n h = number_back (2 ^ 32) n (lit≤ tt) h.typed
 
-u64_back : (n : ℕ) → n < 2 ^ 64 → unwrap_or (number_of (2 ^ 64) (decimal n)) 0 ≡ n
+pub u64_back : (n : ℕ) → n < 2 ^ 64 → unwrap_or (number_of (2 ^ 64) (decimal n)) 0 ≡ n
 u64_back n h = number_back (2 ^ 64) n (lit≤ tt) h
 
-value_back : (v : List ℕ) → IsBytes v → unwrap_or (value_of (value_text v)) [] ≡ v
+pub value_back : (v : List ℕ) → IsBytes v → unwrap_or (value_of (value_text v)) [] ≡ v
 value_back v h = rw (value_of-text v h) refl
 
 rule_back : (r : Rule) → (r ≡ Silent → ⊥) → rule_in (rule_text r) ≡ r

@@ -3,9 +3,7 @@
 
 ghost use Rattle.std.specs.Prelude.{◌≡◌, ◌≢◌, ◌∷◌, [], length, codes, true, false, MatchOption, is_none};
 ghost use Rattle.quorum_rules.specs.Limits.{Numbers};
-ghost use Rattle.text_lines.specs.Fields.{value_text, IsBytes};
-ghost use Rattle.line_forms.specs.Kinds.Kind.{value as value_of_size, bytes as any_bytes};
-ghost use Rattle.line_forms.specs.Kinds.{has_empty_field, is_other_word, form_cause};
+ghost use Rattle.line_forms.specs.Kinds.{has_empty_field, is_other_word};
 ghost use Rattle.line_forms.specs.Tables.{Gives};
 ghost use Rattle.event_lines.specs.Forms.{fields_cause, forms_of, rule};
 ghost use Rattle.event_lines.specs.Lines.{IsSpelled, rule_text};
@@ -16,12 +14,11 @@ use crate::numbers::{
     node_and_message, read_forged,
 };
 use crate::word::Form;
-use cross_sum::Bytes;
-use line_forms::{Cause, LineRefusal, value_of_len};
+use line_forms::{Cause, LineRefusal, any_value, two_values, value_of_len};
 use quorum_rules::Config;
 use run_words::Line;
 use std::alloc::Global;
-use text_lines::{number, number_u32, value};
+use text_lines::{number, number_u32};
 use wire_forms::Rule;
 
 pub fn write(
@@ -177,25 +174,6 @@ pub fn sound(
     }))
 }
 
-/// The values of `len` bytes that two fields spell.
-fn two_values(
-    alloc: Global,
-    first: &[u8],
-    second: &[u8],
-    len: usize,
-) -> Result<(Bytes, Bytes), LineRefusal>
-    requires { has_empty_field (first.now ∷ second.now ∷ []) ≡ false }
-    ensures { Gives (λ read. (value_text read.0 ≡ first.now) × (length read.0 ≡ len)
-        × IsBytes read.0
-        × (value_text read.1 ≡ second.now) × (length read.1 ≡ len) × IsBytes read.1)
-        (form_cause (value_of_size len ∷ value_of_size len ∷ []) (first.now ∷ second.now ∷ []))
-        result }
-{
-    let first = value_of_len(alloc, first, len)?;
-    let second = value_of_len(alloc, second, len)?;
-    Ok((first, second))
-}
-
 pub fn mix(
     alloc: Global,
     config: &Config,
@@ -261,16 +239,6 @@ pub fn restart(config: &Config, what: &[u8], node: &[u8]) -> Result<ReplayLine, 
     }
     let node = numbers::node(config, node)?;
     Ok(ReplayLine::Plain(Line::Restart { node }))
-}
-
-/// The value of any length that a field spells.
-fn any_value(alloc: Global, field: &[u8]) -> Result<Bytes, LineRefusal>
-    requires { has_empty_field (field.now ∷ []) ≡ false }
-    ensures { Gives (λ read. (value_text read ≡ field.now) × IsBytes read)
-        (form_cause (any_bytes ∷ []) (field.now ∷ [])) result }
-{
-    let value = value(alloc, field)?.ok_or(Cause::BadValue)?;
-    Ok(value)
 }
 
 pub fn put(

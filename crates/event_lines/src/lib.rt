@@ -9,7 +9,7 @@ mod forms;
 pub mod laws;
 mod line;
 mod message;
-mod numbers;
+pub mod numbers;
 mod printing;
 mod word;
 

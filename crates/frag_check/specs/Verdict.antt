@@ -1,7 +1,7 @@
 -- What parts show under a cross checksum.
 use Rattle.std.specs.Prelude.{◌≡◌, ◌≢◌, ℕ, List}
 use Rattle.gf_field.specs.Fragments.{decoded}
-use Rattle.block_rows.specs.Sums.{sum_of}
+use Rattle.ida_code.specs.Sums.{sum_of}
 use Rattle.frag_check.specs.declared.verdict.Verdict.{Verdict}
 use Rattle.frag_check.specs.declared.verdict.Verdict.TheVariants.{Sound, Poisonous}
 

@@ -1,6 +1,6 @@
 ghost use Rattle.std.specs.Prelude.{◌≡◌, IfOk, length};
 ghost use Rattle.gf_field.specs.Fragments.{fragments_of};
-ghost use Rattle.block_rows.specs.Sums.{sum_of};
+ghost use Rattle.ida_code.specs.Sums.{sum_of};
 
 use cross_sum::{Bytes, CrossSum, NoMemory, Shares};
 use ida_lanes::Code;

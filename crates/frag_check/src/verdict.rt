@@ -3,7 +3,7 @@ ghost use Rattle.std.specs.List.{AllByRecursion};
 ghost use Rattle.gf_field.specs.Fragments.{AreParts, string_len, decoded, fragments_of};
 ghost use Rattle.cross_sum.specs.Digest.{digest};
 ghost use Rattle.cross_sum.specs.Parts.{numbers, strings};
-ghost use Rattle.block_rows.specs.Sums.{sum_of};
+ghost use Rattle.ida_code.specs.Sums.{sum_of};
 ghost use Rattle.frag_check.specs.Verdict.{IsVerdict};
 ghost use Rattle.frag_check.specs.Known.{HasItsDigest, IsAmong};
 

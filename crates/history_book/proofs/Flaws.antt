@@ -8,15 +8,15 @@ use Rattle.std.proofs.lemmas.List.{length-map}
 use Rattle.std.proofs.lemmas.Option.{slice_get_within, slice_get_cases, get_or_from_slice_get, slice_get-map}
 use Rattle.std.proofs.lemmas.Slice.Eq.{bytes_eq-Decides}
 use Rattle.protocol.specs.History.{Entry as FullEntry, LegalFrom, legal_at, values_after}
-use Rattle.history_entries.specs.declared.entry.Kind.{Kind}
-use Rattle.history_entries.specs.declared.entry.Kind.TheVariants.{Read, Write, Foreign}
-use Rattle.history_entries.specs.declared.entry.Entry.{Entry}
+use Rattle.history_making.specs.declared.entry.Kind.{Kind}
+use Rattle.history_making.specs.declared.entry.Kind.TheVariants.{Read, Write, Foreign}
+use Rattle.history_making.specs.declared.entry.Entry.{Entry}
 use Rattle.history_book.specs.declared.judging.FlawKind.{FlawKind}
 use Rattle.history_book.specs.declared.judging.FlawKind.TheVariants.{Value, Time}
 use Rattle.history_book.specs.declared.judging.Flaw.{Flaw}
 use Rattle.history_book.specs.declared.judging.Sweep.{Sweep}
 use Rattle.history_book.specs.Judging.{entry_of, zeros_of, IsLegal, IsInTime, HasNoWrite, IsLastWrite, IsValueFlaw, IsTimeFlaw, IsFlaw, HasNoFlaw, TellsFirstFlaw}
-use Rattle.history_entries.specs.Kinds.{full_kind}
+use Rattle.history_making.specs.Kinds.{full_kind}
 use Rattle.history_book.specs.Sweeps.{IsSweep, IsOfBlockBefore}
 
 -- ---- a sweep comes to the next block

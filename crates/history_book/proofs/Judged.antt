@@ -5,10 +5,10 @@ use Rattle.std.specs.List.{Contains}
 use Rattle.std.proofs.lemmas.List.{length-map, get_or-map}
 use Rattle.protocol.specs.History.{Entry as FullEntry, Kind as FullKind, legal_at, values_after, LegalFrom, InTime}
 use Rattle.protocol.specs.History.Kind.{Write as FullWrite, Foreign as FullForeign, Read as FullRead}
-use Rattle.protocol.proofs.Lists.{Contains-head}
 use Rattle.history_book.specs.Judging.{entry_of, IsLegal, IsInTime}
-use Rattle.history_entries.specs.Kinds.{full_kind}
+use Rattle.history_making.specs.Kinds.{full_kind}
 use Rattle.history_making.specs.Tellings.{told_kind, told_entry}
+use Rattle.lists.proofs.Members.{Contains-head}
 
 module _ (all : List FullEntry) where
   -- ---- legal

@@ -1,3 +1,11 @@
+pub mod Spelling
+pub mod EntryLines
+pub mod OtherLines
+pub mod Words
+pub mod ReadLines
+pub mod PrintedEntries
+pub mod PrintedOthers
+pub mod PrintedReports
 pub mod Flaws
 pub mod Times
 pub mod Reported

@@ -13,17 +13,18 @@ use Rattle.protocol.specs.History.{Entry as FullEntry, Kind as FullKind, is_read
 use Rattle.protocol.specs.History.Kind.{Write as FullWrite, Foreign as FullForeign, Read as FullRead}
 use Rattle.protocol.specs.Report.{Ascend, SpentWrite, is_ended, is_pending, line_cmp}
 use Rattle.protocol.proofs.Entries.{each_of, sorted_before}
-use Rattle.protocol.proofs.Lists.{Contains-head, Contains-rest, Contains-slice_get, Contains-take, Contains-map_cases}
+use Rattle.protocol.proofs.Lists.{Contains-take}
 use Rattle.protocol.proofs.Marks.{lines_as_entries}
-use Rattle.history_entries.specs.declared.entry.Entry.{Entry}
-use Rattle.history_entries.specs.declared.entry.Spent.{Spent}
+use Rattle.history_making.specs.declared.entry.Entry.{Entry}
+use Rattle.history_making.specs.declared.entry.Spent.{Spent}
 use Rattle.history_book.specs.Judging.{entry_of}
-use Rattle.history_entries.specs.Kinds.{full_kind}
-use Rattle.history_entries.specs.Numbers.{HasNumbers, HasClient}
-use Rattle.history_texts.specs.ReportTexts.{last_of, HasPlaces, IsTold, MayFollow, IsToldSpent, MayFollowSpent, AreToldEntries, AreToldSpent, is_done, done_count}
-use Rattle.history_entries.specs.Orders.{key_cmp}
+use Rattle.history_making.specs.Kinds.{full_kind}
+use Rattle.history_making.specs.Numbers.{HasNumbers, HasClient}
+use Rattle.history_book.specs.ReportTexts.{last_of, HasPlaces, IsTold, MayFollow, IsToldSpent, MayFollowSpent, AreToldEntries, AreToldSpent, is_done, done_count}
+use Rattle.history_making.specs.Orders.{key_cmp}
 use Rattle.history_making.specs.Tellings.{told_kind, told_entry, told_spent}
 use Rattle.history_making.proofs.Counted.{count_cons, count_by-map}
+use Rattle.lists.proofs.Members.{Contains-head, Contains-rest, Contains-map_cases, Contains-slice_get}
 
 if_some : {X : Type 0} (P : X → Type 0) (o : Option X) → ((x : X) → o ≡ Some x → P x) → IfSome o P
 if_some P None f = tt

@@ -2,9 +2,9 @@
 use Rattle.std.specs.Prelude.{◌≡◌, ◌≢◌, ◌⊎◌, ℕ, ◌+◌, ◌<◌, ◌≤◌, List, [], ◌∷◌, length, map, replicate, slice_get, slice_index_or}
 use Rattle.std.specs.declared.option.Option.TheVariants.{Some}
 use Rattle.protocol.specs.History.{Entry as FullEntry, LegalFrom}
-use Rattle.history_entries.specs.Kinds.{full_kind}
-use Rattle.history_entries.specs.declared.entry.Kind.TheVariants.{Read}
-use Rattle.history_entries.specs.declared.entry.Entry.{Entry}
+use Rattle.history_making.specs.Kinds.{full_kind}
+use Rattle.history_making.specs.declared.entry.Kind.TheVariants.{Read}
+use Rattle.history_making.specs.declared.entry.Entry.{Entry}
 use Rattle.history_book.specs.declared.judging.FlawKind.{FlawKind}
 use Rattle.history_book.specs.declared.judging.FlawKind.TheVariants.{Value, Time}
 use Rattle.history_book.specs.declared.judging.Flaw.{Flaw}

@@ -1,7 +1,7 @@
 -- What the judge knows of a block's entries before a place.
 use Rattle.std.specs.Prelude.{◌≡◌, ℕ, ◌+◌, ◌<◌, ◌≤◌, List, slice_get, Option}
 use Rattle.std.specs.declared.option.Option.TheVariants.{None, Some}
-use Rattle.history_entries.specs.declared.entry.Entry.{Entry}
+use Rattle.history_making.specs.declared.entry.Entry.{Entry}
 use Rattle.history_book.specs.declared.judging.Sweep.{Sweep}
 use Rattle.history_book.specs.Judging.{HasNoWrite, IsLastWrite}
 

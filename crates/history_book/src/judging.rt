@@ -1,12 +1,12 @@
 //! Whether a history is one of plain registers.
 
 ghost use Rattle.std.specs.Prelude.{◌≡◌, ◌≢◌, ◌↔◌, ◌⊎◌, ℕ, ◌+◌, ◌-◌, ◌<◌, ◌≤◌, ◌^◌, List, length, replicate, slice_get, IsTrue, IfNone, IfSome, MatchOption};
-ghost use Rattle.history_entries.specs.declared.entry.Entry.{Entry};
+ghost use Rattle.history_making.specs.declared.entry.Entry.{Entry};
 ghost use Rattle.history_book.specs.declared.judging.FlawKind.TheVariants.{Value, Time};
 ghost use Rattle.history_book.specs.Judging.{IsLegal, IsInTime, IsValueFlaw, IsTimeFlaw, IsLeastFlaw, HasNoFlaw, TellsFirstFlaw, zeros_of};
 ghost use Rattle.history_book.specs.Sweeps.{IsSweep, IsPlaceOfWrite, IsStartUpTo, StartsAfter};
 
-use history_entries::{Entry, History, Kind};
+use history_making::{Entry, History, Kind};
 
 /// What is wrong between two entries of a history.
 #[derive(Clone, Copy, Debug, PartialEq, Eq)]

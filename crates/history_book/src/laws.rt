@@ -2,10 +2,10 @@
 ghost use Rattle.std.specs.Prelude.{◌≡◌, List};
 ghost use Rattle.protocol.specs.History.{Entry, InTime};
 ghost use Rattle.line_forms.specs.Texts.{IsFaultless};
-ghost use Rattle.history_entries.specs.Books.{Book};
+ghost use Rattle.history_making.specs.Books.{Book};
 ghost use Rattle.history_book.specs.Judging.{AreInTime, EachEndsAfterItsStart};
-ghost use Rattle.history_texts.specs.Reports.{report_text};
-ghost use Rattle.history_texts.specs.ReportTexts.{IsReport, report};
+ghost use Rattle.history_book.specs.Reports.{report_text};
+ghost use Rattle.history_book.specs.ReportTexts.{IsReport, report};
 
 /// In time is for the judge what it is for runs, where no entry ends before it starts.
 pub fn in_time_is_that_of_runs()

@@ -2,7 +2,7 @@
 use Rattle.std.proofs.Common.{◌≡◌, ◌⊎◌, ℕ, ◌<◌, ◌≤◌, Bool, true, false, cond, List, [], ◌∷◌, map, count_by, filter_map, Option, refl, sym, ◌∙◌, ap, inl, inr, arith, eqb}
 use Rattle.std.specs.declared.option.Option.TheVariants.{None, Some}
 use Rattle.std.specs.List.{Contains, AllByRecursion, cons_option}
-use Rattle.std.proofs.lemmas.Bool.{eqb-true}
+use Rattle.std.proofs.lemmas.Bool.{eqb-true, cases_Bool}
 use Rattle.stamp_order.specs.declared.Stamp.{Stamp}
 use Rattle.run_words.specs.declared.outcome.Outcome.TheVariants.{Wrote, Spent, Gave, Outvoted}
 use Rattle.protocol.specs.Operations.{Work, Outcome, How}
@@ -11,10 +11,9 @@ use Rattle.protocol.specs.World.{Record}
 use Rattle.protocol.specs.History.{Entry, read_entry, write_entry}
 use Rattle.protocol.specs.History.Kind.{Write, Foreign, Read}
 use Rattle.protocol.specs.Report.{Ascend}
-use Rattle.protocol.proofs.Counting.{cases_bool}
-use Rattle.protocol.proofs.Lists.{Contains-none, Contains-head, Contains-rest, Contains-cons_cases}
 use Rattle.history_making.proofs.Counted.{count_cons}
 use Rattle.history_making.specs.Drafts.{read_candidate_of, write_candidate_of, candidate_by, candidate, candidates, starts_at, HaveStarts, AreCandidates}
+use Rattle.lists.proofs.Members.{Contains-head, Contains-none, Contains-rest, Contains-cons_cases}
 
 -- ---- what a function gives of a list
 
@@ -91,7 +90,7 @@ none_start n [] h = refl
 none_start n (r ∷ rs) h = at (candidate r) refl (none_start n rs h.1)
   where
     other : (e : Entry) → e.start ≡ Some r.start → cond {A = ℕ} (starts_at n e) 1 0 ≡ 0
-    other e q = elim (cases_bool (eqb r.start n)) [
+    other e q = elim (cases_Bool (eqb r.start n)) [
       | inl b ↦ (let i = eqb-true r.start n b in absurd (omega (arith, h.0, i)))
       | inr b ↦ rw (q, b) refl
     ]
@@ -110,7 +109,7 @@ once n (r ∷ rs) h = at (candidate r) refl (once n rs h.1)
 
     at : (o : Option Entry) → candidate r ≡ o → count_by (starts_at n) (candidates rs) ≤ 1 → count_by (starts_at n) (cons_option o (candidates rs)) ≤ 1
     at None q rest = rest
-    at (Some e) q rest = elim (cases_bool (eqb r.start n)) [
+    at (Some e) q rest = elim (cases_Bool (eqb r.start n)) [
       | inl b ↦ (let i = eqb-true r.start n b in let z = none_start r.start rs h.0 in let y : count_by (starts_at n) (candidates rs) ≡ 0 = rw i at z in omega (arith, count_cons (starts_at n) e (candidates rs), y, bit (starts_at n e)))
       | inr b ↦ (let s = candidate_start r e q in let y : cond {A = ℕ} (starts_at n e) 1 0 ≡ 0 = rw (s, b) refl in omega (arith, count_cons (starts_at n) e (candidates rs), y, rest))
     ]

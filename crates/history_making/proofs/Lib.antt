@@ -1,3 +1,5 @@
+pub mod EntryOrders
+pub mod Fronts
 pub mod Stamped
 pub mod Orders
 pub mod Blocks

@@ -7,12 +7,12 @@ use Rattle.stamp_order.specs.Stamps.{before}
 use Rattle.protocol.specs.History.{Entry, entry_cmp, IsSorted}
 use Rattle.protocol.specs.Report.{mark, AreRivals}
 use Rattle.protocol.proofs.Order.{≼-cases, ≼-refl, not_both}
-use Rattle.protocol.proofs.Lists.{Contains-head, Contains-rest, Contains-cons_cases}
 use Rattle.protocol.proofs.Entries.{member_of, stamp_upto}
-use Rattle.protocol.proofs.Marks.{marks_ascend, marks_equal, marks_step}
+use Rattle.protocol.proofs.Marks.{marks_ascend, marks_equal, marks_step, rivals_on}
 use Rattle.history_making.specs.Drafts.{IsNextMark}
-use Rattle.history_making.proofs.Orders.{rivals_or_not, rival_back, rival_on, rival_between}
+use Rattle.history_making.proofs.Orders.{rivals_or_not, rival_back, rival_between}
 use Rattle.history_making.proofs.Sweeps.{sorted_pair, sorted_after, sorted_rest}
+use Rattle.lists.proofs.Members.{Contains-head, Contains-rest, Contains-cons_cases}
 
 positive : (h : List Entry) (e : Entry) → 1 ≤ mark h e
 positive h e = omega arith
@@ -66,7 +66,7 @@ module _ (h : List Entry) (xs : List Entry) (d e : Entry) (es : List Entry) (is 
         | inl q ↦ omega (arith, up, q, positive h d)
         | inr f ↦ elim (lower_rival f.0 f.1 f.2 f.3) [
           | inl i ↦ (let m = ap (mark h) i in omega (arith, f.3, m))
-          | inr l ↦ omega (arith, no_lower h f.0 d f.1 (rival_on f.0 e d (rival_back e f.0 f.2) (rival_back d e r)) l.1, f.3, up)
+          | inr l ↦ omega (arith, no_lower h f.0 d f.1 (rivals_on f.0 e d (rival_back e f.0 f.2) (rival_back d e r)) l.1, f.3, up)
         ]
       ]
 
@@ -75,7 +75,7 @@ module _ (h : List Entry) (xs : List Entry) (d e : Entry) (es : List Entry) (is 
     | inl q ↦ q
     | inr f ↦ absurd (elim (lower_rival f.0 f.1 f.2 f.3) [
       | inl i ↦ (let r = f.2 in n (rival_back e d (rw i at r)))
-      | inr l ↦ (let back = rival_back e f.0 f.2 in n (rival_on d f.0 e (rival_back f.0 d (rival_between f.0 d e l.1 less back)) back))
+      | inr l ↦ (let back = rival_back e f.0 f.2 in n (rivals_on d f.0 e (rival_back f.0 d (rival_between f.0 d e l.1 less back)) back))
     ])
   ]
 

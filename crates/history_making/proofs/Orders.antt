@@ -14,11 +14,7 @@ use Rattle.protocol.specs.Report.{AreRivals}
 use Rattle.protocol.proofs.Counting.{both_true}
 use Rattle.protocol.proofs.Order.{stamp_total, stamp_exact, same_stamp-≡, same_stamp-refl}
 use Rattle.history_making.specs.Drafts.{is_of_version, IsVersion}
-
-pub then_assoc : (a b c : Ordering) → ordering_then (ordering_then a b) c ≡ ordering_then a (ordering_then b c)
-then_assoc Less b c = refl
-then_assoc Equal b c = refl
-then_assoc Greater b c = refl
+use Rattle.lists.proofs.Orders.{then_assoc, then_equal}
 
 -- a comparison goes on where what begins it is Equal, and is over where it isn't
 pub then_on_equal : (a b : Ordering) → a ≡ Equal → ordering_then a b ≡ b
@@ -28,11 +24,6 @@ pub then_on_other : (a b : Ordering) → (a ≡ Equal → ⊥) → ordering_then
 then_on_other Less b n = refl
 then_on_other Equal b n = absurd (n refl)
 then_on_other Greater b n = refl
-
-pub then_equal : (a c : Ordering) → ordering_then a c ≡ Equal → (a ≡ Equal) × (c ≡ Equal)
-then_equal Less c h = absurd (cc)
-then_equal Equal c h = (refl, h)
-then_equal Greater c h = absurd (cc)
 
 -- what begins a comparison that isn't Greater isn't Greater
 then_not_greater : (a c : Ordering) → is_gt (ordering_then a c) ≡ false → is_gt a ≡ false
@@ -158,9 +149,6 @@ rival_back e f r = record { block = sym r.block; time = sym r.time; writer = sym
 -- what stands between two rivals is their rival
 pub rival_between : (e f g : Entry) → entry_cmp e f ≡ Less → entry_cmp f g ≡ Less → AreRivals e g → AreRivals e f
 rival_between e f g h k r = tied_rival e f (between rival_total e f g (rival_first e f h) (rival_first f g k) (rival_tied e g r))
-
-pub rival_on : (e f g : Entry) → AreRivals e f → AreRivals f g → AreRivals e g
-rival_on e f g a b = record { block = b.block ∙ a.block; time = b.time ∙ a.time; writer = b.writer ∙ a.writer }
 
 pub rivals_or_not : (e f : Entry) → AreRivals e f ⊎ (AreRivals e f → ⊥)
 rivals_or_not e f = at (rival_cmp e f) refl

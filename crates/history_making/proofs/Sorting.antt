@@ -1,6 +1,6 @@
 -- Drafts that are sorted by the order of entries, no two of which start at one place.
 use Rattle.std.proofs.Common.{◌≡◌, ℕ, suc, ◌<◌, ◌≤◌, Bool, true, false, cond, List, [], ◌∷◌, length, get_or, count_by, Option, refl, sym, ◌∙◌, ap, inl, inr, arith}
-use Rattle.std.specs.declared.option.Option.TheVariants.{None, Some}
+use Rattle.std.specs.declared.option.Option.TheVariants.{Some}
 use Rattle.std.specs.declared.cmp.Ordering.{Ordering}
 use Rattle.std.specs.declared.cmp.Ordering.TheVariants.{Less, Equal, Greater}
 use Rattle.std.specs.Ordering.{is_lt, nat_cmp, ordering_then, ordering_reverse}
@@ -8,22 +8,15 @@ use Rattle.std.specs.List.{Contains}
 use Rattle.std.specs.List.Sorted.{IsPermutation, IsSortedBy}
 use Rattle.std.proofs.lemmas.Bool.{eq-eqb}
 use Rattle.std.proofs.lemmas.List.Sorted.{ranks_by, sorted_far, sum_by-IsPermutation, Contains-permutation, IsPermutation-sym}
-use Rattle.std.proofs.lemmas.Map.Lookups.{exact_unsigned}
 use Rattle.stamp_order.specs.Stamps.{stamp_cmp}
 use Rattle.protocol.specs.History.{Entry, place_cmp, entry_cmp, is_read, IsSorted}
-use Rattle.protocol.proofs.Lists.{Contains-none, Contains-head, Contains-rest, Contains-cons_cases, Contains-map_cases}
 use Rattle.protocol.proofs.Entries.{entry_total}
 use Rattle.history_making.specs.declared.draft.Draft.{Draft}
-use Rattle.history_making.proofs.Orders.{then_equal}
-use Rattle.history_making.proofs.Sweeps.{all_of}
 use Rattle.history_making.proofs.Counted.{count_cons}
 use Rattle.history_making.specs.Drafts.{entry_of, entries_of, place_is, starts_at, HaveStarts}
-
-place_exact : (x y : Option ℕ) → place_cmp x y ≡ Equal → x ≡ y
-place_exact None None h = refl
-place_exact None (Some y) h = absurd (cc)
-place_exact (Some x) None h = absurd (cc)
-place_exact (Some x) (Some y) h = ap Some (exact_unsigned x y h)
+use Rattle.lists.proofs.Members.{Contains-head, Contains-none, Contains-rest, Contains-cons_cases, Contains-map_cases, all_of}
+use Rattle.lists.proofs.Orders.{then_equal}
+use Rattle.protocol.proofs.Keys.{place_exact}
 
 last_equal : (a b c d e f : Ordering) → ordering_then a (ordering_then b (ordering_then c (ordering_then d (ordering_then e f)))) ≡ Equal → f ≡ Equal
 last_equal a b c d e f h = (then_equal e f (then_equal d _ (then_equal c _ (then_equal b _ (then_equal a _ h).1).1).1).1).1

@@ -3,24 +3,21 @@ use Rattle.std.proofs.Common.{◌≡◌, ◌≢◌, ◌⊎◌, ◌*◌, ◌<◌,
 use Rattle.std.specs.declared.option.Option.TheVariants.{None, Some}
 use Rattle.std.specs.declared.cmp.Ordering.TheVariants.{Less}
 use Rattle.std.specs.List.{Contains, AllByRecursion, list_any, slice_get, find}
-use Rattle.std.proofs.lemmas.Bool.{eq-eqb, eqb-true}
+use Rattle.std.proofs.lemmas.Bool.{eq-eqb, eqb-true, or_cases, cases_Bool}
 use Rattle.std.proofs.lemmas.List.Elements.{Contains-append_cases, Contains-append_left, Contains-append_right}
 use Rattle.stamp_order.specs.declared.Stamp.{Stamp}
 use Rattle.stamp_order.specs.Stamps.{same_stamp}
 use Rattle.protocol.specs.History.{Entry, Kind, is_read, entry_cmp, IsSorted}
 use Rattle.protocol.specs.History.Kind.{Write, Foreign, Read}
-use Rattle.protocol.proofs.Counting.{cases_bool, both_true}
-use Rattle.protocol.proofs.Keeping.{or_cases}
+use Rattle.protocol.proofs.Counting.{both_true}
 use Rattle.protocol.proofs.Order.{same_stamp-≡, same_stamp-refl}
-use Rattle.protocol.proofs.Lists.{Contains-none, Contains-head, Contains-rest, Contains-cons_cases, Contains-one}
 use Rattle.protocol.proofs.Entries.{entry_total, member_of, not_back, not_self, less_by_kind}
 use Rattle.history_making.specs.Drafts.{is_of_version, is_of_some, is_reading, foreign_of, has_end, entries_by, entries_at, IsVersion, IsLeast, IsKept, IsSeen, AreKept}
 use Rattle.history_making.proofs.Orders.{version_is, version_if, version_back, version_on, version_between, less_by_version}
+use Rattle.lists.proofs.Members.{Contains-head, Contains-none, Contains-rest, Contains-cons_cases, Contains-one, all_of}
+use Rattle.protocol.proofs.Tests.{and_true}
 
 -- ---- tests over a list
-
-both : (a b : Bool) → a ≡ true → b ≡ true → a && b ≡ true
-both a b h k = rw (h, k) refl
 
 pub any_false : {X : Type 0} (p : X → Bool) (xs : List X) (x : X) → list_any p xs ≡ false → Contains xs x → p x ≡ false
 any_false p [] x h k = absurd (Contains-none x k)
@@ -38,16 +35,12 @@ any_true p (y ∷ ys) h =
     elim (or_cases (p y) (list_any p ys) h) [ inl e ↦ (y, Contains-head y ys, e) | inr k ↦ (let r = rest k in (r.0, Contains-rest r.0 y ys r.1, r.2)) ]
 
 pub any_has : {X : Type 0} (p : X → Bool) (xs : List X) (x : X) → Contains xs x → p x ≡ true → list_any p xs ≡ true
-any_has p xs x h e = elim (cases_bool (list_any p xs)) [ inl k ↦ k | inr k ↦ absurd (let f = any_false p xs x k h in cc) ]
+any_has p xs x h e = elim (cases_Bool (list_any p xs)) [ inl k ↦ k | inr k ↦ absurd (let f = any_false p xs x k h in cc) ]
 
 pub any_none : {X : Type 0} (p : X → Bool) (xs : List X) → ((x : X) → Contains xs x → p x ≡ true → ⊥) → list_any p xs ≡ false
-any_none p xs h = elim (cases_bool (list_any p xs)) [ inl k ↦ absurd (let f = any_true p xs k in h f.0 f.1 f.2) | inr k ↦ k ]
+any_none p xs h = elim (cases_Bool (list_any p xs)) [ inl k ↦ absurd (let f = any_true p xs k in h f.0 f.1 f.2) | inr k ↦ k ]
 
 -- ---- sorted lists
-
-pub all_of : {X : Type 0} (P : X → Type 0) (xs : List X) → ((x : X) → Contains xs x → P x) → AllByRecursion P xs
-all_of P [] h = tt
-all_of P (x ∷ xs) h = (h x (Contains-head x xs), all_of P xs (λ y k. h y (Contains-rest y x xs k)))
 
 pub sorted_pair : (xs : List Entry) (y : Entry) (ys : List Entry) → IsSorted (xs ++ y ∷ ys) → (x : Entry) → Contains xs x → entry_cmp x y ≡ Less
 sorted_pair [] y ys s x k = absurd (Contains-none x k)
@@ -190,7 +183,7 @@ module _ (first : Stamp) where
 
       stands : y.kind ≡ Write → ((has_end y.end ≡ true) ⊎ ((z : Entry) × Contains all z × (z.kind ≡ Read) × IsVersion y z)) → has_end y.end || list_any (is_reader y) ys ≡ true
       stands w (inl f) = rw f refl
-      stands w (inr f) = or_right (has_end y.end) _ (any_has (is_reader y) ys f.0 (after w f.0 f.1 f.2 f.3) (both _ _ (reading_if f.0 f.2) (version_if y f.0 f.3)))
+      stands w (inr f) = or_right (has_end y.end) _ (any_has (is_reader y) ys f.0 (after w f.0 f.1 f.2 f.3) (and_true _ _ (reading_if f.0 f.2) (version_if y f.0 f.3)))
 
       at : (k : Kind) → y.kind ≡ k → IsKept all y → Contains (entries_by k (saw_foreign xs y) (list_any (is_reader y) ys) y) y
       at Read q h = read (saw_foreign xs y)
@@ -227,7 +220,7 @@ module _ (first : Stamp) where
       here p =
           let r = h.reads in let m = h.first_one in let o = h.other in
           let is : e ≡ foreign_of y = h.is ∙ ap (λ (z : Entry). foreign_of z) p in
-          let a : saw_foreign xs y ≡ true = both _ _ (rw (leads (rw p at m)) refl) (not_true _ (λ z. (rw p at o) (same_stamp-≡ y.stamp first z))) in
+          let a : saw_foreign xs y ≡ true = and_true _ _ (rw (leads (rw p at m)) refl) (not_true _ (λ z. (rw p at o) (same_stamp-≡ y.stamp first z))) in
           let k : y.kind ≡ Read = rw p at r in
           rw is (subst (λ (es : List Entry). Contains es (foreign_of y)) (sym (entries_of_read y.kind k (saw_foreign xs y) (list_any (is_reader y) ys) a y)) (Contains-head (foreign_of y) (y ∷ [])))
 
@@ -409,5 +402,5 @@ next_tells xs y ys s = elim (next_read ys (sorted_rest xs (y ∷ ys) s).1) [
         ]
 
     at : (p : Entry) → IsNextRead ys p → (b : Bool) → is_of_version y p ≡ b → list_any (is_reader y) ys ≡ is_of_version y p
-    at p l true h = any_has (is_reader y) ys p l.there (both _ _ l.reads h) ∙ sym h
+    at p l true h = any_has (is_reader y) ys p l.there (and_true _ _ l.reads h) ∙ sym h
     at p l false h = any_none (is_reader y) ys (others p l h) ∙ sym h

@@ -14,7 +14,7 @@ use Rattle.protocol.specs.World.{Record}
 use Rattle.protocol.specs.Report.{AreRivals}
 use Rattle.protocol.specs.History.{Entry as FullEntry, Kind as FullKind, read_entry, write_entry, foreign_entry, is_read, place_cmp, entry_cmp, IsSorted}
 use Rattle.protocol.specs.History.Kind.{Write as FullWrite, Foreign as FullForeign, Read as FullRead}
-use Rattle.history_entries.specs.Kinds.{full_kind}
+use Rattle.history_making.specs.Kinds.{full_kind}
 use Rattle.history_making.specs.declared.draft.Draft.{Draft}
 
 -- the entry that a draft stands for

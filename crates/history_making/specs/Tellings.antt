@@ -9,12 +9,12 @@ use Rattle.protocol.specs.History.{Entry as FullEntry, Kind as FullKind, IsSorte
 use Rattle.protocol.specs.History.Kind.{Write as FullWrite, Foreign as FullForeign, Read as FullRead}
 use Rattle.protocol.specs.Facts.{IsOutcomeOf}
 use Rattle.protocol.specs.Report.{mark, Ascend, rounds_of, spent_writes, SpentWrite, Counts as FullCounts, counts_of}
-use Rattle.history_entries.specs.declared.entry.Kind.{Kind}
-use Rattle.history_entries.specs.declared.entry.Kind.TheVariants.{Read, Write, Foreign}
-use Rattle.history_entries.specs.declared.entry.Entry.{Entry}
-use Rattle.history_entries.specs.declared.entry.Spent.{Spent}
-use Rattle.history_entries.specs.declared.entry.Counts.{Counts}
-use Rattle.history_entries.specs.Books.{Book}
+use Rattle.history_making.specs.declared.entry.Kind.{Kind}
+use Rattle.history_making.specs.declared.entry.Kind.TheVariants.{Read, Write, Foreign}
+use Rattle.history_making.specs.declared.entry.Entry.{Entry}
+use Rattle.history_making.specs.declared.entry.Spent.{Spent}
+use Rattle.history_making.specs.declared.entry.Counts.{Counts}
+use Rattle.history_making.specs.Books.{Book}
 
 abbrev pub told_kind : FullKind → Kind
 told_kind FullRead = Read

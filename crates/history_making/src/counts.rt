@@ -2,9 +2,9 @@ ghost use Rattle.std.specs.Prelude.{◌≡◌, ◌<◌, ◌^◌, length, map, su
 ghost use Rattle.protocol.specs.Seen.{record_of};
 ghost use Rattle.protocol.specs.Report.{is_done, is_spent, is_pending, is_repaired, rounds_of, spent_write, spent_writes, counts_of};
 ghost use Rattle.history_making.specs.Tellings.{told_spent, told_counts};
-ghost use Rattle.history_entries.specs.Numbers.{HasClient};
+ghost use Rattle.history_making.specs.Numbers.{HasClient};
 
-use history_entries::{Counts, Spent};
+use crate::{Counts, Spent};
 use lists::{ItemList, NoMemory};
 use run_words::{How, Outcome, Record};
 use std::alloc::Global;

@@ -4,11 +4,11 @@ ghost use Rattle.protocol.specs.Seen.{record_of};
 ghost use Rattle.protocol.specs.History.{entry_cmp};
 ghost use Rattle.protocol.specs.Report.{AreRivals};
 ghost use Rattle.history_making.specs.Tellings.{told_with};
-ghost use Rattle.history_entries.specs.Numbers.{HasNumbers};
+ghost use Rattle.history_making.specs.Numbers.{HasNumbers};
 ghost use Rattle.history_making.specs.Drafts.{entry_of, candidate, is_of_version, foreign_of, is_reading, in_block_cmp, in_version_cmp};
 
+use crate::{Entry, Kind, compare_places};
 use cross_sum::Bytes;
-use history_entries::{Entry, Kind, compare_places};
 use lists::{Copied, NoMemory};
 use run_words::{Outcome, Record};
 use stamp_order::Stamp;

@@ -1,12 +1,12 @@
 ghost use Rattle.std.specs.Prelude.{List, map, IfOk};
 ghost use Rattle.protocol.specs.Seen.{record_of};
 ghost use Rattle.protocol.specs.History.{Entry as FullEntry};
-ghost use Rattle.history_entries.specs.Numbers.{HaveNumbers};
+ghost use Rattle.history_making.specs.Numbers.{HaveNumbers};
 ghost use Rattle.history_making.specs.Tellings.{Tells, AreRecords};
 
+use crate::History;
 use crate::counts::{counts_of, spent_writes};
 use crate::sweep::entries;
-use history_entries::History;
 use lists::NoMemory;
 use run_words::Record;
 use stamp_order::Stamp;

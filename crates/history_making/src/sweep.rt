@@ -4,13 +4,13 @@ ghost use Rattle.stamp_order.specs.Stamps.{same_stamp};
 ghost use Rattle.protocol.specs.Seen.{record_of};
 ghost use Rattle.protocol.specs.History.{Entry as FullEntry, IsSorted};
 ghost use Rattle.protocol.specs.Report.{Ascend};
-ghost use Rattle.history_entries.specs.Books.{IsBook};
-ghost use Rattle.history_entries.specs.Numbers.{HasNumbers};
+ghost use Rattle.history_making.specs.Books.{IsBook};
+ghost use Rattle.history_making.specs.Numbers.{HasNumbers};
 ghost use Rattle.history_making.specs.Tellings.{AreRecords, IsHistoryOf, told_entry};
 ghost use Rattle.history_making.specs.Drafts.{entry_of, entries_of, entries_at, candidates, HaveStarts, AreCandidates, AreKept, IsNextMark, is_reading, is_of_some};
 
+use crate::Entry;
 use crate::draft::Draft;
-use history_entries::Entry;
 use lists::{ItemList, NoMemory};
 use run_words::Record;
 use stamp_order::Stamp;

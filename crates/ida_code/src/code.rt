@@ -2,8 +2,8 @@ ghost use Rattle.std.specs.Prelude.{◌≡◌, ℕ, List, IfOk, SomeIff, length}
 ghost use Rattle.gf_field.specs.Fragments.{IsShape, Shape, string_len, IsFragments, fragments_of, AreParts, IsDecoded, decoded, AreFragmentsOf};
 ghost use Rattle.cross_sum.specs.Parts.{numbers, strings};
 
+use crate::CodeShape;
 use crate::shifts::Shifts;
-use block_rows::CodeShape;
 use cross_sum::{Bytes, NoMemory, Part, Shares};
 use std::alloc::Global;
 use std::marker::Model;

@@ -1,7 +1,7 @@
 ghost use Rattle.std.specs.Prelude.{◌≡◌, slice_index, EachIndex};
 ghost use Rattle.gf_field.specs.Field.{product};
 
-use block_rows::Products;
+use crate::Products;
 use gf_field::{Gf, inv, mul};
 
 /// Products by shifts.

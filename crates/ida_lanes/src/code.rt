@@ -3,8 +3,8 @@ ghost use Rattle.gf_field.specs.Fragments.{IsShape, Shape, string_len, IsFragmen
 ghost use Rattle.cross_sum.specs.Parts.{numbers, strings};
 
 use crate::lanes::Lanes;
-use block_rows::CodeShape;
 use cross_sum::{Bytes, NoMemory, Part, Shares};
+use ida_code::CodeShape;
 use std::alloc::Global;
 use std::marker::Model;
 

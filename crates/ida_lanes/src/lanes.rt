@@ -3,8 +3,8 @@ ghost use Rattle.gf_field.specs.Field.{product, total};
 ghost use Rattle.ida_lanes.specs.Multiples.{AreLow, AreHigh, AreMultiples};
 
 use crate::tables::{table_inv, table_mul};
-use block_rows::Products;
 use gf_field::Gf;
+use ida_code::Products;
 use std::simd::prelude::*;
 
 /// How many bytes are multiplied at once.

@@ -36,6 +36,7 @@ use Rattle.plan_followed.specs.Clients.{ClientFollows, IsDone, IsFinished, IsNex
 use Rattle.plan_followed.specs.Followed.{AreOfPlan, FollowsAs}
 use Rattle.journal_records.specs.Shown.{ended_by, IsOf, IsShown, IsSteady, HistoriesAreComplete}
 use Rattle.journal_records.proofs.Operations.{What, of_op, of_ended, of_task, begun_all, started_in, started_count, kth_started}
+use Rattle.journal_records.proofs.Ongoing.{some_once}
 
 -- an operation of a step is of that step
 is_of : (d : DeskState) (step : BlockStep) (x : Ended) (op : Op) → op ≡ op_of d step → of_ended x ≡ of_op op → IsOf step x
@@ -48,9 +49,6 @@ is_of d (Whole block value) x op e f =
 is_of d (Merge block at bytes) x op e f =
     let p : of_ended x ≡ (block, Writes (merged (latest_read d block) at bytes)) = f ∙ ap of_op e in
     (ap (λ (w : What). w.0) p, merged (latest_read d block) at bytes, ap (λ (w : What). w.1) p)
-
-one_is : {A : Type 0} (o : Option A) (a b : A) → o ≡ Some a → o ≡ Some b → a ≡ b
-one_is o a b p q = cc
 
 module _ (plan : Plan) (j : Journals) (drawn : ℕ) (h : AreOfPlan plan j drawn) (c : ℕ) (steady : IsSteady plan c) where
   steps : List BlockStep
@@ -105,7 +103,7 @@ module _ (plan : Plan) (j : Journals) (drawn : ℕ) (h : AreOfPlan plan j drawn)
       subst (λ (a : DeskAct). IsNextStart plan c (steps_for plan.config c plan.work) kth.before a) kth.starts goes.start in
       let place : times starts kth.before ≡ k = started_count kth.before ∙ kth.place in
       let now : slice_get (steps_for plan.config c plan.work) k ≡ Some start.0 = subst (λ (i : ℕ). slice_get (steps_for plan.config c plan.work) i ≡ Some start.0) place start.1 in
-      let one : start.0 ≡ step = one_is (slice_get (steps_for plan.config c plan.work) k) start.0 step now at in
+      let one : start.0 ≡ step = some_once (slice_get (steps_for plan.config c plan.work) k) start.0 step now at in
       is_of (client_after plan c kth.before) step x kth.op (start.2 ∙ ap (op_of (client_after plan c kth.before)) one) kth.is
 
 -- an operation whose record there is stands in the history or among the spent writes

@@ -15,16 +15,13 @@ use Rattle.journals.specs.declared.desk.DeskAct.{DeskAct}
 use Rattle.journals.specs.declared.desk.DeskAct.TheVariants.{Start, Crash, Call}
 use Rattle.journals.specs.declared.desk.DeskEntry.{DeskEntry}
 use Rattle.journals.specs.Desks.{DeskState, by_hearing, desk_after, desk_after_all, DeskGoes, DeskKept}
+use Rattle.journals.proofs.Lists.{state_snoc}
 
 -- ---- one entry more
 
-after_one_more : (d : DeskState) (es : List DeskEntry) (e : DeskEntry) → desk_after_all d (es ++ e ∷ []) ≡ desk_after (desk_after_all d es) e.number e.act
-after_one_more d [] e = refl
-after_one_more d (x ∷ es) e = after_one_more (desk_after d x.number x.act) es e
-
 pub after_more : (d : DeskState) (es : List DeskEntry) (k : ℕ) (e : DeskEntry) → k < length es → e ≡ get_or es k e → desk_after_all d (take (k + 1) es) ≡ desk_after (desk_after_all d (take k es)) e.number e.act
 after_more d es k e within is =
-    ap (desk_after_all d) (take_more es k e within ∙ ap (λ (x : DeskEntry). take k es ++ x ∷ []) (sym is)) ∙ after_one_more d (take k es) e
+    ap (desk_after_all d) (take_more es k e within ∙ ap (λ (x : DeskEntry). take k es ++ x ∷ []) (sym is)) ∙ state_snoc d (take k es) e
 
 -- the client may do what stands in its journal where the earlier entries leave it
 pub goes_at : (d : DeskState) (es : List DeskEntry) (k : ℕ) (e : DeskEntry) → DeskKept false d es → k < length es → e ≡ get_or es k e → DeskGoes (desk_after_all d (take k es)) e.act

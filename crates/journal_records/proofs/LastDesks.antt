@@ -1,19 +1,16 @@
 -- The clients of the last world of a run in threads, each as its whole journal leaves it.
-use Rattle.std.proofs.Common.{◌≡◌, ℕ, ◌+◌, ◌<◌, true, false, List, [], ◌∷◌, length, refl, sym, ◌∙◌, ap, subst, inl, inr, arith, ltb}
+use Rattle.std.proofs.Common.{◌≡◌, ℕ, ◌+◌, ◌<◌, true, false, List, [], ◌∷◌, length, refl, ◌∙◌, ap, subst, inl, inr, arith, ltb}
 use Rattle.std.specs.declared.option.Option.TheVariants.{None, Some}
 use Rattle.std.specs.List.{Contains}
 use Rattle.std.proofs.lemmas.Bool.Decides.{nat_tests}
 use Rattle.std.proofs.lemmas.List.{take_all}
-use Rattle.protocol.specs.Setting.{Setting}
 use Rattle.protocol.specs.World.{World, start_world}
-use Rattle.protocol.specs.Lines.{Line, Run, IsRun, plays}
-use Rattle.protocol.specs.Seen.{Hearing}
-use Rattle.protocol.specs.Seen.Hearing.{Ignored, Counted, Begins, Ended as Ends}
-use Rattle.client_core.specs.Clients.{ClientView, hears}
+use Rattle.protocol.specs.Lines.{Line, IsRun}
+use Rattle.client_core.specs.Clients.{hears}
 use Rattle.journals.specs.declared.desk.DeskEntry.{DeskEntry}
 use Rattle.journals.specs.declared.desk.DeskAct.{DeskAct}
 use Rattle.journals.specs.declared.desk.DeskAct.TheVariants.{Start, Crash, Call}
-use Rattle.journals.specs.Desks.{DeskState, by_hearing, new_desk, desk_after, desk_after_all}
+use Rattle.journals.specs.Desks.{DeskState, new_desk, desk_after, desk_after_all}
 use Rattle.journals.specs.Steps.{Conduct}
 use Rattle.journals.specs.Steps.Step.{AtNode, AtDesk}
 use Rattle.journals.specs.declared.whole.Journals.{Journals}
@@ -21,11 +18,8 @@ use Rattle.journals.specs.Journals.{setting_for, at_desk, cluster_at, IsMerge, A
 use Rattle.journals.specs.Agreement.{IsDesk, TellAlike, Reaches}
 use Rattle.journals.specs.Merged.{OfMerged, AllReach}
 use Rattle.node_core.proofs.Changes.{filter-all}
-
--- a run has one last world
-last_once : (s : Setting) (lines : List (ℕ × Line)) (w a b : World) → Run s w lines a → Run s w lines b → a ≡ b
-last_once s [] w a b h k = h ∙ sym k
-last_once s (l ∷ ls) w a b h k = last_once s ls (plays s w l.0 l.1) a b h.3 k.3
+use Rattle.journals.proofs.Law.{last_once}
+use Rattle.journals.proofs.Effects.{heard_life}
 
 -- a lower number stands before
 is_before : (k n : ℕ) → n < k → ltb n k ≡ true
@@ -33,17 +27,11 @@ is_before k n l = grind (arith, nat_tests)
 
 -- ---- no act of a desk brings its client back
 
-life_heard : (c : ClientView) (h : Hearing) → (by_hearing c h).seen.life ≡ c.seen.life
-life_heard c Ignored = refl
-life_heard c (Counted t) = refl
-life_heard c (Begins t) = refl
-life_heard c (Ends outcome) = refl
-
 life_after : (d : DeskState) (n : ℕ) (act : DeskAct) → (desk_after d n act).client.seen.life ≡ d.client.seen.life
 life_after d n (Start op) = refl
 life_after d n Crash = refl
 life_after d n (Call way ask None) = refl
-life_after d n (Call way ask (Some m)) = life_heard d.client (hears d.client d.client.seen.task m)
+life_after d n (Call way ask (Some m)) = heard_life d.client (hears d.client d.client.seen.task m)
 
 life_all : (es : List DeskEntry) (d : DeskState) → (desk_after_all d es).client.seen.life ≡ d.client.seen.life
 life_all [] d = refl

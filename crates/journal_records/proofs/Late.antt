@@ -1,6 +1,5 @@
 -- Who asked what comes late asked before.
 use Rattle.std.proofs.Common.{◌≡◌, ℕ, true, false, List, [], ◌∷◌, ◌++◌, refl, sym, subst, ap, inl, inr}
-use Rattle.std.specs.Prelude.{drop}
 use Rattle.std.specs.declared.option.Option.TheVariants.{Some}
 use Rattle.std.specs.List.{Contains}
 use Rattle.protocol.specs.Messages.{Message}
@@ -15,7 +14,8 @@ use Rattle.journals.specs.declared.node.Nature.{Nature}
 use Rattle.journals.specs.Acts.{NodeState, after, IsAct, NodeKept}
 use Rattle.journals.specs.declared.desk.DeskAct.{DeskAct}
 use Rattle.journals.specs.Steps.{side}
-use Rattle.journals.proofs.Lists.{Contains-head, Contains-none, Contains-rest, Contains-cons_cases}
+use Rattle.lists.proofs.Members.{Contains-head, Contains-none, Contains-rest, Contains-cons_cases}
+use Rattle.journals.proofs.Taking.{of_rest}
 
 contains_push : (xs : List Message) (y m : Message) → Contains (xs ++ y ∷ []) m → (P : Message → Type 0) → ((x : Message) → Contains xs x → P x) → P y → P m
 contains_push [] y m h P all last = elim (Contains-cons_cases m y [] h) [ inl e ↦ subst P (sym e) last | inr none ↦ absurd (Contains-none m none) ]
@@ -23,10 +23,6 @@ contains_push (x ∷ xs) y m h P all last = elim (Contains-cons_cases m x (xs ++
   | inl e ↦ subst P (sym e) (all x (Contains-head x xs))
   | inr k ↦ contains_push xs y m k P (λ z q. all z (Contains-rest z x xs q)) last
 ]
-
-contains_drop : (xs : List Message) (m : Message) → Contains (drop 1 xs) m → Contains xs m
-contains_drop [] m h = h
-contains_drop (x ∷ xs) m h = Contains-rest m x xs h
 
 -- the fact holds of who asked for each act that has a caller
 abbrev Sides : (ℕ → Type 0) → NodeAct → Type 0
@@ -46,10 +42,10 @@ module _ (P : ℕ → Type 0) where
   after_late s (Answered ask reply) sides all m k = all m k
   after_late s (Lied ask reply) sides all m k = all m k
   after_late s (Silent ask why) sides all m k = held_late s ask why sides all m k
-  after_late s (CrashedAt ask true) sides all m k = all m (contains_drop s.late m k)
+  after_late s (CrashedAt ask true) sides all m k = all m (of_rest s.late m k)
   after_late s (CrashedAt ask false) sides all m k = all m k
-  after_late s (Delivered ask reply) sides all m k = all m (contains_drop s.late m k)
-  after_late s (LateLost ask) sides all m k = all m (contains_drop s.late m k)
+  after_late s (Delivered ask reply) sides all m k = all m (of_rest s.late m k)
+  after_late s (LateLost ask) sides all m k = all m (of_rest s.late m k)
   after_late s (Pruned block stamp) sides all m k = all m k
 
   lost_now : (s : NodeState) (nature : Nature) (ask : Message) (act : NodeAct) → act ≡ LateLost ask → IsAct nature s act → AllLate s.late → P ask.client

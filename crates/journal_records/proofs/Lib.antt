@@ -1,4 +1,4 @@
-mod Ongoing
+pub mod Ongoing
 mod SameMessages
 mod Counting
 pub mod LastDesks

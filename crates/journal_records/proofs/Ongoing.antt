@@ -15,8 +15,10 @@ use Rattle.protocol.specs.Facts.{HasOperation, IsSameOperation}
 use Rattle.protocol.specs.Lines.{Line, Run, IsRun, IsPlayable, plays, events}
 use Rattle.protocol.specs.Instance.{InEachRun, setting_of}
 use Rattle.protocol.specs.Laws.{OneIsReplaced, RefusesExactly, RunsComeApart}
-use Rattle.journals.proofs.Lists.{Contains-none, Contains-one, update-cases, update-same, at_update}
+use Rattle.journals.proofs.Lists.{at_update}
 use Rattle.journal_records.specs.Open.{RecordsTellTasks, TasksAreRecorded, RecordsAreOfCorrect}
+use Rattle.lists.proofs.Members.{Contains-none, Contains-one}
+use Rattle.protocol.proofs.Counting.{update-cases, update-same}
 
 -- the record is of what its client has under way, or the client came back
 abbrev Tells : Record → Option Task → ℕ → Type 0
@@ -26,7 +28,7 @@ Tells r task life = ((t : Task) × (task ≡ Some t) × (r ≡ open_record r.cli
 abbrev pub AreTold : Setting → World → Type 0
 AreTold s w = RecordsTellTasks w × TasksAreRecorded w × RecordsAreOfCorrect s w
 
-some_once : {A : Type 0} (o : Option A) (a b : A) → o ≡ Some a → o ≡ Some b → a ≡ b
+pub some_once : {A : Type 0} (o : Option A) (a b : A) → o ≡ Some a → o ≡ Some b → a ≡ b
 some_once o a b p q = cc
 
 no_task : (t : Task) → ◌≡◌ {A = Option Task} None (Some t) → ⊥

@@ -4,7 +4,6 @@ use Rattle.std.specs.declared.option.Option.TheVariants.{None, Some}
 use Rattle.std.specs.List.{Contains, AllByRecursion}
 use Rattle.std.proofs.lemmas.Bool.Decides.{eqb_tells}
 use Rattle.std.proofs.lemmas.List.Elements.{Contains-append_cases, Contains-append_left, Contains-append_right}
-use Rattle.protocol.proofs.Lists.{Contains-map, Contains-map_cases}
 use Rattle.protocol.specs.Operations.{Task, Outcome}
 use Rattle.protocol.specs.World.{World, Record, open_record}
 use Rattle.protocol.specs.Lines.{Line, IsRun}
@@ -21,11 +20,13 @@ use Rattle.journals.specs.Agreement.{IsEnded, ended_record}
 use Rattle.journals.specs.Merged.{OfMerged, AllReach, AllRecorded}
 use Rattle.journals.specs.declared.whole.Journals.{Journals}
 use Rattle.journals.specs.Journals.{setting_for, entries_of, cluster_at, IsMerge, AreOfRun}
-use Rattle.journals.proofs.Lists.{Contains-head, Contains-none, Contains-one, Contains-rest, Contains-cons_cases}
-use Rattle.journals.proofs.Picks.{eqb_same, same_ascending}
+use Rattle.journals.proofs.Picks.{same_ascending}
 use Rattle.journal_records.specs.Open.{RecordsTellTasks, TasksAreRecorded, RecordsAreOfCorrect}
 use Rattle.journal_records.specs.Records.{record_of_task, client_records, last_desk, IsDeskRecord, AreAllRecords, WorldsHaveAllRecords, RecordsAreThose}
 use Rattle.journal_records.proofs.LastDesks.{limit, desk, desk_is, desk_agrees, first_life, tells_alike}
+use Rattle.lists.proofs.Members.{Contains-head, Contains-none, Contains-rest, Contains-cons_cases, Contains-one, Contains-map_cases, Contains-map}
+use Rattle.lists.proofs.Tests.{eqb_self}
+use Rattle.journals.proofs.Lists.{own_entries}
 
 -- ---- the desk of a client
 
@@ -34,18 +35,6 @@ all_above m [] h d there = absurd (Contains-none d there)
 all_above m (x ∷ ds) h d there =
     let rest = all_above m ds h.1 d in
     elim (Contains-cons_cases d x ds there) [ inl is ↦ subst (λ (y : DeskJournal). m < y.client) (sym is) h.0 | inr later ↦ rest later ]
-
--- each desk is the one of its client
-pub own_entries : (ds : List DeskJournal) → Ascend (map (λ d. d.client) ds) → (d : DeskJournal) → Contains ds d → entries_of ds d.client ≡ d.entries
-own_entries [] h d there = absurd (Contains-none d there)
-own_entries (x ∷ ds) h d there = elim (Contains-cons_cases d x ds there) [
-  | inl is ↦ subst (λ (y : DeskJournal). entries_of (x ∷ ds) y.client ≡ y.entries) (sym is) (ap (λ (b : Bool). cond b x.entries (entries_of ds x.client)) (eqb_same x.client))
-  | inr later ↦ behind later (own_entries ds h.1 d later) (eqb_tells x.client d.client)
-]
-  where
-    behind : Contains ds d → entries_of ds d.client ≡ d.entries → ((eqb x.client d.client ≡ true) × (x.client ≡ d.client)) ⊎ ((eqb x.client d.client ≡ false) × (x.client ≡ d.client → ⊥)) → entries_of (x ∷ ds) d.client ≡ d.entries
-    behind later rest (inl same) = absurd (let l = all_above x.client ds h.0 d later in let e = same.1 in omega (arith, l, e))
-    behind later rest (inr other) = ap (λ (b : Bool). cond b x.entries (entries_of ds d.client)) other.0 ∙ rest
 
 -- a client has a desk with its entries, or no entry
 abbrev HasDesk : List DeskJournal → ℕ → Type 0

@@ -1,5 +1,5 @@
 -- What liars send is short enough for a text.
-use Rattle.std.proofs.Common.{◌≡◌, ℕ, zero, suc, ◌+◌, ◌-◌, ◌/◌, ◌^◌, ◌<◌, ◌≤◌, Bool, true, false, cond, ◌==◌, List, [], ◌∷◌, ◌++◌, length, map, replicate, Option, refl, sym, ◌∙◌, subst, ap, inl, inr, arith, length-append}
+use Rattle.std.proofs.Common.{◌≡◌, ℕ, zero, suc, ◌+◌, ◌-◌, ◌/◌, ◌^◌, ◌<◌, ◌≤◌, Bool, true, false, cond, ◌==◌, List, [], ◌∷◌, ◌++◌, length, map, Option, refl, sym, ◌∙◌, subst, ap, inl, inr, arith, length-append}
 use Rattle.std.specs.declared.option.Option.TheVariants.{Some}
 use Rattle.std.specs.List.{Contains, AllByRecursion, flat_map, filter_map, range_with_len}
 use Rattle.std.proofs.Math.Nat.{mod-add-div', le-mul_of_pos_right}
@@ -25,7 +25,6 @@ use Rattle.protocol.specs.Instance.{setting}
 use Rattle.event_lines.specs.Messages.{is_ask}
 use Rattle.event_lines.specs.Lines.{IsValue}
 use Rattle.text_lines.specs.Fields as text
-use Rattle.std.specs.Prelude.{slice_index}
 use Rattle.plan_words.specs.declared.fault.Fault.{Fault}
 use Rattle.plan_words.specs.declared.fault.Fault.TheVariants.{LiarNode, LiarSound, LiarMix, LiarFlood, CrashNode, CrashClient, Drop, Hold}
 use Rattle.plan_words.specs.Plans.{IsFault}
@@ -33,9 +32,11 @@ use Rattle.journals.specs.declared.desk.Way.{Way}
 use Rattle.journals.specs.declared.desk.DeskEntry.{DeskEntry}
 use Rattle.journals.specs.declared.desk.DeskAct.{DeskAct}
 use Rattle.journals.specs.declared.desk.DeskAct.TheVariants.{Start, Crash, Call}
-use Rattle.journals.proofs.Lists.{Contains-none, Contains-cons_cases}
 use Rattle.plan_followed.specs.Asked.{messages_by, messages}
 use Rattle.plan_followed.specs.Clients.{asked, all_asked}
+use Rattle.lists.proofs.Members.{Contains-none, Contains-cons_cases}
+use Rattle.protocol.proofs.Strings.{all_bytes}
+use Rattle.protocol.proofs.Forming.{all_replicate}
 
 -- ---- lengths
 
@@ -52,10 +53,6 @@ edition_small Two = omega arith
 length_collect : {A : Type 0} (n : ℕ) (f : ℕ → A) → length (collect n (λ i. Some (f i))) ≡ n
 length_collect zero f = refl
 length_collect (suc n) f = length-append (collect n (λ i. Some (f i))) (f n ∷ []) ∙ (let r = length_collect n f in omega (arith, r))
-
-same_bytes : (k x : ℕ) → x < 256 → IsBytes (replicate k x)
-same_bytes zero x l = tt
-same_bytes (suc k) x l = (l, same_bytes k x l)
 
 some_short : (x reply : Reply) → Some x ≡ Some reply → HasLimits (Answers x) → HasLimits (Answers reply)
 some_short x reply e h = let same : x ≡ reply = cc in subst (λ (r : Reply). HasLimits (Answers r)) same h
@@ -81,10 +78,10 @@ module _ (s : Setting) (good : IsValid s) (few : s.n ≤ 16) (short : s.share �
   )
 
   zeros_block : IsBlock s (zeros s)
-  zeros_block = (length-replicate s.size 0, same_bytes s.size 0 (omega arith))
+  zeros_block = (length-replicate s.size 0, all_replicate s.size 0 (omega arith))
 
   full_is : IsBlock s (full_block s)
-  full_is = (length-replicate s.size 255, same_bytes s.size 255 (omega arith))
+  full_is = (length-replicate s.size 255, all_replicate s.size 255 (omega arith))
 
   flipped_length : (xs : List ℕ) → length (flipped xs) ≡ length xs
   flipped_length [] = refl
@@ -137,10 +134,6 @@ all_ranges P f a (suc count) h = all_append P (f a) (flat_map f (range_with_len 
 -- a message that is short, and an ask
 abbrev pub IsShortAsk : Message → Type 0
 IsShortAsk m = HasLimits m.body × (is_ask m.body ≡ true)
-
-all_bytes : (xs : List ℕ) → ((i : ℕ) → slice_index xs i < 256) → IsBytes xs
-all_bytes [] h = tt
-all_bytes (x ∷ xs) h = (h 0, all_bytes xs (λ i. h (suc i)))
 
 bytes_of : (xs : List ℕ) → text.IsBytes xs → IsBytes xs
 unfolding text.IsBytes

@@ -17,8 +17,8 @@ use Rattle.journals.specs.declared.desk.DeskEntry.{DeskEntry}
 use Rattle.journals.specs.Desks.{DeskState, Ended, desk_heard, desk_after, desk_after_all, DeskGoes, DeskKept}
 use Rattle.journals.specs.Steps.{IsOwn}
 use Rattle.journals.specs.Agreement.{ended_record}
-use Rattle.journals.proofs.Lists.{Contains-head, Contains-none, Contains-rest, Contains-cons_cases}
 use Rattle.journal_records.specs.Records.{record_of_task, client_records}
+use Rattle.lists.proofs.Members.{Contains-head, Contains-none, Contains-rest, Contains-cons_cases}
 
 abbrev pub starts : List Record → List ℕ
 starts rs = map (λ r. r.start) rs
@@ -92,11 +92,11 @@ kept_starts c d es kept none = starts_begun c (desk_after_all d es) ∙ all_star
 abbrev pub times : ℕ → List ℕ → ℕ
 times n xs = sum_by (λ x. cond (eqb x n) 1 0) xs
 
-pub times-cons : (n x : ℕ) (xs : List ℕ) → times n (x ∷ xs) ≡ cond (eqb x n) 1 0 + times n xs
-times-cons n x xs = sum_by-cons (λ y. cond {A = ℕ} (eqb y n) 1 0) x xs
-
 pub times-append : (n : ℕ) (xs ys : List ℕ) → times n (xs ++ ys) ≡ times n xs + times n ys
 times-append n xs ys = sum_by-append (λ y. cond {A = ℕ} (eqb y n) 1 0) xs ys
+
+pub times-cons : (n x : ℕ) (xs : List ℕ) → times n (x ∷ xs) ≡ cond (eqb x n) 1 0 + times n xs
+times-cons n x xs = sum_by-cons (λ y. cond {A = ℕ} (eqb y n) 1 0) x xs
 
 -- the first is the number and counts once, or isn't and doesn't count
 pub times-cases : (n x : ℕ) (xs : List ℕ) → ((x ≡ n) × (times n (x ∷ xs) ≡ 1 + times n xs)) ⊎ ((x ≡ n → ⊥) × (times n (x ∷ xs) ≡ times n xs))

@@ -17,11 +17,12 @@ use Rattle.journals.specs.Desks.{new_desk, DeskKept}
 use Rattle.journals.specs.Steps.{Conduct}
 use Rattle.journals.specs.Steps.Step.{AtDesk}
 use Rattle.journals.specs.Journals.{setting_for, at_desk, IsEntry, AreOfRun}
-use Rattle.journals.proofs.Lists.{Contains-head, Contains-none, Contains-one, Contains-rest, Contains-cons_cases}
 use Rattle.journal_records.specs.Records.{client_records, last_desk, AreAllRecords}
-use Rattle.journal_records.proofs.Owning.{all_above, own_entries}
+use Rattle.journal_records.proofs.Owning.{all_above}
 use Rattle.journal_records.specs.Telling.{AreKeptDesks, told_by, told_records}
-use Rattle.journal_records.proofs.Starts.{starts, starts_of, times, times-cons, times-append, times-cases, kept_starts, StartsAt, starts_there, starts_once, one_or_none}
+use Rattle.journal_records.proofs.Starts.{starts, starts_of, times, times-cons, times-cases, kept_starts, StartsAt, starts_there, starts_once, one_or_none, times-append}
+use Rattle.lists.proofs.Members.{Contains-head, Contains-none, Contains-rest, Contains-cons_cases, Contains-one}
+use Rattle.journals.proofs.Lists.{own_entries}
 
 -- ---- one client's after another's
 

@@ -1,6 +1,5 @@
 -- The lines of a plan's journals are told.
-use Rattle.std.proofs.Common.{◌≡◌, ℕ, zero, suc, ◌+◌, ◌<◌, ◌≤◌, Bool, true, false, cond, List, [], ◌∷◌, map, length, Option, refl, sym, ◌∙◌, subst, ap, inl, inr, arith}
-use Rattle.std.specs.Prelude.{slice_index_or}
+use Rattle.std.proofs.Common.{◌≡◌, ℕ, ◌+◌, ◌<◌, ◌≤◌, Bool, true, false, cond, List, [], ◌∷◌, map, Option, refl, sym, ◌∙◌, subst, ap, arith}
 use Rattle.std.specs.declared.option.Option.TheVariants.{None, Some}
 use Rattle.std.specs.List.{Contains, AllByRecursion}
 use Rattle.std.proofs.lemmas.List.{length-replicate}
@@ -27,8 +26,7 @@ use Rattle.journals.specs.declared.desk.DeskAct.TheVariants.{Start, Crash, Call}
 use Rattle.journals.specs.declared.desk.Way.TheVariants.{Call as ByCall}
 use Rattle.journals.specs.declared.node.NodeAct.{NodeAct}
 use Rattle.journals.specs.declared.node.NodeEntry.{NodeEntry}
-use Rattle.journals.specs.declared.node.Nature.{Nature}
-use Rattle.journals.specs.Acts.{NodeState, new_state, after, way_of, IsAct, NodeKept}
+use Rattle.journals.specs.Acts.{new_state, way_of}
 use Rattle.journals.specs.declared.desk.DeskAct.{DeskAct}
 use Rattle.journals.specs.declared.desk.DeskEntry.{DeskEntry}
 use Rattle.journals.specs.Steps.{Step, side}
@@ -36,8 +34,7 @@ use Rattle.journals.specs.Steps.Step.{AtNode, AtDesk}
 use Rattle.journals.specs.Merging.{line_of, next_world, Merged}
 use Rattle.journals.specs.Journals.{setting_for, at_node, at_desk, IsEntry, AreOfRun}
 use Rattle.journals.specs.Merged.{AllFit}
-use Rattle.journals.proofs.Lists.{Contains-none, Contains-head, Contains-rest, Contains-cons_cases}
-use Rattle.journals.proofs.Acting.{IsOf, after_is_of, told_lie}
+use Rattle.journals.proofs.Acting.{told_lie}
 use Rattle.plan_words.specs.declared.plan.Plan.{Plan}
 use Rattle.plan_followed.specs.Asked.{conduct_of}
 use Rattle.plan_followed.specs.Clients.{LiarFollows}
@@ -46,22 +43,10 @@ use Rattle.plan_followed.specs.Laws.{PlansRun}
 use Rattle.journal_records.specs.Told.{IsTold, LinesAreTold}
 use Rattle.journal_records.proofs.Late.{late_lost}
 use Rattle.journal_records.proofs.Short.{IsShortAsk, share_few, edition_small, reply_short, messages_short, asked_there}
-
-nobody_counts : (n : ℕ) → count n nobody ≡ 0
-nobody_counts zero = refl
-nobody_counts (suc n) = let none = nobody_counts n in omega (arith, none)
-
-node_there : (nodes : List (List NodeEntry)) (i : ℕ) (x : NodeEntry) → Contains (slice_index_or nodes i []) x → i < length nodes
-node_there [] i x k = absurd (Contains-none x k)
-node_there (es ∷ nodes) zero x k = omega arith
-node_there (es ∷ nodes) (suc i) x k = let r = node_there nodes i x k in omega (arith, r)
-
--- each entry of a kept journal was done by the node at some moment
-node_once : (c : Numbers) (i : ℕ) (nature : Nature) (es : List NodeEntry) (d : NodeState) → IsOf c i d.node → NodeKept nature d es → (x : NodeEntry) → Contains es x → (s : NodeState) × IsOf c i s.node × IsAct nature s x.act
-node_once c i nature [] d of h x there = absurd (Contains-none x there)
-node_once c i nature (e ∷ es) d of h x there =
-    let rest = node_once c i nature es (after d e.act) (after_is_of c i d e.act of) h.1 x in
-    elim (Contains-cons_cases x e es there) [ inl k ↦ (d, of, subst (λ (y : NodeEntry). IsAct nature d y.act) (sym k) h.0) | inr k ↦ rest k ]
+use Rattle.lists.proofs.Members.{Contains-head, Contains-none, Contains-rest}
+use Rattle.journals.proofs.Fitting.{node_once}
+use Rattle.journals.proofs.Projections.{there_below}
+use Rattle.protocol.proofs.Counting.{nobody_counts}
 
 -- a lie is a short answer
 lie_short : (ask reply : Message) (o : Option Reply) → ((told : Reply) → o ≡ Some told → HasLimits (Answers told)) → replied ask o ≡ Some reply → HasLimits reply.body × (is_answer reply.body ≡ true)
@@ -87,7 +72,7 @@ module _ (valid : InEachCluster IsValid) (fits : AllFit) (plan : Plan) (j : Jour
   caller i n act there k d is = client_at k (record { number = n; act = d }) (of.pairs.called i k (record { number = n; act = act }) d there is)
 
   node_low : (i : ℕ) (x : NodeEntry) → Contains (at_node j i) x → i < j.config.n
-  node_low i x there = let l = node_there j.nodes i x there in let e = of.kept.count in omega (arith, l, e)
+  node_low i x there = let l = there_below j.nodes i x there in let e = of.kept.count in omega (arith, l, e)
 
   late_client : (i n : ℕ) (ask : Message) → Contains (at_node j i) (record { number = n; act = LateLost ask }) → IsClientNumber ask.client
   late_client i n ask there =

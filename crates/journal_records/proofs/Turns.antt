@@ -14,10 +14,7 @@ use Rattle.journals.specs.declared.desk.DeskAct.TheVariants.{Start, Crash, Call}
 use Rattle.journals.specs.Desks.{DeskState, Ended, ended_by, desk_heard, desk_after, desk_after_all}
 use Rattle.journal_records.specs.Steady.{ComeInTurn}
 use Rattle.journal_records.proofs.Operations.{task_after, task_is}
-
-all_push : {X : Type 0} (P : X → Type 0) (xs : List X) (x : X) → AllByRecursion P xs → P x → AllByRecursion P (xs ++ x ∷ [])
-all_push P [] x h p = (p, tt)
-all_push P (y ∷ xs) x h p = (h.0, all_push P xs x h.1 p)
+use Rattle.lists.proofs.Members.{all_push}
 
 all_weaken : {X : Type 0} (P Q : X → Type 0) → ((x : X) → P x → Q x) → (xs : List X) → AllByRecursion P xs → AllByRecursion Q xs
 all_weaken P Q to [] h = tt

@@ -7,7 +7,7 @@ use Rattle.std.proofs.lemmas.List.Elements.{Contains-push}
 use Rattle.std.proofs.lemmas.Option.{slice_get_within}
 use Rattle.wire_forms.specs.declared.Body.TheVariants.{Ask as Asks, Answer as Answers}
 use Rattle.protocol.specs.Count.{update}
-use Rattle.protocol.specs.Messages.{IsFormedBody, Message, Version, Body, Reply, Ask}
+use Rattle.protocol.specs.Messages.{IsFormedBody, Message, Version, Body, Reply, Ask, with_reply}
 use Rattle.protocol.specs.Setting.{Setting}
 use Rattle.protocol.specs.Nodes.{reply}
 use Rattle.protocol.specs.Operations.{Task, outstanding, ask_of}
@@ -22,17 +22,19 @@ use Rattle.liar_rules.specs.Answers.{answer_to}
 use Rattle.journals.specs.declared.node.NodeAct.TheVariants.{Answered, Lied, CrashedAt, Delivered}
 use Rattle.journals.specs.declared.desk.DeskAct.TheVariants.{Call}
 use Rattle.journals.specs.declared.desk.Way.TheVariants.{Call as ByCall}
-use Rattle.journals.specs.Acts.{NodeState, IsAct, after, served, with_reply, true_answer, is_spent}
+use Rattle.journals.specs.Acts.{NodeState, IsAct, after, served, true_answer, is_spent}
 use Rattle.journals.specs.Desks.{DeskAct, DeskState, desk_after, desk_told, DeskGoes, ActsAs}
 use Rattle.journals.specs.Steps.{Cluster, Goes, cluster_after, called, side}
 use Rattle.journals.specs.Steps.Step.{AtNode}
 use Rattle.journals.specs.Merging.{line_of, IsFirst}
 use Rattle.journals.specs.Agreement.{IsNode, IsDesk, Agrees}
-use Rattle.journals.proofs.Lists.{Contains-head, number_of, update-same, update-other, at_update}
+use Rattle.journals.proofs.Lists.{update-other, at_update}
 use Rattle.journals.proofs.Acting.{IsUpright, IsLie, lie_is, answered as means_answered, told_lie, crashed_called, crashed_late, delivered as means_delivered}
 use Rattle.journals.proofs.Frames.{Frame, set, Before, Taken, honest_by, lying_by}
 use Rattle.journals.proofs.Effects.{OnlyNode, OnlyClient, answering, given_only, place_node, reply_same, served_same, place_client, heard_only, told_desk}
 use Rattle.journals.proofs.Taking.{same_node, same_desk, of_rest, asked_is, soon, grows, agree_node, silent_desks, lost_fine, lost_agrees}
+use Rattle.lists.proofs.Members.{Contains-head, place_of}
+use Rattle.protocol.proofs.Counting.{update-same}
 
 -- every other client stays
 pub other_desk : (s : Setting) (v u : World) (c : ℕ) (o : Option Task) → OnlyClient v u c o → (x : ℕ) (d : DeskState) → (x ≡ c → ⊥) → IsDesk s v x d → IsDesk s u x d
@@ -325,7 +327,7 @@ module _ {f : Frame} {w : World} {g : Cluster} {n : ℕ} (b : Before f w g n) wh
       let here = node_here i means.0 in
       let oldest = is.comes.1 in
       let was : Contains w.pool ask = b.agrees.sent i ask here.0 means.0.up (subst (λ (xs : List Message). Contains xs ask) (sym oldest.1) (Contains-head ask oldest.0)) in
-      let there : slice_get w.pool k ≡ Some ask = elim first [ inl h ↦ h.0 | inr h ↦ absurd (let q = number_of w.pool ask was in h.0 q.0 q.1) ] in
+      let there : slice_get w.pool k ≡ Some ask = elim first [ inl h ↦ h.0 | inr h ↦ absurd (let q = place_of w.pool ask was in h.0 q.0 q.1) ] in
       let u = only_place (set f) (given (set f) w (n + 1) i ask ask.body) (n + 1) in
       let node = place_node (set f) w (given (set f) w (n + 1) i ask ask.body) (n + 1) i _ (given_only (set f) w (n + 1) i ask ask.body) in
       let more = λ (m : Message) (x : Contains w.pool m). subst (λ (o : Option Message). Contains (only_place (set f) (all_happen (set f) w (n + 1) (given_at (set f) w i o)) (n + 1)).pool m) there (grows b (Give i k) m x) in

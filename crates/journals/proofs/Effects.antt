@@ -26,9 +26,10 @@ use Rattle.journals.specs.Acts.{NodeState, served}
 use Rattle.journals.specs.Desks.{DeskState, by_hearing, desk_heard, desk_told}
 use Rattle.journals.specs.Agreement.{IsNode, IsDesk}
 use Rattle.journals.proofs.Cited.{Laws}
-use Rattle.journals.proofs.Lists.{update-cases, update-same, update-other}
+use Rattle.journals.proofs.Lists.{update-other}
 use Rattle.journals.proofs.Acting.{IsOf}
 use Rattle.journals.proofs.Frames.{Frame, set, IsFor}
+use Rattle.protocol.proofs.Counting.{update-cases, update-same}
 
 -- what was sent stays sent
 pub plays_pool : Laws → (s : Setting) (w : World) (place : ℕ) (line : Line) (x : Message) → Contains w.pool x → Contains (plays s w place line).pool x
@@ -146,7 +147,7 @@ hears_is f c d t m r own e mine body =
     at false e = absurd (cc)
     at true e = ap (λ (k : Numbers). hearing (setting k) d.client.id t m.node m.tag r) own.cluster ∙ ap (λ (k : ℕ). hearing (set f) k t m.node m.tag r) own.number
 
-heard_life : (client : ClientView) (h : Hearing) → (by_hearing client h).seen.life ≡ client.seen.life
+pub heard_life : (client : ClientView) (h : Hearing) → (by_hearing client h).seen.life ≡ client.seen.life
 heard_life client Ignored = refl
 heard_life client (Counted u) = refl
 heard_life client (Begins u) = refl

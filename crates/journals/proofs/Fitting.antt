@@ -12,7 +12,7 @@ use Rattle.protocol.specs.Messages.{IsFormedBody, Body}
 use Rattle.protocol.specs.Setting.{IsBlock}
 use Rattle.protocol.specs.Laws.{InEachCluster, FalseIsFormed}
 use Rattle.protocol.specs.Instance.{setting, setting_of}
-use Rattle.protocol.specs.Lines.{FitsLine, false_reply}
+use Rattle.protocol.specs.Lines.{FitsLine, false_reply, start_line}
 use Rattle.run_words.specs.declared.line.Line.TheVariants.{Call as Calls, Lost, Tell, Poke}
 use Rattle.liar_rules.specs.Answers.{answer_to}
 use Rattle.journals.specs.declared.node.NodeAct.TheVariants.{Answered, Lied, Silent, CrashedAt, Delivered, LateLost, Pruned}
@@ -21,15 +21,14 @@ use Rattle.journals.specs.declared.desk.Way.TheVariants.{Call as ByCall}
 use Rattle.journals.specs.Acts.{NodeEntry, Nature, NodeState, new_state, after, IsAct, NodeKept}
 use Rattle.journals.specs.Desks.{DeskEntry, DeskState, new_desk, desk_after, ActsAs, DeskKept}
 use Rattle.journals.specs.Steps.Step.{AtNode, AtDesk}
-use Rattle.journals.specs.Merging.{start_line}
 use Rattle.journals.specs.Journals.{setting_for, at_node, at_desk}
 use Rattle.journals.specs.Merged.{AllFit}
-use Rattle.journals.proofs.Lists.{Contains-none, Contains-cons_cases}
 use Rattle.journals.proofs.Acting.{IsOf, after_is_of, told_lie, lie_is}
 use Rattle.journals.proofs.Frames.{IsFor, desk_is_for}
+use Rattle.lists.proofs.Members.{Contains-none, Contains-cons_cases}
 
 -- each entry of a kept journal was done by the node at some moment
-node_once : (c : Numbers) (i : ℕ) (nature : Nature) (es : List NodeEntry) (d : NodeState) → IsOf c i d.node → NodeKept nature d es → (x : NodeEntry) → Contains es x → (s : NodeState) × IsOf c i s.node × IsAct nature s x.act
+pub node_once : (c : Numbers) (i : ℕ) (nature : Nature) (es : List NodeEntry) (d : NodeState) → IsOf c i d.node → NodeKept nature d es → (x : NodeEntry) → Contains es x → (s : NodeState) × IsOf c i s.node × IsAct nature s x.act
 node_once c i nature [] d of h x there = absurd (Contains-none x there)
 node_once c i nature (e ∷ es) d of h x there =
     let rest = node_once c i nature es (after d e.act) (after_is_of c i d e.act of) h.1 x in

@@ -16,12 +16,12 @@ use Rattle.journals.specs.Agreement.{Reaches, ended_record}
 use Rattle.journals.specs.Journals.{Journals, setting_for, cluster_at, AreOfRun, IsMerge}
 use Rattle.journals.specs.Merged.{OfMerged, AllReach, AreRun, AreNumbered, AreShown, AllRecorded, AreOnce, AreOrdered}
 use Rattle.journals.proofs.Cited.{Laws}
-use Rattle.journals.proofs.Lists.{Contains-head, Contains-none, Contains-rest, Contains-cons_cases}
 use Rattle.journals.proofs.Picks.{Numbered, Counts, counts_split, same_ascending}
 use Rattle.journals.proofs.Ordering.{counts_of, in_order}
 use Rattle.journals.proofs.Frames.{Frame}
 use Rattle.journals.proofs.Projections.{desks_of, desk_part_is, cluster_is, all_go}
 use Rattle.journals.proofs.Induction.{merged_runs}
+use Rattle.lists.proofs.Members.{Contains-head, Contains-none, Contains-rest, Contains-cons_cases}
 
 -- the frame of journals
 abbrev pub frame : Conduct → Journals → Frame
@@ -34,7 +34,7 @@ take_beyond (x ∷ xs) zero l = absurd (omega (arith, l))
 take_beyond (x ∷ xs) (suc n) l = ap (λ l. x ∷ l) (take_beyond xs n (omega (arith, l)))
 
 -- a run has one last world
-last_once : (s : Setting) (lines : List (ℕ × Line)) (w a b : World) → Run s w lines a → Run s w lines b → a ≡ b
+pub last_once : (s : Setting) (lines : List (ℕ × Line)) (w a b : World) → Run s w lines a → Run s w lines b → a ≡ b
 last_once s [] w a b h k = h ∙ sym k
 last_once s (l ∷ ls) w a b h k = last_once s ls (plays s w l.0 l.1) a b h.3 k.3
 

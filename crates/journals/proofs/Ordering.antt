@@ -3,10 +3,11 @@ use Rattle.std.proofs.Common.{◌≡◌, ◌⊎◌, ℕ, zero, suc, ◌+◌, ◌
 use Rattle.std.specs.List.{Contains, AllByRecursion}
 use Rattle.std.proofs.lemmas.List.Elements.{Contains-append_cases, Contains-append_left, Contains-push}
 use Rattle.protocol.specs.Report.{Ascend}
-use Rattle.journals.proofs.Lists.{ascend_push, Contains-one, Contains-none, Contains-head, Contains-rest}
 use Rattle.journals.specs.Steps.{Step}
 use Rattle.journals.specs.Journals.{Journals, IsEntry, InOrder, NumbersBelow}
 use Rattle.journals.proofs.Picks.{Numbered, Counts, same_ascending}
+use Rattle.lists.proofs.Members.{Contains-head, Contains-none, Contains-rest, Contains-one}
+use Rattle.protocol.proofs.Starts.{ascend_push}
 
 map_push : (ps : List Numbered) (p : Numbered) → map (λ q. q.0) (ps ++ p ∷ []) ≡ map (λ q. q.0) ps ++ p.0 ∷ []
 map_push [] p = refl

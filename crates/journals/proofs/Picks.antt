@@ -6,11 +6,13 @@ use Rattle.std.specs.List.{Contains, AllByRecursion}
 use Rattle.std.proofs.lemmas.Bool.Decides.{nat_tests}
 use Rattle.std.proofs.lemmas.List.Elements.{filter-append}
 use Rattle.protocol.specs.Report.{Ascend}
-use Rattle.journals.proofs.Lists.{Contains-head, Contains-rest, Contains-none, Contains-cons_cases}
 use Rattle.journals.specs.Acts.{NodeAct, NodeEntry}
 use Rattle.journals.specs.Desks.{DeskAct, DeskEntry}
 use Rattle.journals.specs.Steps.{Step, side}
 use Rattle.journals.specs.Steps.Step.{AtNode, AtDesk}
+use Rattle.lists.proofs.Members.{Contains-head, Contains-none, Contains-rest, Contains-cons_cases}
+use Rattle.lists.proofs.Tests.{eqb_self}
+use Rattle.std.proofs.lemmas.Bool.{eqb-true}
 
 -- ---- lists whose numbers ascend
 
@@ -176,42 +178,36 @@ if_some : {A : Type 0} (b : Bool) (x y : A) → cond b (Some x) None ≡ Some y 
 if_some true x y e = (refl, cc)
 if_some false x y e = absurd (cc)
 
-pub eqb_is : (a b : ℕ) → eqb a b ≡ true → a ≡ b
-eqb_is a b e = grind (arith, nat_tests)
-
-pub eqb_same : (a : ℕ) → eqb a a ≡ true
-eqb_same a = grind (arith, nat_tests)
-
 -- which step an entry comes from
 pub node_entry_is : (i n : ℕ) (e : Step) (x : NodeEntry) → node_entry i n e ≡ Some x → (x.number ≡ n) × (e ≡ AtNode i x.act)
 node_entry_is i n (AtDesk c act) x h = absurd (cc)
 node_entry_is i n (AtNode k act) x h =
     let q = if_some (eqb k i) (record { number = n; act = act }) x h in
-    (sym (ap (λ (y : NodeEntry). y.number) q.1), ap (λ (a : ℕ). AtNode a act) (eqb_is k i q.0) ∙ ap (λ (y : NodeEntry). AtNode i y.act) q.1)
+    (sym (ap (λ (y : NodeEntry). y.number) q.1), ap (λ (a : ℕ). AtNode a act) (eqb-true k i q.0) ∙ ap (λ (y : NodeEntry). AtNode i y.act) q.1)
 
 pub call_entry_is : (c n : ℕ) (o : Option (ℕ × DeskAct)) (x : DeskEntry) → call_entry c n o ≡ Some x → (x.number ≡ n) × (o ≡ Some (c, x.act))
 call_entry_is c n None x h = absurd (cc)
 call_entry_is c n (Some p) x h =
     let q = if_some (eqb p.0 c) (record { number = n; act = p.1 }) x h in
-    (sym (ap (λ (y : DeskEntry). y.number) q.1), ap (λ (d : ℕ). Some (d, p.1)) (eqb_is p.0 c q.0) ∙ ap (λ (y : DeskEntry). Some (c, y.act)) q.1)
+    (sym (ap (λ (y : DeskEntry). y.number) q.1), ap (λ (d : ℕ). Some (d, p.1)) (eqb-true p.0 c q.0) ∙ ap (λ (y : DeskEntry). Some (c, y.act)) q.1)
 
 pub desk_entry_is : (c n : ℕ) (e : Step) (x : DeskEntry) → desk_entry c n e ≡ Some x → (x.number ≡ n) × ((e ≡ AtDesk c x.act) ⊎ ((i : ℕ) × (act : NodeAct) × (e ≡ AtNode i act) × (side act ≡ Some (c, x.act))))
 desk_entry_is c n (AtNode k act) x h = let q = call_entry_is c n (side act) x h in (q.0, inr (k, act, refl, q.1))
 desk_entry_is c n (AtDesk d act) x h =
     let q = if_some (eqb d c) (record { number = n; act = act }) x h in
-    (sym (ap (λ (y : DeskEntry). y.number) q.1), inl (ap (λ (a : ℕ). AtDesk a act) (eqb_is d c q.0) ∙ ap (λ (y : DeskEntry). AtDesk c y.act) q.1))
+    (sym (ap (λ (y : DeskEntry). y.number) q.1), inl (ap (λ (a : ℕ). AtDesk a act) (eqb-true d c q.0) ∙ ap (λ (y : DeskEntry). AtDesk c y.act) q.1))
 
 pub node_entry_own : (i n : ℕ) (act : NodeAct) → node_entry i n (AtNode i act) ≡ Some (record { number = n; act = act })
-node_entry_own i n act = rw (eqb_same i) refl
+node_entry_own i n act = rw (eqb_self i) refl
 
 pub desk_entry_own : (c n : ℕ) (act : DeskAct) → desk_entry c n (AtDesk c act) ≡ Some (record { number = n; act = act })
-desk_entry_own c n act = rw (eqb_same c) refl
+desk_entry_own c n act = rw (eqb_self c) refl
 
 pub call_entry_own : (c n : ℕ) (o : Option (ℕ × DeskAct)) (act : DeskAct) → o ≡ Some (c, act) → call_entry c n o ≡ Some (record { number = n; act = act })
 call_entry_own c n o act e = ap (call_entry c n) e ∙ own
   where
     own : call_entry c n (Some (c, act)) ≡ Some (record { number = n; act = act })
-    own = rw (eqb_same c) refl
+    own = rw (eqb_self c) refl
 
 pub node_numbered : (i : ℕ) (p : Numbered) (x : NodeEntry) → node_entry i p.0 p.1 ≡ Some x → x.number ≡ p.0
 node_numbered i p x h = (node_entry_is i p.0 p.1 x h).0

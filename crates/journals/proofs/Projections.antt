@@ -14,8 +14,9 @@ use Rattle.journals.specs.Desks.{DeskAct, DeskEntry, DeskState, new_desk, desk_a
 use Rattle.journals.specs.Steps.{Step, Cluster, Conduct, side, called, IsOwn, new_cluster, cluster_after, cluster_replay, CallGoes, Prunes, Goes, AllGo}
 use Rattle.journals.specs.Steps.Step.{AtNode, AtDesk}
 use Rattle.journals.specs.Journals.{Journals, setting_for, at_node, at_desk, nodes_before, desks_before, cluster_at, AreKept, HasSide, PairsAgree, Follow, IsEntry, InOrder}
-use Rattle.journals.proofs.Lists.{Contains-head, Contains-none, update-cases}
 use Rattle.journals.proofs.Picks.{Numbered, one_first, picks-append, picked, is_picked, ascend_picks, picks_before, same_ascending, node_entry, desk_entry, call_entry, node_part, desk_part, node_entry_is, desk_entry_is, node_entry_own, desk_entry_own, call_entry_own, node_numbered, desk_numbered, split_ascends}
+use Rattle.lists.proofs.Members.{Contains-head, Contains-none}
+use Rattle.protocol.proofs.Counting.{update-cases}
 
 -- ---- the list of all steps shows each journal
 
@@ -119,7 +120,7 @@ same_cluster : (a b : Cluster) → ((i : ℕ) → a.nodes i ≡ b.nodes i) → (
 same_cluster a b h k t = record { nodes = λ i. h i t; desks = λ c. k c t }
 
 -- who stands in the list at a place is below the length
-there_below : (xs : List (List NodeEntry)) (i : ℕ) (x : NodeEntry) → Contains (slice_index_or xs i []) x → i < length xs
+pub there_below : (xs : List (List NodeEntry)) (i : ℕ) (x : NodeEntry) → Contains (slice_index_or xs i []) x → i < length xs
 there_below [] i x h = absurd (Contains-none x h)
 there_below (y ∷ xs) zero x h = omega arith
 there_below (y ∷ xs) (suc i) x h = let l = there_below xs i x h in omega (arith, l)

@@ -10,7 +10,7 @@ use Rattle.protocol.specs.Messages.{Version}
 use Rattle.protocol.specs.Nodes.{pruned}
 use Rattle.protocol.specs.Instance.{setting}
 use Rattle.protocol.specs.Operations.{Task}
-use Rattle.protocol.specs.World.{World, Record, IsQuiet, unless, stamp_given, given_of, pruned_at, greatest_given}
+use Rattle.protocol.specs.World.{World, Record, IsQuiet, stamp_given, given_of, pruned_at, greatest_given}
 use Rattle.protocol.specs.Facts.{HasGave}
 use Rattle.protocol.specs.Lines.{plays}
 use Rattle.run_words.specs.declared.line.Line.TheVariants.{Prune}
@@ -21,12 +21,14 @@ use Rattle.journals.specs.Acts.{after}
 use Rattle.journals.specs.Steps.{Cluster, Goes, HasGiven, PruneGoes, cluster_after}
 use Rattle.journals.specs.Steps.Step.{AtNode}
 use Rattle.journals.specs.Agreement.{IsNode, IsDesk, ended_record}
-use Rattle.journals.proofs.Lists.{update-cases, update-same, update-other}
+use Rattle.journals.proofs.Lists.{update-other}
 use Rattle.journals.proofs.Acting.{pruning}
 use Rattle.journals.proofs.Frames.{Frame, set, Before, Taken}
 use Rattle.journals.proofs.Effects.{versions_there, versions_elsewhere}
 use Rattle.journals.proofs.Taking.{same_node, same_desk, soon, grows, agree_node}
 use Rattle.journals.proofs.Answering.{node_here}
+use Rattle.protocol.proofs.Counting.{update-cases, update-same}
+use Rattle.protocol.proofs.Sending.{working}
 
 -- a record that gave a stamp has an outcome that gives it
 gave_how : (block : ℕ) (r : Record) (stamp : Stamp) → given_of block r ≡ Some stamp → (r.block ≡ block) × (outcome : Outcome) × (r.outcome ≡ Some outcome) × (stamp_given (Some outcome) ≡ Some stamp)
@@ -45,10 +47,6 @@ gives_so block r outcome stamp e o h = ap (λ (b : Bool). cond b (stamp_given r.
   where
     same : (x y : ℕ) → x ≡ y → eqb x y ≡ true
     same x y e = grind (arith, nat_tests)
-
-working : (b : Bool) (o : Option Task) (task : Task) → unless b o ≡ Some task → (b ≡ false) × (o ≡ Some task)
-working true o task h = absurd (cc)
-working false o task h = (refl, h)
 
 -- an operation under way is the desk's
 task_is : (start : ℕ) (o : Option SeenTask) (task : Task) → started_task start o ≡ Some task → (t : SeenTask) × (o ≡ Some t) × (t.block ≡ task.block)

@@ -13,7 +13,7 @@ use Rattle.protocol.specs.Instance.{setting}
 use Rattle.protocol.specs.Operations.{Task, Work, begun, outstanding}
 use Rattle.protocol.specs.Operations.Work.{Reads, Writes}
 use Rattle.protocol.specs.World.{World, last_op, under_way}
-use Rattle.protocol.specs.Lines.{Line, plays, fault}
+use Rattle.protocol.specs.Lines.{Line, plays, fault, start_line}
 use Rattle.run_words.specs.declared.line.Line.TheVariants.{Write, Read, Lost, CrashClient}
 use Rattle.protocol.specs.Seen.{SeenTask, started_task, task_at, seen_begun, ops_of, block_of, work_of, outstanding_of}
 use Rattle.protocol.specs.Views.{IsFull}
@@ -27,11 +27,12 @@ use Rattle.journals.specs.Acts.{Silence, NodeState, after, held_back, way_of}
 use Rattle.journals.specs.Desks.{Way, DeskState, desk_after, DeskGoes, MayAsk, ActsAs}
 use Rattle.journals.specs.Steps.{Cluster, cluster_after, CallGoes, Goes, called}
 use Rattle.journals.specs.Steps.Step.{AtNode, AtDesk}
-use Rattle.journals.specs.Merging.{start_line}
 use Rattle.journals.specs.Agreement.{IsNode, IsDesk, Agrees}
-use Rattle.journals.proofs.Lists.{Contains-one, Contains-rest, update-same, update-other, at_update}
+use Rattle.journals.proofs.Lists.{update-other, at_update}
 use Rattle.journals.proofs.Frames.{Frame, set, IsFor, Before, Taken}
 use Rattle.journals.proofs.Effects.{plays_pool, asks_is}
+use Rattle.lists.proofs.Members.{Contains-rest, Contains-one}
+use Rattle.protocol.proofs.Counting.{update-same}
 
 pub same_node : (s : Setting) (w v : World) (i : ℕ) (d : NodeState) → v.versions i ≡ w.versions i → v.node_crashed i ≡ w.node_crashed i → IsNode s w i d → IsNode s v i d
 same_node s w v i d e k h = record { versions = λ block l. ap (λ (vs : ℕ → List Version). vs block) e ∙ h.versions block l; crashed = k ∙ h.crashed }

@@ -14,7 +14,7 @@ use Rattle.protocol.specs.Nodes.{reply}
 use Rattle.protocol.specs.Operations.{Task, Outcome, begun}
 use Rattle.protocol.specs.Operations.Work.{Reads, Writes}
 use Rattle.protocol.specs.World.{World, Record, open_record, closed_record, with_record, last_op, only_place, sent, heard, all_happen, pruned_at, greatest_given}
-use Rattle.protocol.specs.Lines.{plays, called as call_events, given_at}
+use Rattle.protocol.specs.Lines.{plays, called as call_events, given_at, start_line}
 use Rattle.run_words.specs.declared.line.Line.TheVariants.{Call as Calls, Give, Lost, CrashNode, CrashClient, Tell, Poke, Prune}
 use Rattle.protocol.specs.Seen.{SeenTask, Hearing, started_task, task_at, hearing}
 use Rattle.protocol.specs.Seen.Hearing.{Ignored, Counted, Begins, Ended as Ends}
@@ -27,14 +27,15 @@ use Rattle.journals.specs.Acts.{NodeState, IsAct, way_of}
 use Rattle.journals.specs.Desks.{Way, DeskAct, DeskState, Ended, ended_by, desk_told, desk_after, DeskGoes, ActsAs}
 use Rattle.journals.specs.Steps.{Cluster, Step, cluster_after, Goes, called}
 use Rattle.journals.specs.Steps.Step.{AtNode, AtDesk}
-use Rattle.journals.specs.Merging.{line_of, start_line}
+use Rattle.journals.specs.Merging.{line_of}
 use Rattle.journals.specs.Agreement.{IsEnded, TellAlike, ended_record}
 use Rattle.journals.proofs.Cited.{Laws}
-use Rattle.journals.proofs.Lists.{Contains-one, update-cases, update-same}
 use Rattle.journals.proofs.Acting.{answered as means_answered}
 use Rattle.journals.proofs.Frames.{Frame, set, Before}
 use Rattle.journals.proofs.Effects.{given_only, heard_is, hears_is}
 use Rattle.journals.proofs.Answering.{node_here, task_now, asked, told, call_given, told_is, asked_now, lie_here}
+use Rattle.lists.proofs.Members.{Contains-one}
+use Rattle.protocol.proofs.Counting.{update-cases, update-same}
 
 -- ---- records as they come and change
 

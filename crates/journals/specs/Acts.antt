@@ -2,7 +2,7 @@
 use Rattle.std.specs.Prelude.{◌≡◌, ℕ, ◌-◌, ◌<◌, ◌==◌, Bool, true, false, if◌then◌else◌, not, List, [], ◌∷◌, ◌++◌, drop, Option}
 use Rattle.std.specs.declared.option.Option.TheVariants.{None, Some}
 use Rattle.quorum_rules.specs.Limits.{Numbers}
-use Rattle.protocol.specs.Messages.{Stamp, Message, Body, Reply}
+use Rattle.protocol.specs.Messages.{Stamp, Message, Body, with_reply}
 use Rattle.wire_forms.specs.declared.message.Body.TheVariants.{Ask as Asks, Answer as Answers}
 use Rattle.protocol.specs.World.{IsAskTo}
 use Rattle.protocol.specs.Nodes.{pruned}
@@ -32,10 +32,6 @@ pub record NodeState : Type 0 where
 -- a node that has done nothing
 abbrev pub new_state : Numbers → ℕ → Option ℕ → NodeState
 new_state config number crash_after = record { node = new_node config number; late = []; crash_after = crash_after; crashed = false }
-
--- what answers a message goes back to its client, with its tag
-abbrev pub with_reply : Message → Reply → Message
-with_reply m reply = record { client = m.client; node = m.node; tag = m.tag; body = Answers reply }
 
 -- what a node that doesn't lie answers
 abbrev pub true_answer : SeenNode → Message → Body → Message

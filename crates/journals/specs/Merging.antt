@@ -1,22 +1,15 @@
 -- The lines of a run that steps are.
 use Rattle.std.specs.Prelude.{◌≡◌, ◌≢◌, ◌⊎◌, ℕ, ◌+◌, ◌≤◌, if◌then◌else◌, List, [], ◌∷◌, Option, slice_get}
 use Rattle.std.specs.declared.option.Option.TheVariants.{None, Some}
-use Rattle.wire_forms.specs.declared.op.Op.{Op}
-use Rattle.wire_forms.specs.declared.op.Op.TheVariants.{Read as ReadOp, Write as WriteOp}
 use Rattle.protocol.specs.Messages.{Message}
 use Rattle.protocol.specs.Setting.{Setting}
 use Rattle.protocol.specs.World.{World}
-use Rattle.protocol.specs.Lines.{Line, StepFault, plays, fault}
-use Rattle.run_words.specs.declared.line.Line.TheVariants.{Write, Read, Call as Calls, Give, Lost, CrashNode, CrashClient, Tell, Poke, Prune}
+use Rattle.protocol.specs.Lines.{Line, StepFault, plays, fault, start_line}
+use Rattle.run_words.specs.declared.line.Line.TheVariants.{Call as Calls, Give, Lost, CrashNode, CrashClient, Tell, Poke, Prune}
 use Rattle.journals.specs.Steps.{Step}
 use Rattle.journals.specs.Steps.Step.{AtNode, AtDesk}
 use Rattle.journals.specs.declared.node.NodeAct.TheVariants.{Answered, Lied, Silent, CrashedAt, Delivered, LateLost, Pruned}
 use Rattle.journals.specs.declared.desk.DeskAct.TheVariants.{Start, Crash, Call}
-
--- the start of an operation
-abbrev pub start_line : ℕ → Op → Line
-start_line c (ReadOp block) = Read c block
-start_line c (WriteOp block value) = Write c block value
 
 -- the ask that a step delivers late
 abbrev pub late_ask : Step → Option Message

@@ -7,11 +7,6 @@ use Rattle.wire_forms.specs.declared.message.Body.TheVariants.{Ask as Asks, Answ
 use Rattle.protocol.specs.Lines.{Rule, false_reply}
 use Rattle.protocol.specs.Instance.{setting}
 
--- the body is an ask
-abbrev pub IsAsk : Body → Type 0
-IsAsk (Asks ask) = Unit {0}
-IsAsk (Answers reply) = ⊥
-
 -- the reply to the message, from its node to its client and with its tag
 abbrev pub replied : Message → Option Reply → Option Message
 replied m None = None

@@ -4,7 +4,8 @@ ghost use Rattle.wire_forms.specs.Firsts.{first_of};
 ghost use Rattle.protocol.specs.Instance.{setting};
 ghost use Rattle.protocol.specs.Lines.{false_reply, flipped};
 ghost use Rattle.protocol.specs.Seen.{as_version};
-ghost use Rattle.liar_rules.specs.Answers.{IsAsk, answer_to};
+ghost use Rattle.protocol.specs.Messages.{IsAsk};
+ghost use Rattle.liar_rules.specs.Answers.{answer_to};
 
 use crate::versions::{damaged, version};
 use cross_sum::Bytes;

@@ -1,5 +1,5 @@
 -- The head lines of a valid configuration have no cause.
-use Rattle.std.proofs.Common.{◌≡◌, ℕ, ◌^◌, ◌<◌, false, eqb, List, [], ◌∷◌, ◌++◌, length, map, get_or, Option, unwrap_or, None, refl, sym, ap, ◌∙◌, arith, append_assoc, lit≤}
+use Rattle.std.proofs.Common.{◌≡◌, ℕ, ◌^◌, ◌<◌, false, List, [], ◌∷◌, ◌++◌, length, map, get_or, Option, unwrap_or, None, refl, sym, ap, ◌∙◌, arith, append_assoc, lit≤}
 use Rattle.std.specs.Prelude.{codes, decimal}
 use Rattle.std.specs.List.{list_any, AllByRecursion}
 use Rattle.std.proofs.lemmas.Fmt.{decimal_nonempty}
@@ -15,6 +15,7 @@ use Rattle.line_forms.specs.Texts.{ReadsTo}
 use Rattle.line_forms.specs.Heads.{Body, script, header, edition_of, head_lines, head_text, cluster_fields, cluster_cause, config_cause, numbers_at, numbers_in, u32_of, is_no_u32}
 use Rattle.line_forms.proofs.Clusters.{spelled}
 use Rattle.line_forms.proofs.Heads.{edition_back, header_read, head_read, head_apart}
+use Rattle.lists.proofs.Tests.{not_zero}
 
 -- numbers whose text is read back
 abbrev AreSmall : List ℕ → Type 0
@@ -27,9 +28,6 @@ all_lack mark (n ∷ ns) low h = let lt : n < 2 ^ 32 = h.0 in (Lacks-decimal mar
 none_bad : (ns : List ℕ) → AreSmall ns → list_any is_no_u32 (map decimal ns) ≡ false
 none_bad [] h = refl
 none_bad (n ∷ ns) h = rw (number_of-decimal (2 ^ 32) n (lit≤ tt) h.0) (none_bad ns h.1)
-
-not_zero : (n : ℕ) → 0 < n → eqb n 0 ≡ false
-not_zero n h = grind arith
 
 none_empty : (ns : List ℕ) → AreSmall ns → has_empty_field (map decimal ns) ≡ false
 none_empty [] h = refl

@@ -1,5 +1,5 @@
 -- What is wrong with a cluster line.
-use Rattle.std.proofs.Common.{◌≡◌, ◌≢◌, ℕ, suc, eqb, ◌^◌, ◌<◌, ◌⊎◌, Bool, true, false, ◌||◌, List, [], ◌∷◌, length, map, Option, Some, None, is_none, unwrap_or, refl, sym, ap, arith, inl, inr}
+use Rattle.std.proofs.Common.{◌≡◌, ◌≢◌, ℕ, suc, eqb, ◌^◌, ◌<◌, ◌⊎◌, Bool, true, false, List, [], ◌∷◌, length, map, Option, Some, None, is_none, unwrap_or, refl, sym, ap, arith, inl, inr}
 use Rattle.std.specs.Prelude.{codes, decimal}
 use Rattle.std.specs.List.{list_any, AllByRecursion}
 use Rattle.std.specs.Str.{bytes_eq}
@@ -12,6 +12,7 @@ use Rattle.text_lines.proofs.Numbers.{number_of-some}
 use Rattle.line_forms.specs.Kinds.{Kind, some_field, is_other_word, is_outside, is_bad_value, is_beyond, any_u32, has_empty_field, has_wrong_count}
 use Rattle.line_forms.specs.Heads.{cluster_cause, cluster_fields, config_cause, numbers_at, u32_of, is_no_u32}
 use Rattle.line_forms.specs.declared.cause.Cause.TheVariants.{UnknownWord, WrongCount, BadNumber}
+use Rattle.std.proofs.lemmas.Bool.{or_parts}
 
 -- a test that no kind of the form can pass holds of no field
 pub some_field-never : (test : Kind → List ℕ → Bool) (form : List Kind) (fields : List (List ℕ)) → AllByRecursion (λ kind. (field : List ℕ) → test kind field ≡ false) form → some_field test form fields ≡ false
@@ -58,14 +59,10 @@ spelled_back : (field : List ℕ) (o : Option ℕ) → number_of (2 ^ 32) field 
 spelled_back field None e h = absurd cc
 spelled_back field (Some n) e h = sym (number_of-some (2 ^ 32) field n e).0
 
-none_first : (a b : Bool) → (a || b) ≡ false → (a ≡ false) × (b ≡ false)
-none_first true b h = absurd cc
-none_first false b h = (refl, h)
-
 all_back : (fields : List (List ℕ)) → list_any is_no_u32 fields ≡ false → map decimal (map u32_of fields) ≡ fields
 all_back [] h = refl
 all_back (f ∷ fields) h =
-    let p = none_first (is_no_u32 f) (list_any is_no_u32 fields) h in
+    let p = or_parts (is_no_u32 f) (list_any is_no_u32 fields) h in
     rw (spelled_back f (number_of (2 ^ 32) f) refl p.0, all_back fields p.1) refl
 
 -- seven fields without an empty one, of which one is no number

@@ -3,3 +3,4 @@ pub mod Clusters
 pub mod Heads
 pub mod Tables
 pub mod Texts
+pub mod Fine

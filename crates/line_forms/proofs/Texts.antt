@@ -1,15 +1,16 @@
 -- A text from its first line to its last.
-use Rattle.std.proofs.Common.{◌≡◌, ◌≢◌, ℕ, ◌+◌, ◌-◌, ◌<◌, true, false, List, [], ◌∷◌, ◌++◌, length, take, drop, Some, None, refl, sym, ap, ◌∙◌, append_assoc, arith, inl, inr}
+use Rattle.std.proofs.Common.{◌≡◌, ◌≢◌, ℕ, ◌+◌, ◌-◌, ◌<◌, true, false, List, [], ◌∷◌, ◌++◌, length, take, drop, Some, None, refl, sym, ap, ◌∙◌, append_assoc, arith, inl, inr, get_or}
 use Rattle.std.proofs.lemmas.List.{take_at, drop_at, drop_all, length-append}
 use Rattle.std.specs.List.{join_with_byte}
 use Rattle.std.proofs.lemmas.List.Splits.{join_with_byte-slice_split}
 use Rattle.std.proofs.lemmas.Bool.{cases_lt}
-use Rattle.text_lines.specs.Lines.{parts_of, text_of_lines}
-use Rattle.text_lines.proofs.Joined.{some_part, text_from_parts}
+use Rattle.text_lines.specs.Lines.{parts_of, text_of_lines, Lacks, texts}
+use Rattle.text_lines.proofs.Joined.{some_part, text_from_parts, part_before}
 use Rattle.line_forms.specs.Texts.{Grammar, part_cause, cause_after, end_causes, ended, IsFault, IsFaultless, ReadsTo}
 use Rattle.line_forms.specs.Tables.{first_of}
 use Rattle.line_forms.specs.declared.cause.Cause.{Cause}
 use Rattle.line_forms.specs.declared.cause.Cause.TheVariants.{MissingLine}
+use Rattle.std.specs.Borrow.{Bor}
 
 -- what is wrong after the lines so far
 pub cause_here : (g : Grammar) (text : List ℕ) (ls ps : List (List ℕ)) → parts_of text ≡ ls ++ ps → cause_after g text (length ls) ≡ part_cause g ls ps
@@ -147,3 +148,27 @@ one_fault g text l m c d f h =
 
 pub no_fault : (g : Grammar) (text : List ℕ) (l : ℕ) (c : Cause) → IsFaultless g text → IsFault g text l c → ⊥
 no_fault g text l c none f = let clash : Some c ≡ None = sym f.here ∙ none (l - 1) in cc
+
+pub line_next : (line lines rest : List ℕ) → Lacks 10 line → parts_of (((line ++ 10 ∷ []) ++ lines) ++ rest) ≡ line ∷ parts_of (lines ++ rest)
+line_next line lines rest lacks =
+    let text : ((line ++ 10 ∷ []) ++ lines) ++ rest ≡ line ++ 10 ∷ (lines ++ rest) = simp append_assoc in
+    ap parts_of text ∙ part_before 10 line (lines ++ rest) lacks
+
+pub push_same : (xs ys : List (List ℕ)) (a : List ℕ) → xs ++ a ∷ [] ≡ ys ++ a ∷ [] → xs ≡ ys
+push_same [] [] a e = refl
+push_same [] (y ∷ ys) a e = let len = length-append ys (a ∷ []) in absurd (omega (arith, ap length e))
+push_same (x ∷ xs) [] a e = let len = length-append xs (a ∷ []) in absurd (omega (arith, ap length e))
+push_same (x ∷ xs) (y ∷ ys) a e =
+    let tail = push_same xs ys a (ap (λ (ls : List (List ℕ)). drop 1 ls) e) in
+    let head : x ≡ y = ap (λ (ls : List (List ℕ)). get_or ls 0 []) e in
+    ap (λ (l : List ℕ). l ∷ xs) head ∙ ap (λ (ls : List (List ℕ)). y ∷ ls) tail
+
+pub seven_texts : (xs : List (Bor (List ℕ))) (d : Bor (List ℕ)) → length xs ≡ 7
+    → texts xs ≡ (get_or xs 0 d).now ∷ (get_or xs 1 d).now ∷ (get_or xs 2 d).now ∷ (get_or xs 3 d).now ∷ (get_or xs 4 d).now ∷ (get_or xs 5 d).now ∷ (get_or xs 6 d).now ∷ []
+seven_texts (a ∷ b ∷ c ∷ e ∷ f ∷ g ∷ h ∷ []) d len = refl
+seven_texts _ d len = absurd (omega arith)
+
+pub six_texts : (xs : List (Bor (List ℕ))) (d : Bor (List ℕ)) → length xs ≡ 6
+    → texts xs ≡ (get_or xs 0 d).now ∷ (get_or xs 1 d).now ∷ (get_or xs 2 d).now ∷ (get_or xs 3 d).now ∷ (get_or xs 4 d).now ∷ (get_or xs 5 d).now ∷ []
+six_texts (a ∷ b ∷ c ∷ e ∷ f ∷ g ∷ []) d h = refl
+six_texts _ d h = absurd (omega arith)

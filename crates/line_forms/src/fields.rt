@@ -1,10 +1,11 @@
 //! What readers of fields share.
 #![tactic(auto, using(text_lines::proofs::Spelled::spelled, std::proofs::lemmas::Grind::common_steps))]
 
-ghost use Rattle.std.specs.Prelude.{◌≡◌, ◌∷◌, [], length};
+ghost use Rattle.std.specs.Prelude.{◌≡◌, ◌∷◌, [], false, length};
 ghost use Rattle.text_lines.specs.Fields.{value_of, value_text, IsBytes};
 ghost use Rattle.text_lines.specs.Lines.{texts};
-ghost use Rattle.line_forms.specs.Kinds.{has_empty_field, has_other_length};
+ghost use Rattle.line_forms.specs.Kinds.Kind.{value as value_kind, bytes as any_bytes};
+ghost use Rattle.line_forms.specs.Kinds.{form_cause, has_empty_field, has_other_length};
 ghost use Rattle.line_forms.specs.Tables.{Gives, first_of};
 
 use crate::cause::Cause;
@@ -34,5 +35,34 @@ pub fn value_of_len(alloc: Global, field: &[u8], len: usize) -> Result<Bytes, Li
     if value.len() != len {
         return Err(LineRefusal::Cause(Cause::BadValue));
     }
+    Ok(value)
+}
+
+/// The values of `len` bytes that two fields spell. `BadValue` where one spells none.
+pub fn two_values(
+    alloc: Global,
+    first: &[u8],
+    second: &[u8],
+    len: usize,
+) -> Result<(Bytes, Bytes), LineRefusal>
+    requires { has_empty_field (first.now ∷ second.now ∷ []) ≡ false }
+    ensures { Gives (λ read. (value_text read.0 ≡ first.now) × (length read.0 ≡ len)
+        × IsBytes read.0
+        × (value_text read.1 ≡ second.now) × (length read.1 ≡ len) × IsBytes read.1)
+        (form_cause (value_kind len ∷ value_kind len ∷ []) (first.now ∷ second.now ∷ []))
+        result }
+{
+    let first = value_of_len(alloc, first, len)?;
+    let second = value_of_len(alloc, second, len)?;
+    Ok((first, second))
+}
+
+/// The value of any length that a field spells. `BadValue` where it spells none.
+pub fn any_value(alloc: Global, field: &[u8]) -> Result<Bytes, LineRefusal>
+    requires { has_empty_field (field.now ∷ []) ≡ false }
+    ensures { Gives (λ read. (value_text read ≡ field.now) × IsBytes read)
+        (form_cause (any_bytes ∷ []) (field.now ∷ [])) result }
+{
+    let value = value(alloc, field)?.ok_or(Cause::BadValue)?;
     Ok(value)
 }

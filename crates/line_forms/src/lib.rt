@@ -14,7 +14,7 @@ mod number;
 mod refusal;
 
 pub use cause::{Cause, DeviceFault};
-pub use fields::{has_empty, value_of_len};
+pub use fields::{any_value, has_empty, two_values, value_of_len};
 pub use head::{add_head, read_head};
 pub use lines::needed_line;
 pub use refusal::{LineRefusal, ScriptFault, ScriptRefusal, refused};

@@ -1,4 +1,4 @@
-ghost use Rattle.std.specs.Prelude.{◌≡◌, ◌≤◌, ◌<◌, ◌+◌, ◌↔◌, IsTrue, Some, [], ◌∷◌, ◌++◌, length, take, OnOk, OnErr, IfNone, slice_get, slice_set, option_copied, option_to_list, vec_len, vec_capacity};
+ghost use Rattle.std.specs.Prelude.{◌≡◌, ◌<◌, ◌+◌, ◌↔◌, IsTrue, Some, [], ◌∷◌, ◌++◌, length, take, OnOk, OnErr, IfNone, slice_get, slice_set, option_copied, option_to_list};
 
 use crate::memory::NoMemory;
 use std::alloc::Global;
@@ -8,7 +8,7 @@ use std::mem::replace;
 /// Items in order, numbered from 0. Contracts see the list of them.
 ///
 /// A list hides its room, so none of its contracts promises a push that can't fail. Where room has to be made before
-/// other things change, keep a `Vec`, whose contracts tell its room, and move lists into it by `move_to`.
+/// other things change, keep a `Vec`, whose contracts tell its room.
 #[derive(Drop)]
 pub struct ItemList<T> {
     items: Vec<T>,
@@ -80,17 +80,6 @@ impl<T> ItemList<T> {
     {
         self.items.append(&mut other.items)?;
         Ok(())
-    }
-
-    /// Moves all items to the end of a vector that has room for them, which takes no memory.
-    pub fn move_to(&mut self, vec: &mut Vec<T>)
-        requires { vec_len vec.old + length self.old ≤ vec_capacity vec.old }
-        ensures items { vec.new.items ≡ vec.old.items ++ self.old }
-        ensures len { vec_len vec.new ≡ vec_len vec.old + length self.old }
-        ensures room { vec_capacity vec.old ≤ vec_capacity vec.new }
-        ensures moved { self.new ≡ [] }
-    {
-        let _moved = vec.append(&mut self.items);
     }
 
     /// Keeps the first `len` items, and drops the others.

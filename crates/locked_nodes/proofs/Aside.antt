@@ -2,11 +2,12 @@
 use Rattle.std.proofs.Common.{◌≡◌, ℕ, List, [], ◌∷◌, ◌++◌, refl, ◌∙◌, ap, inl, inr, append_assoc}
 use Rattle.std.specs.declared.option.Option.TheVariants.{None}
 use Rattle.std.proofs.lemmas.List.Elements.{Contains-append_cases}
-use Rattle.protocol.proofs.Lists.{append_nil, Contains-none, Contains-one}
+use Rattle.protocol.proofs.Lists.{append_nil}
 use Rattle.journals.specs.declared.node.NodeAct.{NodeAct}
 use Rattle.journals.specs.declared.node.NodeEntry.{NodeEntry}
 use Rattle.journals.specs.Steps.{side}
 use Rattle.locked_nodes.specs.Cells.{CellView, HasMoreAside, entry, with_entry}
+use Rattle.lists.proofs.Members.{Contains-none, Contains-one}
 
 pub aside_none : (c : CellView) → HasMoreAside c c
 aside_none c = record { charter = refl; clock = refl; more = []; grew = append_nil c.journal; aside = λ e there. absurd (Contains-none e there) }

@@ -23,6 +23,7 @@ use Rattle.journals.specs.Acts.{NodeState, Cause, new_state, act, late_act, answ
 use Rattle.journals.specs.Acts.Cause.{Comes, ComesLate, Prunes}
 use Rattle.locked_nodes.specs.Conduct.{serves, served_in, crashes, has_crashed, held_by, held, came_late, IsUp, TellsByRule, IsSilence, GoesByConduct, EntriesGo, HeldComeAgain}
 use Rattle.locked_nodes.proofs.Keeping.{after_all_keeps}
+use Rattle.lists.proofs.Tests.{or_false}
 
 -- ---- what a node does in a state
 
@@ -104,10 +105,6 @@ held_crashed s ask Crashed = (refl, refl)
 held_crashed s ask Dropped = (refl, refl)
 held_crashed s ask Held = (refl, refl)
 held_crashed s ask Lying = (refl, refl)
-
-or_false : (b : Bool) → (b || false) ≡ b
-or_false true = refl
-or_false false = refl
 
 or_true : (b : Bool) → (b || true) ≡ true
 or_true true = refl

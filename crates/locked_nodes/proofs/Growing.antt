@@ -25,7 +25,7 @@ use Rattle.locked_nodes.proofs.Keeping.{after_all_keeps, served_asks, late_serve
 pub length_items : (cell : CellView) → length (items cell) ≡ length cell.journal + 1
 length_items cell = omega (arith, length-map cell.journal (λ (e : NodeEntry). Entry e))
 
-after_all_snoc : (s : NodeState) (es : List NodeEntry) (e : NodeEntry) → after_all s (es ++ e ∷ []) ≡ after (after_all s es) e.act
+pub after_all_snoc : (s : NodeState) (es : List NodeEntry) (e : NodeEntry) → after_all s (es ++ e ∷ []) ≡ after (after_all s es) e.act
 after_all_snoc s [] e = refl
 after_all_snoc s (x ∷ es) e = after_all_snoc (after s x.act) es e
 
@@ -33,16 +33,16 @@ kept_snoc : (nature : Nature) (s : NodeState) (es : List NodeEntry) (e : NodeEnt
 kept_snoc nature s [] e kept is = (is, tt)
 kept_snoc nature s (x ∷ es) e kept is = (kept.0, kept_snoc nature (after s x.act) es e kept.1 is)
 
-rises_snoc : (low : ℕ) (xs : List ℕ) (high y : ℕ) → Rises low xs high → high ≤ y → Rises low (xs ++ y ∷ []) (y + 1)
+pub rises_snoc : (low : ℕ) (xs : List ℕ) (high y : ℕ) → Rises low xs high → high ≤ y → Rises low (xs ++ y ∷ []) (y + 1)
 rises_snoc low [] high y rises le = (omega arith, omega arith)
 rises_snoc low (x ∷ xs) high y rises le = (rises.0, rises_snoc (x + 1) xs high y rises.1 le)
 
-rises_append : (low : ℕ) (xs : List ℕ) (mid : ℕ) (ys : List ℕ) (high : ℕ) → Rises low xs mid → Rises mid ys high → Rises low (xs ++ ys) high
+pub rises_append : (low : ℕ) (xs : List ℕ) (mid : ℕ) (ys : List ℕ) (high : ℕ) → Rises low xs mid → Rises mid ys high → Rises low (xs ++ ys) high
 rises_append low [] mid [] high a b = omega arith
 rises_append low [] mid (y ∷ ys) high a b = (omega arith, b.1)
 rises_append low (x ∷ xs) mid ys high a b = (a.0, rises_append (x + 1) xs mid ys high a.1 b)
 
-rises_more : (low : ℕ) (xs : List ℕ) (high higher : ℕ) → Rises low xs high → high ≤ higher → Rises low xs higher
+pub rises_more : (low : ℕ) (xs : List ℕ) (high higher : ℕ) → Rises low xs high → high ≤ higher → Rises low xs higher
 rises_more low [] high higher a le = omega arith
 rises_more low (x ∷ xs) high higher a le = (a.0, rises_more (x + 1) xs high higher a.1 le)
 

@@ -20,7 +20,7 @@ rises_above : (low : ℕ) (xs : List ℕ) (high m : ℕ) → m < low → Rises l
 rises_above low [] high m lt rises = tt
 rises_above low (x ∷ xs) high m lt rises = (omega (arith, lt, rises.0), rises_above (x + 1) xs high m (omega (arith, lt, rises.0)) rises.1)
 
-rises_ascend : (low : ℕ) (xs : List ℕ) (high : ℕ) → Rises low xs high → Ascend xs
+pub rises_ascend : (low : ℕ) (xs : List ℕ) (high : ℕ) → Rises low xs high → Ascend xs
 rises_ascend low [] high rises = tt
 rises_ascend low (x ∷ xs) high rises = (rises_above (x + 1) xs high x (omega arith) rises.1, rises_ascend (x + 1) xs high rises.1)
 

@@ -6,10 +6,10 @@ use Rattle.std.proofs.lemmas.Bool.Decides.{nat_tests}
 use Rattle.std.proofs.lemmas.List.Sums.{sum_by-cons, sum_by-append}
 use Rattle.std.proofs.lemmas.List.Elements.{filter-append, recursion_from_All, Contains-append_cases, Contains-append_left, Contains-append_right}
 use Rattle.protocol.specs.Report.{Ascend}
-use Rattle.protocol.proofs.Lists.{Contains-none, Contains-head, Contains-rest, Contains-cons_cases}
 use Rattle.journals.specs.declared.node.NodeEntry.{NodeEntry}
 use Rattle.locked_nodes.specs.Cells.{numbers}
 use Rattle.locked_nodes.specs.Joined.{lower, upper, join, JoinHas, JoinGrows}
+use Rattle.lists.proofs.Members.{Contains-head, Contains-none, Contains-rest, Contains-cons_cases, where_all}
 
 pub below_tells : (a b : ℕ) → ((nat_lt a b ≡ true) × (a < b)) ⊎ ((nat_lt a b ≡ false) × (b ≤ a))
 below_tells a b = at (nat_lt a b) refl
@@ -197,10 +197,6 @@ join_more n (x ∷ ps) bs cs ds a b c d =
     from_less n m (e ∷ es) le h = (let l = h.0 in omega (arith, l, le), from_less n m es le h.1)
 
 -- ---- in which order they stand
-
-where_all : {X : Type 0} (P : X → Type 0) (xs : List X) → AllByRecursion P xs → (x : X) → Contains xs x → P x
-where_all P [] h x there = absurd (Contains-none x there)
-where_all P (y ∷ xs) h x there = elim (Contains-cons_cases x y xs there) [ inl is ↦ subst P (sym is) h.0 | inr then ↦ where_all P xs h.1 x then ]
 
 -- the entries of an ascending journal after its first one
 pub above_head : (x : NodeEntry) (xs : List NodeEntry) → Ascend (numbers (x ∷ xs)) → (e : NodeEntry) → Contains xs e → x.number < e.number

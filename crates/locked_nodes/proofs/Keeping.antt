@@ -2,11 +2,10 @@
 use Rattle.std.proofs.Common.{◌≡◌, ℕ, true, false, List, [], ◌∷◌, refl, ◌∙◌, ap, sym}
 use Rattle.std.specs.Prelude.{All}
 use Rattle.std.proofs.lemmas.List.Elements.{All-head, All-tail, All-push, All-drop, All-weaker}
-use Rattle.protocol.specs.Messages.{Message, Body, Ask}
+use Rattle.protocol.specs.Messages.{Message, Body, Ask, IsAsk}
 use Rattle.wire_forms.specs.declared.message.Body.TheVariants.{Ask as Asks, Answer as Answers}
 use Rattle.protocol.specs.World.{IsAskTo}
 use Rattle.protocol.specs.Instance.{setting}
-use Rattle.liar_rules.specs.Answers.{IsAsk}
 use Rattle.node_core.specs.Seen.{SeenNode}
 use Rattle.journals.specs.declared.node.Silence.{Silence}
 use Rattle.journals.specs.declared.node.Silence.TheVariants.{Crashed, Dropped, Held, Lying}

@@ -8,9 +8,8 @@ use Rattle.std.proofs.lemmas.Bool.Decides.{eqb_tells}
 use Rattle.std.proofs.lemmas.List.{get_or-set_other, length-set}
 use Rattle.std.specs.List.{Contains, AllByRecursion}
 use Rattle.std.proofs.lemmas.List.Elements.{All-head, All-tail}
-use Rattle.protocol.proofs.Lists.{Contains-none, Contains-head, Contains-rest, Contains-cons_cases}
 use Rattle.quorum_rules.specs.Limits.{Numbers}
-use Rattle.protocol.specs.Messages.{Message, Body, Ask, Stamp, Version}
+use Rattle.protocol.specs.Messages.{Message, Body, Ask, Stamp, Version, with_reply}
 use Rattle.wire_forms.specs.declared.message.Body.TheVariants.{Ask as Asks, Answer as Answers}
 use Rattle.protocol.specs.Count.{update}
 use Rattle.protocol.specs.Nodes.{pruned}
@@ -26,11 +25,12 @@ use Rattle.journals.specs.declared.node.Silence.TheVariants.{Crashed, Dropped, H
 use Rattle.journals.specs.declared.node.NodeAct.{NodeAct}
 use Rattle.journals.specs.declared.node.NodeAct.TheVariants.{Answered, Lied, Silent, CrashedAt, Delivered, LateLost, Pruned}
 use Rattle.journals.specs.declared.node.NodeEntry.{NodeEntry}
-use Rattle.journals.specs.Acts.{NodeState, Cause, act, answers, lied, true_answer, with_reply, is_spent, one_less, can_prune, after, after_all, held_back, served, cause_of, way_of, act_by, MayCome, IsAct, NodeKept}
+use Rattle.journals.specs.Acts.{NodeState, Cause, act, answers, lied, true_answer, is_spent, one_less, can_prune, after, after_all, held_back, served, cause_of, way_of, act_by, MayCome, IsAct, NodeKept}
 use Rattle.journals.specs.Acts.Cause.{Comes, ComesLate, Prunes}
 use Rattle.locked_nodes.specs.Cells.{IsShare, IsWhole, IsOfShard, ComesTo}
 use Rattle.locked_nodes.specs.Shards.{block_for, is_of_shard}
 use Rattle.locked_nodes.proofs.Acting.{call_answers}
+use Rattle.lists.proofs.Members.{Contains-head, Contains-none, Contains-rest, Contains-cons_cases}
 
 -- a node that isn't to crash, with no ask held back
 pub record IsCalm (s : NodeState) : Type 0 where

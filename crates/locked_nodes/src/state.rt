@@ -1,9 +1,8 @@
 //! A node as it stands.
 ghost use Rattle.std.specs.Prelude.{◌≡◌, ◌↔◌, ◌<◌, List, [], ◌∷◌, IsTrue, All, IfOk, OnOk, OnErr, false};
-ghost use Rattle.protocol.specs.Messages.{Message as AnyMessage};
-ghost use Rattle.liar_rules.specs.Answers.{IsAsk};
+ghost use Rattle.protocol.specs.Messages.{Message as AnyMessage, with_reply, IsAsk};
 ghost use Rattle.node_core.specs.Seen.{reply_of, with_versions, after_of};
-ghost use Rattle.journals.specs.Acts.{new_state, act, answers, late_act, handles, after, answer_of, with_reply, true_answer, served, is_spent, one_less, can_prune};
+ghost use Rattle.journals.specs.Acts.{new_state, act, answers, late_act, handles, after, answer_of, true_answer, served, is_spent, one_less, can_prune};
 ghost use Rattle.locked_nodes.specs.Cells.{loses};
 
 use journals::{Answer, Nature, NodeAct, Silence, Way};

@@ -3,8 +3,6 @@ use Rattle.std.proofs.Common.{◌≡◌, ◌⊎◌, ℕ, ◌+◌, ◌<◌, Bool,
 use Rattle.std.specs.Prelude.{IsTrue, ◌↔◌, IfOk, Result, Ok, Err}
 use Rattle.std.proofs.Math.Seq.{take-suc}
 use Rattle.std.specs.List.{Contains, flat_map}
-use Rattle.std.specs.declared.cmp.Ordering.{Ordering}
-use Rattle.std.specs.declared.cmp.Ordering.TheVariants.{Less, Equal, Greater}
 use Rattle.std.specs.Ordering.{nat_cmp, is_eq}
 use Rattle.std.proofs.lemmas.Map.Lookups.{exact_unsigned}
 use Rattle.std.specs.BTreeSet.{BTreeSet, Updates, contains}
@@ -13,13 +11,13 @@ use Rattle.std.proofs.lemmas.Grind.{flat_map-append}
 use Rattle.std.proofs.lemmas.List.Elements.{Contains-append_cases, Contains-append_left, Contains-append_right}
 use Rattle.protocol.specs.Setting.{Setting}
 use Rattle.protocol.specs.Lines.{FitsLine}
-use Rattle.protocol.proofs.Lists.{Contains-map}
 use Rattle.journals.specs.declared.node.NodeEntry.{NodeEntry}
 use Rattle.journals.specs.Steps.{Step}
 use Rattle.journals.specs.Steps.Step.{AtNode}
 use Rattle.journals.specs.Merging.{line_of}
-use Rattle.journals.proofs.Lists.{Contains-none, Contains-head, Contains-rest, Contains-cons_cases, Contains-one}
 use Rattle.merge_trace.specs.Numbered.{node_steps, all_node_steps, numbers_of, AreApart, AreNew, AreAdded}
+use Rattle.lists.proofs.Members.{Contains-head, Contains-none, Contains-rest, Contains-cons_cases, Contains-one, Contains-map}
+use Rattle.lists.proofs.Orders.{eq_is}
 
 abbrev pub Numbered : Type 0
 Numbered = ℕ × Step
@@ -97,11 +95,6 @@ is_not : (b : Bool) → (b ≡ true → ⊥) → b ≡ false
 is_not true h = absurd (h refl)
 is_not false h = refl
 
-is_equal : (o : Ordering) → is_eq o ≡ true → o ≡ Equal
-is_equal Less h = absurd (cc)
-is_equal Equal h = refl
-is_equal Greater h = absurd (cc)
-
 -- one number more
 pub one_added : (old new : BTreeSet ℕ) (n : ℕ) (e : Step) → Updates nat_cmp old new n true → AreAdded old new ((n, e) ∷ [])
 one_added old new n e h = record {
@@ -111,7 +104,7 @@ one_added old new n e h = record {
 }
   where
     which : (at : Bool) (q : ℕ) → is_eq (nat_cmp n q) ≡ at → cond at true (contains nat_cmp old q) ≡ true → (contains nat_cmp old q ≡ true) ⊎ Contains (numbers_of ((n, e) ∷ [])) q
-    which true q same k = inr (subst (Contains (n ∷ [])) (exact_unsigned n q (is_equal (nat_cmp n q) same)) (Contains-head n []))
+    which true q same k = inr (subst (Contains (n ∷ [])) (exact_unsigned n q (eq_is (nat_cmp n q) same)) (Contains-head n []))
     which false q other k = inl k
 
     either : (a b : Bool) → b ≡ true → cond a true b ≡ true

@@ -5,7 +5,9 @@ use Rattle.std.proofs.lemmas.List.{map-append}
 use Rattle.std.proofs.lemmas.List.Elements.{Contains-push}
 use Rattle.protocol.specs.Report.{Ascend}
 use Rattle.journals.specs.declared.desk.DeskJournal.{DeskJournal}
-use Rattle.journals.proofs.Lists.{Contains-none, Contains-cons_cases, ascend_push}
+use Rattle.lists.proofs.Members.{Contains-none, Contains-cons_cases, all_push}
+use Rattle.protocol.proofs.Starts.{ascend_push}
+use Rattle.journals.proofs.Lists.{all_below}
 
 abbrev pub clients_of : List DeskJournal → List ℕ
 clients_of ds = map (λ d. d.client) ds
@@ -15,14 +17,6 @@ pub record IsLeast (ns : List ℕ) (least : ℕ) : Type 0 where
   pub ascend : Ascend ns
   pub below : AllByRecursion (λ m. m < least) ns
   pub tight : (least ≡ 0) ⊎ ((m : ℕ) × Contains ns m × (least ≡ m + 1))
-
-all_below : (ns : List ℕ) (a b : ℕ) → a ≤ b → AllByRecursion (λ m. m < a) ns → AllByRecursion (λ m. m < b) ns
-all_below [] a b l h = tt
-all_below (m ∷ ns) a b l h = ((let k = h.0 in omega (arith, l, k)), all_below ns a b l h.1)
-
-all_push : (P : ℕ → Type 0) (ns : List ℕ) (n : ℕ) → AllByRecursion P ns → P n → AllByRecursion P (ns ++ n ∷ [])
-all_push P [] n h p = (p, tt)
-all_push P (m ∷ ns) n h p = (h.0, all_push P ns n h.1 p)
 
 pub more_least : (ds : List DeskJournal) (d : DeskJournal) (least : ℕ) → IsLeast (clients_of ds) least → least ≤ d.client → IsLeast (clients_of (ds ++ d ∷ [])) (d.client + 1)
 more_least ds d least h l =

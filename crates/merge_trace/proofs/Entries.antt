@@ -8,7 +8,6 @@ use Rattle.std.proofs.lemmas.Bool.Decides.{eqb_tells, nat_tests}
 use Rattle.std.proofs.lemmas.List.Elements.{Contains-append_cases, Contains-append_left, Contains-append_right}
 use Rattle.protocol.specs.Lines.{FitsLine}
 use Rattle.protocol.specs.Report.{Ascend}
-use Rattle.protocol.proofs.Lists.{Contains-map, Contains-map_cases}
 use Rattle.journals.specs.declared.desk.DeskJournal.{DeskJournal}
 use Rattle.journals.specs.declared.desk.DeskAct.TheVariants.{Start, Crash, Call}
 use Rattle.journals.specs.declared.whole.Journals.{Journals}
@@ -19,10 +18,10 @@ use Rattle.journals.specs.Steps.{Step, IsOwn}
 use Rattle.journals.specs.Steps.Step.{AtNode, AtDesk}
 use Rattle.journals.specs.Merging.{line_of}
 use Rattle.journals.specs.Journals.{setting_for, entries_of, IsEntry}
-use Rattle.journals.proofs.Lists.{Contains-none, Contains-head, Contains-rest, Contains-cons_cases, Contains-one}
 use Rattle.merge_trace.specs.Turns.{IsOnce, AllFitting}
 use Rattle.merge_trace.specs.Numbered.{node_steps, all_node_steps, own_step, desk_steps, all_desk_steps, all_steps, numbers_of, AreApart, AreNew, AreAdded, CanMerge}
 use Rattle.merge_trace.proofs.Adding.{Numbered, same_place, new_both, new_first, new_rest}
+use Rattle.lists.proofs.Members.{Contains-head, Contains-none, Contains-rest, Contains-cons_cases, Contains-one, Contains-map_cases, Contains-map}
 
 -- ---- each entry is listed
 

@@ -8,13 +8,13 @@ use Rattle.wire_forms.specs.declared.op.Op.{Op}
 use Rattle.wire_forms.specs.declared.op.Op.TheVariants.{Read as ReadOp, Write as WriteOp}
 use Rattle.protocol.specs.Messages.{IsBytes}
 use Rattle.protocol.specs.Setting.{Setting}
-use Rattle.protocol.specs.Lines.{FitsLine}
+use Rattle.protocol.specs.Lines.{FitsLine, start_line}
 use Rattle.journals.specs.declared.node.NodeAct.{NodeAct}
 use Rattle.journals.specs.declared.node.NodeAct.TheVariants.{Pruned}
 use Rattle.journals.specs.declared.desk.DeskAct.{DeskAct}
 use Rattle.journals.specs.declared.desk.DeskAct.TheVariants.{Start, Crash, Call}
 use Rattle.journals.specs.Steps.Step.{AtNode, AtDesk}
-use Rattle.journals.specs.Merging.{line_of, start_line}
+use Rattle.journals.specs.Merging.{line_of}
 use Rattle.merge_trace.specs.Numbered.{own_step, AreNew}
 use Rattle.merge_trace.proofs.Adding.{one_new_fits}
 

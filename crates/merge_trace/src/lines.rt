@@ -2,9 +2,9 @@
 
 ghost use Rattle.std.specs.Prelude.{ℕ, ◌↔◌, IsTrue};
 ghost use Rattle.protocol.specs.Messages.{IsFormed, IsFormedRequest, IsFormedReply, IsFormedBody};
-ghost use Rattle.protocol.specs.Lines.{FitsLine};
+ghost use Rattle.protocol.specs.Lines.{FitsLine, start_line};
 ghost use Rattle.journals.specs.Journals.{setting_for};
-ghost use Rattle.journals.specs.Merging.{line_of, start_line};
+ghost use Rattle.journals.specs.Merging.{line_of};
 ghost use Rattle.journals.specs.Steps.Step.{AtNode, AtDesk};
 
 use journals::{DeskAct, Journals, NodeAct};

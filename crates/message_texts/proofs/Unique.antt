@@ -1,5 +1,5 @@
 -- No two messages share a text.
-use Rattle.std.proofs.Common.{◌≡◌, ℕ, ◌^◌, ◌<◌, List, [], ◌∷◌, ◌++◌, length, refl, sym, ap, ◌∙◌, arith}
+use Rattle.std.proofs.Common.{◌≡◌, ℕ, ◌^◌, ◌<◌, List, [], ◌∷◌, length, refl, sym, ap, ◌∙◌, arith}
 use Rattle.std.specs.Prelude.{decimal, All, ◌==◌, if◌then◌else◌}
 use Rattle.std.proofs.lemmas.Fmt.{decimal_injective}
 use Rattle.std.proofs.lemmas.List.{length-append}
@@ -24,6 +24,7 @@ use Rattle.wire_forms.specs.declared.message.Message.{Message}
 use Rattle.message_texts.specs.Texts.{IsStamp, IsSum, IsVersion, IsBound, IsRequest, IsAsk, IsReply, IsBody, IsMessage, stamp_text, sum_text, version_fields, bound_fields, request_fields, ask_fields, reason_text, reply_fields, word_of, body_fields, message_fields, text_of}
 use Rattle.message_texts.proofs.Spelling.{stamp_parts, value_text_injective, encode_injective}
 use Rattle.message_texts.proofs.Fields.{fields-text_of}
+use Rattle.lists.proofs.Members.{append_inj}
 
 number_unique : (m n : ℕ) → m < 2 ^ 64 → n < 2 ^ 64 → decimal m ≡ decimal n → m ≡ n
 number_unique m n a b e = decimal_injective m n a b e
@@ -49,16 +50,6 @@ stamp_unique s t a b e =
     let verifier : s.verifier ≡ t.verifier = encode_injective s.verifier t.verifier a.verifier.bytes b.verifier.bytes (cc) in
     ap (λ (x : ℕ). stamp_of x s.client s.verifier) time ∙ ap (λ (x : ℕ). stamp_of t.time x s.verifier) client ∙ ap (λ (x : List ℕ). stamp_of t.time t.client x) verifier
 
--- two texts whose first parts are equally long
-same_parts : (a b x y : List ℕ) → length a ≡ length b → a ++ x ≡ b ++ y → (a ≡ b) × (x ≡ y)
-same_parts [] [] x y l e = (refl, e)
-same_parts [] (d ∷ b) x y l e = absurd (omega arith)
-same_parts (c ∷ a) [] x y l e = absurd (omega arith)
-same_parts (c ∷ a) (d ∷ b) x y l e =
-    let head : c ≡ d = cc in
-    let more = same_parts a b x y (omega arith) (cc) in
-    ((let t = more.0 in cc), more.1)
-
 flat_unique : (s t : List (List ℕ)) → All (λ d. length d ≡ 32) s → All (λ d. length d ≡ 32) t → flat s ≡ flat t → s ≡ t
 flat_unique [] [] a b e = refl
 flat_unique [] (d ∷ t) a b e =
@@ -70,7 +61,7 @@ flat_unique (d ∷ s) [] a b e =
 flat_unique (c ∷ s) (d ∷ t) a b e =
     let one : length c ≡ 32 = All-head (λ (x : List ℕ). length x ≡ 32) c s a in
     let other : length d ≡ 32 = All-head (λ (x : List ℕ). length x ≡ 32) d t b in
-    let p = same_parts c d (flat s) (flat t) (omega (arith, one, other)) e in
+    let p = append_inj c d (flat s) (flat t) (omega (arith, one, other)) e in
     let h = p.0 in
     let more = flat_unique s t (All-tail (λ (x : List ℕ). length x ≡ 32) c s a) (All-tail (λ (x : List ℕ). length x ≡ 32) d t b) p.1 in
     cc

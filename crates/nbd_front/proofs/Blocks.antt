@@ -1,6 +1,6 @@
 -- The blocks of a device as parts of its array.
 use Rattle.std.proofs.Common.{◌≡◌, ℕ, zero, suc, ◌+◌, ◌-◌, ◌*◌, ◌<◌, ◌≤◌, List, [], ◌∷◌, ◌++◌, length, take, drop, refl, sym, ◌∙◌, ap, arith, slice_range, slice_set, slice_index_or}
-use Rattle.std.proofs.lemmas.List.{append_assoc, append-nil, length-append, length-drop, drop-drop, take-append-le, drop-append-le, drop_all, take-append-drop}
+use Rattle.std.proofs.lemmas.List.{append_assoc, append-nil, length-append, length-drop, drop-drop, take-append-le, drop-append-le, take-append-drop}
 use Rattle.std.proofs.Math.Seq.{take-append-add, drop-append-add, take-length, take-add}
 use Rattle.std.proofs.Math.Nat.{suc-mul}
 use Rattle.std.proofs.lemmas.List.Edits.{paste-paste}
@@ -92,11 +92,3 @@ pub start_then : (xs : List ℕ) (i j : ℕ) → i ≤ j → take i xs ++ slice_
 start_then xs i j low =
     let size : j ≡ i + (j - i) = omega arith in
     sym (ap (λ n. take n xs) size ∙ take-add i (j - i) xs)
-
--- a piece that is all of a block
-pub merged_whole : (old : List ℕ) (at : ℕ) (bytes : List ℕ) → at ≡ 0 → length old ≤ length bytes → merged old at bytes ≡ bytes
-unfolding merged
-merged_whole old at bytes none all =
-    ap (λ a. take a old ++ bytes ++ drop (at + length bytes) old) none
-    ∙ ap (λ z. bytes ++ z) (drop_all (at + length bytes) old (omega arith))
-    ∙ append-nil bytes

@@ -4,8 +4,8 @@ use Rattle.std.specs.List.{All, concat}
 use Rattle.std.proofs.lemmas.List.{append-nil, drop_at}
 use Rattle.std.proofs.lemmas.List.Elements.{All-head, All-tail}
 use Rattle.std.specs.Io.KnownBytes.{Consumes, IsAtEnd}
-use Rattle.nbd_words.specs.declared.request.Request.{Request}
-use Rattle.nbd_words.specs.Requests.{request_magic, magic_of, head_len, request_of, data_len}
+use Rattle.nbd_front.specs.declared.request.Request.{Request}
+use Rattle.nbd_front.specs.Requests.{request_magic, magic_of, head_len, request_of, data_len}
 use Rattle.nbd_front.specs.declared.ending.SessionEnd.{SessionEnd}
 use Rattle.nbd_front.specs.declared.ending.SessionEnd.TheVariants.{NoMemory, ReadFault, WriteFault, BadMagic, CutRequest, TooManyRequests}
 use Rattle.nbd_front.specs.Sessions.{leave_kind, most_requests, IsRequest, IsLeave, IsPart, IsEnd, IsLast, IsSession, IsWholeInput}

@@ -4,9 +4,7 @@ use Rattle.std.proofs.lemmas.Bool.{cases_eq}
 use Rattle.std.proofs.lemmas.List.{take_all, get_or-set_same, get_or-set_other, length-set}
 use Rattle.std.proofs.Math.Nat.{mul_comm}
 use Rattle.std.proofs.lemmas.Nat.{mul-le}
-use Rattle.quorum_rules.specs.declared.Edition.{Edition}
-use Rattle.quorum_rules.specs.declared.Edition.TheVariants.{One, Two}
-use Rattle.quorum_rules.specs.Limits.{Numbers, IsValid, most_size}
+use Rattle.quorum_rules.specs.Limits.{Numbers, IsValid}
 use Rattle.block_device.specs.Device.{merged}
 use Rattle.protocol.specs.Setting.{IsBlock}
 use Rattle.protocol.specs.Instance.{setting}
@@ -14,6 +12,7 @@ use Rattle.node_device.specs.Held.{Held, held_at, unwritten, rewritten}
 use Rattle.node_device.specs.Devices.{SeenDevice}
 use Rattle.nbd_front.specs.Arrays.{array_of, IsInOrder, HasRead, HasWritten}
 use Rattle.nbd_front.proofs.Blocks.{Parts, parts, array_len, middle, merged_middle}
+use Rattle.quorum_rules.proofs.FaultLaws.{most_of_all}
 
 module _ (d : SeenDevice) (o : IsInOrder d) where
   sized : (i : ℕ) → i < length d.held → length (held_at d.config d.held i).value ≡ d.config.size
@@ -99,10 +98,6 @@ read_written d e o r =
 pub same_written : (d : SeenDevice) → IsInOrder d → HasWritten 8192 (array_of d.held) d d
 same_written d o = record { order = o; config = refl; life = refl; bytes = refl; times = λ n h k l. omega (arith, h k l); steps = omega arith }
 
-most : (e : Edition) → most_size e ≤ 16384
-most One = omega arith
-most Two = omega arith
-
 -- a device has at most 2^26 bytes
 pub small_array : (c : Numbers) → IsValid c → c.size * c.blocks ≤ 2 ^ 26
-small_array c v = let m = most c.edition in mul-le c.size c.blocks 16384 4096 (omega (arith, v.size, m)) (omega (arith, v.blocks))
+small_array c v = let m = most_of_all c.edition in mul-le c.size c.blocks 16384 4096 (omega (arith, v.size, m)) (omega (arith, v.blocks))

@@ -1,3 +1,4 @@
+mod Joined
 mod Blocks
 mod Progress
 mod Devices

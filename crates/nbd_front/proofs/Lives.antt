@@ -2,7 +2,6 @@
 use Rattle.std.proofs.Common.{◌≡◌, ℕ, zero, suc, true, ◌++◌, ◌+◌, ◌*◌, ◌<◌, ◌≤◌, List, replicate, refl, ◌∙◌, ap, arith, Result, Ok, Err, IfOk}
 use Rattle.std.proofs.lemmas.List.{get_or-replicate, length-replicate, replicate-append-replicate}
 use Rattle.std.proofs.Math.Nat.{mul-suc}
-use Rattle.protocol.specs.Messages.{IsBytes}
 use Rattle.quorum_rules.specs.Limits.{Numbers, IsValid}
 use Rattle.node_device.specs.Held.{held_at, unwritten}
 use Rattle.node_device.specs.Devices.{SeenDevice}
@@ -10,6 +9,7 @@ use Rattle.nbd_front.specs.Arrays.{array_of, IsInOrder, IsWrittenUpTo, HasRead, 
 use Rattle.nbd_front.specs.Answers.{most_steps}
 use Rattle.nbd_front.specs.Servers.{life_len, most_len, IsInLife, IsServer, HasRefreshed}
 use Rattle.nbd_front.specs.Sessions.{most_requests}
+use Rattle.node_device.proofs.Holding.{zero_bytes}
 
 -- the client may serve one more request, and the device is as it was
 pub refreshed_order : (served : ℕ) (d e : SeenDevice) → IsInOrder d → HasRefreshed served d e → IsInOrder e
@@ -45,10 +45,6 @@ fresh_array c (suc n) =
     ap (λ z. replicate c.size 0 ++ z) (fresh_array c n)
     ∙ replicate-append-replicate c.size (c.size * n) 0
     ∙ ap (λ m. replicate m 0) more
-
-zero_bytes : (n : ℕ) → IsBytes (replicate n 0)
-zero_bytes zero = tt
-zero_bytes (suc n) = (omega arith, zero_bytes n)
 
 module _ (c : Numbers) (valid : IsValid c) (d : SeenDevice) (is : d ≡ record { config = c; held = replicate c.blocks (unwritten c); life = 0; started = 0; whole = true }) where
   never : (k : ℕ) → k < c.blocks → held_at c (replicate c.blocks (unwritten c)) k ≡ unwritten c

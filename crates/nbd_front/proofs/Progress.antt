@@ -3,13 +3,8 @@ use Rattle.std.proofs.Common.{◌≡◌, ℕ, ◌+◌, ◌-◌, ◌*◌, ◌/◌
 use Rattle.std.specs.Int.{div_ceil}
 use Rattle.std.proofs.lemmas.Bool.{cases_lt}
 use Rattle.std.proofs.lemmas.Grind.{div_ceil_times}
-use Rattle.std.proofs.Math.Nat.{mul-le-mul_right, mul_comm, div-mul-le_self, lt-div-mul-add}
-
-first_place : (size p : ℕ) → p / size * size ≤ p
-first_place size p = div-mul-le_self p size
-
-last_place : (size p : ℕ) → 0 < size → p < (p / size + 1) * size
-last_place size p sized = let h : p < p / size * size + size = lt-div-mul-add sized in omega arith
+use Rattle.std.proofs.Math.Nat.{mul-le-mul_right, mul_comm}
+use Rattle.block_device.proofs.Touching.{last_place, first_place}
 
 -- the place that is reached before block k
 abbrev pub reached : ℕ → ℕ → ℕ → ℕ → ℕ

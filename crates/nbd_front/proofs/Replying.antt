@@ -2,8 +2,8 @@
 use Rattle.std.proofs.Common.{◌≡◌, ℕ, ◌+◌, ◌<◌, ◌≤◌, ◌&&◌, ◌||◌, not, cond, eqb, ltb, leb, Bool, true, false, List, [], ◌++◌, length, refl, ◌∙◌, ap, arith, slice_range, inl, inr}
 use Rattle.std.proofs.lemmas.Bool.{cases_lt, eq-eqb, eqb-true, lt-leb, false_from_ne_true}
 use Rattle.block_device.specs.Device.{merged}
-use Rattle.nbd_words.specs.declared.request.Request.{Request}
-use Rattle.nbd_words.specs.Replies.{error_of, reply_head}
+use Rattle.nbd_front.specs.declared.request.Request.{Request}
+use Rattle.nbd_front.specs.Replies.{error_of, reply_head}
 use Rattle.nbd_front.specs.Sessions.{sent_of, reply_of, array_after}
 
 both : {X : Type 0} (a b : Bool) (x y : X) → a ≡ true → b ≡ true → cond (a && b) x y ≡ x

@@ -5,11 +5,11 @@ use Rattle.std.specs.Io.KnownBytes.{Consumes}
 use Rattle.std.specs.Int.{w32, from_be_bytes}
 use Rattle.outside_io.specs.Given.{GaveAtMost}
 use Rattle.outside_io.proofs.Known.{Consumes-then}
-use Rattle.nbd_words.specs.declared.request.Request.{Request}
-use Rattle.nbd_words.specs.declared.filling.TakeRefusal.{TakeRefusal}
-use Rattle.nbd_words.specs.declared.filling.TakeRefusal.TheVariants as refusals
-use Rattle.nbd_words.specs.Requests.{request_magic, magic_of, head_len, request_of, fields_of, data_len}
-use Rattle.nbd_words.specs.Arrivals.{HasBegun, GaveFewer}
+use Rattle.nbd_front.specs.declared.request.Request.{Request}
+use Rattle.nbd_front.specs.declared.filling.TakeRefusal.{TakeRefusal}
+use Rattle.nbd_front.specs.declared.filling.TakeRefusal.TheVariants as refusals
+use Rattle.nbd_front.specs.Requests.{request_magic, magic_of, head_len, request_of, fields_of, data_len}
+use Rattle.nbd_front.specs.Arrivals.{HasBegun, GaveFewer}
 use Rattle.nbd_front.specs.declared.ending.SessionEnd.{SessionEnd}
 use Rattle.nbd_front.specs.declared.ending.SessionEnd.TheVariants.{NoMemory, ReadFault, WriteFault, BadMagic, CutRequest, TooManyRequests}
 use Rattle.nbd_front.specs.Ends.{end_of}

@@ -3,9 +3,9 @@ use Rattle.std.specs.Prelude.{◌≡◌, ℕ, ◌<◌, List, length, Option}
 use Rattle.std.specs.Io.KnownBytes.{Consumes, IsAtEnd}
 use Rattle.node_device.specs.Devices.{SeenDevice}
 use Rattle.outside_io.specs.Given.{GaveAtMost}
-use Rattle.nbd_words.specs.declared.request.Request.{Request}
-use Rattle.nbd_words.specs.Requests.{data_len}
-use Rattle.nbd_words.specs.Arrivals.{GaveFewer}
+use Rattle.nbd_front.specs.declared.request.Request.{Request}
+use Rattle.nbd_front.specs.Requests.{data_len}
+use Rattle.nbd_front.specs.Arrivals.{GaveFewer}
 use Rattle.nbd_front.specs.declared.ending.SessionEnd.{SessionEnd}
 use Rattle.nbd_front.specs.declared.ending.SessionEnd.TheVariants.{NoMemory, ReadFault, WriteFault, BadMagic, CutRequest, TooManyRequests}
 use Rattle.nbd_front.specs.Arrays.{array_of, HasWritten}

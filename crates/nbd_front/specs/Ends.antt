@@ -1,6 +1,6 @@
 -- Refusals of a source as ends of a session.
-use Rattle.nbd_words.specs.declared.filling.TakeRefusal.{TakeRefusal}
-use Rattle.nbd_words.specs.declared.filling.TakeRefusal.TheVariants as refusals
+use Rattle.nbd_front.specs.declared.filling.TakeRefusal.{TakeRefusal}
+use Rattle.nbd_front.specs.declared.filling.TakeRefusal.TheVariants as refusals
 use Rattle.nbd_front.specs.declared.ending.SessionEnd.{SessionEnd}
 use Rattle.nbd_front.specs.declared.ending.SessionEnd.TheVariants as ends
 

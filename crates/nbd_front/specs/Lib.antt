@@ -1,3 +1,6 @@
+pub mod Requests
+pub mod Replies
+pub mod Arrivals
 pub mod Arrays
 pub mod Ends
 pub mod Sessions

@@ -4,8 +4,8 @@ use Rattle.std.specs.Io.KnownBytes.{Consumes}
 use Rattle.node_device.specs.Devices.{SeenDevice}
 use Rattle.nbd_front.specs.Arrays.{array_of, IsInOrder, IsWrittenUpTo}
 use Rattle.nbd_front.specs.Answers.{most_steps}
-use Rattle.nbd_words.specs.declared.request.Request.{Request}
-use Rattle.nbd_words.specs.Requests.{request_magic, magic_of, head_len, request_of}
+use Rattle.nbd_front.specs.declared.request.Request.{Request}
+use Rattle.nbd_front.specs.Requests.{request_magic, magic_of, head_len, request_of}
 use Rattle.nbd_front.specs.declared.ending.SessionEnd.{SessionEnd}
 use Rattle.nbd_front.specs.declared.ending.SessionEnd.TheVariants.{NoMemory, ReadFault, WriteFault, BadMagic, CutRequest, TooManyRequests}
 use Rattle.nbd_front.specs.declared.ending.Served.{Served}

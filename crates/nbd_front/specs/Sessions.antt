@@ -4,9 +4,9 @@ use Rattle.std.specs.Io.KnownBytes.{Consumes, IsAtEnd}
 use Rattle.std.specs.List.{All, concat}
 use Rattle.block_device.specs.Device.{merged}
 use Rattle.outside_io.specs.Written.{Adds, TakesPrefix}
-use Rattle.nbd_words.specs.declared.request.Request.{Request}
-use Rattle.nbd_words.specs.Requests.{request_magic, magic_of, head_len, request_of, data_len, write_kind}
-use Rattle.nbd_words.specs.Replies.{error_of, reply_head}
+use Rattle.nbd_front.specs.declared.request.Request.{Request}
+use Rattle.nbd_front.specs.Requests.{request_magic, magic_of, head_len, request_of, data_len, write_kind}
+use Rattle.nbd_front.specs.Replies.{error_of, reply_head}
 use Rattle.nbd_front.specs.declared.ending.Served.{Served}
 use Rattle.nbd_front.specs.declared.ending.Served.TheVariants.{Next, Over}
 use Rattle.nbd_front.specs.declared.ending.SessionEnd.{SessionEnd}

@@ -1,16 +1,18 @@
 //! The answer to one request: its reply, what is read of its data, and what it changes.
 ghost use Rattle.std.specs.Prelude.{◌≡◌, ◌≢◌, ◌+◌, ◌-◌, ◌*◌, ◌^◌, ◌<◌, ◌++◌, Err, length, OnOk, IfOk, IfErr, IsErrOf};
 ghost use Rattle.outside_io.specs.Causes.{Rose};
-ghost use Rattle.nbd_words.specs.Requests.{data_len};
-ghost use Rattle.nbd_words.specs.Replies.{error_of};
+ghost use Rattle.nbd_front.specs.Requests.{data_len};
+ghost use Rattle.nbd_front.specs.Replies.{error_of};
 ghost use Rattle.nbd_front.specs.Arrays.{array_of, IsInOrder, IsWrittenUpTo, HasRead};
 ghost use Rattle.nbd_front.specs.Sessions.{sent_of};
 ghost use Rattle.nbd_front.specs.Answers.{most_steps, HasAnswered, HasStopped, HasTakenData};
 
 use crate::array::{Span, read_span, write_span};
 use crate::ending::SessionEnd;
+use crate::filling::{drop_bytes, take_bytes};
+use crate::reply::push_head;
+use crate::request::Request;
 use lists::NoMemory;
-use nbd_words::{Request, drop_bytes, push_head, take_bytes};
 use node_device::NodeDevice;
 use outside_io::Source;
 use std::alloc::Global;

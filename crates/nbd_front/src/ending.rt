@@ -1,6 +1,6 @@
 //! How a session goes on, and why it ends.
+use crate::filling::TakeRefusal;
 use lists::NoMemory;
-use nbd_words::TakeRefusal;
 use std::alloc::AllocError;
 
 /// Whether a session goes on.

@@ -1,9 +1,14 @@
-//! A block device that other makers' clients use: a session of requests and replies over a source and a sink.
+//! A block device that other makers' clients use: greeting, requests and replies as bytes, and a session of them over a source and
+//! a sink.
 #![tactic(auto)]
 
 mod answer;
 mod array;
+mod arrival;
 pub mod ending;
+mod filling;
+mod reply;
+mod request;
 pub mod server;
 pub mod session;
 mod turn;

@@ -3,14 +3,14 @@ ghost use Rattle.outside_io.specs.Causes.{Rose};
 ghost use Rattle.outside_io.specs.Written.{Adds, AllFlushed, TakesPrefix};
 ghost use Rattle.quorum_rules.specs.Limits.{wait_of};
 ghost use Rattle.node_device.specs.Held.{Held, version_of};
-ghost use Rattle.nbd_words.specs.Replies.{greeting};
+ghost use Rattle.nbd_front.specs.Replies.{greeting};
 ghost use Rattle.nbd_front.specs.Sessions.{IsSession, IsWholeInput};
 ghost use Rattle.nbd_front.specs.Servers.{bytes_of, HasStepped};
 
 use crate::ending::{Served, SessionEnd};
+use crate::reply::greeting;
 use crate::turn::answer_next;
 use lists::NoMemory;
-use nbd_words::greeting;
 use node_device::NodeDevice;
 use outside_io::{Sink, Source, write_all};
 use quorum_rules::Config;

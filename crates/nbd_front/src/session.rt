@@ -2,7 +2,7 @@
 ghost use Rattle.std.specs.Prelude.{◌≡◌, ◌≢◌, ◌⊎◌, ◌*◌, Ok, Err, replicate, OnOk, IfErr, IsErrOf};
 ghost use Rattle.outside_io.specs.Causes.{Rose};
 ghost use Rattle.outside_io.specs.Written.{AllFlushed};
-ghost use Rattle.nbd_words.specs.Replies.{greeting};
+ghost use Rattle.nbd_front.specs.Replies.{greeting};
 ghost use Rattle.nbd_front.specs.Sessions.{IsSession, IsWholeInput};
 
 use crate::ending::{Served, SessionEnd};

@@ -6,9 +6,10 @@ ghost use Rattle.nbd_front.specs.Sessions.{most_requests};
 ghost use Rattle.nbd_front.specs.Servers.{HasCome, HasNotCome, HasRefreshed, HasTurned, IsInLife, IsPastTheLast, IsServer};
 
 use crate::answer::answer;
+use crate::arrival::{Arrival, read_request};
 use crate::ending::SessionEnd;
+use crate::request::Request;
 use lists::NoMemory;
-use nbd_words::{Arrival, Request, read_request};
 use node_device::NodeDevice;
 use outside_io::Source;
 use std::alloc::Global;

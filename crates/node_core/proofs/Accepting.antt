@@ -1,5 +1,5 @@
 -- What is so of a version that a node accepts.
-use Rattle.std.proofs.Common.{◌≡◌, ℕ, ◌<◌, ◌≤◌, Bool, true, false, cond, ltb, eqb, List, Option, refl, subst, arith}
+use Rattle.std.proofs.Common.{◌≡◌, ℕ, ◌<◌, ◌≤◌, Bool, true, false, cond, ltb, List, Option, refl, subst, arith}
 use Rattle.std.specs.declared.option.Option.TheVariants.{None, Some}
 use Rattle.std.proofs.lemmas.Bool.Decides.{nat_tests}
 use Rattle.protocol.specs.Messages.{Version, Ask, Request, Reason}
@@ -7,6 +7,7 @@ use Rattle.wire_forms.specs.declared.Request.TheVariants.{Time, Read, Write}
 use Rattle.wire_forms.specs.declared.Reason.TheVariants.{BadLength, TimeZero}
 use Rattle.protocol.specs.Setting.{Setting}
 use Rattle.protocol.specs.Nodes.{refusal, added, added_in, accepts, keeps}
+use Rattle.lists.proofs.Tests.{positive}
 
 -- the block is there, the stamp is new in it, and its time isn't 0
 pub record IsNewIn (s : Setting) (vs : List Version) (ask : Ask) (v : Version) : Type 0 where
@@ -18,9 +19,6 @@ tested : (a b : Bool) (rest : Option Reason) → cond a (Some BadLength) (cond b
 tested true b rest e = absurd (cc)
 tested false true rest e = absurd (cc)
 tested false false rest e = refl
-
-positive : (t : ℕ) → eqb t 0 ≡ false → 1 ≤ t
-positive t e = grind (arith, nat_tests)
 
 not_zero : (s : Setting) (i : ℕ) (v : Version) → refusal s i v ≡ None → 1 ≤ v.stamp.time
 not_zero s i v e = positive v.stamp.time (tested _ _ _ e)

@@ -13,14 +13,14 @@ use Rattle.protocol.specs.Setting.{Setting, first_stamp}
 use Rattle.protocol.specs.Nodes.{keeps, carries, added, greatest_in, outlives, pruned}
 use Rattle.protocol.proofs.Order.{≼-time, same_stamp-≡, same_stamp-refl}
 use Rattle.protocol.proofs.Keeping.{greatest_in_is}
-use Rattle.protocol.proofs.Counting.{cases_bool}
 use Rattle.std.proofs.lemmas.List.{get_or-map, map-set, set-get_or}
 use Rattle.node_core.proofs.Changes.{filter-same}
 use Rattle.node_core.specs.Seen.{SeenNode, versions_in, with_versions, from_first}
+use Rattle.std.proofs.lemmas.Bool.{cases_Bool}
 
 -- a later version is above the first
 pub not_up_to_first : (first v : Stamp) → first.time ≡ 0 → 1 ≤ v.time → up_to v first ≡ false
-not_up_to_first first v z l = elim (cases_bool (up_to v first)) [ inl e ↦ absurd (let t = ≼-time v first e in omega arith) | inr e ↦ e ]
+not_up_to_first first v z l = elim (cases_Bool (up_to v first)) [ inl e ↦ absurd (let t = ≼-time v first e in omega arith) | inr e ↦ e ]
 
 -- the greatest in a bound is the greatest of the later ones, where there is any
 pub greatest_later : (bound : Bound) (first v : Version) (vs : List Version) → first.stamp.time ≡ 0 → 1 ≤ v.stamp.time → greatest_in bound vs ≡ Some v → greatest_in bound (first ∷ vs) ≡ Some v
@@ -49,12 +49,12 @@ node_same node i = ap (λ bs. record { config = node.config; number = node.numbe
 
 not_first : (first v : Stamp) → first.time ≡ 0 → 1 ≤ v.time → same_stamp first v ≡ false
 not_first first v z l =
-    elim (cases_bool (same_stamp first v))
+    elim (cases_Bool (same_stamp first v))
     [ inl e ↦ absurd (let t : first.time ≡ v.time = ap (λ (s : Stamp). s.time) (same_stamp-≡ first v e) in omega arith) | inr e ↦ e ]
 
 not_of_first : (v first : Stamp) → first.time ≡ 0 → 1 ≤ v.time → same_stamp v first ≡ false
 not_of_first v first z l =
-    elim (cases_bool (same_stamp v first))
+    elim (cases_Bool (same_stamp v first))
     [ inl e ↦ absurd (let t : v.time ≡ first.time = ap (λ (s : Stamp). s.time) (same_stamp-≡ v first e) in omega arith) | inr e ↦ e ]
 
 -- a later stamp is kept where it is among the later versions
@@ -86,7 +86,7 @@ module _ (s : Setting) (stamp : Stamp) (first : Version) (vs : List Version) (is
 
 -- what a test says where it fails
 pub not_so : (r k : Bool) → (r ≡ true → k ≡ true) × (k ≡ true → r ≡ true) → r ≡ false → k ≡ false
-not_so r k h e = elim (cases_bool k) [ inl t ↦ absurd (let f = h.1 t in cc) | inr f ↦ f ]
+not_so r k h e = elim (cases_Bool k) [ inl t ↦ absurd (let f = h.1 t in cc) | inr f ↦ f ]
 
 -- an accepted version is added, unless its stamp is kept
 module _ (config : Numbers) (number : ℕ) (first : Version) (xs : List (List Version)) (i : ℕ) (k : List Version) (v : Version) where

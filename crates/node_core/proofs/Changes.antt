@@ -14,38 +14,18 @@ use Rattle.stamp_order.proofs.Orders.{up_to_by_fields}
 use Rattle.wire_forms.specs.declared.message.Version.{Version}
 use Rattle.protocol.specs.Nodes.{carries, greatest_in}
 use Rattle.protocol.proofs.Order.{≼-refl, ≼-trans, ≼-antisym, before-≼, before_false, same_stamp-≡, same_stamp-refl}
-use Rattle.protocol.proofs.Counting.{cases_bool}
-use Rattle.protocol.proofs.Lists.{Contains-head, Contains-rest, Contains-none, Contains-cons_cases}
 use Rattle.protocol.proofs.Keeping.{keeps-Contains, greatest_in_is, greatest_in_above}
 use Rattle.node_core.specs.declared.kept.Content.{Content}
 use Rattle.node_core.specs.Index.{compared, is_up_to, version_of, content_at, version_at, versions_of, IsIndex}
 use Rattle.node_core.proofs.Listing.{listed-push, listed-same, listed-filter}
-use Rattle.node_core.proofs.Finding.{some_is, own}
+use Rattle.node_core.proofs.Finding.{own}
+use Rattle.lists.proofs.Members.{Contains-head, Contains-rest, filter_is, filter_has}
+use Rattle.lists.proofs.Tests.{bool_eq, some_is}
+use Rattle.std.proofs.lemmas.Bool.{or_cases, cases_Bool}
 
 pub same_by_fields : (s t : Stamp) → is_eq (compared s t) ≡ same_stamp s t
 unfolding same_stamp stamp_cmp
 same_by_fields s t = refl
-
--- a filter keeps what passes
-pub filtered_is : {X : Type 0} (p : X → Bool) (xs : List X) (x : X) → Contains (filter p xs) x → Contains xs x × (p x ≡ true)
-filtered_is p [] x h = absurd (Contains-none x h)
-filtered_is p (y ∷ ys) x h = at (p y) refl h (filtered_is p ys x)
-  where
-    at : (b : Bool) → p y ≡ b → Contains (cond b (y ∷ filter p ys) (filter p ys)) x → (Contains (filter p ys) x → Contains ys x × (p x ≡ true)) → Contains (y ∷ ys) x × (p x ≡ true)
-    at true e k rest = elim (Contains-cons_cases x y (filter p ys) k) [ inl f ↦ (rw f (Contains-head y ys), rw f e) | inr f ↦ (let r = rest f in (Contains-rest x y ys r.0, r.1)) ]
-    at false e k rest = let r = rest k in (Contains-rest x y ys r.0, r.1)
-
-pub filtered_has : {X : Type 0} (p : X → Bool) (xs : List X) (x : X) → Contains xs x → p x ≡ true → Contains (filter p xs) x
-filtered_has p [] x h e = absurd (Contains-none x h)
-filtered_has p (y ∷ ys) x h e = elim (Contains-cons_cases x y ys h) [ inl f ↦ here (p y) (rw f at e) f | inr f ↦ at (p y) (filtered_has p ys x f e) ]
-  where
-    here : (b : Bool) → b ≡ true → x ≡ y → Contains (cond b (y ∷ filter p ys) (filter p ys)) x
-    here true g f = rw f (Contains-head y (filter p ys))
-    here false g f = absurd (cc)
-
-    at : (b : Bool) → Contains (filter p ys) x → Contains (cond b (y ∷ filter p ys) (filter p ys)) x
-    at true k = Contains-rest x y (filter p ys) k
-    at false k = k
 
 pub filter-same : {X : Type 0} (p q : X → Bool) (xs : List X) → ((x : X) → Contains xs x → p x ≡ q x) → filter p xs ≡ filter q xs
 filter-same p q [] h = refl
@@ -54,15 +34,6 @@ filter-same p q (x ∷ xs) h = let rest = filter-same p q xs (λ y k. h y (Conta
 pub filter-all : {X : Type 0} (p : X → Bool) (xs : List X) → ((x : X) → Contains xs x → p x ≡ true) → filter p xs ≡ xs
 filter-all p [] h = refl
 filter-all p (x ∷ xs) h = let rest = filter-all p xs (λ y k. h y (Contains-rest y x xs k)) in rw (h x (Contains-head x xs), rest) refl
-
-bool_eq : (a b : Bool) → (a ≡ true → b ≡ true) → (b ≡ true → a ≡ true) → a ≡ b
-bool_eq true b h k = sym (h refl)
-bool_eq false true h k = k refl
-bool_eq false false h k = refl
-
-or_is : (a b : Bool) → a || b ≡ true → (a ≡ true) ⊎ (b ≡ true)
-or_is true b h = inl refl
-or_is false b h = inr h
 
 or_by : (a b : Bool) → (a ≡ true) ⊎ (b ≡ true) → a || b ≡ true
 or_by true b h = refl
@@ -146,14 +117,14 @@ module _ (order : List Stamp) (m n : BTreeMap Stamp Content) (h : IsIndex order 
 
     pub dropped_index : IsIndex (filter (is_up_to least) order) n
     dropped_index = record {
-      there = λ q k. let r = filtered_is (is_up_to least) order q k in rw (stays q r.1) (h.there q r.0);
-      accepted = λ q u e. let r = kept_then q u e in filtered_has (is_up_to least) order q (h.accepted q u r.0) r.1;
+      there = λ q k. let r = filter_is (is_up_to least) order q k in rw (stays q r.1) (h.there q r.0);
+      accepted = λ q u e. let r = kept_then q u e in filter_has (is_up_to least) order q (h.accepted q u r.0) r.1;
       later = λ q u e. h.later q u (kept_then q u e).0;
     }
 
     pub dropped_list : versions_of (filter (is_up_to least) order) n ≡ filter (λ v. is_up_to least v.stamp) (versions_of order m)
     dropped_list =
-        listed-same (version_at n) (version_at m) (filter (is_up_to least) order) (λ q k. stays q (filtered_is (is_up_to least) order q k).1)
+        listed-same (version_at n) (version_at m) (filter (is_up_to least) order) (λ q k. stays q (filter_is (is_up_to least) order q k).1)
         ∙ listed-filter (version_at m) (is_up_to least) (λ v. is_up_to least v.stamp) order (λ q u k e. ap (is_up_to least) (own m q u e)) (λ q k. some_is (version_at m q) (h.there q k))
 
 -- which versions a prune keeps after the first
@@ -163,11 +134,11 @@ module _ (stamp : Stamp) (vs : List Version) where
 
   -- they are the greatest up to the stamp, and all above it
   pub kept_from : (g : Version) → greatest_in (AtMost stamp) vs ≡ Some g → filter (λ v. is_up_to g.stamp v.stamp) vs ≡ filter (λ v. carries v.stamp (greatest_in (AtMost stamp) vs) || before stamp v.stamp) vs
-  kept_from g e = rw e (filter-same (λ v. is_up_to g.stamp v.stamp) (λ v. same_stamp g.stamp v.stamp || before stamp v.stamp) vs (λ v k. bool_eq _ _ (λ low. to v k (sym (up_to_by_fields g.stamp v.stamp) ∙ low)) (λ b. up_to_by_fields g.stamp v.stamp ∙ from v (or_is _ _ b))))
+  kept_from g e = rw e (filter-same (λ v. is_up_to g.stamp v.stamp) (λ v. same_stamp g.stamp v.stamp || before stamp v.stamp) vs (λ v k. bool_eq _ _ (λ low. to v k (sym (up_to_by_fields g.stamp v.stamp) ∙ low)) (λ b. up_to_by_fields g.stamp v.stamp ∙ from v (or_cases _ _ b))))
     where
       to : (v : Version) → Contains vs v → g.stamp ≼ v.stamp → same_stamp g.stamp v.stamp || before stamp v.stamp ≡ true
       to v k low =
-          elim (cases_bool (before stamp v.stamp)) [
+          elim (cases_Bool (before stamp v.stamp)) [
             | inl b ↦ or_by _ _ (inr b)
             | inr b ↦ (
                 let above = greatest_in_above (AtMost stamp) vs v.stamp (before_false v.stamp stamp b) (keeps-Contains vs v k) in
@@ -185,7 +156,7 @@ module _ (stamp : Stamp) (vs : List Version) where
   pub kept_all : greatest_in (AtMost stamp) vs ≡ None → vs ≡ filter (λ v. carries v.stamp (greatest_in (AtMost stamp) vs) || before stamp v.stamp) vs
   kept_all e =
       rw e (sym (filter-all (λ v. before stamp v.stamp) vs (λ v k.
-      elim (cases_bool (before stamp v.stamp)) [
+      elim (cases_Bool (before stamp v.stamp)) [
         | inl b ↦ b
         | inr b ↦ absurd (let above = greatest_in_above (AtMost stamp) vs v.stamp (before_false v.stamp stamp b) (keeps-Contains vs v k) in let f = above.1 in cc)
       ])))

@@ -10,15 +10,12 @@ use Rattle.stamp_order.specs.declared.Bound.TheVariants.{All as Every}
 use Rattle.wire_forms.specs.declared.message.Version.{Version}
 use Rattle.protocol.specs.Nodes.{keeps, greatest_in, greatest_time}
 use Rattle.protocol.proofs.Order.{≼-antisym, ≼-time}
-use Rattle.protocol.proofs.Counting.{cases_bool}
 use Rattle.protocol.proofs.Keeping.{keeps-Contains, keeps_is, greatest_in_is, greatest_in_above, time_of_one, time_at_least}
 use Rattle.node_core.specs.declared.kept.Content.{Content}
 use Rattle.node_core.specs.Index.{version_of, content_at, version_at, versions_of, IsIndex, IsLastIn, IsNoneIn}
 use Rattle.node_core.proofs.Listing.{listed_from, listed_to, read-listed}
-
-pub some_is : {X : Type 0} (o : Option X) → IsSome o → (x : X) × (o ≡ Some x)
-some_is None h = absurd (cc)
-some_is (Some x) h = (x, refl)
+use Rattle.lists.proofs.Tests.{some_is}
+use Rattle.std.proofs.lemmas.Bool.{cases_Bool}
 
 -- a version that is made of something has the stamp that it is made with
 made : (stamp : Stamp) (o : Option Content) (v : Version) → option_map (version_of stamp) o ≡ Some v → (IsSome o) × (v.stamp ≡ stamp)
@@ -71,7 +68,7 @@ module _ (order : List Stamp) (m : BTreeMap Stamp Content) (h : IsIndex order m)
       at : (o : Option Version) → version_at m stamp ≡ o → keeps (versions_of order m) stamp ≡ is_some o
       at (Some v) e = keeps_at stamp v e
       at None e =
-          elim (cases_bool (keeps (versions_of order m) stamp))
+          elim (cases_Bool (keeps (versions_of order m) stamp))
           [ inl k ↦ absurd (let r = kept_at stamp k in let f = r.1 in cc) | inr k ↦ k ]
 
   -- and there is none of one that isn't kept

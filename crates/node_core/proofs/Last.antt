@@ -1,11 +1,9 @@
 -- The last entry of a range of stamps is the greatest in a bound.
 use Rattle.std.proofs.Common.{◌≡◌, true, false, List, [], ◌∷◌, ◌++◌, Option, refl, sym, ◌∙◌, ap, IsSome, IfSome, IfNone, MatchOption}
 use Rattle.std.specs.declared.option.Option.TheVariants.{None, Some}
-use Rattle.std.specs.declared.cmp.Ordering.{Ordering}
-use Rattle.std.specs.declared.cmp.Ordering.TheVariants.{Less, Equal, Greater}
 use Rattle.std.specs.declared.ops.Bound.{Bound as Edge}
 use Rattle.std.specs.declared.ops.Bound.TheVariants.{Included, Excluded, Unbounded}
-use Rattle.std.specs.Ordering.{is_le, is_lt, is_gt}
+use Rattle.std.specs.Ordering.{is_lt}
 use Rattle.std.specs.BTreeMap.{BTreeMap}
 use Rattle.std.specs.BTreeMap.Range.{IsRangeOf, IsUpToEnd}
 use Rattle.stamp_order.specs.declared.Stamp.{Stamp}
@@ -16,21 +14,7 @@ use Rattle.stamp_order.proofs.Orders.{up_to_by_fields, before_by_fields}
 use Rattle.protocol.proofs.Order.{before_false}
 use Rattle.node_core.specs.declared.kept.Content.{Content}
 use Rattle.node_core.specs.Index.{compared, content_at, IsLastIn, IsNoneIn}
-
-le_is : (o : Ordering) → is_gt o ≡ false → is_le o ≡ true
-le_is Less h = refl
-le_is Equal h = refl
-le_is Greater h = absurd (cc)
-
-not_gt : (o : Ordering) → is_le o ≡ true → is_gt o ≡ false
-not_gt Less h = refl
-not_gt Equal h = refl
-not_gt Greater h = absurd (cc)
-
-lt_is : (o : Ordering) → is_lt o ≡ true → o ≡ Less
-lt_is Less h = refl
-lt_is Equal h = absurd (cc)
-lt_is Greater h = absurd (cc)
+use Rattle.lists.proofs.Orders.{lt_less, le_not_gt, not_gt_le}
 
 -- the end of a range is that of a bound
 pub record IsEndOf (edge : Edge Stamp) (bound : Bound) : Type 0 where
@@ -39,14 +23,14 @@ pub record IsEndOf (edge : Edge Stamp) (bound : Bound) : Type 0 where
 
 pub end_at_most : (most : Stamp) → IsEndOf (Included most) (AtMost most)
 end_at_most most = record {
-  inside = λ q h. sym (up_to_by_fields q most) ∙ le_is (compared q most) h;
-  reached = λ q h. not_gt (compared q most) (up_to_by_fields q most ∙ h);
+  inside = λ q h. sym (up_to_by_fields q most) ∙ not_gt_le (compared q most) h;
+  reached = λ q h. le_not_gt (compared q most) (up_to_by_fields q most ∙ h);
 }
 
 pub end_below : (limit : Stamp) → IsEndOf (Excluded limit) (Below limit)
 end_below limit = record {
   inside = λ q h. sym (before_by_fields q limit) ∙ ap is_lt h;
-  reached = λ q h. lt_is (compared q limit) (before_by_fields q limit ∙ h);
+  reached = λ q h. lt_less (compared q limit) (before_by_fields q limit ∙ h);
 }
 
 -- no key is above q

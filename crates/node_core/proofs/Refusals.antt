@@ -11,10 +11,10 @@ use Rattle.protocol.specs.Messages.{flat, Version, Reason}
 use Rattle.protocol.specs.Setting.{Setting, digest_at, same}
 use Rattle.protocol.specs.Nodes.{refusal}
 use Rattle.protocol.proofs.Rounds.{same-≡, same-refl}
-use Rattle.protocol.proofs.Counting.{cases_bool}
+use Rattle.std.proofs.lemmas.Bool.{cases_Bool}
 
 same_false : (xs ys : List ℕ) → (xs ≡ ys → ⊥) → same xs ys ≡ false
-same_false xs ys h = elim (cases_bool (same xs ys)) [ inl e ↦ absurd (h (same-≡ xs ys e)) | inr e ↦ e ]
+same_false xs ys h = elim (cases_Bool (same xs ys)) [ inl e ↦ absurd (h (same-≡ xs ys e)) | inr e ↦ e ]
 
 same_true : (xs ys : List ℕ) → xs ≡ ys → same xs ys ≡ true
 same_true xs ys e = rw e (same-refl ys)

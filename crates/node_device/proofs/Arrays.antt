@@ -1,20 +1,15 @@
 -- Blocks as parts of one array.
-use Rattle.std.proofs.Common.{◌≡◌, ℕ, zero, suc, ◌+◌, ◌-◌, ◌*◌, ◌/◌, ◌<◌, ◌≤◌, List, ◌++◌, inl, inr, length, take, drop, get_or, refl, sym, ap, ◌∙◌, arith}
+use Rattle.std.proofs.Common.{◌≡◌, ℕ, zero, suc, ◌+◌, ◌-◌, ◌*◌, ◌<◌, ◌≤◌, List, ◌++◌, inl, inr, length, take, drop, get_or, refl, sym, ap, ◌∙◌, arith}
 use Rattle.std.specs.List.{flat_map, slice_range, range_with_len}
 use Rattle.std.proofs.lemmas.Bool.{cases_lt}
-use Rattle.std.proofs.lemmas.Nat.{div-mul-add, mod-mul-add}
 use Rattle.std.proofs.Math.Nat.{mul-le-mul_right}
 use Rattle.std.proofs.lemmas.List.{ext_get_or, length-take, length-drop, length-append, get_or-take, get_or-drop, get_or_append_left, get_or-append_right}
 use Rattle.std.proofs.lemmas.List.FromFn.{length-map-range_with_len, get_or-map-range_with_len}
 use Rattle.block_device.specs.Device.{byte_at, bytes_of, merged, AreBlocks, IsWritten}
 use Rattle.node_device.specs.Moments.{array_of}
+use Rattle.block_device.proofs.Reading.{byte_in}
 
 -- ---- neighbouring blocks
-byte_in : (size : ℕ) (held : ℕ → List ℕ) (k at : ℕ) → at < size → get_or (held k) at 0 ≡ byte_at size held (k * size + at)
-unfolding byte_at
-byte_in size held k at h =
-    ap (λ j. get_or (held j) at 0) (sym (div-mul-add k size at h))
-    ∙ ap (λ i. get_or (held ((k * size + at) / size)) i 0) (sym (mod-mul-add k size at h))
 
 length_blocks : (size : ℕ) (held : ℕ → List ℕ) (n first : ℕ) → ((k : ℕ) → first ≤ k → k < first + n → length (held k) ≡ size) → length (flat_map held (range_with_len first n)) ≡ n * size
 length_blocks size held zero first h = omega arith

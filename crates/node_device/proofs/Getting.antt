@@ -15,12 +15,12 @@ use Rattle.block_device.specs.Device.{byte_at, bytes_of, merged}
 use Rattle.block_device.specs.declared.steps.BlockStep.{BlockStep}
 use Rattle.protocol.specs.Setting.{Setting}
 use Rattle.protocol.specs.History.{Entry}
-use Rattle.protocol.proofs.Lists.{Contains-none, Contains-head, Contains-rest, Contains-cons_cases, filter_has}
 use Rattle.node_device.specs.Moments.{values_at, HasEndedBefore, HasBegunFrom, IsQuiet}
 use Rattle.node_device.specs.Commands.{seen_after, AreSteps}
 use Rattle.node_device.proofs.Moments.{IsOrderly, unchanged}
 use Rattle.node_device.proofs.Following.{own_late}
 use Rattle.node_device.proofs.Arrays.{merged_inside, length_merged}
+use Rattle.lists.proofs.Members.{Contains-head, Contains-none, Contains-rest, Contains-cons_cases, filter_has}
 
 -- ---- ranges
 in_numbers : (a n k : ℕ) → a ≤ k → k < a + n → Contains (range_with_len a n) k

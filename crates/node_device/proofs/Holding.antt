@@ -25,7 +25,7 @@ use Rattle.node_device.specs.Devices.{pruned_at}
 use Rattle.node_device.proofs.Keeping.{greatest_is, time_is, prune_same, not_refused, is_added, prune_next}
 use Rattle.node_device.proofs.Deciding.{good_setting, decodes_held}
 
-zero_bytes : (n : ℕ) → IsBytes (replicate n 0)
+pub zero_bytes : (n : ℕ) → IsBytes (replicate n 0)
 zero_bytes zero = tt
 zero_bytes (suc n) = (omega arith, zero_bytes n)
 

@@ -12,12 +12,11 @@ use Rattle.protocol.specs.Nodes.{first_version, greatest_in, greatest_time, keep
 use Rattle.wire_forms.specs.declared.Request.TheVariants.{Write}
 use Rattle.protocol.specs.Operations.{is_whole}
 use Rattle.protocol.specs.Instance.{setting}
-use Rattle.protocol.proofs.Counting.{cases_bool}
-use Rattle.protocol.proofs.Tests.{eqb_is}
 use Rattle.protocol.proofs.Order.{≼-refl, ≼-time, before-≼, lower_time, same_stamp-≡, same_stamp-refl}
 use Rattle.protocol.proofs.Rounds.{same-refl}
 use Rattle.protocol.proofs.Keeping.{time_at_least}
 use Rattle.node_device.specs.Held.{Held, stamp_of, version_of, kept_of, rewritten, the_client}
+use Rattle.std.proofs.lemmas.Bool.{eq-eqb, cases_Bool}
 
 -- of two stamps of different times the first is the lower one
 pub record AreApart (a z : Stamp) : Type 0 where
@@ -30,10 +29,10 @@ pub record AreApart (a z : Stamp) : Type 0 where
 pub are_apart : (a z : Stamp) → a.time < z.time → AreApart a z
 are_apart a z l = record {
   up = before-≼ a z (lower_time a z l);
-  not_down = elim (cases_bool (up_to z a)) [ inl e ↦ absurd (let t = ≼-time z a e in omega arith) | inr e ↦ e ];
-  not_before = elim (cases_bool (before z a)) [ inl e ↦ absurd (let t = ≼-time z a (before-≼ z a e) in omega arith) | inr e ↦ e ];
-  differ = elim (cases_bool (same_stamp a z)) [ inl e ↦ absurd (let t = ap (λ (s : Stamp). s.time) (same_stamp-≡ a z e) in omega arith) | inr e ↦ e ];
-  other = elim (cases_bool (same_stamp z a)) [ inl e ↦ absurd (let t = ap (λ (s : Stamp). s.time) (same_stamp-≡ z a e) in omega arith) | inr e ↦ e ];
+  not_down = elim (cases_Bool (up_to z a)) [ inl e ↦ absurd (let t = ≼-time z a e in omega arith) | inr e ↦ e ];
+  not_before = elim (cases_Bool (before z a)) [ inl e ↦ absurd (let t = ≼-time z a (before-≼ z a e) in omega arith) | inr e ↦ e ];
+  differ = elim (cases_Bool (same_stamp a z)) [ inl e ↦ absurd (let t = ap (λ (s : Stamp). s.time) (same_stamp-≡ a z e) in omega arith) | inr e ↦ e ];
+  other = elim (cases_Bool (same_stamp z a)) [ inl e ↦ absurd (let t = ap (λ (s : Stamp). s.time) (same_stamp-≡ z a e) in omega arith) | inr e ↦ e ];
 }
 
 -- what is later than the first is the greatest of the two
@@ -114,8 +113,8 @@ module _ (c : Numbers) (good : IsValid (setting c)) (i : ℕ) (l : i < c.n) (h :
   -- and it is a version that the node may keep
   pub whole_is : is_whole s i (version_of c i h) ≡ true
   whole_is =
-      let a : eqb (length (s.sum_of h.value)) s.n ≡ true = eqb_is _ _ (good.length-sum h.value size) in
-      let b : eqb (length (s.fragment_of h.value i)) s.share ≡ true = eqb_is _ _ (good.length-fragment h.value i size l) in
+      let a : eqb (length (s.sum_of h.value)) s.n ≡ true = eq-eqb _ _ (good.length-sum h.value size) in
+      let b : eqb (length (s.fragment_of h.value i)) s.share ≡ true = eq-eqb _ _ (good.length-fragment h.value i size l) in
       let d : same (s.digest (s.fragment_of h.value i)) (digest_at s (s.sum_of h.value) i) ≡ true = rw (good.digests h.value i size l) (same-refl (s.digest (s.fragment_of h.value i))) in
       elim cases [
         | inl e ↦ (
@@ -149,14 +148,14 @@ module _ (c : Numbers) (good : IsValid (setting c)) (i : ℕ) (l : i < c.n) (h :
     -- the next write is taken
     pub not_refused : refusal s i next ≡ None
     not_refused =
-        let a : eqb (length (s.sum_of value)) s.n ≡ true = eqb_is _ _ (good.length-sum value is_block) in
-        let b : eqb (length (s.fragment_of value i)) s.share ≡ true = eqb_is _ _ (good.length-fragment value i is_block l) in
+        let a : eqb (length (s.sum_of value)) s.n ≡ true = eq-eqb _ _ (good.length-sum value is_block) in
+        let b : eqb (length (s.fragment_of value i)) s.share ≡ true = eq-eqb _ _ (good.length-fragment value i is_block l) in
         let d : same (s.digest (s.fragment_of value i)) (digest_at s (s.sum_of value) i) ≡ true = rw (good.digests value i is_block l) (same-refl (s.digest (s.fragment_of value i))) in
         let t : eqb (h.time + 1) 0 ≡ false = grind (arith, nat_tests) in
         rw (a, b, t, same-refl (verifier_of s value), d) refl
 
     not_kept : keeps (kept_of c i h) next.stamp ≡ false
-    not_kept = elim (cases_bool (keeps (kept_of c i h) next.stamp)) [ inl e ↦ absurd (let m = time_at_least (kept_of c i h) next.stamp e in omega (arith, m, time_is)) | inr e ↦ e ]
+    not_kept = elim (cases_Bool (keeps (kept_of c i h) next.stamp)) [ inl e ↦ absurd (let m = time_at_least (kept_of c i h) next.stamp e in omega (arith, m, time_is)) | inr e ↦ e ]
 
     pub is_added : added_in s i (kept_of c i h) (Write next) ≡ Some next
     is_added = rw (not_refused, not_kept) refl

@@ -2,7 +2,7 @@ mod Below
 mod Keeping
 mod Phases
 mod Deciding
-mod Holding
+pub mod Holding
 mod Operations
 mod Splits
 mod Values

@@ -8,7 +8,7 @@ use Rattle.std.proofs.lemmas.List.{ext_get_or, get_or-replicate, length-replicat
 use Rattle.std.proofs.lemmas.List.FromFn.{get_or-map-range_with_len, length-map-range_with_len, map-range_with_len_more}
 use Rattle.quorum_rules.specs.Limits.{Numbers, wait_of}
 use Rattle.wire_forms.specs.declared.message.Message.{Message}
-use Rattle.protocol.specs.Messages.{Reply, Tag}
+use Rattle.protocol.specs.Messages.{Reply, Tag, with_reply}
 use Rattle.protocol.specs.Count.{count, collect}
 use Rattle.protocol.specs.Operations.{Decision, is_of_kind, is_answered, answered, outstanding, decide}
 use Rattle.protocol.specs.Operations.Decision.{GoesOn, Ends}
@@ -16,14 +16,14 @@ use Rattle.protocol.specs.Instance.{setting}
 use Rattle.protocol.specs.Views.{task_after}
 use Rattle.protocol.specs.Seen.{SeenTask, Hearing, task_at, answers_of, by_decision, is_counted, seen_counted, after_counting, hearing}
 use Rattle.protocol.specs.Seen.Hearing.{Ignored, Counted, Begins, Ended}
-use Rattle.protocol.proofs.Tests.{eqb_self}
 use Rattle.node_core.specs.Seen.{SeenNode}
 use Rattle.client_core.specs.Clients.{ClientView, IsHeard, with_task, hears}
 use Rattle.client_core.specs.declared.heard.Heard.{Heard}
 use Rattle.client_core.specs.declared.heard.Heard.TheVariants.{Unchanged, More, Send, Ended as EndedWith}
 use Rattle.node_device.specs.Held.{node_at}
-use Rattle.node_device.specs.Phases.{answer_to, answer_of, answer_below, asked, node_after, HaveAnswered, phase_end, heard_of, IsAsking, HasAsked, HasMet}
+use Rattle.node_device.specs.Phases.{answer_of, answer_below, asked, node_after, HaveAnswered, phase_end, heard_of, IsAsking, HasAsked, HasMet}
 use Rattle.node_device.proofs.Below.{count_below}
+use Rattle.lists.proofs.Tests.{eqb_self}
 
 -- what is collected of all numbers is a list of what they give
 pub collect_all : {A : Type 0} (n : ℕ) (f : ℕ → A) → collect n (λ i. Some (f i)) ≡ map f (range_with_len 0 n)
@@ -155,7 +155,7 @@ module _ (nodes : List SeenNode) (client : ClientView) (t : SeenTask) (sent : Li
     node_is = under.answered.rest k (omega arith)
 
     abbrev answer : Message
-    answer = answer_to m (answer_of c nodes t k)
+    answer = with_reply m (answer_of c nodes t k)
 
     met_is : (new ≡ slice_set now k (node_after c nodes t k)) × IsHeard (asked_by k) after answer heard
     met_is = let r = rw (is, under.is, node_is) at met in rw is r

@@ -6,7 +6,7 @@ use Rattle.quorum_rules.specs.Limits.{Numbers, wait_of}
 use Rattle.wire_forms.specs.declared.message.Message.{Message}
 use Rattle.wire_forms.specs.declared.message.Body.{Body}
 use Rattle.wire_forms.specs.declared.message.Body.TheVariants.{Ask as Asks, Answer as Answers}
-use Rattle.protocol.specs.Messages.{Ask, Reply}
+use Rattle.protocol.specs.Messages.{Ask, Reply, with_reply}
 use Rattle.protocol.specs.Operations.{is_of_kind, ask_of, decide, mail}
 use Rattle.protocol.specs.Instance.{setting}
 use Rattle.protocol.specs.Views.{task_after}
@@ -18,21 +18,12 @@ use Rattle.client_core.specs.declared.heard.Heard.{Heard}
 use Rattle.client_core.specs.declared.heard.Heard.TheVariants.{Unchanged, More, Send, Ended as EndedWith}
 use Rattle.node_device.specs.Held.{node_at}
 
--- the node's answer to a message
-abbrev pub answer_to : Message → Reply → Message
-answer_to m reply = record { client = m.client; node = m.node; tag = m.tag; body = Answers reply }
-
 -- the node of the message's number has answered it, and the client has heard the answer
 abbrev pub HasMet : List SeenNode → List SeenNode → ClientView → ClientView → Message → Heard → Body → Type 0
 HasMet nodes new client after m heard (Asks ask) =
     let node = node_at client.config nodes m.node in
-    (new ≡ slice_set nodes m.node (with_versions node ask.block (after_of node ask))) × IsHeard client after (answer_to m (reply_of node ask)) heard
+    (new ≡ slice_set nodes m.node (with_versions node ask.block (after_of node ask))) × IsHeard client after (with_reply m (reply_of node ask)) heard
 HasMet nodes new client after m heard (Answers reply) = ⊥
-
--- the body is an ask
-abbrev pub IsAsk : Body → Type 0
-IsAsk (Asks ask) = Unit {0}
-IsAsk (Answers reply) = ⊥
 
 module _ (c : Numbers) (nodes : List SeenNode) (t : SeenTask) where
   -- what the phase asks of node i

@@ -1,7 +1,8 @@
 //! The phases of one client's operations, on nodes that answer at once.
 ghost use Rattle.std.specs.Prelude.{◌≡◌, ◌<◌, ◌-◌, ◌^◌, length, IfOk, Some};
 ghost use Rattle.protocol.specs.Seen.{SeenTask, phase_of};
-ghost use Rattle.node_device.specs.Phases.{HasMet, IsAsk, IsAsking, HasAsked};
+ghost use Rattle.protocol.specs.Messages.{IsAsk};
+ghost use Rattle.node_device.specs.Phases.{HasMet, IsAsking, HasAsked};
 
 use client_core::{Client, Heard};
 use lists::NoMemory;

@@ -8,9 +8,9 @@ use Rattle.std.specs.List.{Contains, filter}
 use Rattle.std.proofs.lemmas.List.{map-append}
 use Rattle.std.proofs.lemmas.List.Elements.{filter-append, Contains-append_left, Contains-append_right, Contains-append_cases, Contains-push, Contains-push_cases}
 use Rattle.crews.specs.Crews.{Beside}
-use Rattle.crews.proofs.Places.{at_place, same_at, within, get_set, left_of}
+use Rattle.crews.proofs.Places.{same_at, get_set, left_of}
 use Rattle.inboxes.specs.Sides.{put_more, took, took_in}
-use Rattle.inboxes.proofs.SenderWords.{true_here, false_here}
+use Rattle.inboxes.proofs.SenderWords.{true_here, false_here, same_or_not}
 use Rattle.journals.specs.declared.desk.DeskAct.{DeskAct}
 use Rattle.journals.specs.declared.node.NodeEntry.{NodeEntry}
 use Rattle.journals.specs.Steps.{side}
@@ -30,12 +30,7 @@ use Rattle.client_desks.proofs.Desking.{act_side, late_side, told_reply}
 use Rattle.node_serving.specs.declared.asked.Asked.{Asked}
 use Rattle.node_serving.specs.declared.answered.Answered.{Answered}
 use Rattle.node_serving.specs.Workers.{AnswerPutter, WorkerView, clients_of, CanServe, IsPutterTo, Tells, WasTold, TellsOf, IsSamePutter, HasAnswered, HasMet, asks_from, asks_told, AreAnswered}
-
--- the items of a list of which one was replaced
-set_here : {A : Type 0} (xs : List A) (k : ℕ) (x y : A) → slice_get xs k ≡ Some x → slice_get (slice_set xs k y) k ≡ Some y
-set_here [] k x y at = absurd cc
-set_here (z ∷ xs) zero x y at = refl
-set_here (z ∷ xs) (suc k) x y at = set_here xs k x y at
+use Rattle.lists.proofs.Members.{set_at, at_place, within}
 
 set_elsewhere : {A : Type 0} (xs : List A) (k i : ℕ) (x y : A) → i ≢ k → slice_get xs i ≡ Some x → slice_get (slice_set xs k y) i ≡ Some x
 set_elsewhere [] k i x y apart at = absurd cc
@@ -43,16 +38,6 @@ set_elsewhere (z ∷ xs) zero zero x y apart at = absurd (apart refl)
 set_elsewhere (z ∷ xs) zero (suc i) x y apart at = at
 set_elsewhere (z ∷ xs) (suc k) zero x y apart at = at
 set_elsewhere (z ∷ xs) (suc k) (suc i) x y apart at = set_elsewhere xs k i x y (λ e. apart (ap suc e)) at
-
-same_or : (i k : ℕ) → (i ≡ k) ⊎ (i ≢ k)
-same_or zero zero = inl refl
-same_or zero (suc k) = inr (λ e. omega arith)
-same_or (suc i) zero = inr (λ e. omega arith)
-same_or (suc i) (suc k) = same_suc i k (same_or i k)
-  where
-    same_suc : (i k : ℕ) → (i ≡ k) ⊎ (i ≢ k) → (suc i ≡ suc k) ⊎ (suc i ≢ suc k)
-    same_suc i k (inl h) = inl (ap suc h)
-    same_suc i k (inr h) = inr (λ e. h (omega arith))
 
 pub none_in : {A : Type 0} (xs : List A) (x : A) → xs ≡ [] → Contains xs x → ⊥
 none_in xs x none (k, lt, is) = let few = ap length none in omega (arith, lt, few)
@@ -103,7 +88,7 @@ module _ (answer_putters : List AnswerPutter) (seat : ℕ) (answer_putter : Answ
   after = slice_set answer_putters seat (put_more answer_putter a)
 
   new_answer_putter : slice_get after seat ≡ Some (put_more answer_putter a)
-  new_answer_putter = set_here answer_putters seat answer_putter (put_more answer_putter a) here
+  new_answer_putter = set_at answer_putters seat answer_putter (put_more answer_putter a) here
 
   kept_by : (clients : List ℕ) (n : NodeEntry) (w : WasTold clients answer_putters n) → (w.seat ≡ seat) ⊎ (w.seat ≢ seat) → WasTold clients after n
   kept_by clients n w (inl is) =
@@ -121,7 +106,7 @@ module _ (answer_putters : List AnswerPutter) (seat : ℕ) (answer_putter : Answ
       record { seat = w.seat; answer_putter = w.answer_putter; there = set_elsewhere answer_putters seat w.seat w.answer_putter (put_more answer_putter a) apart w.there; answer = w.answer; client = w.client; put = w.put; tells = w.tells }
 
   kept : (clients : List ℕ) (n : NodeEntry) → WasTold clients answer_putters n → WasTold clients after n
-  kept clients n w = kept_by clients n w (same_or w.seat seat)
+  kept clients n w = kept_by clients n w (same_or_not w.seat seat)
 
   told_now : (clients : List ℕ) (n : NodeEntry) → slice_get clients seat ≡ Some a.ask.client → Tells n a → WasTold clients after n
   told_now clients n client tells = record { seat = seat; answer_putter = put_more answer_putter a; there = new_answer_putter; answer = a; client = client; put = Contains-push answer_putter.put a; tells = tells }

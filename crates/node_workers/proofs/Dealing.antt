@@ -2,8 +2,9 @@
 use Rattle.std.proofs.Common.{◌≡◌, ◌≢◌, ℕ, ◌+◌, ◌≤◌, ◌<◌, List, [], ◌∷◌, ◌++◌, length, length-set, length-append, refl, sym, ap, ◌∙◌, arith, inl, inr}
 use Rattle.std.specs.declared.option.Option.TheVariants.{Some}
 use Rattle.std.specs.Prelude.{◌⊎◌, slice_get, slice_set}
-use Rattle.crews.proofs.Places.{same_at, within, get_set, get_front, get_last}
+use Rattle.crews.proofs.Places.{same_at, get_set}
 use Rattle.node_workers.specs.Hands.{AreDealt}
+use Rattle.lists.proofs.Members.{get_left, slice_get-seam, within}
 
 -- the things from this place on are dealt
 pub record AreDealtFrom {A : Type 0} (old : List (List A)) (things : List A) (hands : List (List A)) (left : List A) : Type 0 where
@@ -28,7 +29,7 @@ module _ {A : Type 0} where
 
   pub next_within : (old hands : List (List A)) (things left less : List A) (x : A) → AreDealtFrom old things hands left → left ≡ less ++ x ∷ [] → length less < length hands
   next_within old hands things left less x d is =
-      let at = d.rest (length less) x (ap (λ l. slice_get l (length less)) is ∙ get_last less x []) in
+      let at = d.rest (length less) x (ap (λ l. slice_get l (length less)) is ∙ slice_get-seam less x []) in
       let lt = within things (length less) x at in
       omega (arith, lt, d.count, d.all)
 
@@ -37,7 +38,7 @@ module _ {A : Type 0} where
     longer = ap length is ∙ length-append less (x ∷ [])
 
     own : slice_get things (length less) ≡ Some x
-    own = d.rest (length less) x (ap (λ l. slice_get l (length less)) is ∙ get_last less x [])
+    own = d.rest (length less) x (ap (λ l. slice_get l (length less)) is ∙ slice_get-seam less x [])
 
     dealt_at : (k : ℕ) (was now : List A) (y : A) → length less ≤ k → slice_get old k ≡ Some was → slice_get things k ≡ Some y → ((k ≡ length less) × (now ≡ hand ++ x ∷ [])) ⊎ ((k ≢ length less) × (slice_get hands k ≡ Some now)) → now ≡ was ++ y ∷ []
     dealt_at k was now y le a t (inl p) =
@@ -57,5 +58,5 @@ module _ {A : Type 0} where
       all = d.all;
       dealt = λ k was now y le a b t. dealt_at k was now y le a t (get_set hands (length less) k now (hand ++ x ∷ []) b);
       whole = λ k now lt b. whole_at k now lt (get_set hands (length less) k now (hand ++ x ∷ []) b);
-      rest = λ k y b. d.rest k y (ap (λ l. slice_get l k) is ∙ get_front less (x ∷ []) k y b);
+      rest = λ k y b. d.rest k y (ap (λ l. slice_get l k) is ∙ get_left less (x ∷ []) k y b);
     }

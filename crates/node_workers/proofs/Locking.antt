@@ -5,7 +5,7 @@ use Rattle.std.specs.Prelude.{◌⊎◌, All, false, slice_get}
 use Rattle.std.specs.List.{AllZip, Contains}
 use Rattle.quorum_rules.specs.Limits.{Numbers}
 use Rattle.crews.specs.Crews.{Beside}
-use Rattle.crews.proofs.Places.{place_of, contains_at, all_at, all_from, get_map, map_get}
+use Rattle.crews.proofs.Places.{all_from, get_map, map_get}
 use Rattle.event_clock.specs.Passes.{ClockId}
 use Rattle.journals.specs.declared.node.NodeEntry.{NodeEntry}
 use Rattle.journals.specs.declared.desk.DeskAct.{DeskAct}
@@ -19,6 +19,7 @@ use Rattle.phase_threads.specs.declared.duty.Seat.{Seat}
 use Rattle.phase_threads.specs.declared.phase.Left.{Left}
 use Rattle.phase_threads.specs.Phases.{MayPhase, HasPhased}
 use Rattle.phase_threads.specs.Standing.{AreCells, IsCellOf, PairsStand, HasSideIn, HasSideOn, HasWorked}
+use Rattle.lists.proofs.Members.{place_of, all_at, Contains-slice_get}
 
 pub beside_map : {A B : Type 0} (f : A → B) (xs : List A) (ys : List B) → Beside (λ i x y. y ≡ f x) xs ys → ys ≡ map f xs
 beside_map f [] [] b = refl
@@ -63,10 +64,10 @@ module _ (cells : List CellView) where
   side_again id e (inl own) = inl own
   side_again id e (inr s) =
       let place = place_of cells s.cell s.there in
-      inr (record { cell = again s.cell; there = contains_at (map again cells) place.0 (again s.cell) (get_map again cells place.0 s.cell place.1); of = s.of; stands = s.stands; number = s.number; agree = s.agree })
+      inr (record { cell = again s.cell; there = Contains-slice_get (map again cells) place.0 (again s.cell) (get_map again cells place.0 s.cell place.1); of = s.of; stands = s.stands; number = s.number; agree = s.agree })
 
   called_again : (desks : List DeskView) → PairsStand cells desks → (k : ℕ) (old d : CellView) (n : NodeEntry) (c : ℕ) (act : DeskAct) → slice_get cells k ≡ Some old → again old ≡ d → Contains d.journal n → side n.act ≡ Some (c, act) → HasSideOn desks c n.number act
-  called_again desks pairs k old d n c act at same has is = pairs.called old n c act (contains_at cells k old at) (subst (λ (x : CellView). Contains x.journal n) (sym same) has) is
+  called_again desks pairs k old d n c act at same has is = pairs.called old n c act (Contains-slice_get cells k old at) (subst (λ (x : CellView). Contains x.journal n) (sym same) has) is
 
   pairs_again : (desks : List DeskView) → PairsStand cells desks → PairsStand (map again cells) desks
   pairs_again desks pairs = record {

@@ -4,7 +4,7 @@ use Rattle.std.specs.declared.option.Option.TheVariants.{Some}
 use Rattle.std.specs.Prelude.{◌⊎◌, slice_get, All}
 use Rattle.std.proofs.lemmas.List.{reverse-append, reverse-reverse, map-append}
 use Rattle.crews.specs.Crews.{Beside}
-use Rattle.crews.proofs.Places.{at_place, same_at, within, all_at, get_snoc, get_last}
+use Rattle.crews.proofs.Places.{same_at, get_snoc}
 use Rattle.event_clock.specs.Passes.{ClockId}
 use Rattle.inboxes.specs.Sides.{Putting, Taking, new_putter}
 use Rattle.node_serving.specs.declared.answered.Answered.{Answered}
@@ -17,6 +17,7 @@ use Rattle.node_workers.specs.declared.crew.Post.TheVariants.{Client, Node}
 use Rattle.node_workers.specs.Posts.{nodes_in, clients_in}
 use Rattle.node_workers.specs.Hands.{AreDealt, AreNewPutters, AreSpread}
 use Rattle.node_workers.specs.Opened.{IsAnswerBox}
+use Rattle.lists.proofs.Members.{all_at, slice_get-seam, at_place, within}
 
 -- each item of the second list is so to the one of the first list at its place
 pub record UpTo {X Y : Type 0} (R : ℕ → X → Y → Type 0) (xs : List X) (ys : List Y) : Type 0 where
@@ -55,7 +56,7 @@ module _ {A : Type 0} where
   next_left all rest less x k l is =
       let whole : all ≡ l.first ++ x ∷ reverse less = l.is ∙ ap (λ r. l.first ++ r) (ap reverse is ∙ turned less x) in (
         record { first = l.first ++ x ∷ []; is = whole ∙ sym (append_assoc l.first (x ∷ []) (reverse less)); count = length-append l.first (x ∷ []) ∙ ap (λ n. n + 1) l.count },
-        ap (λ n. slice_get all n) (sym l.count) ∙ ap (λ xs. slice_get xs (length l.first)) whole ∙ get_last l.first x (reverse less),
+        ap (λ n. slice_get all n) (sym l.count) ∙ ap (λ xs. slice_get xs (length l.first)) whole ∙ slice_get-seam l.first x (reverse less),
       )
 
   pub some_left : (all rest : List A) (k : ℕ) → AreLeft all rest k → k < length all → rest ≡ [] → ⊥
@@ -133,11 +134,11 @@ module _ {T : Type 0} where
 
   pub client_at : (all done rest : List (Post T)) (p : Post T) (keys : KeysView) (duty : T) → all ≡ done ++ p ∷ rest → p ≡ Client keys duty → slice_get (clients_in all) (length (clients_in done)) ≡ Some (keys, duty)
   client_at all done rest p keys duty list is =
-      ap (λ l. slice_get l (length (clients_in done))) (ap (λ l. clients_in l) (list ∙ ap (λ q. done ++ q ∷ rest) is) ∙ clients-append done (Client keys duty ∷ rest)) ∙ get_last (clients_in done) (keys, duty) (clients_in rest)
+      ap (λ l. slice_get l (length (clients_in done))) (ap (λ l. clients_in l) (list ∙ ap (λ q. done ++ q ∷ rest) is) ∙ clients-append done (Client keys duty ∷ rest)) ∙ slice_get-seam (clients_in done) (keys, duty) (clients_in rest)
 
 -- what stands at the place up to which a list was walked
 pub here_of : {A : Type 0} (all done rest : List A) (x : A) (n : ℕ) → all ≡ done ++ x ∷ rest → n ≡ length done → slice_get all n ≡ Some x
-here_of all done rest x n is count = ap (slice_get all) count ∙ ap (λ l. slice_get l (length done)) is ∙ get_last done x rest
+here_of all done rest x n is count = ap (slice_get all) count ∙ ap (λ l. slice_get l (length done)) is ∙ slice_get-seam done x rest
 
 pub map_more : {A B : Type 0} (f : A → B) (xs l : List A) (x : A) (ys zs : List B) (y : B) → ys ≡ map f xs → y ≡ f x → l ≡ xs ++ x ∷ [] → zs ≡ ys ++ y ∷ [] → zs ≡ map f l
 map_more f xs l x ys zs y are is more grew = grew ∙ (λ j. are j ++ is j ∷ []) ∙ sym (map-append f xs (x ∷ [])) ∙ ap (map f) (sym more)

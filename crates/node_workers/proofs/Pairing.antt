@@ -2,8 +2,6 @@
 use Rattle.std.proofs.Common.{◌≡◌, ℕ, zero, suc, ◌<◌, List, [], ◌∷◌, ◌++◌, length, map, refl, sym, ap, subst, ◌∙◌, arith, inl, inr, Bool, true, false, true≢false, cond}
 use Rattle.std.specs.declared.option.Option.{Option}
 use Rattle.std.specs.declared.option.Option.TheVariants.{Some}
-use Rattle.std.specs.declared.result.Result.{Result}
-use Rattle.std.specs.declared.result.Result.TheVariants.{Ok, Err}
 use Rattle.std.specs.Prelude.{◌⊎◌, slice_get, nat_eq, All}
 use Rattle.std.specs.List.{Contains, filter}
 use Rattle.std.proofs.lemmas.List.Elements.{Contains-append_left, Contains-append_right, Contains-append_cases}
@@ -15,7 +13,6 @@ use Rattle.journals.specs.declared.desk.DeskAct.{DeskAct}
 use Rattle.journals.specs.declared.desk.DeskAct.TheVariants.{Call}
 use Rattle.journals.specs.declared.desk.DeskEntry.{DeskEntry}
 use Rattle.journals.specs.Steps.{side, IsOwn}
-use Rattle.locked_nodes.specs.declared.answers.CellRefusal.{CellRefusal}
 use Rattle.locked_nodes.specs.declared.answers.Told.{Told}
 use Rattle.locked_nodes.specs.Cells.{CellView, rechartered, number_of}
 use Rattle.client_desks.specs.Desks.{DeskView, desk_entry}
@@ -28,7 +25,10 @@ use Rattle.desk_keys.specs.Keys.{AgreeByMail, HasAnswer, call_told}
 use Rattle.node_serving.specs.Workers.{AnswerPutter, Tells, TellsOf, WasTold, HasAnswered}
 use Rattle.node_serving.proofs.Answering.{none_in}
 use Rattle.phase_threads.specs.Standing.{HasSideIn, HasSideOn, PairsStand}
-use Rattle.crews.proofs.Places.{at_place, same_at, place_of, contains_at, within, all_at, right_of, left_of}
+use Rattle.crews.proofs.Places.{same_at, right_of, left_of}
+use Rattle.lists.proofs.Members.{place_of, all_at, at_place, within, Contains-slice_get}
+use Rattle.inboxes.proofs.SenderWords.{true_here}
+use Rattle.desk_keys.proofs.Mailing.{same_told}
 
 -- what was taken of a sender is among the sender's items, and the other way round
 module _ {T : Type 0} where
@@ -41,13 +41,6 @@ module _ {T : Type 0} where
 
 eq_of : (q p : ℕ) → nat_eq q p ≡ true → q ≡ p
 eq_of q p is = elim (eqb_tells q p) [ inl same ↦ same.1 | inr not ↦ absurd (true≢false (sym is ∙ not.0)) ]
-
-eq_same : (p : ℕ) → nat_eq p p ≡ true
-eq_same p = elim (eqb_tells p p) [ inl same ↦ same.0 | inr not ↦ absurd (not.1 refl) ]
-
-same_ok : (r : Result Told CellRefusal) (x y : Told) → r ≡ Ok x → r ≡ Ok y → x ≡ y
-same_ok (Ok z) x y a b = let e : z ≡ x = cc in let f : z ≡ y = cc in sym e ∙ f
-same_ok (Err z) x y a b = absurd cc
 
 module _ {T : Type 0} where
   taken_more : (p q : ℕ) (y : T) (xs : List (ℕ × T)) (x : T) → Contains (items_from p xs) x ⊎ ((q ≡ p) × (y ≡ x)) → (Contains (items_from p xs) x → Contains xs (p, x)) → Contains ((q, y) ∷ xs) (p, x)
@@ -71,7 +64,7 @@ module _ {T : Type 0} where
   put_on false q y fs x has = has
 
   put_first : (p q : ℕ) (y : T) (xs : List (ℕ × T)) (x : T) → (q ≡ p) → (y ≡ x) → Contains (items_from p ((q, y) ∷ xs)) x
-  put_first p q y xs x num same = subst (λ z. Contains (items_from p ((q, y) ∷ xs)) z) same (put_here (nat_eq q p) q y (filter (λ (i : ℕ × T). nat_eq i.0 p) xs) (ap (λ n. nat_eq n p) num ∙ eq_same p))
+  put_first p q y xs x num same = subst (λ z. Contains (items_from p ((q, y) ∷ xs)) z) same (put_here (nat_eq q p) q y (filter (λ (i : ℕ × T). nat_eq i.0 p) xs) (ap (λ n. nat_eq n p) num ∙ true_here p))
 
   pub of_taken : (p : ℕ) (xs : List (ℕ × T)) (x : T) → Contains xs (p, x) → Contains (items_from p xs) x
   of_taken p [] x has = absurd (none_in [] (p, x) refl has)
@@ -143,7 +136,7 @@ module _ (clients : List ℕ) (cells now : List CellView) (rows : List (List Ans
 
   side_heard : (k c n : ℕ) (act : DeskAct) (s : HasSideOn olds c n act) (mail : ByMail) (new : DeskView) → slice_get olds k ≡ Some s.desk → slice_get news k ≡ Some new → IsHeard clients olds rows k mail new → HasSideOn news c n act
   side_heard k c n act s mail new was at heard =
-      side_later c n act s.desk new (contains_at news k new at) (subst (λ (d : DeskView). IsLater d new) (same_at olds k heard.old s.desk heard.there was) heard.later) s.client s.stands
+      side_later c n act s.desk new (Contains-slice_get news k new at) (subst (λ (d : DeskView). IsLater d new) (same_at olds k heard.old s.desk heard.there was) heard.later) s.client s.stands
 
   on_later_at : (k c n : ℕ) (act : DeskAct) (s : HasSideOn olds c n act) → slice_get olds k ≡ Some s.desk → HasSideOn news c n act
   on_later_at k c n act s was =
@@ -158,7 +151,7 @@ module _ (clients : List ℕ) (cells now : List CellView) (rows : List (List Ans
   side_served : (k c : ℕ) (e : DeskEntry) (s : HasSideIn cells c e) (row : List AnswerPutter) (new : CellView) → slice_get cells k ≡ Some s.cell → slice_get now k ≡ Some new → IsServed clients cells k row new → HasSideIn now c e
   side_served k c e s row new was at served = record {
     cell = new;
-    there = contains_at now k new at;
+    there = Contains-slice_get now k new at;
     of = s.of;
     stands = stays_in s.of served.old.journal served.answered.more new.journal served.answered.grew (subst (λ (x : CellView). Contains x.journal s.of) (sym (same_at cells k served.old s.cell served.there was)) s.stands);
     number = s.number;
@@ -181,7 +174,7 @@ module _ (clients : List ℕ) (cells now : List CellView) (rows : List (List Ans
       let both = told_as n w.answer w.tells c act desk.entries is (heard.agree.heard w.answer_putter.number w.answer w.tells.told (taken_of w.answer_putter.number (took mail.answers) w.answer put) w.tells.is) in
       record {
         desk = desk;
-        there = contains_at news w.seat desk at;
+        there = Contains-slice_get news w.seat desk at;
         client = same_at clients w.seat desk.id w.answer.ask.client heard.client w.client ∙ both.0;
         stands = both.1;
       }
@@ -194,7 +187,7 @@ module _ (clients : List ℕ) (cells now : List CellView) (rows : List (List Ans
 
   called_of : (k : ℕ) (row : List AnswerPutter) (cell : CellView) (served : IsServed clients cells k row cell) (n : NodeEntry) (c : ℕ) (act : DeskAct) → PairsStand cells olds → slice_get rows k ≡ Some row → side n.act ≡ Some (c, act)
       → Contains served.old.journal n ⊎ Contains served.answered.more n → HasSideOn news c n.number act
-  called_of k row cell served n c act pairs here is (inl has) = on_later c n.number act (pairs.called served.old n c act (contains_at cells k served.old served.there) has is)
+  called_of k row cell served n c act pairs here is (inl has) = on_later c n.number act (pairs.called served.old n c act (Contains-slice_get cells k served.old served.there) has is)
   called_of k row cell served n c act pairs here is (inr has) = told_on k row n c act here is (served.answered.told n c act has is)
 
   called_at : (k : ℕ) (row : List AnswerPutter) (cell : CellView) → IsServed clients cells k row cell → (n : NodeEntry) (c : ℕ) (act : DeskAct) → PairsStand cells olds → slice_get rows k ≡ Some row → Contains cell.journal n → side n.act ≡ Some (c, act) → HasSideOn news c n.number act
@@ -210,11 +203,11 @@ module _ (clients : List ℕ) (cells now : List CellView) (rows : List (List Ans
   heard_of : (seat : ℕ) (mail : ByMail) (d : DeskView) (e : DeskEntry) → IsHeard clients olds rows seat mail d → (a : HasAnswer (took mail.answers) e) (row : List AnswerPutter) (cell : CellView) → slice_get now a.from ≡ Some cell
       → (served : IsServed clients cells a.from row cell) → TellsOf clients served.answered.more seat a.answer → HasSideIn now d.id e
   heard_of seat mail d e heard a row cell at served of =
-      let told : of.tells.told ≡ a.told = same_ok a.answer.told of.tells.told a.told of.tells.is a.tells in
+      let told : of.tells.told ≡ a.told = same_told a.answer.told of.tells.told a.told of.tells.is a.tells in
       let client : a.answer.ask.client ≡ d.id = same_at clients seat a.answer.ask.client d.id of.client heard.client in
       record {
         cell = cell;
-        there = contains_at now a.from cell at;
+        there = Contains-slice_get now a.from cell at;
         of = of.entry;
         stands = comes_in of.entry served.old.journal served.answered.more cell.journal served.answered.grew of.there;
         number = of.tells.number ∙ ap number_of told ∙ sym (ap (λ (x : DeskEntry). x.number) a.is);
@@ -254,7 +247,7 @@ module _ (clients : List ℕ) (cells now : List CellView) (rows : List (List Ans
   answered_by : PairsStand cells olds → (seat : ℕ) (mail : ByMail) (d : DeskView) (e : DeskEntry) → IsHeard clients olds rows seat mail d → IsOwn e.act ⊎ (Contains mail.answers.inbox.place.began.value.entries e ⊎ HasAnswer (took mail.answers) e) → IsOwn e.act ⊎ HasSideIn now d.id e
   answered_by pairs seat mail d e heard (inl own) = inl own
   answered_by pairs seat mail d e heard (inr (inl before)) =
-      old_in d heard.old e (sym heard.later.id) (pairs.answered heard.old e (contains_at olds seat heard.old heard.there) (subst (λ (l : List DeskEntry). Contains l e) heard.began before))
+      old_in d heard.old e (sym heard.later.id) (pairs.answered heard.old e (Contains-slice_get olds seat heard.old heard.there) (subst (λ (l : List DeskEntry). Contains l e) heard.began before))
   answered_by pairs seat mail d e heard (inr (inr a)) = inr (heard_in seat mail d e heard a)
 
   answered_at : PairsStand cells olds → (seat : ℕ) (mail : ByMail) (d : DeskView) (e : DeskEntry) → IsHeard clients olds rows seat mail d → Contains d.entries e → IsOwn e.act ⊎ HasSideIn now d.id e

@@ -1,20 +1,16 @@
 -- Inboxes that are settled with one putter after another, the last seat's first.
 use Rattle.std.proofs.Common.{◌≡◌, ℕ, zero, suc, ◌≤◌, ◌<◌, List, [], ◌∷◌, ◌++◌, length, length-append, refl, sym, ap, subst, ◌∙◌, arith, inl, inr}
 use Rattle.std.specs.declared.option.Option.TheVariants.{Some}
-use Rattle.std.specs.Prelude.{◌⊎◌, slice_get, slice_set}
+use Rattle.std.specs.Prelude.{◌⊎◌, slice_get}
 use Rattle.crews.specs.Crews.{Beside}
-use Rattle.crews.proofs.Places.{same_at, within, get_front, get_last}
+use Rattle.crews.proofs.Places.{same_at}
 use Rattle.inboxes.specs.Sides.{Taking}
 use Rattle.node_serving.specs.declared.answered.Answered.{Answered}
 use Rattle.node_serving.specs.declared.answered.ClientPlace.{ClientPlace}
 use Rattle.desk_keys.specs.declared.mail.ByMail.{ByMail}
 use Rattle.node_serving.specs.Workers.{AnswerPutter}
 use Rattle.node_workers.specs.Closed.{IsOfMail, HasAllOf}
-
-pub set_same : {A : Type 0} (xs : List A) (k : ℕ) (x : A) → slice_get xs k ≡ Some x → slice_set xs k x ≡ xs
-set_same [] k x at = refl
-set_same (y ∷ xs) zero x at = let e : y ≡ x = cc in ap (λ z. z ∷ xs) (sym e)
-set_same (y ∷ xs) (suc k) x at = ap (λ l. y ∷ l) (set_same xs k x at)
+use Rattle.lists.proofs.Members.{get_left, slice_get-seam, within}
 
 -- a way by mail, with this taker of its answers
 abbrev pub with_answers : ByMail → Taking Answered ClientPlace → ByMail
@@ -36,7 +32,7 @@ all_settled mails row left own s none = record { count = own.count; each = λ k 
 
 module _ (mails : List ByMail) (row left less : List AnswerPutter) (x : AnswerPutter) (own : Beside IsOfMail mails row) (s : AreSettledFrom mails row left) (is : left ≡ less ++ x ∷ []) where
   here : slice_get row (length less) ≡ Some x
-  here = s.rest (length less) x (ap (λ l. slice_get l (length less)) is ∙ get_last less x [])
+  here = s.rest (length less) x (ap (λ l. slice_get l (length less)) is ∙ slice_get-seam less x [])
 
   pub next_within : length less < length mails
   next_within = let lt = within row (length less) x here in omega (arith, lt, own.count)
@@ -67,6 +63,6 @@ module _ (mails : List ByMail) (row left less : List AnswerPutter) (x : AnswerPu
 
     pub settled_more : AreSettledFrom mails row less
     settled_more = record {
-      rest = λ k y b. s.rest k y (ap (λ l. slice_get l k) is ∙ get_front less (x ∷ []) k y b);
+      rest = λ k y b. s.rest k y (ap (λ l. slice_get l k) is ∙ get_left less (x ∷ []) k y b);
       done = λ k n y le there of. done_at k n y there of (split k le);
     }

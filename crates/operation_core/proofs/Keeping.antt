@@ -18,6 +18,7 @@ use Rattle.operation_core.specs.declared.stage.Stage.TheVariants.{Times, Version
 use Rattle.operation_core.specs.Stages.{stage_of, FitsStage}
 use Rattle.operation_core.specs.Counting.{answer_at, task_in, IsOperation}
 use Rattle.operation_core.proofs.Counts.{count_one_more, count_none, count_most}
+use Rattle.protocol.proofs.Tests.{is_ltb}
 
 -- an operation that no node has answered
 pub no_answer : (c : Numbers) (phase rounds : ℕ) (stage : Stage) → IsValid c → rounds ≤ phase → FitsStage c stage → (answers : List (Option Reply)) → answers ≡ replicate c.n None
@@ -68,9 +69,6 @@ not_answered : (o : Option Reply) → not (is_answered o) ≡ true → o ≡ Non
 not_answered None e = refl
 not_answered (Some reply) e = absurd (cc)
 
-below : (i n : ℕ) → ltb i n ≡ true → i < n
-below i n e = grind (arith, nat_tests)
-
 turned : (a b : ℕ) → leb b a ≡ not (ltb a b)
 turned a b = grind (arith, nat_tests)
 
@@ -80,7 +78,7 @@ counts_new c t node tag reply e =
     let parts = both_true ((tag.op == t.op) && (tag.phase == t.phase) && ltb node c.n && is_of_kind t.stage reply) (not (is_answered (answers_of t node))) e in
     let kind = both_true ((tag.op == t.op) && (tag.phase == t.phase) && ltb node c.n) (is_of_kind t.stage reply) parts.0 in
     let there = both_true ((tag.op == t.op) && (tag.phase == t.phase)) (ltb node c.n) kind.0 in
-    (below node c.n there.1, not_answered (answers_of t node) parts.1)
+    (is_ltb node c.n there.1, not_answered (answers_of t node) parts.1)
 
 module _ (c : Numbers) (number : ℕ) (op : Op) (phase rounds : ℕ) (answers : List (Option Reply)) (heard : ℕ) (node : ℕ) (tag : Tag) (reply : Reply) where
   pub counts_inside : (stage : Option Stage) → counts_of (setting c) (task_in number op phase rounds stage answers) node tag reply ≡ true → (node < c.n) × (answer_at answers node ≡ None)

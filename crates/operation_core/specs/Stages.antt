@@ -1,7 +1,7 @@
 -- What a phase asks for, as the code says it, and what is stored.
 use Rattle.std.specs.Prelude.{◌≡◌, ℕ, [], slice_index_or}
 use Rattle.gf_field.specs.Fragments.{fragments_of}
-use Rattle.block_rows.specs.Sums.{sum_of}
+use Rattle.ida_code.specs.Sums.{sum_of}
 use Rattle.quorum_rules.specs.Limits.{Numbers}
 use Rattle.protocol.specs.Messages.{Version}
 use Rattle.protocol.specs.Operations.{Stage as ModelStage}

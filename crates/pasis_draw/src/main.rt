@@ -2,7 +2,7 @@
 //! words.
 #![tactic(auto)]
 
-use call_words::Status;
+use command_texts::Status;
 use outside_io::{StdSink, StdSource};
 use run_pictures::{PictureStatus, draw};
 use std::env;

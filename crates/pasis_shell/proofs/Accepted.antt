@@ -6,21 +6,21 @@ use Rattle.outside_io.specs.Given.{GaveExactly}
 use Rattle.line_forms.specs.declared.refusal.ScriptFault.{ScriptFault}
 use Rattle.outside_io.specs.declared.reading.TheConstants.{LIMIT}
 use Rattle.history_book.specs.declared.judging.Flaw.{Flaw}
-use Rattle.call_words.specs.Words.{words_of, IsForm, AskForPlan, AskForLoad}
+use Rattle.command_texts.specs.Words.{words_of, IsForm, AskForPlan, AskForLoad}
 use Rattle.plan_words.specs.declared.plan.Plan.{Plan}
 use Rattle.plan_words.specs.Plans.{Fits}
 use Rattle.plan_text.specs.Plans.{Spells as SpellsPlan}
 use Rattle.command_texts.specs.Texts.{Refuses, ReadsInput, AnswersFor, IsAccepted, IsRefusedFor, GivesAll}
 use Rattle.pasis_shell.specs.Calls.{Ends}
-use Rattle.call_words.proofs.Commands.{plans_only, plan_form, loads_only, load_form}
-use Rattle.call_words.proofs.Alone.{RunsPlan}
+use Rattle.command_texts.proofs.Commands.{plans_only, plan_form, loads_only, load_form}
+use Rattle.command_texts.proofs.Alone.{RunsPlan}
 use Rattle.pasis_shell.proofs.WellFormed.{plan_is_no_bad_script}
-use Rattle.call_words.specs.declared.status.Status.{Status}
-use Rattle.call_words.specs.declared.status.Status.TheVariants.{Done, Illegal, BadWords, BadScript, ReadFault, WriteFault, NoMemory, TooLong, ClockFull, BadMagic, CutRequest, TooManyRequests}
-use Rattle.call_words.specs.declared.words.Command.{Command}
-use Rattle.call_words.specs.declared.words.Command.TheVariants.{Replay, Run, Trace, Check, Sum, Soak}
-use Rattle.call_words.specs.declared.refusal.Refusal.{Refusal}
-use Rattle.call_words.specs.declared.refusal.Refusal.TheVariants as refusals
+use Rattle.command_texts.specs.declared.status.Status.{Status}
+use Rattle.command_texts.specs.declared.status.Status.TheVariants.{Done, Illegal, BadWords, BadScript, ReadFault, WriteFault, NoMemory, TooLong, ClockFull, BadMagic, CutRequest, TooManyRequests}
+use Rattle.command_texts.specs.declared.words.Command.{Command}
+use Rattle.command_texts.specs.declared.words.Command.TheVariants.{Replay, Run, Trace, Check, Sum, Soak}
+use Rattle.command_texts.specs.declared.refusal.Refusal.{Refusal}
+use Rattle.command_texts.specs.declared.refusal.Refusal.TheVariants as refusals
 
 -- what was read to the end is all that there was
 all_read : (before after : Option (List ℕ)) (input given : List ℕ) → before ≡ Some input → GivesAll before after given → given ≡ input

@@ -4,13 +4,13 @@ use Rattle.std.specs.Prelude.{Option}
 use Rattle.std.specs.declared.option.Option.TheVariants.{None, Some}
 use Rattle.outside_io.specs.Written.{Adds, AllFlushed, TakesPrefix}
 use Rattle.history_book.specs.declared.judging.Flaw.{Flaw}
-use Rattle.call_words.specs.Words.{words_of}
+use Rattle.command_texts.specs.Words.{words_of}
 use Rattle.command_texts.specs.Texts.{AnswersFor}
 use Rattle.pasis_shell.specs.Calls.{StopsFor, Ends}
-use Rattle.call_words.specs.Statuses.{status_of_flaw}
-use Rattle.call_words.specs.declared.words.Command.{Command}
-use Rattle.call_words.specs.declared.status.Status.{Status}
-use Rattle.call_words.specs.declared.status.Status.TheVariants.{Done, Illegal, BadWords, BadScript, ReadFault, WriteFault, NoMemory, TooLong, ClockFull, BadMagic, CutRequest, TooManyRequests}
+use Rattle.command_texts.specs.Statuses.{status_of_flaw}
+use Rattle.command_texts.specs.declared.words.Command.{Command}
+use Rattle.command_texts.specs.declared.status.Status.{Status}
+use Rattle.command_texts.specs.declared.status.Status.TheVariants.{Done, Illegal, BadWords, BadScript, ReadFault, WriteFault, NoMemory, TooLong, ClockFull, BadMagic, CutRequest, TooManyRequests}
 
 module _ (command : Command) (left left_after taken taken_after : Option (List ℕ)) (flushed flushed_after : ℕ) where
   -- without a text

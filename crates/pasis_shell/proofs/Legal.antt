@@ -3,11 +3,11 @@ use Rattle.std.proofs.Common.{◌≡◌, ℕ, List, refl, sym, subst, ◌∙◌}
 use Rattle.std.specs.Prelude.{Option}
 use Rattle.std.specs.declared.option.Option.TheVariants.{None, Some}
 use Rattle.protocol.specs.History.{NoClash}
-use Rattle.history_entries.specs.declared.entry.Entry.{Entry}
+use Rattle.history_making.specs.declared.entry.Entry.{Entry}
 use Rattle.history_book.specs.declared.judging.Flaw.{Flaw}
-use Rattle.history_entries.specs.Books.{Book}
+use Rattle.history_making.specs.Books.{Book}
 use Rattle.history_book.specs.Judging.{IsLegal, IsInTime}
-use Rattle.history_texts.proofs.PrintedReports.{one_report}
+use Rattle.history_book.proofs.PrintedReports.{one_report}
 use Rattle.command_texts.specs.Replays.{cluster_of, Replays}
 use Rattle.command_texts.specs.Verdicts.{IsVerdict, Judges}
 

@@ -9,11 +9,11 @@ use Rattle.plan_words.specs.Plans.{Fits}
 use Rattle.plan_text.specs.Plans.{Spells, plan_script}
 use Rattle.event_clock.specs.declared.refusal.RunRefusal.{RunRefusal}
 use Rattle.event_clock.specs.declared.refusal.RunRefusal.TheVariants as runs
-use Rattle.call_words.specs.declared.words.Serving.{Serving}
-use Rattle.call_words.specs.declared.words.Command.TheVariants.{Run, Trace, Soak}
-use Rattle.call_words.specs.Statuses.{refusal_of_run}
+use Rattle.command_texts.specs.declared.words.Serving.{Serving}
+use Rattle.command_texts.specs.declared.words.Command.TheVariants.{Run, Trace, Soak}
+use Rattle.command_texts.specs.Statuses.{refusal_of_run}
 use Rattle.command_texts.specs.PlanRuns.{IsPlan}
-use Rattle.call_words.specs.declared.refusal.Refusal.{Refusal}
+use Rattle.command_texts.specs.declared.refusal.Refusal.{Refusal}
 use Rattle.command_texts.specs.Texts.{Refuses}
 
 -- the plan that was read is the input's

@@ -2,14 +2,14 @@
 use Rattle.std.proofs.Common.{◌≡◌, ◌≢◌, ℕ, ◌*◌, List, replicate, Option, Result, Ok, Err, OnOk, IfErr}
 use Rattle.quorum_rules.specs.Limits.{Numbers}
 use Rattle.outside_io.specs.Written.{AllFlushed}
-use Rattle.nbd_words.specs.Replies.{greeting}
+use Rattle.nbd_front.specs.Replies.{greeting}
 use Rattle.nbd_front.specs.Sessions.{IsSession}
 use Rattle.nbd_front.specs.declared.ending.Served.{Served}
 use Rattle.nbd_front.specs.declared.ending.Served.TheVariants.{Over}
 use Rattle.nbd_front.specs.declared.ending.SessionEnd.{SessionEnd}
 use Rattle.nbd_front.specs.declared.ending.SessionEnd.TheVariants as ends
-use Rattle.call_words.specs.Statuses.{status_of_session}
-use Rattle.call_words.specs.declared.status.Status.{Status}
+use Rattle.command_texts.specs.Statuses.{status_of_session}
+use Rattle.command_texts.specs.declared.status.Status.{Status}
 use Rattle.pasis_shell.specs.Sessions.{Serves}
 
 module _ (c : Numbers) (left left_after taken taken_after : Option (List ℕ)) (flushed_after : ℕ) (status : Status) where

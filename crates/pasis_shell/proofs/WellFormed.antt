@@ -3,7 +3,7 @@ use Rattle.std.proofs.Common.{◌≡◌, ℕ, ◌+◌, ◌-◌, List, [], ◌∷
 use Rattle.std.specs.declared.option.Option.TheVariants.{None, Some}
 use Rattle.quorum_rules.specs.Limits.{Numbers}
 use Rattle.wire_forms.specs.Liars.{Liars}
-use Rattle.line_forms.specs.Texts.{Grammar, IsFault, IsFaultless, cause_after}
+use Rattle.line_forms.specs.Texts.{IsFault}
 use Rattle.line_forms.specs.declared.cause.Cause.{Cause}
 use Rattle.line_forms.specs.declared.refusal.ScriptFault.{ScriptFault}
 use Rattle.event_lines.specs.declared.line.ReplayLine.{ReplayLine}
@@ -13,22 +13,23 @@ use Rattle.script_text.specs.Sum.{IsSum, sum_text, sum_script}
 use Rattle.script_text.proofs.ReplayLaws.{replay_accepted, one_replay}
 use Rattle.script_text.proofs.SumLaws.{sum_accepted}
 use Rattle.script_run.specs.Performing.{CommandQueues, Performs, LeadsTo, StopsAt, cause_of, after_line, start_queues}
-use Rattle.history_entries.specs.Books.{Book}
-use Rattle.history_texts.specs.Reports.{report_text}
-use Rattle.history_texts.specs.ReportTexts.{IsReport, report}
-use Rattle.history_texts.proofs.PrintedReports.{report_accepted}
+use Rattle.history_making.specs.Books.{Book}
+use Rattle.history_book.specs.Reports.{report_text}
+use Rattle.history_book.specs.ReportTexts.{IsReport, report}
+use Rattle.history_book.proofs.PrintedReports.{report_accepted}
 use Rattle.plan_words.specs.declared.plan.Plan.{Plan}
 use Rattle.plan_words.specs.Plans.{Fits}
 use Rattle.plan_text.specs.Plans.{Spells as PlanSpells, plan_script}
 use Rattle.plan_text.proofs.PlanLaws.{plan_accepted}
-use Rattle.call_words.specs.Words.{words_of}
+use Rattle.command_texts.specs.Words.{words_of}
 use Rattle.command_texts.specs.Replays.{cluster_of, Stops}
 use Rattle.command_texts.specs.Texts.{HasFault, IsAccepted, RunsIt, Refuses}
-use Rattle.call_words.proofs.Alone.{replay_alone, check_alone, sum_alone}
-use Rattle.call_words.specs.declared.words.Command.{Command}
-use Rattle.call_words.specs.declared.words.Command.TheVariants.{Replay, Check, Sum}
-use Rattle.call_words.specs.declared.refusal.Refusal.{Refusal}
-use Rattle.call_words.specs.declared.refusal.Refusal.TheVariants.{NoMemory, BadScript, ClockFull}
+use Rattle.command_texts.proofs.Alone.{replay_alone, check_alone, sum_alone}
+use Rattle.command_texts.specs.declared.words.Command.{Command}
+use Rattle.command_texts.specs.declared.words.Command.TheVariants.{Replay, Check, Sum}
+use Rattle.command_texts.specs.declared.refusal.Refusal.{Refusal}
+use Rattle.command_texts.specs.declared.refusal.Refusal.TheVariants.{NoMemory, BadScript, ClockFull}
+use Rattle.line_forms.proofs.Texts.{no_fault}
 
 -- ---- one command
 
@@ -42,12 +43,6 @@ accepts : (mine : Command) (input : List ℕ) → ((command : Command) → words
 accepts mine input alone quiet faultless = λ command e refusal h. only_memory mine input quiet faultless refusal (subst (λ (k : Command). Refuses k input refusal) (sym (alone command e)) h)
 
 -- ---- no fault
-
-no_fault : (g : Grammar) (text : List ℕ) (line : ℕ) (cause : Cause) → IsFaultless g text → IsFault g text line cause → ⊥
-no_fault g text line cause calm fault =
-    let none : cause_after g text (line - 1) ≡ None = calm (line - 1) in
-    let here : cause_after g text (line - 1) ≡ Some cause = fault.here in
-    cc
 
 module _ (s : Setting) (c : Numbers) where
   -- the line after these took place, so nothing was against it

@@ -5,12 +5,12 @@ use Rattle.outside_io.specs.declared.reading.TheConstants.{LIMIT}
 use Rattle.outside_io.specs.Given.{GaveAtMost, GaveExactly}
 use Rattle.outside_io.specs.Written.{Adds, AllFlushed, TakesPrefix}
 use Rattle.history_book.specs.declared.judging.Flaw.{Flaw}
-use Rattle.call_words.specs.Words.{IsForm, words_of}
+use Rattle.command_texts.specs.Words.{IsForm, words_of}
 use Rattle.command_texts.specs.Texts.{Answers, IsRefusedFor, ReadsInput}
-use Rattle.call_words.specs.declared.words.Command.{Command}
-use Rattle.call_words.specs.declared.status.Status.{Status}
-use Rattle.call_words.specs.declared.status.Status.TheVariants.{Done, Illegal, BadWords, BadScript, ReadFault, WriteFault, NoMemory, TooLong, ClockFull, BadMagic, CutRequest, TooManyRequests}
-use Rattle.call_words.specs.declared.refusal.Refusal.TheVariants as refusals
+use Rattle.command_texts.specs.declared.words.Command.{Command}
+use Rattle.command_texts.specs.declared.status.Status.{Status}
+use Rattle.command_texts.specs.declared.status.Status.TheVariants.{Done, Illegal, BadWords, BadScript, ReadFault, WriteFault, NoMemory, TooLong, ClockFull, BadMagic, CutRequest, TooManyRequests}
+use Rattle.command_texts.specs.declared.refusal.Refusal.TheVariants as refusals
 
 -- why a command has no text to write, by what the source gave. A script is refused by its first line that has a cause, and that
 -- line's first cause

@@ -2,13 +2,13 @@
 use Rattle.std.specs.Prelude.{◌≡◌, ◌≢◌, ℕ, ◌*◌, List, Option, Result, replicate}
 use Rattle.quorum_rules.specs.Limits.{Numbers}
 use Rattle.outside_io.specs.Written.{AllFlushed}
-use Rattle.nbd_words.specs.Replies.{greeting}
+use Rattle.nbd_front.specs.Replies.{greeting}
 use Rattle.nbd_front.specs.Sessions.{IsSession}
 use Rattle.nbd_front.specs.declared.ending.Served.{Served}
 use Rattle.nbd_front.specs.declared.ending.SessionEnd.{SessionEnd}
-use Rattle.call_words.specs.Statuses.{status_of_session}
-use Rattle.call_words.specs.declared.status.Status.{Status}
-use Rattle.call_words.specs.declared.status.Status.TheVariants.{WriteFault, NoMemory}
+use Rattle.command_texts.specs.Statuses.{status_of_session}
+use Rattle.command_texts.specs.declared.status.Status.{Status}
+use Rattle.command_texts.specs.declared.status.Status.TheVariants.{WriteFault, NoMemory}
 
 -- a session of a device whose bytes are all 0: what the source gave and what the sink took, by the status
 pub record Serves (c : Numbers) (status : Status) (left left_after taken taken_after : Option (List ℕ)) (flushed_after : ℕ) : Type 0 where

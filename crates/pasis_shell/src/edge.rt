@@ -3,7 +3,7 @@
 //! this show it, and `tools/exit_statuses` for each status.
 
 ghost use Rattle.std.specs.Prelude.{◌≡◌, ◌⊎◌, IfErr};
-ghost use Rattle.call_words.specs.declared.status.Status.TheVariants as statuses;
+ghost use Rattle.command_texts.specs.declared.status.Status.TheVariants as statuses;
 
 use crate::{OpenGate, Status};
 use outside_io::{StdSink, StdSource};

@@ -7,9 +7,9 @@ ghost use Rattle.event_lines.specs.declared.line.ReplayLine.{ReplayLine};
 ghost use Rattle.script_text.specs.Replays.{IsReplay, Spells, event_limit, replay_text};
 ghost use Rattle.script_text.specs.Sum.{IsSum, sum_text};
 ghost use Rattle.script_run.specs.Performing.{CommandQueues, Performs};
-ghost use Rattle.history_entries.specs.Books.{Book};
-ghost use Rattle.history_texts.specs.Reports.{report_text};
-ghost use Rattle.history_texts.specs.ReportTexts.{IsReport};
+ghost use Rattle.history_making.specs.Books.{Book};
+ghost use Rattle.history_book.specs.Reports.{report_text};
+ghost use Rattle.history_book.specs.ReportTexts.{IsReport};
 ghost use Rattle.history_book.specs.declared.judging.Flaw.{Flaw};
 ghost use Rattle.protocol.specs.History.{NoClash};
 ghost use Rattle.command_texts.specs.Replays.{cluster_of, Replays};
@@ -19,13 +19,13 @@ ghost use Rattle.plan_words.specs.declared.plan.Plan.{Plan};
 ghost use Rattle.plan_words.specs.Plans.{Fits};
 ghost use Rattle.plan_text.specs.Plans.{Spells as SpellsPlan};
 ghost use Rattle.command_texts.specs.Texts.{HasFault, IsAccepted};
-ghost use Rattle.call_words.specs.Words.{words_of};
-ghost use Rattle.call_words.specs.declared.words.Serving.{Serving as Servings};
+ghost use Rattle.command_texts.specs.Words.{words_of};
+ghost use Rattle.command_texts.specs.declared.words.Serving.{Serving as Servings};
 ghost use Rattle.event_lines.specs.declared.line.ReplayLine.TheVariants.{Plain};
 ghost use Rattle.journals.specs.declared.whole.Journals.{Journals};
 ghost use Rattle.command_texts.specs.Traces.{TracesPlan};
 
-use call_words::Command;
+use command_texts::Command;
 
 /// What well-formed inputs are accepted, so that the program answers them unless the outside fails or memory is wanting: a
 /// script whose lines can take place one after the other, a configuration with a value of its blocks' length, and the report of

@@ -9,8 +9,7 @@ mod planned;
 mod session;
 pub mod top;
 
-pub use call_words::{Command, Refusal, Serving, Status};
 pub use client_threads::{Edge, Gate, OpenGate};
-pub use command_texts::Answer;
+pub use command_texts::{Answer, Command, Refusal, Serving, Status};
 pub use edge::run;
 pub use top::{alone, pasis};

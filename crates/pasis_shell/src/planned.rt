@@ -6,9 +6,10 @@ ghost use Rattle.plan_followed.specs.Followed.{AreOfPlan};
 ghost use Rattle.command_texts.specs.PlanRuns.{Soaks};
 ghost use Rattle.command_texts.specs.Texts.{Writes, Refuses};
 
-use call_words::{Command, Refusal, Serving};
 use client_threads::{Gate, Ran, run_plan};
-use command_texts::{Answer, load_of, load_text, run_text, text_of, trace_text};
+use command_texts::{
+    Answer, Command, Refusal, Serving, load_of, load_text, run_text, text_of, trace_text,
+};
 use cross_sum::Bytes;
 use event_clock::RunRefusal;
 use node_workers::run_workers;

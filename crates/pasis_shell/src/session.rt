@@ -3,7 +3,7 @@ ghost use Rattle.std.specs.Prelude.{◌≡◌, ◌≢◌};
 ghost use Rattle.outside_io.specs.Causes.{Rose};
 ghost use Rattle.pasis_shell.specs.Sessions.{Serves};
 
-use call_words::Status;
+use command_texts::Status;
 use nbd_front::serve;
 use outside_io::{Sink, Source};
 use quorum_rules::Config;

@@ -7,16 +7,15 @@ ghost use Rattle.quorum_rules.specs.Limits.{Numbers};
 ghost use Rattle.plan_words.specs.declared.plan.Plan.{Plan};
 ghost use Rattle.plan_words.specs.Plans.{Fits};
 ghost use Rattle.plan_text.specs.Plans.{Spells as SpellsPlan};
-ghost use Rattle.call_words.specs.Words.{texts, words_of, IsForm, IsNbd, IsNbdForm, RunsThreads, AskForThreads, AskForPlan, AskForLoad};
+ghost use Rattle.command_texts.specs.Words.{texts, words_of, IsForm, IsNbd, IsNbdForm, RunsThreads, AskForThreads, AskForPlan, AskForLoad};
 ghost use Rattle.command_texts.specs.Texts.{AnswersFor, IsAccepted, IsGiven};
 ghost use Rattle.pasis_shell.specs.Calls.{StopsFor, Ends};
 ghost use Rattle.pasis_shell.specs.Sessions.{Serves};
 
 use crate::planned::text_in_threads;
 use crate::session::serve_device;
-use call_words::{Command, Status, command_of, nbd_of};
 use client_threads::Gate;
-use command_texts::{Answer, text_of};
+use command_texts::{Answer, Command, Status, command_of, nbd_of, text_of};
 use cross_sum::Bytes;
 use outside_io::{LIMIT, Sink, Source, read_all, write_all};
 use std::alloc::Global;

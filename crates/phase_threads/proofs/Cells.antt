@@ -7,7 +7,6 @@ use Rattle.quorum_rules.specs.Limits.{Numbers}
 use Rattle.phase_threads.specs.Standing.{node_journal}
 use Rattle.locked_nodes.proofs.Joins.{below_tells}
 use Rattle.std.proofs.lemmas.Bool.Decides.{eqb_tells}
-use Rattle.protocol.proofs.Lists.{Contains-none, Contains-head, Contains-rest, Contains-cons_cases}
 use Rattle.journals.specs.declared.node.NodeEntry.{NodeEntry}
 use Rattle.journals.specs.declared.desk.DeskEntry.{DeskEntry}
 use Rattle.journals.specs.Journals.{entries_of}
@@ -15,6 +14,7 @@ use Rattle.locked_nodes.specs.Cells.{CellView, Rises, numbers}
 use Rattle.client_desks.specs.Desks.{DeskView, numbers_of}
 use Rattle.phase_threads.specs.Standing.{journal_at, AreInside}
 use Rattle.phase_threads.proofs.Nodes.{journal_none}
+use Rattle.lists.proofs.Members.{Contains-head, Contains-none, Contains-rest, Contains-cons_cases}
 
 -- what stands at a node's number: the entries of its cells, by number
 abbrev pub journal_of : Numbers → List CellView → ℕ → List NodeEntry

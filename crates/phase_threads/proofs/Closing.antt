@@ -7,7 +7,8 @@ use Rattle.receipt_lock.specs.Chits.{Holder as Chit, Deposit}
 use Rattle.locked_nodes.specs.declared.charter.Item.{Item}
 use Rattle.crews.specs.Crews.{Beside}
 use Rattle.phase_threads.specs.Phased.{AreTaken, AreChitsOf}
-use Rattle.crews.proofs.Places.{at_place, same_at, all_at, all_from, get_last, get_snoc, get_set, get_map, map_get, within, right_of, left_of}
+use Rattle.crews.proofs.Places.{same_at, all_from, get_snoc, get_set, get_map, map_get, right_of, left_of}
+use Rattle.lists.proofs.Members.{all_at, slice_get-seam, at_place, within}
 
 -- lists that end alike
 tail_same : {A : Type 0} (a b x y : A) (xs ys : List A) → a ∷ (xs ++ x ∷ []) ≡ b ∷ (ys ++ y ∷ []) → xs ++ x ∷ [] ≡ ys ++ y ∷ []
@@ -39,7 +40,7 @@ module _ (hands now : List (List (Chit Item))) (first : List (Deposit Item)) (v 
   chit_of : (h : List (Chit Item)) → map (λ c. c.vault) (reverse h) ≡ map (λ v. v.id) (first ++ v ∷ rest) → (x : Chit Item) × (slice_get (reverse h) (length first) ≡ Some x) × (x.vault ≡ v.id)
   chit_of h is =
       let at : slice_get (map (λ (c : Chit Item). c.vault) (reverse h)) (length first) ≡ Some v.id =
-      ap (λ l. slice_get l (length first)) is ∙ get_map (λ (d : Deposit Item). d.id) (first ++ v ∷ rest) (length first) v (get_last first v rest) in
+      ap (λ l. slice_get l (length first)) is ∙ get_map (λ (d : Deposit Item). d.id) (first ++ v ∷ rest) (length first) v (slice_get-seam first v rest) in
       map_get (λ (c : Chit Item). c.vault) (reverse h) (length first) v.id at
 
   last_of : (h g : List (Chit Item)) → g ≡ reverse (drop (length first) (reverse h)) → (x : Chit Item) → slice_get (reverse h) (length first) ≡ Some x → g ≡ reverse (drop (suc (length first)) (reverse h)) ++ x ∷ []

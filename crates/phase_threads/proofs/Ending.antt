@@ -9,7 +9,6 @@ use Rattle.std.proofs.lemmas.List.FromFn.{length-map-range_with_len}
 use Rattle.std.proofs.lemmas.List.Elements.{Contains-append_cases, Contains-append_left, Contains-append_right, All-head, All-tail, All-contains}
 use Rattle.wire_forms.specs.Liars.{has_number}
 use Rattle.protocol.specs.Report.{Ascend}
-use Rattle.protocol.proofs.Lists.{Contains-none, Contains-head, Contains-rest, Contains-cons_cases, Contains-map, Contains-map_cases}
 use Rattle.quorum_rules.specs.Limits.{Numbers}
 use Rattle.event_clock.specs.declared.rule.Share.{Share}
 use Rattle.event_clock.specs.Passes.{ClockId, share_of}
@@ -27,7 +26,7 @@ use Rattle.journals.specs.Steps.{Step, side, IsOwn}
 use Rattle.journals.specs.Steps.Step.{AtNode, AtDesk}
 use Rattle.journals.specs.Journals.{IsNodeKept, IsDeskKept, PairsAgree, HasSide, IsEntry, NumbersBelow}
 use Rattle.journals.specs.Phases.{Phase}
-use Rattle.locked_nodes.specs.Cells.{CellView, KeptCell, Rises, numbers}
+use Rattle.locked_nodes.specs.Cells.{CellView, KeptCell, numbers}
 use Rattle.locked_nodes.specs.Shards.{OneCell, SeveralCells}
 use Rattle.phase_threads.specs.Standing.{node_journal}
 use Rattle.locked_nodes.proofs.Joins.{below_tells}
@@ -44,6 +43,8 @@ use Rattle.phase_threads.specs.Ended.{HasEnded, RunsEnd}
 use Rattle.phase_threads.proofs.Nodes.{AreApart, journal_cases, journal_has, journal_ascends}
 use Rattle.phase_threads.proofs.Sharded.{node_is_kept}
 use Rattle.phase_threads.proofs.Cells.{journal_of, journal_is, past_range, entries_at, desk_at}
+use Rattle.lists.proofs.Members.{Contains-head, Contains-none, Contains-rest, Contains-cons_cases, Contains-map_cases, Contains-map}
+use Rattle.locked_nodes.proofs.Joining.{rises_ascend}
 
 -- ---- numbers
 
@@ -301,14 +302,6 @@ entries_are (x ∷ ds) a d there = elim (Contains-cons_cases d x ds there) [
 ]
 
 -- ---- the journals
-
-rises_ascend : (low : ℕ) (ns : List ℕ) (high : ℕ) → Rises low ns high → Ascend ns
-rises_ascend low [] high h = tt
-rises_ascend low (n ∷ ns) high h = (all_above (n + 1) n ns high (omega arith) h.1, rises_ascend (n + 1) ns high h.1)
-  where
-    all_above : (low m : ℕ) (ns : List ℕ) (high : ℕ) → m < low → Rises low ns high → AllByRecursion (λ y. m < y) ns
-    all_above low m [] high l h = tt
-    all_above low m (n ∷ ns) high l h = (let a = h.0 in omega (arith, l, a), all_above (n + 1) m ns high (let a = h.0 in omega (arith, l, a)) h.1)
 
 module _ (plan : Plan) (clock : ClockId) (cells : List CellView) (desks : List DeskView) (drawn : ℕ) (phases : List Phase) (prunes : ℕ → List Pruning)
     (h : HasEnded plan clock cells desks drawn phases prunes) where

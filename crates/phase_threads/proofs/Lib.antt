@@ -1,7 +1,7 @@
 mod Opening
 mod Closing
 mod Pairing
-mod Phasing
+pub mod Phasing
 pub mod Sending
 pub mod Nodes
 pub mod Cells

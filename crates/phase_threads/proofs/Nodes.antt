@@ -2,17 +2,16 @@
 use Rattle.std.proofs.Common.{◌≡◌, ◌≢◌, ◌⊎◌, ℕ, zero, suc, ◌<◌, ◌≤◌, Bool, List, [], ◌∷◌, ◌++◌, refl, sym, ◌∙◌, ap, subst, inl, inr, arith, append-nil}
 use Rattle.std.specs.Prelude.{slice_get, slice_set, filter, fold}
 use Rattle.std.specs.declared.option.Option.TheVariants.{Some}
-use Rattle.std.specs.List.{Contains, AllZip, All, AllByRecursion}
+use Rattle.std.specs.List.{Contains, AllZip, All}
 use Rattle.std.proofs.lemmas.Bool.Decides.{eqb_tells}
 use Rattle.std.proofs.lemmas.List.Elements.{All-head, All-tail}
 use Rattle.protocol.specs.Report.{Ascend}
-use Rattle.protocol.proofs.Lists.{Contains-none, Contains-head, Contains-rest, Contains-cons_cases, Contains-slice_get}
 use Rattle.journals.specs.declared.node.NodeEntry.{NodeEntry}
-use Rattle.journals.proofs.Lists.{number_of}
 use Rattle.locked_nodes.specs.Cells.{CellView, numbers}
 use Rattle.locked_nodes.specs.Joined.{join}
 use Rattle.phase_threads.specs.Standing.{add_cell, node_journal}
 use Rattle.locked_nodes.proofs.Joins.{AreUnder, AreFrom, join_cases, join_left, join_right, join_own, join_other, join_more, join_ascends}
+use Rattle.lists.proofs.Members.{Contains-head, Contains-none, Contains-rest, Contains-cons_cases, all_of, where_all, place_of, Contains-slice_get}
 
 -- the cell's part in the journal of node i
 added : (i : ℕ) (acc : List NodeEntry) (c : CellView) → c.charter.number ≡ i → add_cell i acc c ≡ join acc c.journal
@@ -88,19 +87,11 @@ record HasGrown (from : ℕ) (old new : List NodeEntry) : Type 0 where
   is : new ≡ old ++ more
   later : AreFrom from more
 
-pub all_of : {X : Type 0} (P : X → Type 0) (xs : List X) → ((x : X) → Contains xs x → P x) → AllByRecursion P xs
-all_of P [] f = tt
-all_of P (x ∷ xs) f = (f x (Contains-head x xs), all_of P xs (λ y there. f y (Contains-rest y x xs there)))
-
-of_all : {X : Type 0} (P : X → Type 0) (xs : List X) → AllByRecursion P xs → (x : X) → Contains xs x → P x
-of_all P [] h x there = absurd (Contains-none x there)
-of_all P (y ∷ xs) h x there = elim (Contains-cons_cases x y xs there) [ inl is ↦ subst P (sym is) h.0 | inr then ↦ of_all P xs h.1 x then ]
-
 join_under : (n : ℕ) (xs ys : List NodeEntry) → AreUnder n xs → AreUnder n ys → AreUnder n (join xs ys)
-join_under n xs ys a b = all_of (λ e. e.number < n) (join xs ys) (λ e there. elim (join_cases xs ys e there) [ inl x ↦ of_all (λ e. e.number < n) xs a e x | inr y ↦ of_all (λ e. e.number < n) ys b e y ])
+join_under n xs ys a b = all_of (λ e. e.number < n) (join xs ys) (λ e there. elim (join_cases xs ys e there) [ inl x ↦ where_all (λ e. e.number < n) xs a e x | inr y ↦ where_all (λ e. e.number < n) ys b e y ])
 
 join_from : (n : ℕ) (xs ys : List NodeEntry) → AreFrom n xs → AreFrom n ys → AreFrom n (join xs ys)
-join_from n xs ys a b = all_of (λ e. n ≤ e.number) (join xs ys) (λ e there. elim (join_cases xs ys e there) [ inl x ↦ of_all (λ e. n ≤ e.number) xs a e x | inr y ↦ of_all (λ e. n ≤ e.number) ys b e y ])
+join_from n xs ys a b = all_of (λ e. n ≤ e.number) (join xs ys) (λ e there. elim (join_cases xs ys e there) [ inl x ↦ where_all (λ e. n ≤ e.number) xs a e x | inr y ↦ where_all (λ e. n ≤ e.number) ys b e y ])
 
 fold_on : (i from : ℕ) (old new : List CellView) (acc more : List NodeEntry) → AllZip (GoesOnAs from) old new → AreUnder from acc → AreFrom from more → HasGrown from (fold (add_cell i) acc old) (fold (add_cell i) (acc ++ more) new)
 fold_on i from [] [] acc more z under later = record { more = more; is = refl; later = later }
@@ -132,7 +123,7 @@ pub record JournalGrows (from : ℕ) (old new : List NodeEntry) : Type 0 where
 pub journal_on : (i from : ℕ) (old new : List CellView) → AllZip (GoesOnAs from) old new → JournalGrows from (node_journal old i) (node_journal new i)
 journal_on i from old new z =
     let g = fold_on i from old new [] [] z tt tt in
-    record { more = g.more; grown = g.is; later = of_all (λ e. from ≤ e.number) g.more g.later }
+    record { more = g.more; grown = g.is; later = where_all (λ e. from ≤ e.number) g.more g.later }
 
 -- ---- one entry more in one cell
 
@@ -220,7 +211,7 @@ journal_alone [] i k c at is alone = absurd (Contains-none c (Contains-slice_get
 journal_alone (x ∷ cs) i zero c at is alone =
     let same : x ≡ c = cc in
     ap (λ (l : List NodeEntry). fold (add_cell i) l cs) (added i [] x (ap (λ (y : CellView). y.charter.number) same ∙ is))
-    ∙ fold_none i cs x.journal (λ d there own. (let q = number_of cs d there in not_zero q.0 (alone (suc q.0) d q.1 own))) ∙ ap (λ (y : CellView). y.journal) same
+    ∙ fold_none i cs x.journal (λ d there own. (let q = place_of cs d there in not_zero q.0 (alone (suc q.0) d q.1 own))) ∙ ap (λ (y : CellView). y.journal) same
 journal_alone (x ∷ cs) i (suc k) c at is alone =
     let other : x.charter.number ≢ i = λ own. (let z = alone zero x refl own in omega (arith, z)) in
     ap (λ (l : List NodeEntry). fold (add_cell i) l cs) (passed i [] x other) ∙ journal_alone cs i k c at is (λ m d there own. (let z = alone (suc m) d there own in omega (arith, z)))
@@ -241,7 +232,7 @@ pub fold_filter : (p : NodeEntry → Bool) (i : ℕ) (cells : List CellView) (ac
 fold_filter p i [] acc k c at is none others = absurd (Contains-none c (Contains-slice_get [] k c at))
 fold_filter p i (x ∷ cs) acc zero c at is none others =
     let same : x ≡ c = cc in
-    fold_own p i cs (add_cell i acc x) (λ d there own. (let q = number_of cs d there in others (suc q.0) d q.1 own (not_zero q.0)))
+    fold_own p i cs (add_cell i acc x) (λ d there own. (let q = place_of cs d there in others (suc q.0) d q.1 own (not_zero q.0)))
     ∙ ap (filter p) (added i acc x (ap (λ (y : CellView). y.charter.number) same ∙ is)) ∙ join_other p acc x.journal none ∙ ap (λ (y : CellView). filter p y.journal) same
 fold_filter p i (x ∷ cs) acc (suc k) c at is none others =
     fold_filter p i cs (add_cell i acc x) k c at is

@@ -25,7 +25,8 @@ use Rattle.desk_keys.specs.Keys.{KeysView, FloorView, IsHead, IsFloor, IsByChits
 use Rattle.phase_threads.specs.Standing.{AreCells, IsCellOf, IsDeskAt, HasSideIn, PairsStand}
 use Rattle.crews.specs.Crews.{Beside}
 use Rattle.phase_threads.specs.Phased.{IsVaultOf, new_hand}
-use Rattle.crews.proofs.Places.{place_of, contains_at, all_at, all_from, get_map, map_get, right_of}
+use Rattle.crews.proofs.Places.{all_from, get_map, map_get, right_of}
+use Rattle.lists.proofs.Members.{Contains-none, place_of, all_at, Contains-slice_get}
 
 -- the chits of a new vault are all alike
 pub all_new : {E : Type 0} {X : Type 0} (result : Result (Deposit X × List (Chit X)) E) (clients : ℕ) → IfOk result (λ r. length r.1 ≡ clients) → IfOk result (λ r. AreNew r.0.id r.1 clients) → IfOk result (λ r. All (λ c. c ≡ new_chit r.0.id) r.1)
@@ -53,14 +54,11 @@ hand_vaults (v ∷ vaults) = ap (λ l. v.id ∷ l) (hand_vaults vaults)
 none_there : {X : Type 0} (i : ℕ) (x : X) → slice_get [] i ≡ Some x → ⊥
 none_there i x at = absurd cc
 
-contains_none : {X : Type 0} (x : X) → Contains [] x → ⊥
-contains_none x has = let lt = has.1 in omega arith
-
 -- an entry of a cell's journal stands in its list
 in_list : (c : Charter) (journal : List NodeEntry) (n : NodeEntry) → Contains journal n → Contains (Head c ∷ map (λ e. Entry e) journal) (Entry n)
 in_list c journal n has =
     let place = place_of journal n has in
-    contains_at (Head c ∷ map (λ e. Entry e) journal) (suc place.0) (Entry n) (get_map (λ (e : NodeEntry). Entry e) journal place.0 n place.1)
+    Contains-slice_get (Head c ∷ map (λ e. Entry e) journal) (suc place.0) (Entry n) (get_map (λ (e : NodeEntry). Entry e) journal place.0 n place.1)
 
 -- a desk agrees with a hand of chits for the vaults of cells with which it agrees
 module _ (count : ℕ) (cells : List CellView) (vaults : List (Deposit Item)) (opened : Beside (IsVaultOf count) cells vaults) where
@@ -82,7 +80,7 @@ module _ (count : ℕ) (cells : List CellView) (vaults : List (Deposit Item)) (o
   agree_new desks d pairs there = record {
     left = λ k chit p n c act at has is.
         let v = chit_is vaults k chit at in
-        absurd (contains_none {X = ℕ × Item} (p, Entry n) (subst (λ (l : List (ℕ × Item)). Contains l (p, Entry n)) (ap (λ (x : Chit Item). x.mine) (sym v.2)) has));
+        absurd (Contains-none {X = ℕ × Item} (p, Entry n) (subst (λ (l : List (ℕ × Item)). Contains l (p, Entry n)) (ap (λ (x : Chit Item). x.mine) (sym v.2)) has));
     asked = λ e has. elim (pairs.answered d e there has) [ inl own ↦ inl own | inr s ↦ inr (side_of d.id e s) ];
   }
 

@@ -20,7 +20,8 @@ use Rattle.desk_keys.specs.Keys.{Agree, IsSide, Knows}
 use Rattle.phase_threads.specs.Standing.{HasSideIn, HasSideOn, PairsStand, HasWorked}
 use Rattle.crews.specs.Crews.{Beside}
 use Rattle.phase_threads.specs.Phased.{IsVaultOf, IsClosed}
-use Rattle.crews.proofs.Places.{same_at, place_of, contains_at, get_map, map_get, within, right_of, left_of}
+use Rattle.crews.proofs.Places.{same_at, get_map, map_get, right_of, left_of}
+use Rattle.lists.proofs.Members.{place_of, within, Contains-slice_get}
 
 -- a cell's entries are those of its list, but for the head
 in_items : (cell : CellView) (p : ℕ) (n : NodeEntry) → slice_get (items cell) p ≡ Some (Entry n) → Contains cell.journal n
@@ -28,7 +29,7 @@ in_items cell zero n at = absurd cc
 in_items cell (suc p) n at =
     let found = map_get (λ (e : NodeEntry). Entry e) cell.journal p (Entry n) at in
     let same : found.0 ≡ n = let e = found.2 in cc in
-    contains_at cell.journal p n (found.1 ∙ ap (λ x. Some x) same)
+    Contains-slice_get cell.journal p n (found.1 ∙ ap (λ x. Some x) same)
 
 at_items : (cell : CellView) (n : NodeEntry) → Contains cell.journal n → (p : ℕ) × (slice_get (items cell) p ≡ Some (Entry n))
 at_items cell n has =
@@ -107,7 +108,7 @@ module _ (count : ℕ) (cells now : List CellView) (vaults : List (Deposit Item)
       let new = right_of (λ i d e. IsLater d e) olds news place.0 side.desk all.later place.1 in
       record {
         desk = new.0;
-        there = contains_at news place.0 new.0 new.1;
+        there = Contains-slice_get news place.0 new.0 new.1;
         client = new.2.id ∙ side.client;
         stands = subst (λ l. Contains l (desk_entry n act)) (sym new.2.entries) (Contains-append_left side.desk.entries new.2.more (desk_entry n act) side.stands);
       }
@@ -120,9 +121,9 @@ module _ (count : ℕ) (cells now : List CellView) (vaults : List (Deposit Item)
       let chit = receipt.there.0 in
       let hand = left_of (λ i h x. slice_get (reverse h) k ≡ Some x) hands closed.chits receipt.chit chit closed.of receipt.there.1 in
       let desk = left_of (λ i d h. Agree d (reverse h)) news hands receipt.chit hand.0 all.agree hand.1 in
-      let left : Contains chit.mine (p, Entry n) = subst (λ x. Contains chit.mine (p, x)) same (contains_at chit.mine receipt.receipt (p, receipt.entry) receipt.there.2) in
+      let left : Contains chit.mine (p, Entry n) = subst (λ x. Contains chit.mine (p, x)) same (Contains-slice_get chit.mine receipt.receipt (p, receipt.entry) receipt.there.2) in
       let on = desk.2.left k chit p n c act hand.2 left is in
-      record { desk = desk.0; there = contains_at news receipt.chit desk.0 desk.1; client = sym on.0; stands = on.1 }
+      record { desk = desk.0; there = Contains-slice_get news receipt.chit desk.0 desk.1; client = sym on.0; stands = on.1 }
 
   called_at : (cell old : CellView) (k : ℕ) (v : Deposit Item) (n : NodeEntry) (p c : ℕ) (act : DeskAct) → PairsStand cells olds → IsClosed hands k v cell → v.id.begun ≡ items (rechartered old false) → Contains cells old → slice_get (items cell) p ≡ Some (Entry n)
       → side n.act ≡ Some (c, act) → Contains v.id.begun (Entry n) ⊎ (length v.id.begun ≤ p) → HasSideOn news c n.number act
@@ -136,7 +137,7 @@ module _ (count : ℕ) (cells now : List CellView) (vaults : List (Deposit Item)
       let v = left_of (IsClosed hands) vaults now k cell all.closed place.1 in
       let old = left_of (IsVaultOf count) cells vaults k v.0 all.opened v.1 in
       let at = at_items cell n has in
-      called_at cell old.0 k v.0 n at.0 c act pairs v.2 old.2.begun (contains_at cells k old.0 old.1) at.1 is (cut v.0.id.begun (items cell) at.0 (Entry n) v.2.settled.begins at.1)
+      called_at cell old.0 k v.0 n at.0 c act pairs v.2 old.2.begun (Contains-slice_get cells k old.0 old.1) at.1 is (cut v.0.id.begun (items cell) at.0 (Entry n) v.2.settled.begins at.1)
 
   -- an entry that a chit knows stands in the cell
   known_in : (cell : CellView) (k i : ℕ) (v : Deposit Item) (hand : List (Chit Item)) (chit : Chit Item) (n : NodeEntry) → IsClosed hands k v cell → slice_get hands i ≡ Some hand → slice_get (reverse hand) k ≡ Some chit → chit.vault ≡ v.id → Knows chit n → Contains cell.journal n
@@ -155,7 +156,7 @@ module _ (count : ℕ) (cells now : List CellView) (vaults : List (Deposit Item)
       let cell = right_of (IsClosed hands) vaults now s.node v.0 all.closed v.1 in
       record {
         cell = cell.0;
-        there = contains_at now s.node cell.0 cell.1;
+        there = Contains-slice_get now s.node cell.0 cell.1;
         of = s.of;
         stands = known_in cell.0 s.node i v.0 hand s.chit s.of cell.2 at s.there (own_at (reverse hand) vaults s.node s.chit v.0 own s.there v.1) s.known;
         number = s.number;

@@ -19,9 +19,10 @@ use Rattle.phase_threads.specs.declared.crew.Post.{Post}
 use Rattle.phase_threads.specs.Standing.{AreCells, IsDeskAt, PairsStand, HasWorked}
 use Rattle.crews.specs.Crews.{Beside}
 use Rattle.phase_threads.specs.Phased.{IsVaultOf, IsPostOf, IsSeatOf, IsHandOf, IsClosed, new_hand}
-use Rattle.crews.proofs.Places.{all_at, all_from, all_zip, contains_at, get_map, map_get, right_of, left_of}
+use Rattle.crews.proofs.Places.{all_from, all_zip, get_map, map_get, right_of, left_of}
 use Rattle.phase_threads.proofs.Opening.{hand_rests, agree_new, new_fit, chits_fit}
 use Rattle.phase_threads.proofs.Pairing.{pairs_stand, has_worked}
+use Rattle.lists.proofs.Members.{all_at, Contains-slice_get}
 
 abbrev pub desks_of : {T : Type 0} → List (Seat T) → List DeskView
 desks_of seats = map (λ s. s.desk) seats
@@ -34,7 +35,7 @@ hands_rest vaults hands same = all_from (λ (h : List (Chit Item)). All (λ (c :
 pub hands_agree : {T : Type 0} (count : ℕ) (cells : List CellView) (vaults : List (Deposit Item)) (seats : List (Seat T)) (hands : List (List (Chit Item))) → Beside (IsVaultOf count) cells vaults → PairsStand cells (desks_of seats)
     → All (λ (h : List (Chit Item)). h ≡ new_hand vaults) hands → All (λ (s : Seat T). All (λ (h : List (Chit Item)). Agree s.desk h) hands) seats
 hands_agree {T = T} count cells vaults seats hands opened pairs same = all_from (λ (s : Seat T). All (λ (h : List (Chit Item)). Agree s.desk h) hands) seats (λ i s here.
-    let agree = agree_new count cells vaults opened (desks_of seats) s.desk pairs (contains_at (desks_of seats) i s.desk (get_map (λ (x : Seat T). x.desk) seats i s here)) in
+    let agree = agree_new count cells vaults opened (desks_of seats) s.desk pairs (Contains-slice_get (desks_of seats) i s.desk (get_map (λ (x : Seat T). x.desk) seats i s here)) in
     all_from (λ (h : List (Chit Item)). Agree s.desk h) hands (λ k h at. subst (Agree s.desk) (sym (all_at (λ (g : List (Chit Item)). g ≡ new_hand vaults) hands k h same at)) agree))
 
 abbrev pub floor_with : ClockId → List (Deposit Item) → List Slot → FloorView

@@ -8,8 +8,6 @@ use Rattle.std.proofs.lemmas.Bool.Decides.{eqb_tells}
 use Rattle.std.proofs.lemmas.List.Sums.{sum_by-cons}
 use Rattle.std.proofs.lemmas.List.Elements.{All-contains}
 use Rattle.std.proofs.lemmas.List.FromFn.{length-map-range_with_len}
-use Rattle.protocol.proofs.Lists.{Contains-none, Contains-head, Contains-rest, Contains-slice_get}
-use Rattle.journals.proofs.Lists.{number_of}
 use Rattle.quorum_rules.specs.Limits.{Numbers}
 use Rattle.protocol.specs.Messages.{Body}
 use Rattle.protocol.specs.Report.{Ascend}
@@ -32,20 +30,10 @@ use Rattle.plan_followed.specs.Asked.{nature, crash_after, crash_after_by, holds
 use Rattle.plan_followed.specs.Nodes.{node_after}
 use Rattle.phase_threads.specs.Standing.{IsCellOf, IsPlanned, ArePlanned, needs_whole, is_whole, NodesPrune, NothingLate}
 use Rattle.phase_threads.proofs.Nodes.{IsIn, IsAlone, journal_cases, journal_alone, fold_filter}
+use Rattle.lists.proofs.Members.{Contains-head, Contains-none, Contains-rest, place_of, Contains-slice_get}
+use Rattle.std.proofs.lemmas.Bool.{or_parts, or_left, or_right}
 
 -- ---- which nodes have one cell
-
-or_left : (a b : Bool) → a ≡ true → (a || b) ≡ true
-or_left true b e = refl
-or_left false b e = absurd (cc)
-
-or_right : (a b : Bool) → b ≡ true → (a || b) ≡ true
-or_right true b e = refl
-or_right false b e = e
-
-or_none : (a b : Bool) → (a || b) ≡ false → (a ≡ false) × (b ≡ false)
-or_none true b e = absurd (cc)
-or_none false b e = (refl, e)
 
 no_crash : (i : ℕ) (rule : Fault) (rest : List ℕ) → needs_whole i rule ≡ false → crash_after_by i rule ≡ None
 no_crash i (CrashNode node count) rest e = ap (λ (b : Bool). cond b (Some count) None) e
@@ -60,7 +48,7 @@ no_crash i (Hold client node count) rest e = refl
 no_crashes : (i : ℕ) (rules : List Fault) → list_any (needs_whole i) rules ≡ false → filter_map (crash_after_by i) rules ≡ []
 no_crashes i [] e = refl
 no_crashes i (x ∷ rules) e =
-    let h = or_none (needs_whole i x) (list_any (needs_whole i) rules) e in
+    let h = or_parts (needs_whole i x) (list_any (needs_whole i) rules) e in
     let none = no_crash i x [] h.0 in
     rw none (no_crashes i rules h.1)
 
@@ -159,7 +147,7 @@ module _ (plan : Plan) (clock : ClockId) (row : List CellView) (h : ArePlanned p
         h.own k m c d at there (slot_with (slot_of c.charter) (slot_of d.charter) (is ∙ sym own) (a.0 ∙ sym b.0) (a.1 ∙ sym b.1))
 
     pub journal_one : (cell : CellView) → Contains row cell → cell.charter.number ≡ i → node_journal row i ≡ cell.journal
-    journal_one cell there is = (let q = number_of row cell there in journal_alone row i q.0 cell q.1 is (alone q.0 cell q.1 is))
+    journal_one cell there is = (let q = place_of row cell there in journal_alone row i q.0 cell q.1 is (alone q.0 cell q.1 is))
 
   -- the state of the one cell is the node's
   pub state_is : (cell : CellView) → Contains row cell → (i : ℕ) → cell.charter.number ≡ i → state_of cell ≡ node_after plan i cell.journal

@@ -7,7 +7,6 @@ use Rattle.std.proofs.lemmas.List.{take-append-drop}
 use Rattle.std.proofs.lemmas.List.Elements.{Contains-append_cases, All-cons, All-head, All-tail, All-contains}
 use Rattle.std.proofs.Math.Seq.{drop-append_seam}
 use Rattle.wire_forms.specs.Liars.{has_number}
-use Rattle.protocol.proofs.Lists.{Contains-none, Contains-head, Contains-rest, Contains-cons_cases}
 use Rattle.stamp_order.specs.declared.Stamp.{Stamp}
 use Rattle.journals.specs.declared.node.NodeAct.TheVariants.{Pruned}
 use Rattle.journals.specs.declared.node.NodeEntry.{NodeEntry}
@@ -24,8 +23,9 @@ use Rattle.plan_followed.specs.Nodes.{act_of, node_after}
 use Rattle.plan_followed.specs.Closed.{NodeGoesOn, DeskGoesOn, next_begin}
 use Rattle.phase_threads.specs.Standing.{AreInside, HasWorked, node_journal, PhasesWork, JournalsBelow, CellsPrune}
 use Rattle.locked_nodes.proofs.Joins.{AreUnder}
-use Rattle.phase_threads.proofs.Nodes.{GoesOnAs, all_of, journal_cases, journal_has, journal_on}
+use Rattle.phase_threads.proofs.Nodes.{GoesOnAs, journal_cases, journal_has, journal_on}
 use Rattle.phase_threads.proofs.Cells.{journal_of, journal_is, past_range, node_rises, desk_rises, rises_from, entries_at, desk_at}
+use Rattle.lists.proofs.Members.{Contains-head, Contains-none, Contains-rest, Contains-cons_cases, all_of}
 
 -- ---- one cell
 

@@ -26,11 +26,11 @@ use Rattle.journals.specs.declared.desk.DeskAct.TheVariants.{Start, Crash, Call}
 use Rattle.journals.specs.declared.desk.Way.TheVariants.{Call as ByCall, Drop as ByDrop, Hold as ByHold}
 use Rattle.journals.specs.declared.desk.DeskEntry.{DeskEntry}
 use Rattle.journals.specs.Desks.{DeskState, Ended, new_desk}
-use Rattle.journals.proofs.Lists.{Contains-none, Contains-head}
 use Rattle.plan_followed.specs.Asked.{steps_for, first_phases}
 use Rattle.plan_followed.specs.Clients.{InEach, IsNext, way_of, op_of, client_after, IsNextStart, IsOnItsWay, GoesByPlan, IsCutOff, IsDone, ClientFollows, LiarFollows}
 use Rattle.plan_followed.specs.Nodes.{NodeFollows}
 use Rattle.plan_followed.proofs.Entries.{each_in}
+use Rattle.lists.proofs.Members.{Contains-head, Contains-none}
 
 abbrev one : Numbers
 one = record { edition = One; n = 1; t = 0; b = 0; qc = 1; m = 1; size = 1; blocks = 1 }

@@ -4,10 +4,11 @@ use Rattle.std.specs.Prelude.{nat_lt, nat_le}
 use Rattle.std.specs.List.{Contains}
 use Rattle.std.proofs.lemmas.Bool.Decides.{nat_tests}
 use Rattle.std.proofs.lemmas.List.Elements.{filter-append}
-use Rattle.protocol.proofs.Lists.{append_nil, Contains-head, Contains-rest}
+use Rattle.protocol.proofs.Lists.{append_nil}
 use Rattle.node_core.proofs.Changes.{filter-all}
 use Rattle.journals.specs.Phases.{Phase}
 use Rattle.plan_followed.specs.Closed.{ComesLater}
+use Rattle.lists.proofs.Members.{Contains-head, Contains-rest}
 
 pub filter-none : {X : Type 0} (test : X → Bool) (xs : List X) → ((x : X) → Contains xs x → test x ≡ false) → filter test xs ≡ []
 filter-none test [] h = refl

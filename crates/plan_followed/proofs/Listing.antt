@@ -1,5 +1,5 @@
 -- The blocks that have a stamp, in order.
-use Rattle.std.proofs.Common.{◌≡◌, ◌⊎◌, ℕ, ◌+◌, ◌<◌, ◌≤◌, List, [], ◌∷◌, ◌++◌, take, drop, length, get_or, All, Option, refl, sym, ◌∙◌, ap, subst, inl, inr, arith}
+use Rattle.std.proofs.Common.{◌≡◌, ◌⊎◌, ℕ, ◌+◌, ◌<◌, List, [], ◌∷◌, ◌++◌, take, drop, length, get_or, All, Option, refl, sym, ◌∙◌, ap, subst, inl, inr, arith}
 use Rattle.std.specs.Prelude.{slice_get}
 use Rattle.std.specs.declared.option.Option.TheVariants.{None, Some}
 use Rattle.std.specs.List.{Contains, AllByRecursion}
@@ -8,22 +8,12 @@ use Rattle.std.proofs.lemmas.Option.{slice_get-get_or}
 use Rattle.std.proofs.lemmas.List.{take-append-drop}
 use Rattle.stamp_order.specs.declared.Stamp.{Stamp}
 use Rattle.protocol.specs.Report.{Ascend}
-use Rattle.protocol.proofs.Lists.{Contains-none, Contains-map_cases}
 use Rattle.plan_followed.specs.declared.prunes.BlockStamp.{BlockStamp}
 use Rattle.plan_followed.specs.Prunings.{blocks_of, ArePrunings}
 use Rattle.plan_followed.specs.Tops.{IsTop, AreTops, AreListed}
-
-all_push : (P : ℕ → Type 0) (ns : List ℕ) (n : ℕ) → AllByRecursion P ns → P n → AllByRecursion P (ns ++ n ∷ [])
-all_push P [] n h p = (p, tt)
-all_push P (m ∷ ns) n h p = (h.0, all_push P ns n h.1 p)
-
-ascend_push : (ns : List ℕ) (n : ℕ) → Ascend ns → AllByRecursion (λ m. m < n) ns → Ascend (ns ++ n ∷ [])
-ascend_push [] n h l = (tt, tt)
-ascend_push (m ∷ ns) n h l = (all_push (λ k. m < k) ns n h.0 l.0, ascend_push ns n h.1 l.1)
-
-all_below : (ns : List ℕ) (a b : ℕ) → a ≤ b → AllByRecursion (λ m. m < a) ns → AllByRecursion (λ m. m < b) ns
-all_below [] a b l h = tt
-all_below (m ∷ ns) a b l h = ((let k = h.0 in omega (arith, l, k)), all_below ns a b l h.1)
+use Rattle.lists.proofs.Members.{Contains-none, Contains-map_cases, all_push}
+use Rattle.protocol.proofs.Starts.{ascend_push}
+use Rattle.journals.proofs.Lists.{all_below}
 
 blocks_more : (xs : List BlockStamp) (x : BlockStamp) → blocks_of (xs ++ x ∷ []) ≡ blocks_of xs ++ x.block ∷ []
 blocks_more [] x = refl

@@ -1,6 +1,6 @@
 -- Journals that follow a plan are those of a run in phases.
-use Rattle.std.proofs.Common.{◌≡◌, ℕ, zero, suc, ◌+◌, ◌<◌, length, Bool, true, false, ◌&&◌, cond, List, [], ◌∷◌, ◌++◌, map, refl, sym, ap, subst, ◌∙◌, arith, inl, inr}
-use Rattle.std.specs.Prelude.{Option, None, Some, nat_lt, nat_le, slice_get, slice_index_or}
+use Rattle.std.proofs.Common.{◌≡◌, ℕ, ◌+◌, ◌<◌, length, Bool, true, false, ◌&&◌, cond, List, [], ◌∷◌, ◌++◌, map, refl, sym, ap, subst, ◌∙◌, arith, inl, inr}
+use Rattle.std.specs.Prelude.{Option, None, Some, nat_lt, nat_le, slice_get}
 use Rattle.std.specs.List.{Contains, AllByRecursion, filter_map, cons_option}
 use Rattle.std.proofs.lemmas.Bool.Decides.{nat_tests, eqb_tells}
 use Rattle.std.proofs.lemmas.List.Elements.{Contains-append_cases}
@@ -8,7 +8,6 @@ use Rattle.stamp_order.specs.declared.Stamp.{Stamp}
 use Rattle.quorum_rules.specs.Limits.{Numbers}
 use Rattle.wire_forms.specs.Liars.{has_number, IsClientNumber}
 use Rattle.protocol.specs.Instance.{IsCluster}
-use Rattle.protocol.proofs.Lists.{Contains-map, Contains-map_cases, filter_has}
 use Rattle.plan_words.specs.declared.fault.Fault.{Fault}
 use Rattle.plan_words.specs.declared.fault.Fault.TheVariants.{LiarNode, LiarSound, LiarMix, LiarFlood, CrashNode, CrashClient, Drop, Hold}
 use Rattle.plan_words.specs.declared.job.Job.{Job}
@@ -26,13 +25,14 @@ use Rattle.journals.specs.Desks.{new_desk, desk_after_all}
 use Rattle.journals.specs.declared.whole.Journals.{Journals}
 use Rattle.journals.specs.Journals.{setting_for, at_node, at_desk, entries_of, desks_before, cluster_at}
 use Rattle.journals.specs.Phases.{Phase, IsWithin, IsAtRest, IsPhase, IsGreatest, AreClients, PhasesFollow}
-use Rattle.journals.proofs.Lists.{Contains-none, Contains-head, Contains-rest, Contains-cons_cases, number_of}
 use Rattle.plan_followed.specs.Asked.{conduct_of, steps_for, first_phases}
 use Rattle.plan_followed.specs.Clients.{IsDone, ClientFollows}
 use Rattle.plan_followed.specs.Nodes.{Pruning, act_of, nodes_within}
 use Rattle.plan_followed.specs.Followed.{FollowsAs, Follows, AreOfPlan}
 use Rattle.plan_followed.specs.Laws.{OfPlans, HasCluster, PlansPhase, PlansRun}
-use Rattle.plan_followed.proofs.Plans.{liar_there}
+use Rattle.plan_followed.proofs.Plans.{liar_there, some_same}
+use Rattle.lists.proofs.Members.{Contains-head, Contains-none, Contains-rest, Contains-cons_cases, Contains-map_cases, Contains-map, filter_has, place_of}
+use Rattle.journals.proofs.Projections.{there_below}
 
 -- ---- who has a desk is a client
 
@@ -48,10 +48,7 @@ named_cases {X} h P Q to (x ∷ xs) a k there = at (h x) refl there (named_cases
       | inr r ↦ rest r
     ]
 
-some_same : (a b : ℕ) → ◌≡◌ {A = Option ℕ} (Some a) (Some b) → IsClientNumber a → IsClientNumber b
-some_same a b e h = let same : a ≡ b = cc in subst IsClientNumber same h
-
-troubled_there : (c : Numbers) (rule : Fault) (k : ℕ) → IsFault c rule → troubled_client rule ≡ Some k → IsClientNumber k
+pub troubled_there : (c : Numbers) (rule : Fault) (k : ℕ) → IsFault c rule → troubled_client rule ≡ Some k → IsClientNumber k
 troubled_there c (LiarNode node rule) k h e = absurd (cc)
 troubled_there c (LiarSound client block time value count) k h e = absurd (cc)
 troubled_there c (LiarMix client block time value other count) k h e = absurd (cc)
@@ -61,7 +58,7 @@ troubled_there c (CrashClient client count) k h e = some_same client k e h.0
 troubled_there c (Drop client node count) k h e = some_same client k e h.0
 troubled_there c (Hold client node count) k h e = some_same client k e h.0
 
-worker_there : (c : Numbers) (job : Job) (k : ℕ) → IsJob c job → job_client job ≡ Some k → IsClientNumber k
+pub worker_there : (c : Numbers) (job : Job) (k : ℕ) → IsJob c job → job_client job ≡ Some k → IsClientNumber k
 worker_there c (Block client op) k h e = some_same client k e h.0
 worker_there c (Device client op) k h e = some_same client k e h.0
 worker_there c PhaseEnd k h e = absurd (cc)
@@ -90,13 +87,6 @@ desk_of (d ∷ ds) c e there = elim (eqb_tells d.client c) [
 clients_there : (plan : Plan) (j : Journals) (drawn : ℕ) → AreOfPlan plan j drawn → AreClients j
 clients_there plan j drawn h c e there = let q = desk_of j.desks c e there in subst IsClientNumber q.2 (named_there plan h.fits q.0.client (h.follows.are_for.named q.0 q.1))
 
--- who has a node's entry is a node
-node_there : (journals : List (List NodeEntry)) (i : ℕ) (e : NodeEntry) → Contains (slice_index_or journals i []) e → i < length journals
-node_there [] zero e there = absurd (Contains-none e there)
-node_there [] (suc i) e there = absurd (Contains-none e there)
-node_there (es ∷ journals) zero e there = omega arith
-node_there (es ∷ journals) (suc i) e there = (let l = node_there journals i e there in omega (arith, l))
-
 -- ---- phases
 
 module _ (plan : Plan) (j : Journals) (all : length j.nodes ≡ j.config.n) (h : Follows plan j) where
@@ -114,7 +104,7 @@ module _ (plan : Plan) (j : Journals) (all : length j.nodes ≡ j.config.n) (h :
   rests k p at c right = done_rests j.config c (steps_for plan.config c (first_phases (k + 1) plan.work)) (desks_before p.close (at_desk j c)) h.are_for.config ((client_is c right).closed k p at)
 
   is_phase : (p : Phase) → Contains h.phases p → IsPhase (conduct_of plan.rules) j p
-  is_phase p there = let k = number_of h.phases p there in record { rest = rests k.0 p k.1; still = λ c e is. h.cut.still c e is p there }
+  is_phase p there = let k = place_of h.phases p there in record { rest = rests k.0 p k.1; still = λ c e is. h.cut.still c e is p there }
 
   -- ---- prunes
 
@@ -134,9 +124,9 @@ module _ (plan : Plan) (j : Journals) (all : length j.nodes ≡ j.config.n) (h :
 
   prune_is : (i n block : ℕ) (stamp : Stamp) → Contains (at_node j i) (record { number = n; act = Pruned block stamp }) → (p : Phase) × Contains h.phases p × IsWithin p n × IsGreatest (conduct_of plan.rules) j p.close block stamp
   prune_is i n block stamp there =
-      let is_node : i < plan.config.n = (let l = node_there j.nodes i (record { number = n; act = Pruned block stamp }) there in let c = ap (λ (x : Numbers). x.n) h.are_for.config in omega (arith, l, all, c)) in
+      let is_node : i < plan.config.n = (let l = there_below j.nodes i (record { number = n; act = Pruned block stamp }) there in let c = ap (λ (x : Numbers). x.n) h.are_for.config in omega (arith, l, all, c)) in
       let q = (h.nodes i is_node).only n block stamp there in
-      let k = number_of h.phases q.0 q.1 in
+      let k = place_of h.phases q.0 q.1 in
       let within = filter_has (λ e. nat_le q.0.close e.number && nat_lt e.number q.0.end) (at_node j i) (record { number = n; act = Pruned block stamp }) there (passes q.0 n q.2) in
       let act = Contains-map (λ (e : NodeEntry). e.act) (nodes_within q.0 (at_node j i)) (record { number = n; act = Pruned block stamp }) within in
       let x = listed _ (h.prunes k.0) (Pruned block stamp) (subst (λ (acts : List NodeAct). Contains acts (Pruned block stamp)) ((h.nodes i is_node).closed k.0 q.0 k.1).acts act) in

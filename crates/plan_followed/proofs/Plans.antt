@@ -1,10 +1,10 @@
 -- What a plan that fits says of its cluster: who lies is declared, is few, and doesn't crash.
-use Rattle.std.proofs.Common.{◌≡◌, All, ℕ, ◌+◌, ◌<◌, ◌≤◌, Bool, true, false, ◌||◌, eqb, ltb, List, [], ◌∷◌, length, refl, sym, ap, subst, ◌∙◌, arith, inl, inr}
+use Rattle.std.proofs.Common.{◌≡◌, All, ℕ, ◌+◌, ◌<◌, ◌≤◌, Bool, true, false, ◌||◌, eqb, List, [], ◌∷◌, length, refl, sym, ap, subst, ◌∙◌, arith, inl, inr}
 use Rattle.std.specs.Prelude.{fold, nat_eq, Option, None, Some}
 use Rattle.std.specs.List.{AllByRecursion, IsDistinct, filter_map, cons_option}
 use Rattle.std.specs.Ordering.{nat_cmp}
 use Rattle.std.specs.BTreeSet.{insert_key}
-use Rattle.std.proofs.lemmas.Bool.{cases_Bool, eqb-true}
+use Rattle.std.proofs.lemmas.Bool.{cases_Bool}
 use Rattle.std.proofs.lemmas.Bool.Decides.{eqb_tells}
 use Rattle.std.proofs.lemmas.List.Elements.{All-from_recursion}
 use Rattle.std.proofs.lemmas.Map.Views.{All-insert_key}
@@ -21,29 +21,10 @@ use Rattle.plan_words.specs.Plans.{IsFault, Fits}
 use Rattle.journals.specs.Steps.{is_lying}
 use Rattle.plan_followed.specs.Asked.{nature, crash_after}
 use Rattle.plan_followed.specs.Laws.{OfPlans, HasConduct, HasLiars, HasCluster}
+use Rattle.lists.proofs.Tests.{or_swapped, or_twice, or_false}
+use Rattle.lists.proofs.Orders.{inserted}
 
 -- ---- numbers in ascending order, each once
-
-or_swapped : (a b c : Bool) → (a || (b || c)) ≡ (b || (a || c))
-or_swapped true true c = refl
-or_swapped true false c = refl
-or_swapped false true c = refl
-or_swapped false false c = refl
-
-or_twice : (a c : Bool) → (a || c) ≡ (a || (a || c))
-or_twice true c = refl
-or_twice false c = refl
-
-or_nothing : (a : Bool) → (a || false) ≡ a
-or_nothing true = refl
-or_nothing false = refl
-
-inserted : (x : ℕ) (xs : List ℕ) (k : ℕ) (P : List ℕ → Type 0) → P (k ∷ x ∷ xs) → (k ≡ x → P (x ∷ xs)) → P (x ∷ insert_key nat_cmp xs k) → P (insert_key nat_cmp (x ∷ xs) k)
-inserted x xs k P before here after =
-    elim (cases_Bool (ltb k x)) [
-      | inl lt ↦ rw lt before
-      | inr ge ↦ elim (cases_Bool (eqb k x)) [ inl same ↦ rw (ge, same) (here (eqb-true k x same)) | inr other ↦ rw (ge, other) after ]
-    ]
 
 has_inserted : (ks : List ℕ) (k q : ℕ) → has_number (insert_key nat_cmp ks k) q ≡ (eqb q k || has_number ks q)
 has_inserted [] k q = refl
@@ -77,7 +58,7 @@ all_all P [] xs h a = a
 all_all P (k ∷ ks) xs h a = all_all P ks (insert_key nat_cmp xs k) h.1 (All-insert_key nat_cmp k P xs a h.0)
 
 has_ascending : (ks : List ℕ) (q : ℕ) → has_number (ascending ks) q ≡ has_number ks q
-has_ascending ks q = has_all ks [] q ∙ or_nothing (has_number ks q)
+has_ascending ks q = has_all ks [] q ∙ or_false (has_number ks q)
 
 length_ascending : (ks : List ℕ) → length (ascending ks) ≤ length ks
 length_ascending ks = omega (arith, length_all ks [])
@@ -172,7 +153,7 @@ node_there c (CrashClient client count) i h e = absurd (cc)
 node_there c (Drop client node count) i h e = absurd (cc)
 node_there c (Hold client node count) i h e = absurd (cc)
 
-some_same : (a b : ℕ) → ◌≡◌ {A = Option ℕ} (Some a) (Some b) → IsClientNumber a → IsClientNumber b
+pub some_same : (a b : ℕ) → ◌≡◌ {A = Option ℕ} (Some a) (Some b) → IsClientNumber a → IsClientNumber b
 some_same a b e h = let same : a ≡ b = cc in subst IsClientNumber same h
 
 pub liar_there : (c : Numbers) (rule : Fault) (k : ℕ) → IsFault c rule → lying_client rule ≡ Some k → IsClientNumber k

@@ -3,10 +3,10 @@ use Rattle.std.proofs.Common.{◌≡◌, ◌⊎◌, ℕ, zero, suc, ◌+◌, ◌
 use Rattle.std.specs.Prelude.{slice_get}
 use Rattle.std.specs.declared.option.Option.TheVariants.{Some}
 use Rattle.std.specs.List.{Contains}
-use Rattle.protocol.proofs.Lists.{Contains-none, Contains-cons_cases}
 use Rattle.journals.specs.Phases.{Phase}
 use Rattle.plan_followed.specs.Followed.{AreInTurn, begin_of, end_of}
 use Rattle.plan_followed.specs.Closed.{next_begin}
+use Rattle.lists.proofs.Members.{Contains-none, Contains-cons_cases, slice_get-front}
 
 -- the end of the last phase, or where the first begins
 abbrev last_end : ℕ → List Phase → ℕ
@@ -65,12 +65,7 @@ get_pushed (z ∷ xs) x y (suc k) e = elim (get_pushed xs x y k e) [
   | inr h ↦ inr (ap suc h.0, h.1)
 ]
 
-get_left : {X : Type 0} (xs : List X) (x : X) (k : ℕ) → k < length xs → slice_get (xs ++ x ∷ []) k ≡ slice_get xs k
-get_left [] x k l = absurd (omega arith)
-get_left (z ∷ xs) x zero l = refl
-get_left (z ∷ xs) x (suc k) l = get_left xs x k (omega (arith, l))
-
 -- where a phase begins doesn't depend on those after it
 pub same_begin : (ps : List Phase) (p : Phase) (k : ℕ) → k ≤ length ps → begin_of (ps ++ p ∷ []) k ≡ begin_of ps k
 same_begin ps p zero l = refl
-same_begin ps p (suc k) l = ap end_of (get_left ps p k (omega (arith, l)))
+same_begin ps p (suc k) l = ap end_of (slice_get-front ps p k (omega (arith, l)))

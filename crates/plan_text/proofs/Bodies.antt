@@ -21,17 +21,18 @@ use Rattle.plan_words.specs.declared.fault.Fault.{Fault}
 use Rattle.plan_words.specs.declared.job.Job.{Job}
 use Rattle.plan_words.specs.declared.plan.Plan.{Plan}
 use Rattle.plan_words.specs.Named.{lying_node, lying_client, ascending, liars_of}
-use Rattle.plan_lines.specs.declared.line.PlanLine.{PlanLine}
-use Rattle.plan_lines.specs.declared.line.PlanLine.TheVariants.{Rule, Work}
+use Rattle.plan_words.specs.declared.line.PlanLine.{PlanLine}
+use Rattle.plan_words.specs.declared.line.PlanLine.TheVariants.{Rule, Work}
 use Rattle.plan_text.specs.declared.seen.Seen.{Seen}
-use Rattle.plan_lines.specs.Forms.{line_cause}
-use Rattle.plan_lines.specs.Lines.{IsPlanLine, line_text}
+use Rattle.plan_words.specs.Forms.{line_cause}
+use Rattle.plan_words.specs.Lines.{IsPlanLine, line_text}
 use Rattle.plan_text.specs.Marks.{Marks, line_marks}
 use Rattle.plan_text.specs.Plans.{marks_of, later_cause, plan_cause, plan_lines, plan_script, rule_of, job_of, rules_in, work_in, Spells}
 use Rattle.plan_text.specs.Reading.{IsSeen, AreFine, BodyRead, next_cause, seen_cause, with_number, with_liar}
 use Rattle.plan_text.proofs.Marked.{marks_back, all_marks_back, one_sided}
 use Rattle.plan_text.proofs.Causes.{seen_is, free_from_none}
-use Rattle.plan_text.proofs.Steps.{IsNoted, push_each, seen_more, fine_more}
+use Rattle.plan_text.proofs.Steps.{IsNoted, seen_more, fine_more}
+use Rattle.lists.proofs.Members.{all_push}
 
 small : (c : Numbers) → IsValid c → c.n < 2 ^ 64
 small c v = let top = v.nodes.1 in omega arith
@@ -145,7 +146,7 @@ body_more text plan new seen later rest line after number next l h e shorter non
       rules = filter_map-append rule_of h.lines (l ∷ []) ∙ ap (λ (rs : List Fault). rs ++ rules_in (l ∷ [])) h.rules ∙ sym rules;
       work = filter_map-append job_of h.lines (l ∷ []) ∙ ap (λ (js : List Job). js ++ work_in (l ∷ [])) h.work ∙ sym work;
       liars = liars ∙ ap (λ (x : Liars). with_liar x m) h.liars ∙ liars_more c plan.rules l ∙ ap liars_of (sym rules);
-      each = subst (λ (k : Numbers). AllByRecursion (IsPlanLine k) (h.lines ++ l ∷ [])) (sym same) (push_each (IsPlanLine c) h.lines l h.each says.0);
+      each = subst (λ (k : Numbers). AllByRecursion (IsPlanLine k) (h.lines ++ l ∷ [])) (sym same) (all_push (IsPlanLine c) h.lines l h.each says.0);
       fine = subst (λ (k : Numbers). AreFine k (map (line_marks k) (h.lines ++ l ∷ []))) (sym same) (subst (AreFine c) (sym push) (fine_more c ms m seen later h.fine free (one_sided c l) h.noted noted.clients));
       noted = subst (λ (k : Numbers). IsSeen (map (line_marks k) (h.lines ++ l ∷ [])) later) (sym same) (subst (λ (xs : List Marks). IsSeen xs later) (sym push) (seen_more ms m seen later h.noted noted));
       reads = subst (λ (k : Numbers). ReadsTo plan_script text (plan_lines k (h.lines ++ l ∷ [])) after) (sym same) (subst (λ (ls : List (List ℕ)). ReadsTo plan_script text ls after) lines on);

@@ -12,15 +12,16 @@ use Rattle.plan_words.specs.declared.job.Job.{Job}
 use Rattle.plan_words.specs.declared.plan.Plan.{Plan}
 use Rattle.plan_words.specs.Named.{lying_node, faulty_node, lying_client, crashing_client, troubled_client, job_client, dropped_pair, held_pair, pair_eq, lying_clients, asking_clients, clients, is_flood, is_phase}
 use Rattle.plan_words.specs.Plans.{IsFault, IsJob, device_fault, step_count, step_limit, AreFitting, Fits}
-use Rattle.plan_lines.specs.declared.line.PlanLine.{PlanLine}
-use Rattle.plan_lines.specs.declared.line.PlanLine.TheVariants.{Rule, Work}
+use Rattle.plan_words.specs.declared.line.PlanLine.{PlanLine}
+use Rattle.plan_words.specs.declared.line.PlanLine.TheVariants.{Rule, Work}
 use Rattle.plan_text.specs.declared.seen.Seen.{Seen}
-use Rattle.plan_lines.specs.Lines.{IsPlanLine}
+use Rattle.plan_words.specs.Lines.{IsPlanLine}
 use Rattle.plan_text.specs.Marks.{line_marks}
 use Rattle.plan_text.specs.Plans.{client_of, rules_in, work_in}
 use Rattle.plan_text.specs.Reading.{HasAll, IsSeen, AreFine, BodyRead}
 use Rattle.plan_text.proofs.Marked.{one_sided, named_by_rules, named_by_both, counted_by_rules, counted_by_work}
 use Rattle.plan_text.proofs.Sets.{len_is}
+use Rattle.lists.proofs.Tests.{or_swapped}
 
 each_rule : (c : Numbers) (ls : List PlanLine) → AllByRecursion (IsPlanLine c) ls → AllByRecursion (IsFault c) (rules_in ls)
 each_rule c [] h = tt
@@ -41,16 +42,10 @@ or_assoc : (a b c : Bool) → (a || (b || c)) ≡ ((a || b) || c)
 or_assoc true b c = refl
 or_assoc false b c = refl
 
-or_between : (a b c : Bool) → (a || (b || c)) ≡ (b || (a || c))
-or_between true true c = refl
-or_between true false c = refl
-or_between false true c = refl
-or_between false false c = refl
-
 split_cons : (l a : Option ℕ) → (l ≡ None) ⊎ (a ≡ None) → (C L A : List ℕ) (q : ℕ) → is_member nat_eq C q ≡ (is_member nat_eq L q || is_member nat_eq A q)
     → is_member nat_eq (cons_option (option_or l a) C) q ≡ (is_member nat_eq (cons_option l L) q || is_member nat_eq (cons_option a A) q)
 split_cons None None one C L A q h = h
-split_cons None (Some x) one C L A q h = ap (λ b. nat_eq q x || b) h ∙ or_between (nat_eq q x) (is_member nat_eq L q) (is_member nat_eq A q)
+split_cons None (Some x) one C L A q h = ap (λ b. nat_eq q x || b) h ∙ or_swapped (nat_eq q x) (is_member nat_eq L q) (is_member nat_eq A q)
 split_cons (Some x) None one C L A q h = ap (λ b. nat_eq q x || b) h ∙ or_assoc (nat_eq q x) (is_member nat_eq L q) (is_member nat_eq A q)
 split_cons (Some x) (Some y) one C L A q h = elim one [ inl e ↦ absurd cc | inr e ↦ absurd cc ]
 

@@ -1,43 +1,29 @@
 -- The marks of lines: those of a line's text, and what rules and work have of the marks of all lines.
-use Rattle.std.proofs.Common.{◌≡◌, ℕ, ◌^◌, ◌<◌, Bool, true, false, ◌||◌, List, [], ◌∷◌, ◌++◌, map, Option, Some, None, unwrap_or, refl, sym, ap, ◌∙◌, ◌⊎◌, inl, inr, arith, lit≤}
-use Rattle.std.specs.Prelude.{decimal, nat_eq, sum_by}
+use Rattle.std.proofs.Common.{◌≡◌, ℕ, ◌^◌, ◌<◌, Bool, true, false, ◌||◌, List, [], ◌∷◌, ◌++◌, map, Option, Some, None, refl, sym, ap, ◌∙◌, ◌⊎◌, inl, inr, arith}
+use Rattle.std.specs.Prelude.{nat_eq, sum_by}
 use Rattle.std.specs.List.{AllByRecursion, filter_map, cons_option}
 use Rattle.std.specs.Set.{is_member}
 use Rattle.std.proofs.lemmas.List.Sums.{sum_by-cons}
 use Rattle.std.proofs.lemmas.List.Folds.{list_any-append}
 use Rattle.quorum_rules.specs.Limits.{Numbers}
-use Rattle.text_lines.specs.Fields.{number_of, value_of, value_text, IsBytes}
-use Rattle.text_lines.proofs.Numbers.{number_of-decimal}
-use Rattle.text_lines.proofs.Values.{value_of-text}
 use Rattle.wire_forms.specs.declared.op.Op.TheVariants as ops
 use Rattle.wire_forms.specs.declared.device.DeviceOp.TheVariants as commands
-use Rattle.wire_forms.specs.Liars.{IsClientNumber}
-use Rattle.event_lines.specs.Lines.{IsNode}
 use Rattle.plan_words.specs.declared.fault.Fault.{Fault}
 use Rattle.plan_words.specs.declared.fault.Fault.TheVariants.{LiarNode, LiarSound, LiarMix, LiarFlood, CrashNode, CrashClient, Drop, Hold}
 use Rattle.plan_words.specs.declared.job.Job.{Job}
 use Rattle.plan_words.specs.declared.job.Job.TheVariants.{Block, Device, Phase}
 use Rattle.plan_words.specs.Plans.{IsFault, IsJob}
-use Rattle.plan_lines.specs.declared.line.PlanLine.{PlanLine}
-use Rattle.plan_lines.specs.declared.line.PlanLine.TheVariants.{Rule, Work}
-use Rattle.plan_lines.specs.Lines.{IsPlanLine, line_fields, line_text}
+use Rattle.plan_words.specs.declared.line.PlanLine.{PlanLine}
+use Rattle.plan_words.specs.declared.line.PlanLine.TheVariants.{Rule, Work}
+use Rattle.plan_words.specs.Lines.{IsPlanLine, line_fields, line_text}
 use Rattle.plan_text.specs.Marks.{Marks, marks_in, line_marks, rule_marks, job_marks}
 use Rattle.plan_text.specs.Plans.{marks_of, rules_in, work_in}
-use Rattle.plan_lines.proofs.Texts.{fields_back}
+use Rattle.plan_words.proofs.Texts.{fields_back}
+use Rattle.lists.proofs.Tests.{or_swapped}
+use Rattle.event_lines.proofs.Unique.{u64_back, value_back}
+use Rattle.plan_words.proofs.Unique.{node_back, client_back}
 
 -- ---- the marks of a line's text
-
-back : (n : ℕ) → n < 2 ^ 64 → unwrap_or (number_of (2 ^ 64) (decimal n)) 0 ≡ n
-back n lt = rw (number_of-decimal (2 ^ 64) n (lit≤ tt) lt) refl
-
-client_back : (n : ℕ) → IsClientNumber n → unwrap_or (number_of (2 ^ 64) (decimal n)) 0 ≡ n
-client_back n h = back n (omega arith)
-
-node_back : (c : Numbers) (n : ℕ) → IsNode c n → unwrap_or (number_of (2 ^ 64) (decimal n)) 0 ≡ n
-node_back c n h = back n (omega arith)
-
-value_back : (v : List ℕ) → IsBytes v → unwrap_or (value_of (value_text v)) [] ≡ v
-value_back v h = rw (value_of-text v h) refl
 
 rule_back : (c : Numbers) (f : Fault) → IsFault c f → marks_in c (line_fields (Rule f)) ≡ rule_marks f
 rule_back c (LiarNode i r) h = rw (node_back c i h) refl
@@ -52,8 +38,8 @@ rule_back c (Hold k i n) h = rw (client_back k h.0, node_back c i h.1) refl
 job_back : (c : Numbers) (j : Job) → IsJob c j → marks_in c (line_fields (Work j)) ≡ job_marks c j
 job_back c (Block k (ops.Read b)) h = rw (client_back k h.0) refl
 job_back c (Block k (ops.Write b v)) h = rw (client_back k h.0) refl
-job_back c (Device k (commands.Get o n)) h = rw (client_back k h.0, back o h.1.0, back n h.1.1) refl
-job_back c (Device k (commands.Put o v)) h = rw (client_back k h.0, back o h.1.0, value_back v h.1.1) refl
+job_back c (Device k (commands.Get o n)) h = rw (client_back k h.0, u64_back o h.1.0, u64_back n h.1.1) refl
+job_back c (Device k (commands.Put o v)) h = rw (client_back k h.0, u64_back o h.1.0, value_back v h.1.1) refl
 job_back c Phase h = refl
 
 line_back : (c : Numbers) (l : PlanLine) → IsPlanLine c l → marks_in c (line_fields l) ≡ line_marks c l
@@ -101,12 +87,6 @@ or_assoc : (a b c : Bool) → (a || (b || c)) ≡ ((a || b) || c)
 or_assoc true b c = refl
 or_assoc false b c = refl
 
-or_between : (a b c : Bool) → (a || (b || c)) ≡ (b || (a || c))
-or_between true true c = refl
-or_between true false c = refl
-or_between false true c = refl
-or_between false false c = refl
-
 -- what rules and jobs name
 pub named_by_both : (c : Numbers) (g : Marks → Option ℕ) (r : Fault → Option ℕ) (w : Job → Option ℕ) → ((f : Fault) → g (rule_marks f) ≡ r f) → ((j : Job) → g (job_marks c j) ≡ w j) → (ls : List PlanLine) (q : ℕ)
     → is_member nat_eq (filter_map g (map (line_marks c) ls)) q ≡ is_member nat_eq (filter_map r (rules_in ls) ++ filter_map w (work_in ls)) q
@@ -123,7 +103,7 @@ named_by_both c g r w hr hj (Work j ∷ ls) q =
     let R = filter_map r (rules_in ls) in
     let W = filter_map w (work_in ls) in
     ap (λ o. is_member nat_eq (cons_option o M) q) (hj j) ∙ member_cons q (w j) M ∙ ap (λ b. is_this q (w j) || b) (named_by_both c g r w hr hj ls q ∙ list_any-append (nat_eq q) R W)
-    ∙ or_between (is_this q (w j)) (is_member nat_eq R q) (is_member nat_eq W q) ∙ ap (λ b. is_member nat_eq R q || b) (sym (member_cons q (w j) W))
+    ∙ or_swapped (is_this q (w j)) (is_member nat_eq R q) (is_member nat_eq W q) ∙ ap (λ b. is_member nat_eq R q || b) (sym (member_cons q (w j) W))
     ∙ sym (list_any-append (nat_eq q) R (cons_option (w j) W))
 
 -- what rules alone count

@@ -1,38 +1,37 @@
 -- A text that spells a plan that fits is accepted, and spells no other.
-use Rattle.std.proofs.Common.{◌≡◌, ℕ, ◌^◌, ◌<◌, ◌≤◌, cond, List, [], ◌∷◌, ◌++◌, length, map, drop, get_or, None, refl, sym, ap, subst, ◌∙◌, append_assoc, length-append, arith}
+use Rattle.std.proofs.Common.{◌≡◌, ℕ, ◌^◌, ◌<◌, ◌≤◌, cond, List, [], ◌∷◌, ◌++◌, length, map, drop, get_or, None, refl, sym, ap, subst, ◌∙◌, append_assoc, arith}
 use Rattle.std.specs.Prelude.{nat_eq}
 use Rattle.std.specs.List.{AllByRecursion, IsDistinct, filter_map}
 use Rattle.std.specs.Set.{is_member}
 use Rattle.std.proofs.lemmas.List.{append-nil, map_push, map-append}
 use Rattle.std.proofs.lemmas.List.Concat.{flat_map-append}
 use Rattle.quorum_rules.specs.Limits.{Numbers, IsValid}
-use Rattle.text_lines.specs.Lines.{parts_of, fields_of, line_of_fields, text_of_lines, Lacks}
-use Rattle.text_lines.proofs.Joined.{part_before}
+use Rattle.text_lines.specs.Lines.{fields_of, line_of_fields, text_of_lines}
 use Rattle.wire_forms.specs.Liars.{Liars}
 use Rattle.line_forms.specs.Heads.{head_lines, head_text, header, edition_of, cluster_fields, numbers_in}
 use Rattle.line_forms.specs.Tables.{or_then}
 use Rattle.line_forms.specs.Texts.{IsFaultless, ReadsTo}
 use Rattle.line_forms.proofs.Accepted.{head_accepted, numbers_back}
-use Rattle.line_forms.proofs.Texts.{reads_on, read_all}
+use Rattle.line_forms.proofs.Texts.{reads_on, read_all, line_next, push_same}
 use Rattle.plan_words.specs.declared.fault.Fault.{Fault}
 use Rattle.plan_words.specs.declared.job.Job.{Job}
 use Rattle.plan_words.specs.declared.plan.Plan.{Plan}
 use Rattle.plan_words.specs.Named.{lying_node, faulty_node, crashing_client, dropped_pair, held_pair, pair_eq, clients, is_flood, is_phase, liars_of}
 use Rattle.plan_words.specs.Plans.{IsFault, IsJob, device_fault, step_count, step_limit, AreFitting, Fits}
-use Rattle.plan_lines.specs.declared.line.PlanLine.{PlanLine}
-use Rattle.plan_lines.specs.declared.line.PlanLine.TheVariants.{Rule, Work}
-use Rattle.plan_lines.specs.Forms.{line_cause}
-use Rattle.plan_lines.specs.Lines.{IsPlanLine, line_text}
+use Rattle.plan_words.specs.declared.line.PlanLine.{PlanLine}
+use Rattle.plan_words.specs.declared.line.PlanLine.TheVariants.{Rule, Work}
+use Rattle.plan_words.specs.Forms.{line_cause}
+use Rattle.plan_words.specs.Lines.{IsPlanLine, line_text}
 use Rattle.plan_text.specs.Marks.{line_marks}
 use Rattle.plan_text.specs.Plans.{client_of, marks_of, later_cause, plan_cause, plan_body, plan_lines, plan_script, plan_text, rules_in, work_in, Spells}
 use Rattle.plan_text.specs.Reading.{AreFine}
-use Rattle.plan_lines.proofs.Accepted.{line_fine}
+use Rattle.plan_words.proofs.Accepted.{line_fine}
 use Rattle.plan_text.proofs.Fitting.{lying_is, asking_is, clients_are}
 use Rattle.plan_text.proofs.Marked.{marks_back, all_marks_back, named_by_rules, counted_by_rules, counted_by_work}
 use Rattle.plan_text.proofs.Standing.{fewer_different, none_standing}
-use Rattle.plan_text.proofs.Steps.{push_each}
-use Rattle.plan_lines.proofs.Texts.{fields_back, one_line}
-use Rattle.plan_lines.proofs.Unique.{one_plan_line}
+use Rattle.plan_words.proofs.Texts.{fields_back, one_line}
+use Rattle.plan_words.proofs.Unique.{one_plan_line}
+use Rattle.lists.proofs.Members.{all_push}
 
 small : (c : Numbers) → IsValid c → c.n < 2 ^ 64
 small c v = let top = v.nodes.1 in omega arith
@@ -91,11 +90,6 @@ no_cause c before after l v each h fine =
     ∙ ap (later_cause c (map (line_marks c) before)) (marks_back c l s h)
     ∙ none_standing c (map (line_marks c) before) (line_marks c l) (map (line_marks c) after) (subst (AreFine c) marks fine)
 
-line_next : (line lines rest : List ℕ) → Lacks 10 line → parts_of (((line ++ 10 ∷ []) ++ lines) ++ rest) ≡ line ∷ parts_of (lines ++ rest)
-line_next line lines rest lacks =
-    let text : ((line ++ 10 ∷ []) ++ lines) ++ rest ≡ line ++ 10 ∷ (lines ++ rest) = simp append_assoc in
-    ap parts_of text ∙ part_before 10 line (lines ++ rest) lacks
-
 lines_accepted : (text : List ℕ) (c : Numbers) (before more all : List PlanLine) (rest : List ℕ) → IsValid c → before ++ more ≡ all → AllByRecursion (IsPlanLine c) before → AllByRecursion (IsPlanLine c) more → AreFine c (map (line_marks c) all)
     → ReadsTo plan_script text (plan_lines c before) (text_of_lines (map line_text more) ++ rest) → ReadsTo plan_script text (plan_lines c all) rest
 lines_accepted text c before [] all rest v e h k fine r = subst (λ (ls : List PlanLine). ReadsTo plan_script text (plan_lines c ls) rest) (sym (append-nil before) ∙ e) r
@@ -104,7 +98,7 @@ lines_accepted text c before (l ∷ more) all rest v e h k fine r =
     let on = reads_on plan_script text (plan_lines c before) (line_text l) _ (text_of_lines (map line_text more) ++ rest) r (line_next (line_text l) (text_of_lines (map line_text more)) rest (one_line c l (small c v) k.0)) none in
     let lines : plan_lines c before ++ line_text l ∷ [] ≡ plan_lines c (before ++ l ∷ []) =
     append_assoc (head_lines c) (map line_text before) (line_text l ∷ []) ∙ ap (λ (ls : List (List ℕ)). head_lines c ++ ls) (sym (map_push line_text before l)) in
-    lines_accepted text c (before ++ l ∷ []) more all rest v (append_assoc before (l ∷ []) more ∙ e) (push_each (IsPlanLine c) before l h k.0) k.1 fine
+    lines_accepted text c (before ++ l ∷ []) more all rest v (append_assoc before (l ∷ []) more ∙ e) (all_push (IsPlanLine c) before l h k.0) k.1 fine
     (subst (λ (ls : List (List ℕ)). ReadsTo plan_script text ls (text_of_lines (map line_text more) ++ rest)) lines on)
 
 spelled_reads : (text : List ℕ) (p : Plan) (s : Spells text p) → Fits p → ReadsTo plan_script text (plan_lines p.config s.lines) []
@@ -121,15 +115,6 @@ pub plan_accepted : (text : List ℕ) (p : Plan) → Fits p → Spells text p �
 plan_accepted text p f s = read_all plan_script text (header p.config.edition) (line_of_fields (cluster_fields p.config) ∷ map line_text s.lines) [] (spelled_reads text p s f) refl refl
 
 -- ---- one text, one plan
-
-push_same : (xs ys : List (List ℕ)) (a : List ℕ) → xs ++ a ∷ [] ≡ ys ++ a ∷ [] → xs ≡ ys
-push_same [] [] a e = refl
-push_same [] (y ∷ ys) a e = let len = length-append ys (a ∷ []) in absurd (omega (arith, ap length e))
-push_same (x ∷ xs) [] a e = let len = length-append xs (a ∷ []) in absurd (omega (arith, ap length e))
-push_same (x ∷ xs) (y ∷ ys) a e =
-    let tail = push_same xs ys a (ap (λ (ls : List (List ℕ)). drop 1 ls) e) in
-    let head : x ≡ y = ap (λ (ls : List (List ℕ)). get_or ls 0 []) e in
-    ap (λ (l : List ℕ). l ∷ xs) head ∙ ap (λ (ls : List (List ℕ)). y ∷ ls) tail
 
 lines_one : (c : Numbers) (ls ks : List PlanLine) → c.n < 2 ^ 64 → AllByRecursion (IsPlanLine c) ls → AllByRecursion (IsPlanLine c) ks → map line_text ls ≡ map line_text ks → ls ≡ ks
 lines_one c [] [] s h g e = refl

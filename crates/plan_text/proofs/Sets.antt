@@ -8,7 +8,7 @@ use Rattle.std.specs.List.{AllByRecursion, IsDistinct, list_any, filter_map, con
 use Rattle.std.specs.Ordering.{nat_cmp, ordering_then, is_eq, eq_by_cmp}
 use Rattle.std.specs.BTreeSet.{BTreeSet, contains, btree_set_len, IsOrdered}
 use Rattle.std.specs.Set.{is_member, distinct_count}
-use Rattle.std.proofs.lemmas.Bool.{cases_Bool, cases_lt, lt-ltb, le-ltb}
+use Rattle.std.proofs.lemmas.Bool.{cases_Bool, cases_lt, lt-ltb, le-ltb, eq-eqb, ne_eqb}
 use Rattle.std.proofs.lemmas.Cmp.{nat_eq_equiv, on_equiv, and_equiv}
 use Rattle.std.proofs.lemmas.List.{append-nil}
 use Rattle.std.proofs.lemmas.List.Elements.{filter_map-append}
@@ -22,19 +22,13 @@ use Rattle.plan_text.specs.Sets.{has, IsAdded}
 
 -- ---- orders and equalities
 
-same_number : (x y : ℕ) → x ≡ y → eqb x y ≡ true
-same_number x y h = grind arith
-
-other_number : (x y : ℕ) → (x ≡ y → ⊥) → eqb x y ≡ false
-other_number x y h = grind arith
-
 pub nat_tie : (x y : ℕ) → is_eq (nat_cmp x y) ≡ nat_eq y x
 nat_tie x y =
     elim (cases_lt x y) [
-      | inl lt ↦ rw (lt-ltb x y lt, other_number y x (λ e. omega arith)) refl
+      | inl lt ↦ rw (lt-ltb x y lt, ne_eqb y x (λ e. omega arith)) refl
       | inr le ↦ elim (cases_lt y x) [
-        | inl gt ↦ rw (le-ltb x y le, other_number x y (λ e. omega arith), other_number y x (λ e. omega arith)) refl
-        | inr ge ↦ rw (le-ltb x y le, same_number x y (omega arith), same_number y x (omega arith)) refl
+        | inl gt ↦ rw (le-ltb x y le, ne_eqb x y (λ e. omega arith), ne_eqb y x (λ e. omega arith)) refl
+        | inr ge ↦ rw (le-ltb x y le, eq-eqb x y (omega arith), eq-eqb y x (omega arith)) refl
       ]
     ]
 

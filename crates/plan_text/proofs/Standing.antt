@@ -4,7 +4,7 @@ use Rattle.std.specs.Prelude.{nat_eq, is_some, count_by, sum_by}
 use Rattle.std.specs.Cmp.{IsEquivalence}
 use Rattle.std.specs.List.{AllByRecursion, IsDistinct, filter_map, cons_option}
 use Rattle.std.specs.Set.{is_member, unique_keys, distinct_count}
-use Rattle.std.proofs.lemmas.Bool.{cases_Bool, le-ltb, eqb-true}
+use Rattle.std.proofs.lemmas.Bool.{cases_Bool, le-ltb, eqb-true, or_left, or_right}
 use Rattle.std.proofs.lemmas.Bool.Decides.{nat_tests}
 use Rattle.std.proofs.lemmas.Cmp.{nat_eq_equiv}
 use Rattle.std.proofs.lemmas.List.Elements.{filter_map-append}
@@ -70,14 +70,6 @@ one_more_different k xs ys fresh h =
     longer k xs fresh = rw fresh (omega arith)
 
 -- ---- one among all
-
-or_left : (a b : Bool) → a ≡ true → (a || b) ≡ true
-or_left true b h = refl
-or_left false b h = absurd cc
-
-or_right : (a b : Bool) → b ≡ true → (a || b) ≡ true
-or_right true b h = refl
-or_right false b h = h
 
 first_false : (a b : Bool) → (a || b) ≡ false → a ≡ false
 first_false true b h = absurd cc

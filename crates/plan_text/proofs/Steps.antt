@@ -2,11 +2,11 @@
 use Rattle.std.proofs.Common.{◌≡◌, ℕ, ◌+◌, ◌*◌, ◌/◌, ◌^◌, ◌<◌, ◌≤◌, min, Bool, true, false, ◌||◌, ◌&&◌, cond, ltb, leb, List, [], ◌∷◌, ◌++◌, length, Option, Some, None, refl, sym, ap, subst, ◌∙◌, ◌⊎◌, inl, inr, arith}
 use Rattle.std.specs.declared.cmp.Ordering.{Ordering}
 use Rattle.std.specs.Prelude.{nat_eq, is_some, count_by, sum_by}
-use Rattle.std.specs.List.{AllByRecursion, IsDistinct, filter_map, cons_option}
+use Rattle.std.specs.List.{IsDistinct, filter_map, cons_option}
 use Rattle.std.specs.Ordering.{nat_cmp, is_eq}
 use Rattle.std.specs.BTreeSet.{BTreeSet, btree_set_len, IsOrdered}
 use Rattle.std.specs.Set.{is_member, distinct_count}
-use Rattle.std.proofs.lemmas.Bool.{cases_Bool, ltb-false, eqb-true}
+use Rattle.std.proofs.lemmas.Bool.{cases_Bool, ltb-false, eqb-true, or_parts, or_cases}
 use Rattle.std.proofs.lemmas.Bool.Decides.{nat_tests}
 use Rattle.std.proofs.lemmas.Cmp.{nat_eq_equiv}
 use Rattle.std.proofs.lemmas.List.{append-nil}
@@ -22,28 +22,14 @@ use Rattle.plan_text.specs.Reading.{HasAll, IsSeen, AreFine, pair_cmp, seen_agai
 use Rattle.plan_text.specs.Sets.{IsAdded}
 use Rattle.plan_text.proofs.Sets.{has_more, nat_tie, pair_tie, pair_laws, more_named, more_length, distinct_more, len_is}
 use Rattle.plan_text.proofs.Causes.{IsFree, no_cause}
-
-pub push_each : {A : Type 0} (P : A → Type 0) (xs : List A) (x : A) → AllByRecursion P xs → P x → AllByRecursion P (xs ++ x ∷ [])
-push_each P [] x h p = (p, tt)
-push_each P (y ∷ ys) x h p = (h.0, push_each P ys x h.1 p)
-
-or_parts : (a b : Bool) → (a || b) ≡ false → (a ≡ false) × (b ≡ false)
-or_parts true b h = absurd cc
-or_parts false b h = (refl, h)
+use Rattle.lists.proofs.Members.{all_push}
+use Rattle.lists.proofs.Tests.{or_false}
 
 none_of_four : (a b c d : Bool) → (((a || b) || c) || d) ≡ false → (a ≡ false) × (b ≡ false) × (c ≡ false) × (d ≡ false)
 none_of_four true b c d h = absurd cc
 none_of_four false true c d h = absurd cc
 none_of_four false false true d h = absurd cc
 none_of_four false false false d h = (refl, refl, refl, h)
-
-or_cases : (a b : Bool) → (a || b) ≡ true → (a ≡ true) ⊎ (b ≡ true)
-or_cases true b h = inl refl
-or_cases false b h = inr h
-
-or_false : (b : Bool) → (b || false) ≡ b
-or_false true = refl
-or_false false = refl
 
 -- ---- what was seen
 
@@ -157,7 +143,7 @@ fine_more c ms m old new fine free one seen added =
       floods = subst (λ n. n ≤ 8) (sym (sum_by_push (λ (e : Marks). cond e.is_flood 1 0) ms m)) (no_room 8 _ m.is_flood line.1 fine.floods);
       phases = subst (λ n. n ≤ 64) (sym (sum_by_push (λ (e : Marks). cond e.is_phase 1 0) ms m)) (no_room 64 _ m.is_phase line.2 fine.phases);
       steps = subst (λ n. n ≤ step_limit c) (sym (sum_by_push (λ (e : Marks). e.steps) ms m)) (ltb-false (step_limit c) (sum_by (λ e. e.steps) ms + m.steps) line.3);
-      in_device = push_each (λ (e : Marks). e.fault ≡ None) ms m fine.in_device free.fault;
+      in_device = all_push (λ (e : Marks). e.fault ≡ None) ms m fine.in_device free.fault;
     }
 
 limited : (n : ℕ) → min 4000 n ≤ 4000

@@ -12,9 +12,9 @@ use Rattle.plan_words.specs.declared.job.Job.{Job}
 use Rattle.plan_words.specs.Named.{lying_node, faulty_node, lying_client, crashing_client, troubled_client, job_client, dropped_pair, held_pair, is_flood, is_phase}
 use Rattle.plan_words.specs.Plans.{step_count, steps_unless, device_fault}
 pub use Rattle.plan_text.specs.declared.marks.Marks.{Marks}
-use Rattle.plan_lines.specs.declared.line.PlanLine.{PlanLine}
-use Rattle.plan_lines.specs.declared.line.PlanLine.TheVariants.{Rule, Work}
-use Rattle.plan_lines.specs.Forms.{field_at, number_at, value_at}
+use Rattle.plan_words.specs.declared.line.PlanLine.{PlanLine}
+use Rattle.plan_words.specs.declared.line.PlanLine.TheVariants.{Rule, Work}
+use Rattle.plan_words.specs.Forms.{field_at, number_at, value_at}
 
 -- ---- the marks of rules and jobs
 

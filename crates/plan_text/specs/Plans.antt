@@ -15,10 +15,10 @@ use Rattle.plan_words.specs.declared.job.Job.{Job}
 use Rattle.plan_words.specs.declared.plan.Plan.{Plan}
 use Rattle.plan_words.specs.Named.{pair_eq}
 use Rattle.plan_words.specs.Plans.{step_limit}
-use Rattle.plan_lines.specs.declared.line.PlanLine.{PlanLine}
-use Rattle.plan_lines.specs.declared.line.PlanLine.TheVariants.{Rule, Work}
-use Rattle.plan_lines.specs.Lines.{line_text}
-use Rattle.plan_lines.specs.Forms.{line_cause}
+use Rattle.plan_words.specs.declared.line.PlanLine.{PlanLine}
+use Rattle.plan_words.specs.declared.line.PlanLine.TheVariants.{Rule, Work}
+use Rattle.plan_words.specs.Lines.{line_text}
+use Rattle.plan_words.specs.Forms.{line_cause}
 use Rattle.plan_text.specs.Marks.{Marks, marks_in}
 
 -- ---- texts

@@ -15,11 +15,11 @@ use Rattle.line_forms.specs.declared.cause.Cause.TheVariants.{Twice, TooManyLiar
 use Rattle.plan_words.specs.declared.plan.Plan.{Plan}
 use Rattle.plan_words.specs.Named.{pair_eq, liars_of}
 use Rattle.plan_words.specs.Plans.{step_limit}
-use Rattle.plan_lines.specs.declared.line.PlanLine.{PlanLine}
+use Rattle.plan_words.specs.declared.line.PlanLine.{PlanLine}
 use Rattle.plan_text.specs.declared.seen.Seen.{Seen}
-use Rattle.plan_lines.specs.Lines.{IsPlanLine}
+use Rattle.plan_words.specs.Lines.{IsPlanLine}
 use Rattle.plan_text.specs.Marks.{Marks, line_marks}
-use Rattle.plan_lines.specs.Forms.{line_cause}
+use Rattle.plan_words.specs.Forms.{line_cause}
 use Rattle.plan_text.specs.Plans.{client_of, marks_of, rules_in, work_in, plan_lines, plan_script}
 use Rattle.plan_text.specs.Sets.{has}
 

@@ -3,8 +3,7 @@ ghost use Rattle.plan_words.specs.Plans.{device_fault, step_count};
 
 use block_device::{range_fault, step_count};
 use line_forms::DeviceFault;
-use plan_lines::PlanLine;
-use plan_words::{Fault, Job};
+use plan_words::{Fault, Job, PlanLine};
 use quorum_rules::Config;
 
 /// What a line of a plan names and counts, as far as other lines may stand against it.

@@ -21,7 +21,7 @@ use Rattle.protocol.specs.Seen.{SeenTask, hearing}
 use Rattle.protocol.specs.Setting.{Setting, IsValid, IsAscending}
 use Rattle.protocol.specs.Instance.{setting, setting_of, part_numbers, part_strings, IsCluster}
 use Rattle.protocol.proofs.Firsts.{shape}
-use Rattle.protocol.proofs.Lists.{Contains-head, Contains-rest}
+use Rattle.lists.proofs.Members.{Contains-head, Contains-rest}
 
 all_map : {X Y : Type 0} (P : Y → Type 0) (f : X → Y) (xs : List X) → ((x : X) → Contains xs x → P (f x)) → AllByRecursion P (map f xs)
 all_map P f [] h = tt

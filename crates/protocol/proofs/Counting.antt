@@ -3,10 +3,7 @@ use Rattle.std.proofs.Common.{◌≡◌, ℕ, zero, suc, ◌+◌, ◌<◌, ◌�
 use Rattle.std.specs.List.{list_any}
 use Rattle.std.proofs.lemmas.Bool.Decides.{eqb_tells}
 use Rattle.protocol.specs.Count.{count, update}
-
-pub cases_bool : (b : Bool) → (b ≡ true) ⊎ (b ≡ false)
-cases_bool true = inl refl
-cases_bool false = inr refl
+use Rattle.protocol.specs.Instance.{nobody}
 
 -- two sets of numbers below n share as many as their sizes go beyond n
 bits : (a c : Bool) → cond a 1 0 + cond c 1 0 ≤ 1 + cond (a && c) 1 0
@@ -87,3 +84,7 @@ count_named n [] = none n
     none zero = omega arith
     none (suc k) = omega (arith, none k)
 count_named n (x ∷ xs) = omega (arith, one_more_named n x (λ i. list_any (λ y. eqb i y) xs), count_named n xs)
+
+pub nobody_counts : (n : ℕ) → count n nobody ≡ 0
+nobody_counts zero = refl
+nobody_counts (suc n) = let none = nobody_counts n in omega (arith, none)

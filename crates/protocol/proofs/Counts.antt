@@ -15,37 +15,32 @@ use Rattle.run_words.specs.declared.outcome.Outcome.TheVariants.{Wrote, Spent, G
 use Rattle.protocol.specs.World.{World, Record}
 use Rattle.protocol.specs.History.{Entry, read_entry, write_entry, entry_cmp, IsSorted, IsRead, IsWrite, IsEntry, IsHistory}
 use Rattle.protocol.specs.Report.{SpentWrite, IsSpentWrite, Ascend, spent_write, spent_writes, is_done, is_spent, is_pending, is_ended, counts_of}
-use Rattle.protocol.proofs.Counting.{cases_bool}
-use Rattle.protocol.proofs.Tests.{is_eqb, eqb_is}
 use Rattle.protocol.proofs.Histories.{outcome_at, not_outvoted, read_end}
-use Rattle.protocol.proofs.Keeping.{or_cases}
-use Rattle.protocol.proofs.Lists.{filter_is, filter_has, Contains-none, Contains-head, Contains-rest, Contains-cons_cases, Contains-map, Contains-map_cases}
 use Rattle.protocol.proofs.Entries.{start_made, end_made, not_self, member_of}
 use Rattle.protocol.proofs.Invariant.{IsSafe, IsRecord, IsOutcome}
 use Rattle.protocol.proofs.Apart.{IsApart}
 use Rattle.protocol.proofs.Starts.{starts}
+use Rattle.lists.proofs.Members.{Contains-head, Contains-none, Contains-rest, Contains-cons_cases, Contains-map_cases, Contains-map, filter_is, filter_has}
+use Rattle.std.proofs.lemmas.Bool.{eqb-true, eq-eqb, or_cases, ne_eqb, cases_Bool}
 
 -- ---- lists
 
-isnt : (m n : ℕ) → (m ≡ n → ⊥) → eqb m n ≡ false
-isnt m n h = elim (cases_bool (eqb m n)) [ inl e ↦ absurd (h (is_eqb m n e)) | inr e ↦ e ]
-
 any_has : (ns : List ℕ) (q : ℕ) → list_any (eqb q) ns ≡ true → Contains ns q
 any_has [] q h = absurd (cc)
-any_has (n ∷ ns) q h = let rest = any_has ns q in elim (or_cases (eqb q n) (list_any (eqb q) ns) h) [ inl e ↦ rw (is_eqb q n e) (Contains-head n ns) | inr k ↦ Contains-rest q n ns (rest k) ]
+any_has (n ∷ ns) q h = let rest = any_has ns q in elim (or_cases (eqb q n) (list_any (eqb q) ns) h) [ inl e ↦ rw (eqb-true q n e) (Contains-head n ns) | inr k ↦ Contains-rest q n ns (rest k) ]
 
 has_any : (ns : List ℕ) (q : ℕ) → Contains ns q → list_any (eqb q) ns ≡ true
 has_any [] q h = absurd (Contains-none q h)
-has_any (n ∷ ns) q h = let rest = has_any ns q in elim (Contains-cons_cases q n ns h) [ inl e ↦ rw (e, eqb_is n n refl) refl | inr k ↦ rw (rest k) (at (eqb q n)) ]
+has_any (n ∷ ns) q h = let rest = has_any ns q in elim (Contains-cons_cases q n ns h) [ inl e ↦ rw (e, eq-eqb n n refl) refl | inr k ↦ rw (rest k) (at (eqb q n)) ]
   where
     at : (b : Bool) → b || true ≡ true
     at true = refl
     at false = refl
 
 alike : (ms ns : List ℕ) → ((q : ℕ) → Contains ms q → Contains ns q) → ((q : ℕ) → Contains ns q → Contains ms q) → (q : ℕ) → list_any (eqb q) ms ≡ list_any (eqb q) ns
-alike ms ns to from q = elim (cases_bool (list_any (eqb q) ms)) [
+alike ms ns to from q = elim (cases_Bool (list_any (eqb q) ms)) [
   | inl e ↦ e ∙ sym (has_any ns q (to q (any_has ms q e)))
-  | inr e ↦ elim (cases_bool (list_any (eqb q) ns)) [ inl f ↦ absurd (let k = has_any ms q (from q (any_has ns q f)) in cc) | inr f ↦ e ∙ sym f ]
+  | inr e ↦ elim (cases_Bool (list_any (eqb q) ns)) [ inl f ↦ absurd (let k = has_any ms q (from q (any_has ns q f)) in cc) | inr f ↦ e ∙ sym f ]
 ]
 
 -- two lists whose members that pass have the same numbers, each once
@@ -74,7 +69,7 @@ apart_map p f n [] h = tt
 apart_map {X} p f n (x ∷ xs) h = at (p x) refl (apart_map p f n xs (λ y k. h y (Contains-rest y x xs k)))
   where
     at : (b : Bool) → p x ≡ b → AllByRecursion (λ y. eqb n y ≡ false) (map f (filter p xs)) → AllByRecursion (λ y. eqb n y ≡ false) (map f (cond b (x ∷ filter p xs) (filter p xs)))
-    at true t rest = (isnt n (f x) (h x (Contains-head x xs) t), rest)
+    at true t rest = (ne_eqb n (f x) (h x (Contains-head x xs) t), rest)
     at false t rest = rest
 
 -- ---- the numbers of records and of entries

@@ -3,17 +3,17 @@ use Rattle.std.proofs.Common.{◌≡◌, ℕ, ◌+◌, ◌<◌, ◌≤◌, Bool,
 use Rattle.std.specs.List.{Contains}
 use Rattle.protocol.specs.World.{Accepted}
 use Rattle.protocol.specs.Bounds.{same_accepted, is_among, different}
-use Rattle.protocol.proofs.Counting.{both_true, cases_bool}
+use Rattle.protocol.proofs.Counting.{both_true}
 use Rattle.protocol.proofs.Order.{same_stamp-≡, same_stamp-refl}
-use Rattle.protocol.proofs.Lists.{Contains-none, Contains-head, Contains-rest, Contains-cons_cases}
-use Rattle.protocol.proofs.Tests.{eqb_self, is_eqb}
-use Rattle.protocol.proofs.Keeping.{or_cases}
+use Rattle.lists.proofs.Members.{Contains-head, Contains-none, Contains-rest, Contains-cons_cases}
+use Rattle.lists.proofs.Tests.{eqb_self}
+use Rattle.std.proofs.lemmas.Bool.{eqb-true, or_cases, cases_Bool}
 
 fields : (a b : Accepted) → a.node ≡ b.node → a.block ≡ b.block → a.stamp ≡ b.stamp → a ≡ b
 fields a b n k t i = record { node = n i; block = k i; stamp = t i }
 
 same-≡ : (a b : Accepted) → same_accepted a b ≡ true → a ≡ b
-same-≡ a b h = let x = both_true _ _ h in let y = both_true _ _ x.0 in fields a b (is_eqb _ _ y.0) (is_eqb _ _ y.1) (same_stamp-≡ _ _ x.1)
+same-≡ a b h = let x = both_true _ _ h in let y = both_true _ _ x.0 in fields a b (eqb-true _ _ y.0) (eqb-true _ _ y.1) (same_stamp-≡ _ _ x.1)
 
 same-self : (a : Accepted) → same_accepted a a ≡ true
 same-self a = rw (eqb_self a.node, eqb_self a.block, same_stamp-refl a.stamp) refl
@@ -79,9 +79,9 @@ step true u false n false h = refl
 step false u m n false h = refl
 
 same_sym : (a b : Accepted) → same_accepted a b ≡ same_accepted b a
-same_sym a b = elim (cases_bool (same_accepted a b)) [
+same_sym a b = elim (cases_Bool (same_accepted a b)) [
   | inl e ↦ (let q = same-≡ a b e in rw q refl)
-  | inr e ↦ elim (cases_bool (same_accepted b a)) [ inl f ↦ (let q = same-≡ b a f in rw q refl) | inr f ↦ e ∙ sym f ]
+  | inr e ↦ elim (cases_Bool (same_accepted b a)) [ inl f ↦ (let q = same-≡ b a f in rw q refl) | inr f ↦ e ∙ sym f ]
 ]
 
 -- one more at the end

@@ -1,17 +1,17 @@
 -- The order of entries, and what the entries of a history say.
-use Rattle.std.proofs.Common.{◌≡◌, ℕ, zero, suc, ◌<◌, true, List, [], ◌∷◌, length, get_or, Option, refl, ◌∙◌, ap, arith, ltb}
+use Rattle.std.proofs.Common.{◌≡◌, ℕ, zero, suc, ◌<◌, true, List, [], ◌∷◌, length, get_or, Option, refl, ◌∙◌, ap, arith}
 use Rattle.std.specs.declared.option.Option.TheVariants.{None, Some}
 use Rattle.std.specs.declared.cmp.Ordering.{Ordering}
 use Rattle.std.specs.declared.cmp.Ordering.TheVariants.{Less, Equal, Greater}
-use Rattle.std.specs.Ordering.{nat_cmp, is_lt, ordering_then, ordering_reverse}
+use Rattle.std.specs.Ordering.{nat_cmp, ordering_then, ordering_reverse}
 use Rattle.std.specs.Cmp.{IsTotalOrder}
 use Rattle.std.specs.List.{Contains, AllByRecursion}
-use Rattle.std.proofs.lemmas.Bool.Decides.{nat_tests}
 use Rattle.std.proofs.lemmas.Cmp.{then_total, on_total, nat_cmp_total, tied_itself}
 use Rattle.stamp_order.specs.declared.Stamp.{Stamp}
 use Rattle.stamp_order.specs.Stamps.{stamp_cmp, up_to, before, ◌≼◌}
 use Rattle.protocol.specs.History.{Entry, is_read, place_cmp, entry_cmp, IsSorted}
 use Rattle.protocol.proofs.Order.{then_le, stamp_total}
+use Rattle.lists.proofs.Orders.{nat_less, lt_less}
 
 place_cmp_total : IsTotalOrder place_cmp
 place_cmp_total = record { antisymm = flip; trans = chain; congr = like }
@@ -48,14 +48,6 @@ entry_total =
 
 nat_equal : (x y : ℕ) → x ≡ y → nat_cmp x y ≡ Equal
 nat_equal x y e = rw e (tied_itself nat_cmp_total y)
-
-pub nat_less : (x y : ℕ) → x < y → nat_cmp x y ≡ Less
-nat_less x y h = let e : ltb x y ≡ true = grind (arith, nat_tests) in rw e refl
-
-lt_less : (o : Ordering) → is_lt o ≡ true → o ≡ Less
-lt_less Less h = refl
-lt_less Equal h = absurd (cc)
-lt_less Greater h = absurd (cc)
 
 before_less : (x y : Stamp) → before x y ≡ true → stamp_cmp x y ≡ Less
 unfolding before

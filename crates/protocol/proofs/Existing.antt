@@ -4,7 +4,7 @@ use Rattle.std.specs.declared.option.Option.TheVariants.{None, Some}
 use Rattle.std.specs.declared.cmp.Ordering.{Ordering}
 use Rattle.std.specs.declared.cmp.Ordering.TheVariants.{Less, Equal, Greater}
 use Rattle.std.specs.Ordering.{ordering_reverse}
-use Rattle.std.specs.List.{Contains, AllByRecursion}
+use Rattle.std.specs.List.{Contains}
 use Rattle.std.proofs.lemmas.List.Elements.{Contains-append_cases, Contains-append_left, Contains-append_right}
 use Rattle.stamp_order.specs.declared.Stamp.{Stamp}
 use Rattle.stamp_order.specs.Stamps.{same_stamp}
@@ -14,14 +14,14 @@ use Rattle.protocol.specs.Operations.Work.{Reads, Writes}
 use Rattle.run_words.specs.declared.outcome.Outcome.TheVariants.{Wrote, Spent, Gave, Outvoted}
 use Rattle.protocol.specs.World.{World, Record}
 use Rattle.protocol.specs.History.{Entry, read_entry, write_entry, foreign_entry, entry_cmp, IsSorted, IsEntry, IsDue, IsForeign, HasRead, HasWrite, IsHistory}
-use Rattle.protocol.proofs.Counting.{cases_bool}
 use Rattle.protocol.proofs.Order.{same_stamp-≡, same_stamp-refl}
-use Rattle.protocol.proofs.Lists.{Contains-none, Contains-head, Contains-rest, Contains-cons_cases, Contains-one}
 use Rattle.protocol.proofs.Entries.{block_made, made_of, entry_total, member_of}
 use Rattle.protocol.proofs.Searches.{find_write, find_read, FirstRead}
 use Rattle.protocol.proofs.Invariant.{IsSafe}
 use Rattle.protocol.proofs.Apart.{IsApart}
 use Rattle.protocol.proofs.Keys.{one_key}
+use Rattle.lists.proofs.Members.{Contains-head, Contains-none, Contains-rest, Contains-cons_cases, Contains-one, all_of}
+use Rattle.std.proofs.lemmas.Bool.{cases_Bool}
 
 -- all entries of which P holds, in a list
 abbrev HasAll : (Entry → Type 0) → Type 0
@@ -56,11 +56,6 @@ list_all F each (r ∷ rs) =
         (λ k. (both.1 e).1 (elim (Contains-cons_cases k.0 r rs k.1) [ inl q ↦ inl (let f = k.2 in rw q at f) | inr l ↦ inr (k.0, l, k.2) ])),
       ),
     )
-
--- the elements of a list
-all_of : {X : Type 0} (P : X → Type 0) (xs : List X) → ((x : X) → Contains xs x → P x) → AllByRecursion P xs
-all_of P [] h = tt
-all_of P (x ∷ xs) h = (h x (Contains-head x xs), all_of P xs (λ y k. h y (Contains-rest y x xs k)))
 
 -- sorting
 module _ (P : Entry → Type 0) (one : (e f : Entry) → P e → P f → entry_cmp e f ≡ Equal → e ≡ f) where
@@ -142,7 +137,7 @@ module _ (s : Setting) (w : World) (safe : IsSafe s w) (apart : IsApart w.record
 
   wrote_at : (o : Option Outcome) (t : Stamp) → (o ≡ Some (Wrote t)) ⊎ (o ≡ Some (Wrote t) → ⊥)
   wrote_at None t = inr (λ e. cc)
-  wrote_at (Some (Wrote u)) t = elim (cases_bool (same_stamp u t)) [
+  wrote_at (Some (Wrote u)) t = elim (cases_Bool (same_stamp u t)) [
     | inl e ↦ inl (ap (λ (x : Stamp). Some (Wrote x)) (same_stamp-≡ u t e))
     | inr e ↦ inr (λ q. let p : u ≡ t = cc in let k : same_stamp t t ≡ false = rw p at e in let l = same_stamp-refl t in cc)
   ]
@@ -205,7 +200,7 @@ module _ (s : Setting) (w : World) (safe : IsSafe s w) (apart : IsApart w.record
   foreign_of r (Some (Wrote t)) q = none_foreign r (λ t v how n e. cc)
   foreign_of r (Some Spent) q = none_foreign r (λ t v how n e. cc)
   foreign_of r (Some (Outvoted nodes)) q = none_foreign r (λ t v how n e. cc)
-  foreign_of r (Some (Gave t v how n)) q = elim (cases_bool (same_stamp t (first_stamp s))) [
+  foreign_of r (Some (Gave t v how n)) q = elim (cases_Bool (same_stamp t (first_stamp s))) [
     | inl f ↦ none_all (ForeignOf r) (λ e h. h.later (stamp_of e h.gave ∙ same_stamp-≡ t (first_stamp s) f))
     | inr f ↦ elim (find_write r.block t rs) [
       | inl k ↦ none_all (ForeignOf r) (λ e h. h.foreign.no_write (write_as e r.block t (sym h.of_block) (stamp_of e h.gave) k))

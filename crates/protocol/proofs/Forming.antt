@@ -1,5 +1,5 @@
 -- What the code sends is well formed, and the digests of a well formed sum can be told from their string.
-use Rattle.std.proofs.Common.{◌≡◌, ℕ, zero, suc, ◌+◌, ◌-◌, ◌%◌, ◌<◌, Bool, true, false, cond, eqb, List, [], ◌∷◌, ◌++◌, length, replicate, get_or, Option, refl, sym, ◌∙◌, ap, arith}
+use Rattle.std.proofs.Common.{◌≡◌, ℕ, zero, suc, ◌+◌, ◌-◌, ◌%◌, ◌<◌, Bool, true, false, cond, eqb, List, [], ◌∷◌, length, replicate, get_or, Option, refl, sym, ◌∙◌, ap, arith}
 use Rattle.std.specs.declared.option.Option.TheVariants.{None, Some}
 use Rattle.std.specs.List.{AllByRecursion}
 use Rattle.std.proofs.lemmas.List.{length-replicate}
@@ -17,6 +17,7 @@ use Rattle.protocol.specs.Operations.{Work, Stage, request_of, first_work}
 use Rattle.protocol.specs.Operations.Work.{Reads, Writes}
 use Rattle.protocol.specs.Operations.Stage.{Times, Versions, Storing}
 use Rattle.protocol.proofs.Invariant.{IsStage}
+use Rattle.lists.proofs.Members.{append_inj}
 
 all_at : {X : Type 0} (P : X → Type 0) (d : X) (xs : List X) → ((i : ℕ) → i < length xs → P (get_or xs i d)) → AllByRecursion P xs
 all_at P d [] h = tt
@@ -31,7 +32,7 @@ pub all_collect : {X : Type 0} (P : X → Type 0) (n : ℕ) (f : ℕ → Option 
 all_collect P zero f h = tt
 all_collect P (suc k) f h = all_one_more P (collect k f) (f k) (all_collect P k f h) (h k)
 
-all_replicate : (n x : ℕ) → x < 256 → IsBytes (replicate n x)
+pub all_replicate : (n x : ℕ) → x < 256 → IsBytes (replicate n x)
 all_replicate zero x h = tt
 all_replicate (suc n) x h = (h, all_replicate n x h)
 
@@ -95,16 +96,6 @@ module _ (s : Setting) (good : IsValid s) where
 pub first_formed : (s : Setting) (work : Work) (i : ℕ) → IsFormedRequest (request_of s (first_work work) i)
 first_formed s Reads i = tt
 first_formed s (Writes value) i = tt
-
-append_inj : (x y a b : List ℕ) → length x ≡ length y → x ++ a ≡ y ++ b → (x ≡ y) × (a ≡ b)
-append_inj [] [] a b l e = (refl, e)
-append_inj [] (c ∷ ys) a b l e = absurd (omega (arith, l))
-append_inj (c ∷ xs) [] a b l e = absurd (omega (arith, l))
-append_inj (c ∷ xs) (d ∷ ys) a b l e =
-    let heads : c ≡ d = cc in
-    let tails : xs ++ a ≡ ys ++ b = cc in
-    let rest = append_inj xs ys a b (omega (arith, l)) tails in
-    (rw (heads, rest.0) refl, rest.1)
 
 pub flat_inj : (xs ys : List (List ℕ)) → AreDigests xs → AreDigests ys → length xs ≡ length ys → flat xs ≡ flat ys → xs ≡ ys
 flat_inj [] [] h k l e = refl

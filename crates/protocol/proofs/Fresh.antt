@@ -21,7 +21,6 @@ use Rattle.run_words.specs.declared.line.Line.TheVariants.{Write as WriteLine, R
 use Rattle.protocol.specs.Facts.{IsHonest, IsHosted}
 use Rattle.protocol.specs.Freshness.{Pruning, pruning_by, pruning_of, prunings, HasPruned, IsNotBehind, IsSentAt, IsSentDuring}
 use Rattle.protocol.proofs.Counting.{update-cases}
-use Rattle.protocol.proofs.Lists.{Contains-slice_get, Contains-none, Contains-head, Contains-rest, Contains-cons_cases}
 use Rattle.protocol.proofs.Order.{≼-trans, ≼-time}
 use Rattle.protocol.proofs.Keeping.{time_at_least, keeps-Contains, greatest_in_above, has-down}
 use Rattle.protocol.proofs.Invariant.{IsSafe, IsTask, IsCoveredBy, Accepts}
@@ -38,6 +37,7 @@ use Rattle.protocol.proofs.Inductions.{run_keeps}
 use Rattle.protocol.proofs.Growing.{Grows, all_place, grows_itself, grows_both, happens_more, plays_more, run_more, still_accepts}
 use Rattle.protocol.proofs.Hosts.{IsMade, AreHosted, still_made, happens_hosted, unsaid}
 use Rattle.protocol.proofs.OneBlock.{HasBlocks, happens_blocks, start_blocks}
+use Rattle.lists.proofs.Members.{Contains-head, Contains-none, Contains-rest, Contains-cons_cases, Contains-slice_get}
 
 -- an event that is no prune
 abbrev pub PrunesNothing : Event → Type 0

@@ -9,8 +9,8 @@ use Rattle.protocol.specs.Operations.{How, Outcome}
 use Rattle.run_words.specs.declared.outcome.Outcome.TheVariants.{Wrote, Spent, Gave, Outvoted}
 use Rattle.protocol.specs.World.{Record, stamp_given, given_of, greater_stamp, greatest_given}
 use Rattle.protocol.specs.Facts.{HasGave, IsGreatestGiven}
-use Rattle.protocol.proofs.Lists.{Contains-head, Contains-rest, Contains-none, Contains-cons_cases}
 use Rattle.protocol.proofs.Order.{≼-refl, ≼-trans, ≼-antisym, not_up_to}
+use Rattle.lists.proofs.Members.{Contains-head, Contains-none, Contains-rest, Contains-cons_cases}
 
 -- a read of the block that gave the stamp
 pub record IsGreatest (rs : List Record) (block : ℕ) (stamp : Stamp) : Type 0 where

@@ -4,7 +4,7 @@ use Rattle.std.specs.declared.option.Option.TheVariants.{None, Some}
 use Rattle.std.specs.List.{Contains}
 use Rattle.std.proofs.lemmas.Bool.Decides.{nat_tests}
 use Rattle.std.proofs.lemmas.List.Elements.{Contains-append_left, Contains-append_right}
-use Rattle.protocol.proofs.Lists.{Contains-none, Contains-collected}
+use Rattle.protocol.proofs.Lists.{Contains-collected}
 use Rattle.stamp_order.specs.declared.Stamp.{Stamp}
 use Rattle.stamp_order.specs.declared.Bound.{Bound}
 use Rattle.stamp_order.specs.Stamps.{has, before, same_stamp, ◌≼◌}
@@ -31,6 +31,7 @@ use Rattle.protocol.proofs.Moving.{IsHeld, IsNext, IsMove, moved_safe}
 use Rattle.protocol.proofs.Rounds.{answered_is, valid_was, honest_many, is_honest, drawn_above, some_pivot, pivot_above, pivot_time, candidate_size, candidate_good, not_poisonous, honest_valid, fits_at}
 use Rattle.protocol.proofs.Order.{same_stamp-≡, same_stamp-refl, ≼-cases}
 use Rattle.protocol.proofs.Parts.{length_chosen, ascending_chosen}
+use Rattle.lists.proofs.Members.{Contains-none}
 
 open_outcome : (s : Setting) (work : Work) (stage : Stage) → IsStage s work stage → IsOutcome s work (chosen_stamp work stage) None
 open_outcome s Reads Times h = absurd h

@@ -6,7 +6,7 @@ use Rattle.protocol.specs.Count.{count}
 use Rattle.protocol.specs.Reach.{reaches, greater, greatest, reach, if_reached, highest, IsOrder}
 use Rattle.protocol.proofs.Counting.{shared, count_within, some_passes, both_true}
 
-upto_last : (n : ℕ) (P : ℕ → Type 0) → ((k : ℕ) → k < n → P k) → P n → (k : ℕ) → k < suc n → P k
+pub upto_last : (n : ℕ) (P : ℕ → Type 0) → ((k : ℕ) → k < n → P k) → P n → (k : ℕ) → k < suc n → P k
 upto_last n P h last k l =
     let c : (k ≡ n) ⊎ (k < n) = grind arith in elim c [ inl e ↦ rw e last | inr m ↦ h k m ]
 

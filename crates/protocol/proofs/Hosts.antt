@@ -16,19 +16,14 @@ use Rattle.protocol.specs.Operations.{Task, mail, goes_on}
 use Rattle.protocol.specs.World.{World, Event, happens, Allowed, IsAskTo, IsAnswerTo, given, handled, heard, pruned_at, greatest_given, IsOfLiar, only_place, start_world}
 use Rattle.protocol.specs.World.Event.{Start, Resend, Give, Hear, CrashNode, CrashClient, Lie, Prune, Back}
 use Rattle.protocol.specs.Facts.{HasAccepted, IsGrounded, IsHosted}
-use Rattle.protocol.proofs.Lists.{append_nil, Contains-slice_get, Contains-one, Contains-none}
+use Rattle.protocol.proofs.Lists.{append_nil}
 use Rattle.protocol.proofs.Tests.{is_ltb}
 use Rattle.protocol.proofs.Keeping.{time_of_one, greatest_in_is}
 use Rattle.protocol.proofs.Mails.{in_mail, mail_answers}
 use Rattle.protocol.proofs.Invariant.{IsSafe, IsStored}
 use Rattle.protocol.proofs.Giving.{accepted_more, wrote_there}
 use Rattle.protocol.proofs.Heard.{filled, heard_case}
-
--- an element of a list and of one that begins with it
-pub get_left : {X : Type 0} (xs ys : List X) (k : ℕ) (x : X) → slice_get xs k ≡ Some x → slice_get (xs ++ ys) k ≡ Some x
-get_left [] ys k x h = absurd (cc)
-get_left (y ∷ xs) ys zero x h = h
-get_left (y ∷ xs) ys (suc k) x h = get_left xs ys k x h
+use Rattle.lists.proofs.Members.{Contains-none, Contains-one, get_left, Contains-slice_get}
 
 pub get_cases : {X : Type 0} (xs ys : List X) (k : ℕ) (x : X) → slice_get (xs ++ ys) k ≡ Some x → (slice_get xs k ≡ Some x) ⊎ ((length xs ≤ k) × Contains ys x)
 get_cases [] ys k x h = inr (omega arith, Contains-slice_get ys k x h)

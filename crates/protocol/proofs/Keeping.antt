@@ -14,19 +14,11 @@ use Rattle.protocol.specs.Setting.{Setting, first_stamp, digest_at, same}
 use Rattle.protocol.specs.Nodes.{later, greatest_in, greatest_time, keeps, carries, added, added_in, accepts, refusal, outlives, pruned}
 use Rattle.protocol.specs.Operations.{is_whole}
 use Rattle.protocol.proofs.Order.{≼-refl, ≼-trans, before_false, not_both, same_stamp-≡, same_stamp-refl, not_up_to}
-use Rattle.protocol.proofs.Counting.{cases_bool}
-use Rattle.protocol.proofs.Lists.{filter_is, filter_has, Contains-head, Contains-rest, Contains-none, Contains-cons_cases}
-
-pub or_cases : (a c : Bool) → a || c ≡ true → (a ≡ true) ⊎ (c ≡ true)
-or_cases true c h = inl refl
-or_cases false c h = inr h
+use Rattle.lists.proofs.Members.{Contains-head, Contains-none, Contains-rest, Contains-cons_cases, filter_is, filter_has}
+use Rattle.std.proofs.lemmas.Bool.{or_cases, or_right, cases_Bool}
 
 or_left : (a c : Bool) → a ≡ true → a || c ≡ true
 or_left a c h = rw h refl
-
-or_right : (a c : Bool) → c ≡ true → a || c ≡ true
-or_right true c h = refl
-or_right false c h = h
 
 pub time_at_least : (vs : List Version) (stamp : Stamp) → keeps vs stamp ≡ true → stamp.time ≤ greatest_time vs
 time_at_least [] stamp h = absurd (cc)
@@ -196,4 +188,4 @@ module _ (s : Setting) (stamp : Stamp) (vs : List Version) where
 pub has-down : (bound : Bound) (t u : Stamp) → u ≼ t → has bound t ≡ true → has bound u ≡ true
 has-down Every t u h k = refl
 has-down (AtMost p) t u h k = ≼-trans u t p h k
-has-down (Below p) t u h k = elim (cases_bool (before u p)) [ inl e ↦ e | inr e ↦ absurd (not_both t p k (≼-trans p u t (before_false p u e) h)) ]
+has-down (Below p) t u h k = elim (cases_Bool (before u p)) [ inl e ↦ e | inr e ↦ absurd (not_both t p k (≼-trans p u t (before_false p u e) h)) ]

@@ -17,7 +17,6 @@ use Rattle.protocol.specs.World.{World, Record, start_world, only_place, under_w
 use Rattle.protocol.specs.Lines.{Line, Run, plays}
 use Rattle.protocol.specs.Facts.{IsTold, IsOutcomeOf, IsHonest, HasAccepted, IsHosted, IsKnown, IsComplete, IsWorking}
 use Rattle.protocol.specs.Laws.{ReadsAskUp, WritesDrawAbove, ReadsGiveUp}
-use Rattle.protocol.proofs.Counting.{cases_bool}
 use Rattle.protocol.proofs.Order.{same_stamp-≡, same_stamp-refl}
 use Rattle.protocol.proofs.Invariant.{IsRecord, IsOutcome, Quorum, IsAimed, IsAfter, NoClashFor}
 use Rattle.protocol.proofs.Strings.{NoClashFor-any}
@@ -32,13 +31,14 @@ use Rattle.protocol.specs.Report.{Ascend, counts_of, spent_writes, is_ended}
 use Rattle.protocol.proofs.Starts.{starts, happens_in_order}
 use Rattle.protocol.proofs.Counts.{done_count, total_count, spent_count, spent_ascend}
 use Rattle.protocol.proofs.Hosts.{AreHosted, happens_hosted, start_hosted, unsaid}
+use Rattle.std.proofs.lemmas.Bool.{cases_Bool}
 
 module _ (s : Setting) (w : World) where
   known_request : (block : ℕ) (request : Request) (v : Version) → request ≡ Write v → IsKnownRequest s w block request → IsKnown s w block v.stamp
   known_request block request v e h = let k : IsKnownRequest s w block (Write v) = rw e at h in k
 
   complete_of : (block end : ℕ) (stamp : Stamp) → Quorum s w block stamp end → (stamp ≡ first_stamp s) ⊎ IsComplete s w block stamp
-  complete_of block end stamp q = elim (cases_bool (same_stamp stamp (first_stamp s))) [
+  complete_of block end stamp q = elim (cases_Bool (same_stamp stamp (first_stamp s))) [
     | inl e ↦ inl (same_stamp-≡ _ _ e)
     | inr e ↦ inr (record {
       nodes = q.members;

@@ -12,12 +12,13 @@ use Rattle.run_words.specs.declared.outcome.Outcome.TheVariants.{Gave}
 use Rattle.protocol.specs.World.{World, Record}
 use Rattle.protocol.specs.History.{Entry, Kind, is_read, place_cmp, entry_cmp, IsSorted, IsEntry}
 use Rattle.protocol.specs.History.Kind.{Write, Foreign, Read}
-use Rattle.protocol.proofs.Order.{then_equal, stamp_exact}
+use Rattle.protocol.proofs.Order.{stamp_exact}
 use Rattle.protocol.proofs.Apart.{IsApart}
-use Rattle.protocol.proofs.Lists.{Contains-head, Contains-rest, Contains-none, Contains-cons_cases}
 use Rattle.protocol.proofs.Entries.{kind_made, start_made, not_back, not_self, member_of}
+use Rattle.lists.proofs.Members.{Contains-head, Contains-none, Contains-rest, Contains-cons_cases}
+use Rattle.lists.proofs.Orders.{then_equal}
 
-place_exact : (x y : Option ℕ) → place_cmp x y ≡ Equal → x ≡ y
+pub place_exact : (x y : Option ℕ) → place_cmp x y ≡ Equal → x ≡ y
 place_exact None None h = refl
 place_exact None (Some y) h = absurd (cc)
 place_exact (Some x) None h = absurd (cc)

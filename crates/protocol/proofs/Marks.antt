@@ -11,12 +11,12 @@ use Rattle.std.proofs.lemmas.Map.Lookups.{exact_unsigned}
 use Rattle.stamp_order.specs.Stamps.{stamp_cmp, before, same_stamp, up_to, ◌≼◌}
 use Rattle.protocol.specs.History.{Entry, entry_cmp}
 use Rattle.protocol.specs.Report.{is_in, different_stamps, is_under, mark, line_cmp, AreRivals}
-use Rattle.protocol.proofs.Counting.{cases_bool, both_true}
-use Rattle.protocol.proofs.Entries.{nat_less}
-use Rattle.protocol.proofs.Tests.{is_eqb, eqb_is, and_true}
-use Rattle.protocol.proofs.Keeping.{or_cases}
-use Rattle.protocol.proofs.Lists.{filter_is, filter_has, Contains-none, Contains-head, Contains-rest, Contains-cons_cases, Contains-map, Contains-map_cases}
+use Rattle.protocol.proofs.Counting.{both_true}
+use Rattle.protocol.proofs.Tests.{and_true}
 use Rattle.protocol.proofs.Order.{stamp_total, stamp_exact, same_stamp-≡, same_stamp-refl, before_false, before-≼, not_both, ≼-refl, ≼-trans, ≼-cases, not_up_to}
+use Rattle.lists.proofs.Members.{Contains-head, Contains-none, Contains-rest, Contains-cons_cases, Contains-map_cases, Contains-map, filter_is, filter_has}
+use Rattle.lists.proofs.Orders.{nat_less}
+use Rattle.std.proofs.lemmas.Bool.{eqb-true, eq-eqb, or_cases, cases_Bool}
 
 is_in-Contains : (t : Stamp) (us : List Stamp) → is_in t us ≡ true → Contains us t
 is_in-Contains t [] h = absurd (cc)
@@ -69,9 +69,9 @@ without-Contains t x (u ∷ us) h = at (same_stamp t u) refl (without-Contains t
     ]
 
 in-without : (t x : Stamp) (us : List Stamp) → (x ≡ t → ⊥) → is_in x (without t us) ≡ is_in x us
-in-without t x us n = elim (cases_bool (is_in x us)) [
+in-without t x us n = elim (cases_Bool (is_in x us)) [
   | inl e ↦ Contains-is_in x (without t us) (Contains-without t x us (is_in-Contains x us e) n) ∙ sym e
-  | inr e ↦ elim (cases_bool (is_in x (without t us))) [
+  | inr e ↦ elim (cases_Bool (is_in x (without t us))) [
     | inl f ↦ absurd (not_in x us e (without-Contains t x us (is_in-Contains x _ f)).0)
     | inr f ↦ f ∙ sym e
   ]
@@ -96,7 +96,7 @@ different-without t (u ∷ us) h = at (same_stamp t u) refl (different-without t
     bit b = cond {A = ℕ} b 0 1
 
     here : u ≡ t → (different_stamps us ≡ suc (different_stamps (without t us))) ⊎ (is_in u us ≡ false) → cond {A = ℕ} (is_in u us) 0 1 + different_stamps us ≡ suc (different_stamps (without t us))
-    here q k = elim (cases_bool (is_in u us)) [
+    here q k = elim (cases_Bool (is_in u us)) [
       | inl e ↦ elim k [ inl r ↦ rw e (omega (arith, r)) | inr f ↦ absurd (cc) ]
       | inr e ↦ rw (e, without-absent t us (rw q at e)) (omega arith)
     ]
@@ -104,7 +104,7 @@ different-without t (u ∷ us) h = at (same_stamp t u) refl (different-without t
     at : (b : Bool) → same_stamp t u ≡ b → (Contains us t → different_stamps us ≡ suc (different_stamps (without t us))) → cond {A = ℕ} (is_in u us) 0 1 + different_stamps us ≡ suc (different_stamps (cond b (without t us) (u ∷ without t us)))
     at true e rest =
         let q = sym (same_stamp-≡ t u e) in
-        here q (elim (cases_bool (is_in u us)) [ inl f ↦ inl (rest (let k = is_in-Contains u us f in rw q at k)) | inr f ↦ inr f ])
+        here q (elim (cases_Bool (is_in u us)) [ inl f ↦ inl (rest (let k = is_in-Contains u us f in rw q at k)) | inr f ↦ inr f ])
     at false e rest = elim (Contains-cons_cases t u us h) [
       | inl q ↦ absurd (let r = same_stamp-refl u in let g : same_stamp t u ≡ true = rw q r in cc)
       | inr k ↦ (let i = in-without t u us (λ p. let r = same_stamp-refl u in let g : same_stamp t u ≡ true = rw (sym p) r in cc) in let m = rest k in rw i (omega (arith, m)))
@@ -115,7 +115,7 @@ different-within : (us vs : List Stamp) → ((x : Stamp) → Contains us x → C
 different-within [] vs h = omega arith
 different-within (u ∷ us) vs h =
     let rest = different-within us in
-    elim (cases_bool (is_in u us)) [
+    elim (cases_Bool (is_in u us)) [
       | inl e ↦ (let r = rest vs (λ x k. h x (Contains-rest x u us k)) in rw e (omega (arith, r)))
       | inr e ↦ (let d = different-without u vs (h u (Contains-head u us)) in
           let r = rest (without u vs) (λ x k. Contains-without u x vs (h x (Contains-rest x u us k)) (λ q. not_in u us e (rw q at k))) in
@@ -131,10 +131,10 @@ under_is e f h =
     let a = both_true _ _ h in
     let b = both_true _ _ a.0 in
     let c = both_true _ _ b.0 in
-    (record { block = is_eqb f.block e.block c.0; time = is_eqb f.stamp.time e.stamp.time c.1; writer = is_eqb f.stamp.client e.stamp.client b.1 }, a.1)
+    (record { block = eqb-true f.block e.block c.0; time = eqb-true f.stamp.time e.stamp.time c.1; writer = eqb-true f.stamp.client e.stamp.client b.1 }, a.1)
 
 is_under_if : (e f : Entry) → AreRivals e f → before f.stamp e.stamp ≡ true → is_under e f ≡ true
-is_under_if e f r b = and_true _ _ (and_true _ _ (and_true _ _ (eqb_is f.block e.block r.block) (eqb_is f.stamp.time e.stamp.time r.time)) (eqb_is f.stamp.client e.stamp.client r.writer)) b
+is_under_if e f r b = and_true _ _ (and_true _ _ (and_true _ _ (eq-eqb f.block e.block r.block) (eq-eqb f.stamp.time e.stamp.time r.time)) (eq-eqb f.stamp.client e.stamp.client r.writer)) b
 
 lower : List Entry → Entry → List Stamp
 lower h e = map (λ f. f.stamp) (filter (is_under e) h)
@@ -151,7 +151,7 @@ mark_is : (h : List Entry) (e : Entry) → mark h e ≡ suc (different_stamps (l
 unfolding lower
 mark_is h e = omega arith
 
-rivals_on : (e f g : Entry) → AreRivals e f → AreRivals f g → AreRivals e g
+pub rivals_on : (e f g : Entry) → AreRivals e f → AreRivals f g → AreRivals e g
 rivals_on e f g a b = record { block = b.block ∙ a.block; time = b.time ∙ a.time; writer = b.writer ∙ a.writer }
 
 rivals_across : (e f g : Entry) → AreRivals e f → AreRivals e g → AreRivals f g
@@ -161,7 +161,7 @@ not_before_self : (t : Stamp) → before t t ≡ true → ⊥
 not_before_self t h = not_both t t h (≼-refl t)
 
 before_trans : (t u v : Stamp) → before t u ≡ true → before u v ≡ true → before t v ≡ true
-before_trans t u v h k = elim (cases_bool (before t v)) [ inl e ↦ e | inr e ↦ absurd (not_both u v k (≼-trans v t u (before_false v t e) (before-≼ t u h))) ]
+before_trans t u v h k = elim (cases_Bool (before t v)) [ inl e ↦ e | inr e ↦ absurd (not_both u v k (≼-trans v t u (before_false v t e) (before-≼ t u h))) ]
 
 -- a lower verifier has a lower mark
 pub marks_ascend : (h : List Entry) (e f : Entry) → Contains h e → AreRivals e f → before e.stamp f.stamp ≡ true → mark h e < mark h f
@@ -238,11 +238,6 @@ marks_step h e = at (filter (is_under e) h) refl
         inr (next m.entry (rw q m.there) (λ y k. m.above y (rw q at k)))
 
 -- ---- the order of a report's lines is that of the entries
-
-then_assoc : (a b c : Ordering) → ordering_then (ordering_then a b) c ≡ ordering_then a (ordering_then b c)
-then_assoc Less b c = refl
-then_assoc Equal b c = refl
-then_assoc Greater b c = refl
 
 through : (b t c m v r : Ordering) → (b ≡ Equal → t ≡ Equal → c ≡ Equal → m ≡ v) → ordering_then b (ordering_then t (ordering_then c (ordering_then m r))) ≡ ordering_then b (ordering_then (ordering_then t (ordering_then c v)) r)
 through Less t c m v r h = refl

@@ -15,7 +15,6 @@ use Rattle.protocol.specs.World.{Record, World, chosen_stamp, moved, replaced_by
 use Rattle.protocol.specs.History.{NoClash, IsValue}
 use Rattle.protocol.specs.History.IsValue.{zeros_value, written, given}
 use Rattle.protocol.proofs.Counting.{update-cases}
-use Rattle.protocol.proofs.Lists.{Contains-map}
 use Rattle.protocol.proofs.Mails.{mail_asks, mail_answers}
 use Rattle.protocol.proofs.Tests.{are_same}
 use Rattle.protocol.proofs.Replacing.{with_cases}
@@ -23,6 +22,7 @@ use Rattle.protocol.proofs.Strings.{NoClash-before, NoClashFor-before}
 use Rattle.protocol.proofs.Invariant.{AtWork, IsOwned, IsTagged, Quorum, IsTask, IsRecord, IsOutcome, IsAimed, IsAfter, NoClashFor, IsSafe, Fits, Accepts, IsOpen, IsFresh, IsStored, IsPassed}
 use Rattle.protocol.proofs.Freshness.{IsFresh-more}
 use Rattle.protocol.proofs.Sending.{working}
+use Rattle.lists.proofs.Members.{Contains-map}
 
 -- enough honest nodes have accepted the stamp
 pub record IsHeld (s : Setting) (w : World) (block : ℕ) (stamp : Stamp) : Type 0 where

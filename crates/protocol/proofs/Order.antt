@@ -2,7 +2,7 @@
 use Rattle.std.proofs.Common.{◌≡◌, ℕ, ◌<◌, ◌≤◌, true, false, refl, ◌⊎◌, inl, inr, arith, ltb, leb}
 use Rattle.std.specs.declared.cmp.Ordering.{Ordering}
 use Rattle.std.specs.declared.cmp.Ordering.TheVariants.{Less, Equal, Greater}
-use Rattle.std.specs.Ordering.{nat_cmp, is_le, is_lt, is_eq, is_gt, ordering_reverse, ordering_then}
+use Rattle.std.specs.Ordering.{nat_cmp, is_le, is_lt, ordering_reverse, ordering_then}
 use Rattle.std.specs.Cmp.{IsTotalOrder}
 use Rattle.std.proofs.lemmas.Bool.Decides.{nat_tests}
 use Rattle.std.proofs.lemmas.Cmp.{then_total, on_total, nat_cmp_total, nat_list_cmp_total, upto, tied_itself}
@@ -10,16 +10,12 @@ use Rattle.std.proofs.lemmas.Map.Lookups.{exact_bytes, exact_unsigned}
 use Rattle.stamp_order.specs.declared.Stamp.{Stamp}
 use Rattle.stamp_order.specs.Stamps.{stamp_cmp, up_to, before, same_stamp, ◌≼◌}
 use Rattle.protocol.specs.Reach.{IsOrder}
-use Rattle.protocol.proofs.Counting.{cases_bool}
+use Rattle.lists.proofs.Orders.{le_not_gt, not_gt_le, eq_is, then_equal}
+use Rattle.std.proofs.lemmas.Bool.{cases_Bool}
 
 pub stamp_total : IsTotalOrder stamp_cmp
 unfolding stamp_cmp
 stamp_total = then_total (on_total (λ (s : Stamp). s.time) nat_cmp_total) (then_total (on_total (λ (s : Stamp). s.client) nat_cmp_total) (on_total (λ (s : Stamp). s.verifier) nat_list_cmp_total))
-
-pub then_equal : (a c : Ordering) → ordering_then a c ≡ Equal → (a ≡ Equal) × (c ≡ Equal)
-then_equal Less c h = absurd (cc)
-then_equal Equal c h = (refl, h)
-then_equal Greater c h = absurd (cc)
 
 same_fields : (s t : Stamp) → s.time ≡ t.time → s.client ≡ t.client → s.verifier ≡ t.verifier → s ≡ t
 same_fields s t h k l i = record { time = h i; client = k i; verifier = l i }
@@ -30,21 +26,6 @@ stamp_exact s t h =
     let a = then_equal _ _ h in
     let c = then_equal _ _ a.1 in
     same_fields s t (exact_unsigned _ _ a.0) (exact_unsigned _ _ c.0) (exact_bytes _ _ c.1)
-
-le_not_gt : (o : Ordering) → is_le o ≡ true → is_gt o ≡ false
-le_not_gt Less h = refl
-le_not_gt Equal h = refl
-le_not_gt Greater h = absurd (cc)
-
-not_gt_le : (o : Ordering) → is_gt o ≡ false → is_le o ≡ true
-not_gt_le Less h = refl
-not_gt_le Equal h = refl
-not_gt_le Greater h = absurd (cc)
-
-eq_is : (o : Ordering) → is_eq o ≡ true → o ≡ Equal
-eq_is Less h = absurd (cc)
-eq_is Equal h = refl
-eq_is Greater h = absurd (cc)
 
 lt_le : (o : Ordering) → is_lt o ≡ true → is_le o ≡ true
 lt_le Less h = refl
@@ -114,7 +95,7 @@ unfolding up_to stamp_cmp
 ≼-time s t h = le_at s.time t.time (then_le _ _ h)
 
 pub not_up_to : (s t : Stamp) → up_to s t ≡ false → t ≼ s
-not_up_to s t e = elim (cases_bool (before s t)) [ inl h ↦ absurd (let w = before-≼ s t h in cc) | inr h ↦ before_false t s h ]
+not_up_to s t e = elim (cases_Bool (before s t)) [ inl h ↦ absurd (let w = before-≼ s t h in cc) | inr h ↦ before_false t s h ]
 
 pub stamps_order : IsOrder up_to
 stamps_order = record { refl = ≼-refl; trans = ≼-trans; other = not_up_to }

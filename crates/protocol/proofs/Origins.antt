@@ -18,13 +18,13 @@ use Rattle.protocol.specs.World.{Record, World, Fits, moved, replaced_by, chosen
 use Rattle.protocol.specs.World.Event.{Start}
 use Rattle.protocol.specs.History.{HasWrite}
 pub use Rattle.protocol.specs.Facts.{IsKnown}
-use Rattle.protocol.proofs.Lists.{Contains-map, Contains-one}
 use Rattle.protocol.proofs.Mails.{mail_asks}
 use Rattle.protocol.proofs.Giving.{accepted_cases}
 use Rattle.protocol.proofs.Starting.{pool_cases, task_cases}
 use Rattle.protocol.proofs.Sending.{IsSentNow, IsLess, changed}
 use Rattle.protocol.proofs.Moving.{IsMove, record_after, pool_cases as moved_pool, task_cases as moved_task, record_cases as moved_record}
 use Rattle.protocol.proofs.Invariant.{IsSafe}
+use Rattle.lists.proofs.Members.{Contains-one, Contains-map}
 
 module _ (s : Setting) where
   abbrev pub IsKnownStage : World → ℕ → Stage → Type 0

@@ -10,7 +10,8 @@ use Rattle.stamp_order.specs.Stamps.{same_stamp}
 use Rattle.protocol.specs.Messages.{Version, Reply}
 use Rattle.protocol.specs.Setting.{Setting, IsAscending, IsValid}
 use Rattle.protocol.specs.Operations.{valid, support, carriers, chosen, carries, only_if, numbered, part_of}
-use Rattle.protocol.proofs.Lists.{Contains-none, Contains-one, Contains-rest, Contains-head, Contains-collect, Contains-map_cases, Contains-take}
+use Rattle.protocol.proofs.Lists.{Contains-collect, Contains-take}
+use Rattle.lists.proofs.Members.{Contains-head, Contains-none, Contains-rest, Contains-one, Contains-map_cases}
 
 ascending_push : {A : Type 0} (ps : List (ℕ × A)) (p : ℕ × A) → IsAscending ps → ((q : ℕ × A) → Contains ps q → q.0 < p.0) → IsAscending (ps ++ p ∷ [])
 ascending_push [] p h k = (λ q r. absurd (Contains-none q r), tt)

@@ -18,10 +18,11 @@ use Rattle.protocol.specs.Lines.{Line, some_of, sender, roles, is_ask_to, is_ans
 use Rattle.run_words.specs.declared.line.Line.TheVariants.{Write, Read, Resend, Call, Give, Hear, Lost, CrashNode, CrashClient, Lie, Tell, Poke, False, Sound, Mix, Prune, Back, Restart}
 use Rattle.protocol.specs.Lines.Actor.{Node, Client}
 use Rattle.protocol.proofs.Counting.{both_true}
-use Rattle.protocol.proofs.Tests.{neither, not_false, not_leb, eqb_is}
-use Rattle.protocol.proofs.Lists.{Contains-slice_get}
+use Rattle.protocol.proofs.Tests.{neither, not_false, not_leb}
 use Rattle.protocol.proofs.Invariant.{IsSafe}
 use Rattle.protocol.proofs.Sending.{is_under_way}
+use Rattle.lists.proofs.Members.{Contains-slice_get}
+use Rattle.std.proofs.lemmas.Bool.{eq-eqb}
 
 find_none : {A : Type 0} (p : A → Bool) (xs : List A) → find p xs ≡ None → AllByRecursion (λ x. p x ≡ false) xs
 find_none p [] h = tt
@@ -125,7 +126,7 @@ module _ (s : Setting) (good : IsValid s) (w : World) (safe : IsSafe s w) (place
   quiet_is : (block : ℕ) → is_busy_at s w block ≡ false → IsQuiet s w block
   quiet_is block h c task e f =
       let n = (safe.tasks c task e).numbered in
-      let t : is_at block (under_way w c) ≡ true = rw e (eqb_is task.block block f) in
+      let t : is_at block (under_way w c) ≡ true = rw e (eq-eqb task.block block f) in
       none_above (count 1001 (λ c. is_at block (under_way w c))) h (count_none 1001 (λ c. is_at block (under_way w c)) c (omega (arith, n.1)) t)
 
   read_is : (o : Option Stamp) → is_missing o ≡ false → (stamp : Stamp) × (o ≡ Some stamp)

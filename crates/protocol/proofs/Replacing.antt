@@ -3,8 +3,8 @@ use Rattle.std.proofs.Common.{◌≡◌, ◌⊎◌, ◌↔◌, Bool, true, false
 use Rattle.std.specs.List.{Contains}
 use Rattle.protocol.specs.World.{Record, replaced_by, with_record}
 use Rattle.protocol.specs.Facts.{IsSameOperation, HasOperation}
-use Rattle.protocol.proofs.Lists.{Contains-map, Contains-map_cases}
 use Rattle.protocol.proofs.Tests.{are_same, same_are, not_same, same_not}
+use Rattle.lists.proofs.Members.{Contains-map_cases, Contains-map}
 
 -- exactly these stand there then: r, if one of its operation stood there, and those of other operations
 pub with_iff : (rs : List Record) (r x : Record) → Contains (with_record rs r) x ↔ ((x ≡ r × HasOperation rs r) ⊎ (Contains rs x × (IsSameOperation x r → ⊥)))

@@ -9,12 +9,13 @@ use Rattle.stamp_order.specs.Stamps.{has, up_to, before, ◌≼◌}
 use Rattle.stamp_order.specs.declared.Bound.TheVariants.{AtMost, Below}
 use Rattle.protocol.specs.World.{World, Accepted}
 use Rattle.protocol.specs.Bounds.{different, pairs, IsFewAt}
-use Rattle.protocol.proofs.Tests.{eqb_self}
-use Rattle.protocol.proofs.Counting.{cases_bool, both_true}
+use Rattle.protocol.proofs.Counting.{both_true}
 use Rattle.protocol.proofs.Lists.{one_more_left}
 use Rattle.protocol.proofs.Order.{≼-refl, ≼-cases, before-≼, not_both}
 use Rattle.protocol.proofs.Keeping.{has-down}
 use Rattle.protocol.proofs.Different.{different_within, different_less, different_more}
+use Rattle.lists.proofs.Tests.{eqb_self}
+use Rattle.std.proofs.lemmas.Bool.{cases_Bool}
 
 -- an accepted version of the block that isn't in the bound
 abbrev pub is_out : ℕ → Bound → Accepted → Bool
@@ -65,10 +66,10 @@ module _ (w : World) (block : ℕ) where
       (rounds ≤ 2 * left_out w block bound + 1) ⊎ ((p : Stamp) × (bound ≡ AtMost p) × WasAccepted p × (rounds ≤ 2 * left_out w block bound + 2))
 
   not_up : (p t : Stamp) → before p t ≡ true → up_to t p ≡ false
-  not_up p t h = elim (cases_bool (up_to t p)) [ inl k ↦ absurd (not_both p t h k) | inr k ↦ k ]
+  not_up p t h = elim (cases_Bool (up_to t p)) [ inl k ↦ absurd (not_both p t h k) | inr k ↦ k ]
 
   not_down : (p t : Stamp) → p ≼ t → before t p ≡ false
-  not_down p t h = elim (cases_bool (before t p)) [ inl k ↦ absurd (not_both t p k h) | inr k ↦ k ]
+  not_down p t h = elim (cases_Bool (before t p)) [ inl k ↦ absurd (not_both t p k h) | inr k ↦ k ]
 
   -- the next round after a pivot p that an honest node reached with t
   pub rounds_below : (bound : Bound) (rounds : ℕ) (p t : Stamp) → IsRounds bound rounds → has bound p ≡ true → WasAccepted t → has bound t ≡ true → p ≼ t → IsRounds (Below p) (rounds + 1)

@@ -14,7 +14,7 @@ use Rattle.stamp_order.specs.Stamps.{has, up_to, same_stamp, ◌≼◌}
 use Rattle.protocol.specs.Messages.{flat, IsFormed, Version, Reply}
 use Rattle.wire_forms.specs.declared.Reply.TheVariants.{TimeIs, Found, Nothing, Ack, Refused}
 use Rattle.wire_forms.specs.declared.Body.TheVariants.{Answer as Answers}
-use Rattle.protocol.proofs.Tests.{not_true, is_eqb}
+use Rattle.protocol.proofs.Tests.{not_true}
 use Rattle.protocol.proofs.Forming.{sum_formed, flat_inj}
 use Rattle.protocol.proofs.Tied.{exact_lists, lists_total}
 use Rattle.protocol.specs.Setting.{Setting, IsValid, IsBlock, IsFragment, same_digests, IsAscending, honest, first_stamp, digest_at, same, Sound}
@@ -23,12 +23,14 @@ use Rattle.protocol.specs.Operations.Stage.{Times, Versions}
 use Rattle.protocol.specs.World.{World, under_way}
 use Rattle.protocol.specs.History.{NoClash, IsValue, IsSeen}
 use Rattle.protocol.specs.History.IsSeen.{in_message, sum_seen, fragment_seen}
-use Rattle.protocol.proofs.Lists.{Contains-take, Contains-collect, Contains-head, Contains-rest, Contains-map_cases}
+use Rattle.protocol.proofs.Lists.{Contains-take, Contains-collect}
 use Rattle.std.proofs.lemmas.Cmp.{tied_itself, nat_list_cmp_total}
 use Rattle.protocol.proofs.Counting.{count_not, both_true}
 use Rattle.protocol.proofs.Order.{≼-refl, before-≼, lower_time, same_stamp-≡, stamps_order, times_order}
 use Rattle.protocol.proofs.Highest.{highest_above, highest_is}
 use Rattle.protocol.proofs.Invariant.{Quorum, IsSafe, IsFresh, IsOpen, Fits, Accepts}
+use Rattle.lists.proofs.Members.{Contains-head, Contains-rest, Contains-map_cases}
+use Rattle.std.proofs.lemmas.Bool.{eqb-true}
 
 -- the same bytes
 pub same-≡ : (xs ys : List ℕ) → same xs ys ≡ true → xs ≡ ys
@@ -68,8 +70,8 @@ whole_facts s i v h =
     let c = both_true _ _ b.0 in
     let d = both_true _ _ c.0 in
     record {
-      sum_length = is_eqb _ _ d.0;
-      fragment_length = is_eqb _ _ d.1;
+      sum_length = eqb-true _ _ d.0;
+      fragment_length = eqb-true _ _ d.1;
       verifier = same-≡ _ _ c.1;
       digests = same-≡ _ _ b.1;
       time = time_or (ltb 0 v.stamp.time) refl (same_stamp v.stamp (first_stamp s)) refl a.1;

@@ -25,7 +25,6 @@ use Rattle.protocol.specs.World.{World, Record, Accepted, Event, Allowed, happen
 use Rattle.protocol.specs.World.Event.{Start, Resend, Give, Hear, CrashNode, CrashClient, Lie, Prune, Back}
 use Rattle.protocol.specs.Bounds.{IsFewAt, IsBounded}
 use Rattle.protocol.proofs.Counting.{both_true, shared, some_passes, count_within, update-cases}
-use Rattle.protocol.proofs.Lists.{Contains-one, Contains-none}
 use Rattle.protocol.proofs.Order.{≼-antisym, same_stamp-refl}
 use Rattle.protocol.proofs.Highest.{highest_is}
 use Rattle.protocol.proofs.Order.{stamps_order}
@@ -35,6 +34,7 @@ use Rattle.protocol.proofs.Rounds.{valid_was, honest_many, some_pivot, honest_va
 use Rattle.protocol.proofs.Rounding.{IsRounds, WasAccepted, rounds_below, rounds_at_most, few_rounds, IsRounds-more, IsFewAt-more}
 use Rattle.protocol.proofs.Replacing.{with_cases}
 use Rattle.protocol.proofs.Heard.{filled, AreSent, heard_case}
+use Rattle.lists.proofs.Members.{Contains-none, Contains-one}
 
 -- the rounds of a task
 abbrev RoundsOf : World → ℕ → ℕ → Work → Stage → Type 0

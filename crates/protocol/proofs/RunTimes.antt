@@ -20,7 +20,6 @@ use Rattle.protocol.specs.World.Event.{Start, Resend, Give, Hear, CrashNode, Cra
 use Rattle.protocol.specs.History.{HasWrite}
 use Rattle.protocol.specs.Bounds.{is_chosen, ceiling, IsLow}
 use Rattle.protocol.proofs.Counting.{both_true, shared, some_passes}
-use Rattle.protocol.proofs.Lists.{Contains-one, Contains-none}
 use Rattle.protocol.proofs.Highest.{highest_is}
 use Rattle.protocol.proofs.Order.{times_order}
 use Rattle.protocol.proofs.Invariant.{IsSafe, IsStage, IsOutcome, Fits}
@@ -30,6 +29,7 @@ use Rattle.protocol.proofs.Origins.{HasOrigins, IsKnown}
 use Rattle.protocol.proofs.Replacing.{with_cases}
 use Rattle.protocol.proofs.Heard.{filled, AreSent, heard_case}
 use Rattle.protocol.proofs.Choices.{IsNewer, writes_still, choices_still, choices_more, choices_push, only_open, keeps_stamp, lied_push, lie_low}
+use Rattle.lists.proofs.Members.{Contains-none, Contains-one}
 
 pub start_low : (s : Setting) → IsLow s (start_world s)
 start_low s = record { chosen = λ r value stamp h. absurd (Contains-none r h); spent = λ r h. absurd (Contains-none r h) }

@@ -14,15 +14,16 @@ use Rattle.protocol.specs.Operations.{is_counted, Task, Stage, is_of_kind, is_wh
 use Rattle.protocol.specs.World.{World, Event, happens, all_happen, AllAllowed, Allowed, IsAskTo, IsAnswerTo, IsQuiet, start_world, given, heard, heard_by, advanced, only_place, pruned_at, greatest_given, under_way}
 use Rattle.protocol.specs.World.Event.{Start, Resend, Give, Hear, CrashNode, CrashClient, Lie, Prune, Back}
 use Rattle.protocol.proofs.Counting.{update-cases, both_true}
-use Rattle.protocol.proofs.Lists.{Contains-one, Contains-none, Contains-head}
 use Rattle.protocol.proofs.Order.{same_stamp-refl, ≼-refl}
-use Rattle.protocol.proofs.Tests.{eqb_self, is_eqb}
 use Rattle.protocol.proofs.Rounds.{same-refl}
 use Rattle.protocol.proofs.Invariant.{IsSafe, IsStored}
 use Rattle.protocol.proofs.Starting.{started_safe}
 use Rattle.protocol.proofs.Giving.{handled_safe}
 use Rattle.protocol.proofs.Sending.{only_safe, crash_node_safe, crash_client_safe, back_safe, pruned_safe, lie_safe, resend_safe, is_under_way}
 use Rattle.protocol.proofs.Hearing.{advanced_safe, message_is}
+use Rattle.lists.proofs.Members.{Contains-head, Contains-none, Contains-one}
+use Rattle.lists.proofs.Tests.{eqb_self}
+use Rattle.std.proofs.lemmas.Bool.{eqb-true}
 
 first_whole : (s : Setting) → IsValid s → (i : ℕ) → i < s.n → is_whole s i (first_version s i) ≡ true
 first_whole s good i l =
@@ -79,7 +80,7 @@ module _ (s : Setting) (good : IsValid s) (w : World) (safe : IsSafe s w) (place
       elim (update-cases task.answers m.node (Some reply) i) [
         | inl k ↦
             (let q : reply ≡ r = (let g = k.1 in cc) in
-            let same = message_is m c i task.op task.phase r of_c (sym k.0) (is_eqb m.tag.op task.op x.0) (is_eqb m.tag.phase task.phase x.1) (body ∙ ap Answers q) in
+            let same = message_is m c i task.op task.phase r of_c (sym k.0) (eqb-true m.tag.op task.op x.0) (eqb-true m.tag.phase task.phase x.1) (body ∙ ap Answers q) in
             (rw same at there, kind_as task.stage reply r q b.1))
         | inr k ↦ (safe.tasks c task busy).heard i r (sym k.1 ∙ f)
       ]

@@ -10,7 +10,7 @@ use Rattle.run_words.specs.declared.outcome.Outcome.TheVariants.{Wrote, Spent, G
 use Rattle.protocol.specs.World.{Record}
 use Rattle.protocol.specs.History.{HasRead, HasWrite}
 use Rattle.protocol.proofs.Order.{same_stamp-≡, same_stamp-refl}
-use Rattle.protocol.proofs.Lists.{Contains-none, Contains-head, Contains-rest, Contains-cons_cases}
+use Rattle.lists.proofs.Members.{Contains-head, Contains-none, Contains-rest, Contains-cons_cases}
 
 abbrev Decided : Type 0 → Type 0
 Decided P = P ⊎ (P → ⊥)

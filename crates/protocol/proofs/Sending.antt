@@ -17,14 +17,15 @@ use Rattle.protocol.specs.World.{World, happens, sent, only_place, IsOfLiar, IsQ
 use Rattle.protocol.specs.World.Event.{Resend, Lie, CrashNode, CrashClient, Back}
 use Rattle.protocol.specs.History.{NoClash, IsValue}
 use Rattle.protocol.specs.History.IsValue.{zeros_value, written, given}
-use Rattle.protocol.proofs.Counting.{cases_bool, update-cases, update-same}
-use Rattle.protocol.proofs.Lists.{Contains-one}
+use Rattle.protocol.proofs.Counting.{update-cases, update-same}
 use Rattle.protocol.proofs.Order.{≼-trans, before_false}
 use Rattle.protocol.proofs.Keeping.{pruned_was, pruned_first, pruned_above, pruned_greatest}
 use Rattle.protocol.proofs.Mails.{in_mail, mail_asks, mail_answers}
 use Rattle.protocol.proofs.Strings.{NoClash-before, NoClashFor-before}
 use Rattle.protocol.proofs.Given.{IsGreatest, greatest_is}
 use Rattle.protocol.proofs.Invariant.{AtWork, IsOwned, IsTagged, Quorum, IsStored, IsCoveredBy, IsPassed, IsSafe}
+use Rattle.lists.proofs.Members.{Contains-one}
+use Rattle.std.proofs.lemmas.Bool.{cases_Bool}
 
 -- what a client does that hasn't crashed
 pub working : (b : Bool) (o : Option Task) (task : Task) → unless b o ≡ Some task → (b ≡ false) × (o ≡ Some task)
@@ -293,7 +294,7 @@ module _ (s : Setting) (w : World) (safe : IsSafe s w) (place : ℕ) (later : w.
 
     -- what was covered still is, by itself or by what isn't above the prune's stamp
     pub covered_pruned : (P Q : Stamp → Type 0) → ((t : Stamp) → P t → Q t) → ((t : Stamp) → t ≼ stamp → Q t) → (t : Stamp) → IsCoveredBy s P w i block t → IsCoveredBy s Q short i block t
-    covered_pruned P Q map now t c = elim (cases_bool (before stamp c.version.stamp)) [
+    covered_pruned P Q map now t c = elim (cases_Bool (before stamp c.version.stamp)) [
       | inl e ↦ record {
         version = c.version;
         there = rw less_here (pruned_above s stamp (w.versions i block) c.version c.there e);

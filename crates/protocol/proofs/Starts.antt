@@ -1,5 +1,5 @@
 -- Records stand in order of start.
-use Rattle.std.proofs.Common.{◌≡◌, ℕ, ◌+◌, ◌<◌, ◌≤◌, Bool, true, false, cond, ◌&&◌, List, [], ◌∷◌, ◌++◌, map, refl, ap, arith, eqb}
+use Rattle.std.proofs.Common.{◌≡◌, ℕ, ◌+◌, ◌<◌, ◌≤◌, Bool, true, false, cond, ◌&&◌, List, [], ◌∷◌, ◌++◌, map, refl, ap, arith, eqb, ◌-◌, length}
 use Rattle.std.specs.List.{Contains, AllByRecursion}
 use Rattle.std.proofs.lemmas.Bool.Decides.{nat_tests}
 use Rattle.protocol.specs.Messages.{Message}
@@ -8,10 +8,10 @@ use Rattle.protocol.specs.World.{World, Record, Event, happens, Allowed, IsAnswe
 use Rattle.protocol.specs.World.Event.{Start, Resend, Give, Hear, CrashNode, CrashClient, Lie, Prune, Back}
 use Rattle.protocol.specs.Report.{Ascend}
 use Rattle.protocol.proofs.Counting.{both_true}
-use Rattle.protocol.proofs.Lists.{Contains-head, Contains-rest}
 use Rattle.protocol.proofs.Growing.{given_records, resent_records, pruned_records}
 use Rattle.protocol.proofs.Invariant.{IsSafe}
 use Rattle.protocol.proofs.Heard.{heard_case}
+use Rattle.lists.proofs.Members.{Contains-head, Contains-rest, all_push}
 
 abbrev pub starts : List Record → List ℕ
 starts rs = map (λ r. r.start) rs
@@ -34,13 +34,9 @@ starts_kept : (rs : List Record) (r : Record) → starts (with_record rs r) ≡ 
 starts_kept [] r = refl
 starts_kept (x ∷ rs) r = rw (replaced_start r x, starts_kept rs r) refl
 
-all_push : (x : ℕ) (ns : List ℕ) (n : ℕ) → AllByRecursion (λ y. x < y) ns → x < n → AllByRecursion (λ y. x < y) (ns ++ n ∷ [])
-all_push x [] n h l = (l, tt)
-all_push x (m ∷ ns) n h l = (h.0, all_push x ns n h.1 l)
-
 pub ascend_push : (ns : List ℕ) (n : ℕ) → Ascend ns → AllByRecursion (λ m. m < n) ns → Ascend (ns ++ n ∷ [])
 ascend_push [] n h l = (tt, tt)
-ascend_push (m ∷ ns) n h l = (all_push m ns n h.0 l.0, ascend_push ns n h.1 l.1)
+ascend_push (m ∷ ns) n h l = (all_push (λ k. m < k) ns n h.0 l.0, ascend_push ns n h.1 l.1)
 
 all_starts : (rs : List Record) (n : ℕ) → ((r : Record) → Contains rs r → r.start < n) → AllByRecursion (λ m. m < n) (starts rs)
 all_starts [] n h = tt
@@ -72,3 +68,15 @@ module _ (s : Setting) (good : IsValid s) (w : World) (safe : IsSafe s w) (up : 
   happens_in_order (Lie m) h = up
   happens_in_order (Prune i block) h = rw (pruned_records s w place i block (Rattle.protocol.specs.World.greatest_given block w.records)) up
   happens_in_order (Back c) h = up
+
+-- ascending numbers of at most `most` are few
+pub ascend_few : (most : ℕ) (x : ℕ) (xs : List ℕ) → Ascend (x ∷ xs) → ((y : ℕ) → Contains (x ∷ xs) y → y ≤ most) → x + length xs ≤ most
+ascend_few most x [] up all = let top = all x (Contains-head x []) in omega (arith, top)
+ascend_few most x (y ∷ ys) up all =
+    let rest = ascend_few most y ys up.1 (λ z k. all z (Contains-rest z x (y ∷ ys) k)) in
+    let above : x < y = up.0.0 in
+    omega (arith, rest, above)
+
+pub starts_few : (most : ℕ) (xs : List ℕ) → Ascend xs → ((y : ℕ) → Contains xs y → y ≤ most) → length xs ≤ most + 1
+starts_few most [] up all = omega arith
+starts_few most (x ∷ xs) up all = let few = ascend_few most x xs up all in omega (arith, few)

@@ -1,15 +1,7 @@
 -- What tests say where they pass or fail.
 use Rattle.std.proofs.Common.{◌≡◌, ℕ, ◌<◌, Bool, true, false, not, ◌&&◌, ◌||◌, refl, arith, eqb, ltb, leb}
 use Rattle.std.proofs.lemmas.Bool.Decides.{nat_tests}
-
-pub is_eqb : (a b : ℕ) → eqb a b ≡ true → a ≡ b
-is_eqb a b h = grind (arith, nat_tests)
-
-pub eqb_is : (a b : ℕ) → a ≡ b → eqb a b ≡ true
-eqb_is a b e = grind (arith, nat_tests)
-
-pub eqb_self : (a : ℕ) → eqb a a ≡ true
-eqb_self a = eqb_is a a refl
+use Rattle.std.proofs.lemmas.Bool.{eq-eqb}
 
 pub is_ltb : (a b : ℕ) → ltb a b ≡ true → a < b
 is_ltb a b h = grind (arith, nat_tests)
@@ -41,7 +33,7 @@ pub are_same : (a b d e : ℕ) → eqb a b && eqb d e ≡ true → (a ≡ b) × 
 are_same a b d e h = (grind (arith, nat_tests), grind (arith, nat_tests))
 
 pub same_are : (a b d e : ℕ) → a ≡ b → d ≡ e → eqb a b && eqb d e ≡ true
-same_are a b d e p q = and_true (eqb a b) (eqb d e) (eqb_is a b p) (eqb_is d e q)
+same_are a b d e p q = and_true (eqb a b) (eqb d e) (eq-eqb a b p) (eq-eqb d e q)
 
 pub not_same : (a b d e : ℕ) → eqb a b && eqb d e ≡ false → a ≡ b → d ≡ e → ⊥
 not_same a b d e h p q = grind (arith, nat_tests)

@@ -3,7 +3,7 @@ use Rattle.std.specs.Prelude.{ℕ, ◌≤◌, Bool, false, List, [], map, slice_
 use Rattle.quorum_rules.specs.Limits.{Numbers, IsValid as IsValidConfig}
 use Rattle.gf_field.specs.Fragments.{string_len, fragments_of, decoded}
 use Rattle.cross_sum.specs.Digest.{digest}
-use Rattle.block_rows.specs.Sums.{sum_of}
+use Rattle.ida_code.specs.Sums.{sum_of}
 use Rattle.protocol.specs.Count.{count}
 use Rattle.protocol.specs.Setting.{Setting}
 use Rattle.protocol.specs.World.{World}

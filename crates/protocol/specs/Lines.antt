@@ -8,6 +8,8 @@ use Rattle.protocol.specs.Messages.{flat, IsFormedBody, Version, Request, Reply,
 use Rattle.wire_forms.specs.declared.Request.TheVariants.{Time, Read as AskRead, Write as AskWrite}
 use Rattle.wire_forms.specs.declared.Reply.TheVariants.{TimeIs, Found, Nothing, Ack}
 use Rattle.wire_forms.specs.declared.Body.TheVariants.{Ask as Asks, Answer as Answers}
+use Rattle.wire_forms.specs.declared.op.Op.{Op}
+use Rattle.wire_forms.specs.declared.op.Op.TheVariants.{Read as ReadOp, Write as WriteOp}
 use Rattle.protocol.specs.Setting.{Setting, IsBlock, verifier_of}
 use Rattle.protocol.specs.Nodes.{first_version}
 use Rattle.protocol.specs.Operations.{Task, outstanding, ask_of}
@@ -321,3 +323,8 @@ module _ (s : Setting) where
   -- the world that lines lead to from the beginning
   abbrev pub IsRun : List (ℕ × Line) → World → Type 0
   IsRun lines w = Run (start_world s) lines w
+
+-- the start of an operation
+abbrev pub start_line : ℕ → Op → Line
+start_line c (ReadOp block) = Read c block
+start_line c (WriteOp block value) = Write c block value

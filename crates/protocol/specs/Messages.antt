@@ -42,3 +42,12 @@ IsFormedReply _ = Unit {0}
 abbrev pub IsFormedBody : Body → Type 0
 IsFormedBody (Asks ask) = IsFormedRequest ask.request
 IsFormedBody (Answers reply) = IsFormedReply reply
+
+-- what answers a message goes back to its client, with its tag
+abbrev pub with_reply : Message → Reply → Message
+with_reply m reply = record { client = m.client; node = m.node; tag = m.tag; body = Answers reply }
+
+-- the body is an ask
+abbrev pub IsAsk : Body → Type 0
+IsAsk (Asks ask) = Unit {0}
+IsAsk (Answers reply) = ⊥

@@ -67,7 +67,7 @@ none_of_valid c v =
 pub fault-valid : (c : Numbers) → (fault c ≡ None) ↔ IsValid c
 fault-valid c = (valid_of_none c, none_of_valid c)
 
-most_of_all : (edition : Edition) → most_size edition ≤ 16384
+pub most_of_all : (edition : Edition) → most_size edition ≤ 16384
 most_of_all One = lit≤ tt
 most_of_all Two = lit≤ tt
 

@@ -15,7 +15,7 @@ use Rattle.protocol.specs.Operations.Stage.{Versions, Storing}
 use Rattle.protocol.specs.Operations.Decision.{GoesOn, Ends}
 use Rattle.protocol.proofs.Order.{same_stamp-≡}
 use Rattle.protocol.proofs.Rounds.{same_digests-≡, same_digests-refl}
-use Rattle.protocol.proofs.Counting.{cases_bool}
+use Rattle.std.proofs.lemmas.Bool.{cases_Bool}
 
 module _ (s : Setting) (answers : ℕ → Option Reply) (bound : Bound) (rounds : ℕ) where
   pub too_few : pivot s answers bound ≡ None → Ends (Outvoted (invalid_nodes s answers bound)) ≡ decide_pivot s answers bound rounds (pivot s answers bound)
@@ -45,7 +45,7 @@ module _ (s : Setting) (answers : ℕ → Option Reply) (bound : Bound) (rounds 
         pub poison_is_below : (s.sum_of (candidate s answers bound p) ≡ sum_of_first (chosen s answers bound p) → ⊥) → GoesOn (Versions (Below p)) ≡ decide_pivot s answers bound rounds (pivot s answers bound)
         poison_is_below apart =
             let differ : same_digests (s.sum_of (candidate s answers bound p)) (sum_of_first (chosen s answers bound p)) ≡ false =
-            elim (cases_bool (same_digests (s.sum_of (candidate s answers bound p)) (sum_of_first (chosen s answers bound p)))) [ inl e ↦ absurd (apart (same_digests-≡ _ _ e)) | inr e ↦ e ] in
+            elim (cases_Bool (same_digests (s.sum_of (candidate s answers bound p)) (sum_of_first (chosen s answers bound p)))) [ inl e ↦ absurd (apart (same_digests-≡ _ _ e)) | inr e ↦ e ] in
             let d : decide_at s answers bound rounds p ≡ GoesOn (Versions (Below p)) = rw (later, many, differ) refl in
             sym d ∙ sym at_pivot
 

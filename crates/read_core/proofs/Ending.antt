@@ -9,7 +9,7 @@ use Rattle.stamp_order.specs.Stamps.{up_to, same_stamp}
 use Rattle.cross_sum.specs.declared.part.Part.{Part}
 use Rattle.cross_sum.specs.Parts.{numbers, strings}
 use Rattle.gf_field.specs.Fragments.{AreParts, string_len, decoded, fragments_of}
-use Rattle.block_rows.specs.Sums.{sum_of}
+use Rattle.ida_code.specs.Sums.{sum_of}
 use Rattle.run_words.specs.declared.outcome.How.TheVariants.{Plain}
 use Rattle.wire_forms.specs.declared.message.Reply.{Reply}
 use Rattle.protocol.specs.Count.{count, collect, kept_where}

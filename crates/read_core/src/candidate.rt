@@ -1,7 +1,7 @@
 ghost use Rattle.std.specs.Prelude.{◌≡◌, ◌≢◌, ◌≤◌, ◌&&◌, not, map, take, length, IfOk, IfSome, IfNone, option_copied};
 ghost use Rattle.std.specs.List.{AllByRecursion};
 ghost use Rattle.gf_field.specs.Fragments.{fragments_of};
-ghost use Rattle.block_rows.specs.Sums.{sum_of};
+ghost use Rattle.ida_code.specs.Sums.{sum_of};
 ghost use Rattle.protocol.specs.Operations.{is_answered, is_there, sum_of_first, part_of, only_if};
 ghost use Rattle.candidate_class.specs.Stamps.{is_stamp};
 ghost use Rattle.frag_check.specs.Known.{HasItsDigest};

@@ -8,12 +8,12 @@ use Rattle.line_forms.specs.declared.refusal.ScriptRefusal.{ScriptRefusal}
 use Rattle.line_forms.specs.declared.refusal.ScriptRefusal.TheVariants as scripts
 use Rattle.script_run.specs.Performing.{StopsAt}
 use Rattle.command_texts.specs.Replays.{cluster_of, IsScript}
-use Rattle.call_words.specs.Statuses.{refusal_of, status_of_refusal}
+use Rattle.command_texts.specs.Statuses.{refusal_of, status_of_refusal}
 use Rattle.command_texts.specs.Texts.{Refuses}
-use Rattle.call_words.specs.declared.status.Status.TheVariants.{BadScript}
-use Rattle.call_words.specs.declared.refusal.Refusal.{Refusal}
-use Rattle.call_words.specs.declared.refusal.Refusal.TheVariants as refusals
-use Rattle.call_words.specs.declared.words.Command.TheVariants.{Replay}
+use Rattle.command_texts.specs.declared.status.Status.TheVariants.{BadScript}
+use Rattle.command_texts.specs.declared.refusal.Refusal.{Refusal}
+use Rattle.command_texts.specs.declared.refusal.Refusal.TheVariants as refusals
+use Rattle.command_texts.specs.declared.words.Command.TheVariants.{Replay}
 
 -- where the status of a refusal is a bad script's, the refusal has the same line and cause
 pub told : (input : List ℕ) (r : Refusal) (line : ℕ) (cause : Cause) → status_of_refusal r ≡ BadScript line cause

@@ -2,7 +2,7 @@
 ghost use Rattle.std.specs.Prelude.{◌≡◌, ◌↔◌, IsTrue};
 ghost use Rattle.run_pictures.specs.declared.status.PictureRefusal.TheVariants as refusals;
 
-use call_words::{Refusal, Status};
+use command_texts::{Refusal, Status};
 use lists::NoMemory;
 use std::fmt;
 
@@ -27,7 +27,7 @@ impl From<Refusal> for PictureRefusal {
 }
 
 impl From<NoMemory> for PictureRefusal {
-    ghost use Rattle.call_words.specs.declared.refusal.Refusal.TheVariants.{NoMemory};
+    ghost use Rattle.command_texts.specs.declared.refusal.Refusal.TheVariants.{NoMemory};
 
     ghost from_gives = { λ _ e. e ≡ refusals.Replay NoMemory };
 

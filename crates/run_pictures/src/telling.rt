@@ -2,8 +2,8 @@
 ghost use Rattle.wire_forms.specs.Liars.{AreLiars};
 
 use crate::stage::Stage;
-use history_entries::History;
-use history_texts::print;
+use history_book::print;
+use history_making::History;
 use lists::NoMemory;
 use picture_svg::Picture;
 use run_teller::{Run, Step, Teller, short_line, starting_text};

@@ -6,13 +6,13 @@ ghost use Rattle.outside_io.specs.Causes.{Rose};
 ghost use Rattle.outside_io.specs.Written.{AllFlushed};
 ghost use Rattle.command_texts.specs.Replays.{IsScript};
 ghost use Rattle.command_texts.specs.Texts.{Refuses};
-ghost use Rattle.call_words.specs.declared.refusal.Refusal.{Refusal as Refusals};
-ghost use Rattle.call_words.specs.declared.words.Command.TheVariants.{Replay as TheReplay};
+ghost use Rattle.command_texts.specs.declared.refusal.Refusal.{Refusal as Refusals};
+ghost use Rattle.command_texts.specs.declared.words.Command.TheVariants.{Replay as TheReplay};
 ghost use Rattle.run_pictures.specs.Stops.{CanStop, IsBadScript};
 
 use crate::status::{MOST_LINES, PictureRefusal, PictureStatus};
 use crate::telling::told;
-use call_words::{Refusal, Status};
+use command_texts::{Refusal, Status};
 use cross_sum::Bytes;
 use outside_io::{Sink, Source, read_all, write_all};
 use picture_svg::{Picture, svg_of};

@@ -1,6 +1,5 @@
 -- What a line of a script asks is of its cluster, and so is what a read gave.
-use Rattle.std.proofs.Common.{◌≡◌, ℕ, ◌<◌, suc, Bool, List, [], ◌∷◌, length}
-use Rattle.std.specs.Prelude.{slice_index}
+use Rattle.std.proofs.Common.{◌≡◌, ℕ, ◌<◌, Bool, List, length}
 use Rattle.std.proofs.lemmas.List.Elements.{recursion_from_All}
 use Rattle.quorum_rules.specs.Limits.{Numbers}
 use Rattle.text_lines.specs.Fields as text
@@ -13,10 +12,7 @@ use Rattle.protocol.specs.Instance.{setting_of}
 use Rattle.protocol.specs.Lines.{Line, FitsLine}
 use Rattle.event_lines.specs.Lines.{IsLine}
 use Rattle.run_words.specs.declared.line.Line.TheVariants.{Write, Read, Resend, Call, Give, Hear, Lost, CrashNode, CrashClient, Lie, Tell, Poke, False, Sound, Mix, Prune, Back, Restart}
-
-all_bytes : (xs : List ℕ) → ((i : ℕ) → slice_index xs i < 256) → IsBytes xs
-all_bytes [] h = tt
-all_bytes (x ∷ xs) h = (h 0, all_bytes xs (λ i. h (suc i)))
+use Rattle.protocol.proofs.Strings.{all_bytes}
 
 bytes_of : (xs : List ℕ) → text.IsBytes xs → IsBytes xs
 unfolding text.IsBytes

@@ -15,11 +15,12 @@ use Rattle.protocol.specs.Bounds.{pairs, different, is_among}
 use Rattle.protocol.specs.Report.{Ascend, rounds_of}
 use Rattle.protocol.proofs.Theorem.{run_keys, run_bounded, run_legal, run_in_time, run_sound}
 use Rattle.protocol.proofs.Kept.{run_in_order, run_told}
-use Rattle.protocol.proofs.Lists.{Contains-head, Contains-rest, Contains-map_cases}
 use Rattle.history_making.specs.Tellings.{AreRecords, IsHistoryOf}
 use Rattle.script_run.specs.Registers.{AreRegisters}
 use Rattle.protocol.specs.History.{Entry}
 use Rattle.script_run.proofs.Accepting.{accepted_few}
+use Rattle.lists.proofs.Members.{Contains-head, Contains-rest, Contains-map_cases}
+use Rattle.protocol.proofs.Starts.{starts_few}
 
 at_most_one : (b : Bool) (k n : ℕ) → k ≤ n → cond b 1 0 + k ≤ suc n
 at_most_one true k n h = omega (arith, h)
@@ -28,18 +29,6 @@ at_most_one false k n h = omega (arith, h)
 different_few : (test : Accepted → Bool) (xs : List Accepted) → different test xs ≤ length xs
 different_few test [] = omega arith
 different_few test (a ∷ xs) = at_most_one (test a && not (is_among a xs)) (different test xs) (length xs) (different_few test xs)
-
--- ascending numbers of at most `most` are few
-ascend_few : (most : ℕ) (x : ℕ) (xs : List ℕ) → Ascend (x ∷ xs) → ((y : ℕ) → Contains (x ∷ xs) y → y ≤ most) → x + length xs ≤ most
-ascend_few most x [] up all = let top = all x (Contains-head x []) in omega (arith, top)
-ascend_few most x (y ∷ ys) up all =
-    let rest = ascend_few most y ys up.1 (λ z k. all z (Contains-rest z x (y ∷ ys) k)) in
-    let above : x < y = up.0.0 in
-    omega (arith, rest, above)
-
-starts_few : (most : ℕ) (xs : List ℕ) → Ascend xs → ((y : ℕ) → Contains xs y → y ≤ most) → length xs ≤ most + 1
-starts_few most [] up all = omega arith
-starts_few most (x ∷ xs) up all = let few = ascend_few most x xs up all in omega (arith, few)
 
 sum_few : (most : ℕ) (rs : List Record) → ((r : Record) → Contains rs r → rounds_of r.outcome ≤ most) → sum_by (λ r. rounds_of r.outcome) rs ≤ length rs * most
 sum_few most [] all = omega arith

@@ -16,10 +16,10 @@ use Rattle.protocol.proofs.Entries.{kind_made, start_made, end_made}
 use Rattle.protocol.proofs.Theorem.{run_legal, run_in_time}
 use Rattle.protocol.proofs.Kept.{run_told, run_blocks, run_done, run_spent, run_spent_ascend}
 use Rattle.protocol.proofs.Counts.{spent_writes_are}
-use Rattle.history_entries.specs.Books.{Book}
-use Rattle.history_entries.specs.declared.entry.Counts.{Counts}
-use Rattle.history_entries.specs.Numbers.{HaveNumbers}
-use Rattle.history_texts.specs.ReportTexts.{IsReport, AreCounts, HasPlaces, IsPlaceOrNone}
+use Rattle.history_making.specs.Books.{Book}
+use Rattle.history_making.specs.declared.entry.Counts.{Counts}
+use Rattle.history_making.specs.Numbers.{HaveNumbers}
+use Rattle.history_book.specs.ReportTexts.{IsReport, AreCounts, HasPlaces, IsPlaceOrNone}
 use Rattle.history_book.specs.Judging.{IsLegal, IsInTime}
 use Rattle.history_making.specs.Tellings.{Tells, told_kind, told_spent}
 use Rattle.history_book.proofs.Reported.{IsWhole, told_entries, told_spent_writes, done_told}

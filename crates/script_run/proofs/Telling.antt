@@ -5,8 +5,8 @@ use Rattle.stamp_order.specs.declared.Stamp.{Stamp}
 use Rattle.protocol.specs.Setting.{Setting, first_stamp}
 use Rattle.protocol.specs.World.{World, Record}
 use Rattle.protocol.specs.History.{Entry}
-use Rattle.history_entries.specs.Books.{Book}
-use Rattle.history_entries.specs.Numbers.{HaveNumbers}
+use Rattle.history_making.specs.Books.{Book}
+use Rattle.history_making.specs.Numbers.{HaveNumbers}
 use Rattle.history_making.specs.Tellings.{Tells, AreRecords}
 use Rattle.script_run.specs.Histories.{AreOfRun, TellsHistory}
 use Rattle.script_run.proofs.Records.{are_records, are_registers}

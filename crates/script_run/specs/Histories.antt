@@ -5,9 +5,9 @@ use Rattle.protocol.specs.Setting.{Setting, IsValid, first_stamp}
 use Rattle.protocol.specs.World.{World, Record}
 use Rattle.protocol.specs.Lines.{Line, IsRun}
 use Rattle.protocol.specs.History.{Entry, NoClash}
-use Rattle.history_entries.specs.Books.{Book}
+use Rattle.history_making.specs.Books.{Book}
 use Rattle.history_making.specs.Tellings.{Tells}
-use Rattle.history_texts.specs.ReportTexts.{IsReport}
+use Rattle.history_book.specs.ReportTexts.{IsReport}
 use Rattle.history_book.specs.Judging.{IsLegal, IsInTime}
 use Rattle.script_run.specs.Registers.{AreRegisters}
 

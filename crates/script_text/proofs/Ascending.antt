@@ -4,9 +4,11 @@ use Rattle.std.specs.List.{filter, AllByRecursion}
 use Rattle.std.specs.List.Sorted.{IsStrictlySortedBy}
 use Rattle.std.specs.Ordering.{nat_cmp}
 use Rattle.std.specs.declared.cmp.Ordering.TheVariants.{Less, Equal, Greater}
-use Rattle.std.proofs.lemmas.Bool.{cases_Bool, cases_lt, ltb-true}
+use Rattle.std.proofs.lemmas.Bool.{cases_lt, eq-eqb}
 use Rattle.std.proofs.lemmas.Bool.Decides.{nat_tests}
 use Rattle.wire_forms.specs.Liars.{IsAscending, has_number}
+use Rattle.lists.proofs.Tests.{other_below}
+use Rattle.lists.proofs.Orders.{less_of}
 
 -- the numbers below a limit
 abbrev pub below : ℕ → List ℕ → List ℕ
@@ -18,29 +20,19 @@ yes a b h = grind (arith, nat_tests)
 pub no_less : (a b : ℕ) → b ≤ a → ltb a b ≡ false
 no_less a b h = grind (arith, nat_tests)
 
-same : (a b : ℕ) → a ≡ b → eqb a b ≡ true
-same a b h = grind arith
-
 pub other_above : (a b : ℕ) → a < b → eqb a b ≡ false
 other_above a b h = grind arith
-
-pub other_below : (a b : ℕ) → b < a → eqb a b ≡ false
-other_below a b h = grind arith
 
 not_less : (b : Bool) → cond b Equal Greater ≡ Less → ⊥
 not_less true h = absurd cc
 not_less false h = absurd cc
-
-pub above : (a b : ℕ) → nat_cmp a b ≡ Less → a < b
-above a b h =
-    elim (cases_Bool (ltb a b)) [ inl lt ↦ ltb-true a b lt | inr ge ↦ absurd (not_less (eqb a b) (rw ge at h)) ]
 
 abbrev AllAbove : ℕ → List ℕ → Type 0
 AllAbove least ks = AllByRecursion (λ k. least < k) ks
 
 rest_above : (least x : ℕ) (ks : List ℕ) → least ≤ x → AllByRecursion (λ k. nat_cmp x k ≡ Less) ks → AllAbove least ks
 rest_above least x [] le h = tt
-rest_above least x (k ∷ ks) le h = let lt = above x k h.0 in (omega arith, rest_above least x ks le h.1)
+rest_above least x (k ∷ ks) le h = let lt = less_of x k h.0 in (omega arith, rest_above least x ks le h.1)
 
 none_below : (limit least : ℕ) (ks : List ℕ) → limit ≤ least + 1 → AllAbove least ks → below limit ks ≡ []
 none_below limit least [] le h = refl
@@ -73,7 +65,7 @@ below_next limit (k ∷ ks) h =
         | inr ge ↦
             let is : k ≡ limit = omega arith in
             let up = rest_above limit k ks le h.0 in
-            rw (yes k (limit + 1) (omega arith), no_less k limit le, same limit k (omega arith), none_below (limit + 1) limit ks (omega arith) up, none_below limit limit ks (omega arith) up, is) refl
+            rw (yes k (limit + 1) (omega arith), no_less k limit le, eq-eqb limit k (omega arith), none_below (limit + 1) limit ks (omega arith) up, none_below limit limit ks (omega arith) up, is) refl
       ]
     ]
 

@@ -1,11 +1,11 @@
 -- What liar lines declare, and their lines.
-use Rattle.std.proofs.Common.{◌≡◌, All, ℕ, ◌+◌, ◌^◌, ◌≤◌, ◌<◌, Bool, true, false, ◌||◌, ◌&&◌, cond, eqb, ltb, leb, List, [], ◌∷◌, ◌++◌, length, map, drop, get_or, None, refl, sym, ap, ◌∙◌, arith, inl, inr}
+use Rattle.std.proofs.Common.{◌≡◌, All, ℕ, ◌+◌, ◌^◌, ◌≤◌, ◌<◌, Bool, true, false, ◌||◌, ◌&&◌, cond, eqb, leb, List, [], ◌∷◌, ◌++◌, length, map, drop, get_or, None, refl, sym, ap, ◌∙◌, arith, inl, inr}
 use Rattle.std.specs.Prelude.{codes, decimal, count_by}
 use Rattle.std.specs.List.{list_any, AllByRecursion, IsDistinct}
 use Rattle.std.specs.Str.{bytes_eq}
 use Rattle.std.specs.Ordering.{nat_cmp}
 use Rattle.std.specs.BTreeSet.{insert_key}
-use Rattle.std.proofs.lemmas.Bool.{cases_Bool, lt-leb, eqb-true, false≢true, true≢false}
+use Rattle.std.proofs.lemmas.Bool.{cases_Bool, lt-leb, eqb-true, false≢true, true≢false, or_parts, eq-eqb}
 use Rattle.std.proofs.lemmas.Bool.Decides.{nat_tests}
 use Rattle.std.proofs.lemmas.List.Sums.{sum_by-cons, sum_by_push}
 use Rattle.std.proofs.lemmas.Map.Views.{All-insert_key}
@@ -19,6 +19,9 @@ use Rattle.script_text.specs.declared.liars.Declared.{Declared}
 use Rattle.script_text.specs.declared.liars.Declared.TheVariants.{Node, Client}
 use Rattle.script_text.specs.Replays.{liar_fields, liar_line, IsDeclarable, is_same, with_declared, with_all, liars_of, is_liar_line, is_liar_node, is_event}
 use Rattle.script_text.specs.Reading.{is_node, has_declared, again_cause, AreDeclared}
+use Rattle.lists.proofs.Members.{all_push}
+use Rattle.lists.proofs.Tests.{or_swapped, or_twice, bool_eq}
+use Rattle.lists.proofs.Orders.{inserted}
 
 -- ---- the line of what is declared
 
@@ -68,15 +71,6 @@ line_is_node d lt =
     ap (λ (b : Bool). b && bytes_eq (get_or (fields_of (liar_line d)) 1 []) (codes "node")) (line_is_liar d lt)
     ∙ ap (λ (fs : List (List ℕ)). bytes_eq (get_or fs 1 []) (codes "node")) (fields_back d lt) ∙ second_word d
 
-agree : (a b : Bool) → (a ≡ true → b ≡ true) → (b ≡ true → a ≡ true) → a ≡ b
-agree true true f g = refl
-agree true false f g = sym (f refl)
-agree false true f g = g refl
-agree false false f g = refl
-
-same_number : (m n : ℕ) → m ≡ n → eqb m n ≡ true
-same_number m n h = grind arith
-
 same_is : (d e : Declared) → is_same d e ≡ true → d ≡ e
 same_is (Node m) (Node n) h = ap Node (eqb-true m n h)
 same_is (Client m) (Client n) h = ap Client (eqb-true m n h)
@@ -91,12 +85,12 @@ line_says (Node m) (Client n) p q h = absurd (true≢false (ap (λ (l : List ℕ
 line_says (Client m) (Node n) p q h = absurd (false≢true (ap (λ (l : List ℕ). eqb (get_or l 5 0) 110) h))
 
 pub same_itself : (d : Declared) → is_same d d ≡ true
-same_itself (Node n) = same_number n n refl
-same_itself (Client k) = same_number k k refl
+same_itself (Node n) = eq-eqb n n refl
+same_itself (Client k) = eq-eqb k k refl
 
 line_is_same : (d e : Declared) → IsLow d → IsLow e → bytes_eq (liar_line d) (liar_line e) ≡ is_same d e
 line_is_same d e p q =
-    agree (bytes_eq (liar_line d) (liar_line e)) (is_same d e)
+    bool_eq (bytes_eq (liar_line d) (liar_line e)) (is_same d e)
     (λ h. ap (is_same d) (sym (line_says d e p q ((bytes_eq-Decides (liar_line d) (liar_line e)).0 h))) ∙ same_itself d)
     (λ h. (bytes_eq-Decides (liar_line d) (liar_line e)).1 (ap liar_line (same_is d e h)))
 
@@ -117,24 +111,7 @@ no_events (d ∷ ds) h = rw (line_is_liar d h.0) (no_events ds h.1)
 -- ---- a number put among others
 
 eqb_turned : (a b : ℕ) → eqb a b ≡ eqb b a
-eqb_turned a b = agree (eqb a b) (eqb b a) (λ h. same_number b a (sym (eqb-true a b h))) (λ h. same_number a b (sym (eqb-true b a h)))
-
-or_swapped : (a b c : Bool) → (a || (b || c)) ≡ (b || (a || c))
-or_swapped true true c = refl
-or_swapped true false c = refl
-or_swapped false true c = refl
-or_swapped false false c = refl
-
-or_twice : (a c : Bool) → (a || c) ≡ (a || (a || c))
-or_twice true c = refl
-or_twice false c = refl
-
-inserted : (x : ℕ) (xs : List ℕ) (k : ℕ) (P : List ℕ → Type 0) → P (k ∷ x ∷ xs) → (k ≡ x → P (x ∷ xs)) → P (x ∷ insert_key nat_cmp xs k) → P (insert_key nat_cmp (x ∷ xs) k)
-inserted x xs k P before here after =
-    elim (cases_Bool (ltb k x)) [
-      | inl lt ↦ rw lt before
-      | inr ge ↦ elim (cases_Bool (eqb k x)) [ inl same ↦ rw (ge, same) (here (eqb-true k x same)) | inr other ↦ rw (ge, other) after ]
-    ]
+eqb_turned a b = bool_eq (eqb a b) (eqb b a) (λ h. eq-eqb b a (sym (eqb-true a b h))) (λ h. eq-eqb a b (sym (eqb-true b a h)))
 
 pub insert_has : (ks : List ℕ) (k q : ℕ) → has_number (insert_key nat_cmp ks k) q ≡ (eqb k q || has_number ks q)
 insert_has [] k q = ap (λ (b : Bool). b || false) (eqb_turned q k)
@@ -148,16 +125,12 @@ pub insert_longer : (ks : List ℕ) (k : ℕ) → length ks ≤ length (insert_k
 insert_longer [] k = omega arith
 insert_longer (x ∷ xs) k = let h = insert_longer xs k in inserted x xs k (λ ks. length (x ∷ xs) ≤ length ks) (omega arith) (λ same. omega arith) (omega arith)
 
-or_none : (a b : Bool) → (a || b) ≡ false → (a ≡ false) × (b ≡ false)
-or_none true b h = absurd (true≢false h)
-or_none false b h = (refl, h)
-
 pub insert_length : (ks : List ℕ) (k : ℕ) → has_number ks k ≡ false → length (insert_key nat_cmp ks k) ≡ length ks + 1
 insert_length [] k h = refl
 insert_length (x ∷ xs) k h =
-    let p = or_none (eqb k x) (has_number xs k) h in
+    let p = or_parts (eqb k x) (has_number xs k) h in
     let more = insert_length xs k p.1 in
-    inserted x xs k (λ ks. length ks ≡ length (x ∷ xs) + 1) (omega arith) (λ same. absurd (false≢true (sym p.0 ∙ same_number k x same))) (omega arith)
+    inserted x xs k (λ ks. length ks ≡ length (x ∷ xs) + 1) (omega arith) (λ same. absurd (false≢true (sym p.0 ∙ eq-eqb k x same))) (omega arith)
 
 -- ---- liars and one more
 
@@ -191,9 +164,9 @@ none_has (Client k) = refl
 pub have_declared : (ds : List Declared) (e : Declared) → has_declared (liars_of ds) e ≡ list_any (λ d. is_same d e) ds
 have_declared ds e = all_have _ ds e ∙ ap (λ (b : Bool). b || list_any (λ d. is_same d e) ds) (none_has e)
 
-pub all_push : (l : Liars) (ds : List Declared) (d : Declared) → with_all l (ds ++ d ∷ []) ≡ with_declared (with_all l ds) d
-all_push l [] d = refl
-all_push l (x ∷ ds) d = all_push (with_declared l x) ds d
+pub pushed_all : (l : Liars) (ds : List Declared) (d : Declared) → with_all l (ds ++ d ∷ []) ≡ with_declared (with_all l ds) d
+pushed_all l [] d = refl
+pushed_all l (x ∷ ds) d = pushed_all (with_declared l x) ds d
 
 declared_longer : (l : Liars) (d : Declared) → length l.nodes ≤ length (with_declared l d).nodes
 declared_longer l (Node n) = insert_longer l.nodes n
@@ -209,16 +182,12 @@ declared_length l (Client k) h = omega arith
 
 -- ---- each is declared once
 
-pub push_each : {A : Type 0} (P : A → Type 0) (xs : List A) (x : A) → AllByRecursion P xs → P x → AllByRecursion P (xs ++ x ∷ [])
-push_each P [] x h p = (p, tt)
-push_each P (y ∷ ys) x h p = (h.0, push_each P ys x h.1 p)
-
 push_once : (ds : List Declared) (e : Declared) → IsDistinct is_same ds → list_any (λ d. is_same d e) ds ≡ false → IsDistinct is_same (ds ++ e ∷ [])
 unfolding IsDistinct
 push_once [] e h none = (tt, tt)
 push_once (d ∷ ds) e h none =
-    let p = or_none (is_same d e) (list_any (λ x. is_same x e) ds) none in
-    (push_each (λ x. is_same d x ≡ false) ds e h.0 p.0, push_once ds e h.1 p.1)
+    let p = or_parts (is_same d e) (list_any (λ x. is_same x e) ds) none in
+    (all_push (λ x. is_same d x ≡ false) ds e h.0 p.0, push_once ds e h.1 p.1)
 
 among : {A : Type 0} (P : A → Type 0) (xs more : List A) (x : A) → AllByRecursion P (xs ++ x ∷ more) → P x
 among P [] more x h = h.0
@@ -271,9 +240,9 @@ one_declared c ds l d a i f =
     let longer = declared_length l d f.new in
     record {
       valid = a.valid;
-      declarable = push_each (IsDeclarable c) ds d a.declarable i;
+      declarable = all_push (IsDeclarable c) ds d a.declarable i;
       once = push_once ds d a.once new;
-      all = all_push _ ds d ∙ ap (λ (m : Liars). with_declared m d) a.all;
+      all = pushed_all _ ds d ∙ ap (λ (m : Liars). with_declared m d) a.all;
       counted = sum_by_push (λ x. cond (is_node x) 1 0) ds d ∙ ap (λ (n : ℕ). n + cond (is_node d) 1 0) a.counted ∙ sym longer;
       few = rw longer (room_left (is_node d) (length l.nodes) c.b a.few f.room);
     }

@@ -1,27 +1,26 @@
 -- A text that spells a replay is accepted, and spells no other.
-use Rattle.std.proofs.Common.{◌≡◌, ℕ, ◌+◌, ◌≤◌, ◌<◌, Bool, true, false, ◌||◌, ◌&&◌, cond, leb, ltb, eqb, ◌^◌, lit≤, List, [], ◌∷◌, ◌++◌, length, map, drop, get_or, None, refl, sym, ap, subst, ◌∙◌, append_assoc, length-append, arith, inl, inr}
+use Rattle.std.proofs.Common.{◌≡◌, ℕ, ◌+◌, ◌≤◌, ◌<◌, Bool, true, false, ◌&&◌, cond, leb, ltb, eqb, ◌^◌, lit≤, List, [], ◌∷◌, ◌++◌, length, map, drop, get_or, None, refl, sym, ap, subst, ◌∙◌, append_assoc, length-append, arith, inl, inr}
 use Rattle.std.specs.Prelude.{decimal}
 use Rattle.std.specs.List.{list_any, AllByRecursion, IsDistinct}
 use Rattle.std.specs.List.Sorted.{IsStrictlySortedBy}
 use Rattle.std.specs.Ordering.{nat_cmp}
 use Rattle.std.specs.declared.cmp.Ordering.TheVariants.{Less}
 use Rattle.std.specs.BTreeSet.{insert_key}
-use Rattle.std.proofs.lemmas.Bool.{cases_Bool, eqb-true, lt-leb, false≢true}
+use Rattle.std.proofs.lemmas.Bool.{cases_Bool, eqb-true, lt-leb, false≢true, or_right}
 use Rattle.std.proofs.lemmas.Bool.Decides.{nat_tests}
 use Rattle.std.proofs.lemmas.Fmt.{decimal_nonempty}
 use Rattle.std.proofs.lemmas.List.{append-nil, map_push}
 use Rattle.std.proofs.lemmas.List.Concat.{flat_map-append}
 use Rattle.std.proofs.lemmas.List.Elements.{recursion_from_All}
 use Rattle.quorum_rules.specs.Limits.{Numbers, IsValid}
-use Rattle.text_lines.specs.Lines.{parts_of, fields_of, line_of_fields, text_of_lines, Lacks}
+use Rattle.text_lines.specs.Lines.{fields_of, line_of_fields, text_of_lines}
 use Rattle.text_lines.proofs.Numbers.{number_of-decimal}
-use Rattle.text_lines.proofs.Joined.{part_before}
 use Rattle.wire_forms.specs.Liars.{Liars, has_number, IsClientNumber}
 use Rattle.line_forms.specs.Heads.{head_lines, head_text, header, cluster_fields}
 use Rattle.line_forms.specs.Texts.{IsFaultless, ReadsTo}
 use Rattle.line_forms.proofs.Accepted.{head_accepted, one_head}
 use Rattle.line_forms.proofs.Tables.{or_none}
-use Rattle.line_forms.proofs.Texts.{reads_on, read_all}
+use Rattle.line_forms.proofs.Texts.{reads_on, read_all, line_next, push_same}
 use Rattle.event_lines.specs.Forms.{fields_cause, event_cause}
 use Rattle.event_lines.specs.Lines.{event_text, IsEventLine}
 use Rattle.event_lines.specs.declared.line.ReplayLine.{ReplayLine}
@@ -32,11 +31,13 @@ use Rattle.script_text.specs.declared.liars.Declared.{Declared}
 use Rattle.script_text.specs.declared.liars.Declared.TheVariants.{Node, Client}
 use Rattle.script_text.specs.Replays.{liar_line, liar_fields, liar_forms, IsDeclarable, is_same, with_declared, with_all, liars_of, declarations, event_limit, IsReplay, AreAscendingLiars, Spells, replay_lines, replay_text, replay_body, replay_script, is_liar_line}
 use Rattle.script_text.specs.Reading.{AreDeclared, AreAscending, has_declared, later_cause}
-use Rattle.script_text.proofs.Sums.{not_zero}
-use Rattle.script_text.proofs.Declarations.{push_each, IsLow, low, all_low, fields_back, liar_lacks, line_is_liar, line_says, same_itself, IsFree, none_from_free, none_declared, one_declared, once_before, have_declared, all_push, all_longer, declared_length}
+use Rattle.script_text.proofs.Declarations.{IsLow, low, all_low, fields_back, liar_lacks, line_is_liar, line_says, same_itself, IsFree, none_from_free, none_declared, one_declared, once_before, have_declared, pushed_all, all_longer, declared_length}
 use Rattle.script_text.proofs.Causes.{liar_again, later_here, event_no_liar}
 use Rattle.script_text.proofs.Steps.{body_here, body_lines}
-use Rattle.script_text.proofs.Ascending.{above, no_less, other_above, other_below}
+use Rattle.script_text.proofs.Ascending.{no_less, other_above}
+use Rattle.lists.proofs.Members.{all_push}
+use Rattle.lists.proofs.Tests.{not_zero, other_below}
+use Rattle.lists.proofs.Orders.{less_of}
 
 -- ---- liar lines
 
@@ -75,11 +76,6 @@ free_here c ds more d once few =
           omega arith;
     }
 
-line_next : (line lines rest : List ℕ) → Lacks 10 line → parts_of (((line ++ 10 ∷ []) ++ lines) ++ rest) ≡ line ∷ parts_of (lines ++ rest)
-line_next line lines rest lacks =
-    let text : ((line ++ 10 ∷ []) ++ lines) ++ rest ≡ line ++ 10 ∷ (lines ++ rest) = simp append_assoc in
-    ap parts_of text ∙ part_before 10 line (lines ++ rest) lacks
-
 push_lines : (first : List (List ℕ)) (ds : List Declared) (d : Declared) → (first ++ map liar_line ds) ++ liar_line d ∷ [] ≡ first ++ map liar_line (ds ++ d ∷ [])
 push_lines first ds d = append_assoc first (map liar_line ds) (liar_line d ∷ []) ∙ ap (λ (ls : List (List ℕ)). first ++ ls) (sym (map_push liar_line ds d))
 
@@ -92,7 +88,7 @@ liars_accepted text c ds (d ∷ more) all rest e once few i a r =
     let form : fields_cause (liar_forms c) (drop 1 (fields_of (liar_line d))) ≡ None = ap (λ (fs : List (List ℕ)). fields_cause (liar_forms c) (drop 1 fs)) (fields_back d is_low) ∙ no_form_cause c d a.valid i.0 in
     let none = body_here c (map liar_line ds) (liar_line d) a.valid ∙ liar_again c ds (liars_of ds) d (liar_line d) a (line_is_liar d is_low) form i.0 refl ∙ none_from_free c (liars_of ds) d free in
     let on = reads_on replay_script text (head_lines c ++ map liar_line ds) (liar_line d) _ (text_of_lines (map liar_line more) ++ rest) r (line_next (liar_line d) (text_of_lines (map liar_line more)) rest (liar_lacks d is_low)) none in
-    let more_declared = subst (AreDeclared c (ds ++ d ∷ [])) (sym (all_push _ ds d)) (one_declared c ds (liars_of ds) d a i.0 free) in
+    let more_declared = subst (AreDeclared c (ds ++ d ∷ [])) (sym (pushed_all _ ds d)) (one_declared c ds (liars_of ds) d a i.0 free) in
     liars_accepted text c (ds ++ d ∷ []) more all rest (append_assoc ds (d ∷ []) more ∙ e) once few i.1 more_declared
     (subst (λ (ls : List (List ℕ)). ReadsTo replay_script text ls (text_of_lines (map liar_line more) ++ rest)) (push_lines (head_lines c) ds d) on)
 
@@ -113,14 +109,10 @@ events_accepted text c ds es (x ∷ more) all rest v i e few h k r =
     let lt : length es < event_limit c = omega (arith, ap length e) in
     let none = body_here c (body_lines ds es) (event_text x) v ∙ later_here c ds es (event_text x) v i h (λ none. event_no_liar c x k.0) ∙ no_later_cause c (length es) x k.0 lt in
     let on = reads_on replay_script text (replay_lines c ds es) (event_text x) _ (text_of_lines (map event_text more) ++ rest) r (line_next (event_text x) (text_of_lines (map event_text more)) rest (one_line c x k.0)) none in
-    events_accepted text c ds (es ++ x ∷ []) more all rest v i (append_assoc es (x ∷ []) more ∙ e) few (push_each (IsEventLine c) es x h k.0) k.1
+    events_accepted text c ds (es ++ x ∷ []) more all rest v i (append_assoc es (x ∷ []) more ∙ e) few (all_push (IsEventLine c) es x h k.0) k.1
     (subst (λ (ls : List (List ℕ)). ReadsTo replay_script text ls (text_of_lines (map event_text more) ++ rest)) (push_event (head_lines c) (map liar_line ds) es x) on)
 
 -- ---- the whole text
-
-or_right : (a b : Bool) → b ≡ true → (a || b) ≡ true
-or_right true b h = refl
-or_right false b h = h
 
 each_there : (all ds : List Declared) → ((d : Declared) → list_any (λ x. is_same x d) ds ≡ true → list_any (λ x. is_same x d) all ≡ true) → AllByRecursion (λ d. list_any (λ x. is_same x d) all ≡ true) ds
 each_there all [] f = tt
@@ -160,15 +152,6 @@ replay_accepted text c l es r s = read_all replay_script text (header c.edition)
 
 -- ---- one text, one replay
 
-push_same : (xs ys : List (List ℕ)) (a : List ℕ) → xs ++ a ∷ [] ≡ ys ++ a ∷ [] → xs ≡ ys
-push_same [] [] a e = refl
-push_same [] (y ∷ ys) a e = let len = length-append ys (a ∷ []) in absurd (omega (arith, ap length e))
-push_same (x ∷ xs) [] a e = let len = length-append xs (a ∷ []) in absurd (omega (arith, ap length e))
-push_same (x ∷ xs) (y ∷ ys) a e =
-    let tail = push_same xs ys a (ap (λ (ls : List (List ℕ)). drop 1 ls) e) in
-    let head : x ≡ y = ap (λ (ls : List (List ℕ)). get_or ls 0 []) e in
-    ap (λ (l : List ℕ). l ∷ xs) head ∙ ap (λ (ls : List (List ℕ)). y ∷ ls) tail
-
 events_one : (c : Numbers) (es fs : List ReplayLine) → AllByRecursion (IsEventLine c) es → AllByRecursion (IsEventLine c) fs → map event_text es ≡ map event_text fs → es ≡ fs
 events_one c [] [] h k e = refl
 events_one c [] (f ∷ fs) h k e = absurd cc
@@ -207,7 +190,7 @@ one_replay text c d l m es fs r q s t =
 insert_end : (ks : List ℕ) (k : ℕ) → AllByRecursion (λ x. nat_cmp x k ≡ Less) ks → insert_key nat_cmp ks k ≡ ks ++ k ∷ []
 insert_end [] k h = refl
 insert_end (x ∷ xs) k h =
-    let lt = above x k h.0 in
+    let lt = less_of x k h.0 in
     rw (no_less k x (omega arith), other_below k x lt) (ap (λ (ys : List ℕ). x ∷ ys) (insert_end xs k h.1))
 
 each_before : (before : List ℕ) (k : ℕ) (ks : List ℕ) → IsStrictlySortedBy nat_cmp (before ++ k ∷ ks) → AllByRecursion (λ x. nat_cmp x k ≡ Less) before
@@ -245,11 +228,11 @@ clients_differ n (k ∷ ks) = (refl, clients_differ n ks)
 
 nodes_differ : (n : ℕ) (ks cs : List ℕ) → AllByRecursion (λ y. nat_cmp n y ≡ Less) ks → AllByRecursion (λ y. is_same (Node n) y ≡ false) (map Node ks ++ map Client cs)
 nodes_differ n [] cs h = clients_differ n cs
-nodes_differ n (k ∷ ks) cs h = (other_above n k (above n k h.0), nodes_differ n ks cs h.1)
+nodes_differ n (k ∷ ks) cs h = (other_above n k (less_of n k h.0), nodes_differ n ks cs h.1)
 
 later_differ : (n : ℕ) (ks : List ℕ) → AllByRecursion (λ y. nat_cmp n y ≡ Less) ks → AllByRecursion (λ y. is_same (Client n) y ≡ false) (map Client ks)
 later_differ n [] h = tt
-later_differ n (k ∷ ks) h = (other_above n k (above n k h.0), later_differ n ks h.1)
+later_differ n (k ∷ ks) h = (other_above n k (less_of n k h.0), later_differ n ks h.1)
 
 once_all : (ns cs : List ℕ) → IsStrictlySortedBy nat_cmp ns → IsStrictlySortedBy nat_cmp cs → IsDistinct is_same (map Node ns ++ map Client cs)
 unfolding IsStrictlySortedBy IsDistinct

@@ -23,8 +23,9 @@ use Rattle.script_text.specs.declared.liars.Declared.{Declared}
 use Rattle.script_text.specs.declared.liars.Front.{Front}
 use Rattle.script_text.specs.Replays.{liar_line, event_limit, AreAscendingLiars, IsReplay, Spells, replay_cause, replay_lines, replay_script, with_declared, IsDeclarable, is_liar_line}
 use Rattle.script_text.specs.Reading.{AreDeclared, AreAscending, LiarsRead, FrontRead, EventsRead, again_cause, later_cause}
-use Rattle.script_text.proofs.Declarations.{push_each, none_declared, one_declared, free_from_none, declared_inside}
+use Rattle.script_text.proofs.Declarations.{none_declared, one_declared, free_from_none, declared_inside}
 use Rattle.script_text.proofs.Causes.{later_here}
+use Rattle.lists.proofs.Members.{all_push}
 
 -- the lines of the body of a script
 abbrev pub body_lines : List Declared → List ReplayLine → List (List ℕ)
@@ -189,7 +190,7 @@ event_read text c l es more rest line after number next event h e shorter none s
       declared = h.declared;
       are = h.are;
       ascending = h.ascending;
-      events = push_each (IsEventLine c) es event h.events says.0;
+      events = all_push (IsEventLine c) es event h.events says.0;
       limited = omega arith;
       reads = subst (λ (ls : List (List ℕ)). ReadsTo replay_script text ls after) lines on;
       events_begin = λ none. absurd (omega arith);

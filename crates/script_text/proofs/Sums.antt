@@ -1,5 +1,5 @@
 -- The value line, and a text of `sum` from its first line to its last.
-use Rattle.std.proofs.Common.{◌≡◌, ◌≢◌, ℕ, ◌-◌, ◌<◌, false, eqb, List, [], ◌∷◌, ◌++◌, length, take, drop, get_or, Some, None, refl, sym, ap, subst, ◌∙◌, arith}
+use Rattle.std.proofs.Common.{◌≡◌, ◌≢◌, ℕ, ◌-◌, ◌<◌, List, [], ◌∷◌, ◌++◌, length, take, drop, get_or, Some, None, refl, sym, ap, subst, ◌∙◌, arith}
 use Rattle.std.specs.Prelude.{codes}
 use Rattle.std.specs.Borrow.{Bor}
 use Rattle.std.proofs.Math.Bool.{or-false}
@@ -17,9 +17,7 @@ use Rattle.line_forms.specs.declared.cause.Cause.TheVariants.{BadValue, UnknownW
 use Rattle.line_forms.proofs.Accepted.{numbers_back}
 use Rattle.line_forms.proofs.Texts.{reads_on, line_fault, end_fault, needed, cut_short, read_all, text_read}
 use Rattle.script_text.specs.Sum.{IsSum, value_form, value_fields, sum_lines, sum_text, sum_script}
-
-pub not_zero : (n : ℕ) → 0 < n → eqb n 0 ≡ false
-not_zero n h = grind arith
+use Rattle.lists.proofs.Tests.{not_zero}
 
 -- what is wrong with `value` and a field that isn't empty
 pub value_cause : (word field : List ℕ) (len : ℕ) → word ≡ codes "value" → 0 < length field → form_cause (value_form len) (word ∷ field ∷ []) ≡ first_of ((has_other_length len (value_of field), BadValue) ∷ [])

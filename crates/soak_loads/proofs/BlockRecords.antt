@@ -19,7 +19,6 @@ use Rattle.protocol.specs.History.{Entry}
 use Rattle.protocol.specs.Report.{Ascend}
 use Rattle.protocol.specs.Laws.{RecordsAreTold, StartsAscend}
 use Rattle.protocol.specs.Seen.{block_of}
-use Rattle.protocol.proofs.Lists.{filter_is, filter_has, Contains-map, Contains-map_cases}
 use Rattle.soak_loads.specs.Plain.{Deed, deeds_of, is_on}
 use Rattle.plan_words.specs.declared.plan.Plan.{Plan}
 use Rattle.plan_words.specs.Plans.{Fits, step_count, step_limit}
@@ -32,10 +31,11 @@ use Rattle.journal_records.specs.Shown.{ended_by, IsComplete}
 use Rattle.journal_records.specs.Steady.{ComeInTurn, AreSteady}
 use Rattle.soak_loads.specs.Serial.{IsPast, AreInTurn, IsDone, AreSerial, record_deed}
 use Rattle.soak_loads.specs.Loads.{HasOwners}
-use Rattle.soak_loads.proofs.Records.{writes_by, each}
+use Rattle.soak_loads.proofs.Records.{writes_by}
 use Rattle.soak_loads.proofs.Bounded.{writes, choices_few, no_lies}
 use Rattle.soak_loads.proofs.OwnStamps.{EndsOwn, own_stamps}
 use Rattle.soak_loads.proofs.OwnedWork.{ops_for, ops_few, ops_there, as_deed, deeds_are, ended_op, on_its_block, ops_ended}
+use Rattle.lists.proofs.Members.{Contains-map_cases, Contains-map, filter_is, filter_has, all_of}
 
 -- ---- lists
 
@@ -174,7 +174,7 @@ module _ (plan : Plan) (j : Journals) (w : World) (history : List Entry) (owners
     block_records block =
         same_ascending (λ (r : Record). r.start) (records_on w block) (map (ended_record c) (ended_on block))
         (ascend_filter (λ r. r.block == block) w.records starts)
-        (ascend_ended c (ended_on block) turns (all_filter (λ x. x.start ≤ x.end) (λ x. x.block == block) (ended_by j c) (each (λ x. x.start ≤ x.end) (ended_by j c) (starts_first c))))
+        (ascend_ended c (ended_on block) turns (all_filter (λ x. x.start ≤ x.end) (λ x. x.block == block) (ended_by j c) (all_of (λ x. x.start ≤ x.end) (ended_by j c) (starts_first c))))
         to from
       where
         c : ℕ

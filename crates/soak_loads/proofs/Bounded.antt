@@ -16,8 +16,9 @@ use Rattle.protocol.specs.Operations.Work.{Reads, Writes}
 use Rattle.protocol.specs.World.{Record}
 use Rattle.protocol.specs.Report.{Ascend}
 use Rattle.protocol.specs.Bounds.{is_chosen, choices, lied, lied_time}
-use Rattle.protocol.proofs.Lists.{Contains-head, Contains-rest, Contains-none, Contains-cons_cases}
 use Rattle.soak_loads.proofs.Records.{writes_by, IsWriting}
+use Rattle.lists.proofs.Members.{Contains-head, Contains-none, Contains-rest, Contains-cons_cases}
+use Rattle.protocol.proofs.Counting.{both_true}
 
 abbrev pub writes : List Record → ℕ
 writes [] = 0
@@ -76,11 +77,6 @@ distinct block (r ∷ rs) h = by (chose block r) (distinct block rs h.1)
     by true rest = (above_all block r.start rs h.0, rest)
     by false rest = rest
 
-both : (a b : Bool) → a && b ≡ true → (a ≡ true) × (b ≡ true)
-both true true e = (refl, refl)
-both true false e = absurd cc
-both false b e = absurd cc
-
 chosen_writes : (work : Work) (stamp : Option Stamp) → is_chosen work stamp ≡ true → IsWriting work
 chosen_writes Reads stamp e = absurd cc
 chosen_writes (Writes value) stamp e = tt
@@ -98,7 +94,7 @@ chosen_from block q (r ∷ rs) is =
         → (x : Record) × Contains (r ∷ rs) x × (x.block ≡ block) × IsWriting x.work × (q ≡ x.start)
     by false e rest is = rest is
     by true e rest is =
-        let two = both (r.block == block) (is_chosen r.work r.stamp) e in
+        let two = both_true (r.block == block) (is_chosen r.work r.stamp) e in
         elim (cases_Bool (nat_eq q r.start)) [
           | inl same ↦ (r, Contains-head r rs, eqb-true r.block block two.0, chosen_writes r.work r.stamp two.1, eqb-true q r.start same)
           | inr other ↦ rest (ap (λ b. b || is_member nat_eq (chosen_starts block rs) q) (sym other) ∙ is)

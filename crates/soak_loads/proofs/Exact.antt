@@ -14,10 +14,11 @@ use Rattle.protocol.specs.History.{Entry, entry_as, IsEntry, IsForeign}
 use Rattle.protocol.specs.History.Kind.{Read as ReadKind, Write as WriteKind}
 use Rattle.protocol.specs.Laws.{RecordsAreTold, CompletedIsHeld, AcceptedIsKnown}
 use Rattle.protocol.proofs.Counting.{some_passes}
-use Rattle.protocol.proofs.Lists.{Contains-map, Contains-map_cases}
 use Rattle.soak_loads.specs.Serial.{IsDone, AreSerial}
 use Rattle.soak_loads.proofs.Records.{stamp_in, stamp_of, given_in, value_by, kind_by, record_entry, stamped, ended, IsWriting}
 use Rattle.soak_loads.proofs.Sorted.{in_flat}
+use Rattle.lists.proofs.Members.{Contains-map_cases, Contains-map}
+use Rattle.journal_records.proofs.Ongoing.{some_once}
 
 abbrev pub block_entries : (ℕ → List Record) → ℕ → List Entry
 block_entries rs block = map record_entry (rs block)
@@ -42,9 +43,6 @@ in_range g a (suc n) b e low high there = by (first_or a b low) (λ more. in_ran
 gave_reads : (work : Work) (client : ℕ) (outcome : Option Outcome) (stamp : Stamp) (value : List ℕ) (how : How) (rounds : ℕ) → IsDone work client outcome → outcome ≡ Some (Gave stamp value how rounds) → work ≡ Reads
 gave_reads Reads client outcome stamp value how rounds d e = refl
 gave_reads (Writes v) client outcome stamp value how rounds d e = absurd (subst (IsDone (Writes v) client) e d)
-
-same_some : {A : Type 0} (o : Option A) (a b : A) → o ≡ Some a → o ≡ Some b → a ≡ b
-same_some o a b p q = cc
 
 module _ (s : Setting) (w : World) (rs : ℕ → List Record) (serial : AreSerial s w rs) (told : RecordsAreTold s w) where
   done_in : (r : Record) → Contains w.records r → IsDone r.work r.client r.outcome
@@ -114,7 +112,7 @@ module _ (s : Setting) (w : World) (rs : ℕ → List Record) (serial : AreSeria
         by : IsKnown s w r.block (stamp_of r) → (stamp_of r ≡ first_stamp s) ⊎ ((m : Record) × Contains w.records m × (m.block ≡ r.block) × IsWriting m.work × (stamp_of m ≡ stamp_of r))
         by (inl first) = inl first
         by (inr (inl h)) =
-            let same : stamp_of h.write ≡ stamp_of r = same_some h.write.stamp (stamp_of h.write) (stamp_of r) (stamp_is h.write h.there) h.chose in
+            let same : stamp_of h.write ≡ stamp_of r = some_once h.write.stamp (stamp_of h.write) (stamp_of r) (stamp_is h.write h.there) h.chose in
             inr (h.write, h.there, h.of_block, writing h.write.work h.value h.writes, same)
         by (inr (inr lie)) = absurd (let lies = lie.lies in let right = honest lie.message.client in cc)
 
@@ -150,7 +148,7 @@ module _ (s : Setting) (w : World) (rs : ℕ → List Record) (serial : AreSeria
         subst (Contains (all_entries s.blocks rs)) (sym same) (in_all r h.there)
     exact e (inr (inl h)) =
         let r = h.write in
-        let stamp : e.stamp ≡ stamp_of r = same_some r.stamp e.stamp (stamp_of r) h.chose (stamp_is r h.there) in
+        let stamp : e.stamp ≡ stamp_of r = some_once r.stamp e.stamp (stamp_of r) h.chose (stamp_is r h.there) in
         let value : e.value ≡ value_by r.work r.outcome = sym (ap (λ (k : Work). value_by k r.outcome) h.writes) in
         let kind : WriteKind ≡ kind_by r.work = sym (ap kind_by h.writes) in
         let same : e ≡ record_entry r = h.made ∙ (λ i. entry_as r (kind i) (stamp i) (value i)) in

@@ -18,7 +18,6 @@ use Rattle.protocol.specs.Operations.Work.{Reads, Writes}
 use Rattle.protocol.specs.World.{World}
 use Rattle.protocol.specs.History.{Entry}
 use Rattle.protocol.specs.Seen.{block_of}
-use Rattle.protocol.proofs.Lists.{Contains-none, Contains-one}
 use Rattle.soak_loads.specs.Plain.{Deed, deeds_of, is_on}
 use Rattle.plan_words.specs.declared.job.Job.{Job}
 use Rattle.plan_words.specs.declared.job.Job.TheVariants.{Block, Device, Phase}
@@ -30,6 +29,7 @@ use Rattle.plan_followed.specs.Asked.{step_of, steps_in, steps_for}
 use Rattle.journal_records.specs.Shown.{ended_by, IsOf, IsComplete}
 use Rattle.soak_loads.specs.Serial.{op_by}
 use Rattle.soak_loads.specs.Loads.{IsByOwner, HasOwners}
+use Rattle.lists.proofs.Members.{Contains-none, Contains-one}
 
 -- ---- the operations of a client
 

@@ -18,9 +18,8 @@ use Rattle.protocol.specs.History.{Entry}
 use Rattle.protocol.specs.Report.{is_done, is_spent}
 use Rattle.protocol.specs.Laws.{RecordsAreTold, StartsAscend}
 use Rattle.protocol.specs.Seen.{block_of}
-use Rattle.protocol.proofs.Lists.{Contains-head, Contains-rest}
-use Rattle.history_entries.specs.declared.entry.Counts.{Counts}
-use Rattle.history_entries.specs.Books.{Book}
+use Rattle.history_making.specs.declared.entry.Counts.{Counts}
+use Rattle.history_making.specs.Books.{Book}
 use Rattle.history_making.specs.Tellings.{Tells}
 use Rattle.history_making.proofs.Counted.{count_cons}
 use Rattle.soak_loads.specs.Soaks.{plain_line, line_with, soak_text}
@@ -35,9 +34,9 @@ use Rattle.journal_records.specs.Steady.{AreSteady, RecordsAreSteady}
 use Rattle.soak_loads.specs.Serial.{IsDone, SerialRunsArePlain, record_deed}
 use Rattle.soak_loads.specs.Loads.{HasOwners, OwnersAreDone, OwnersArePlain}
 use Rattle.soak_loads.proofs.Parts.{same_length}
-use Rattle.soak_loads.proofs.Records.{each}
 use Rattle.soak_loads.proofs.OwnedWork.{deeds_below}
 use Rattle.soak_loads.proofs.BlockRecords as of_block
+use Rattle.lists.proofs.Members.{Contains-head, Contains-rest, all_of}
 
 -- ---- counts
 
@@ -87,7 +86,7 @@ module _ (plan : Plan) (j : Journals) (drawn : ℕ) (w : World) (h : List Entry)
     as_many : length w.records ≡ length (deeds_of plan.work)
     as_many =
         same_length (λ (r : Record). r.block) (λ (d : Deed). block_of d.op) plan.config.blocks w.records (deeds_of plan.work)
-        (each (λ r. r.block < plan.config.blocks) w.records
+        (all_of (λ r. r.block < plan.config.blocks) w.records
         (λ r there. (of_block.owned_record plan j w h owners of_plan.fits config liars steady complete told starts r there).below))
         (deeds_below owners.owner plan.config plan.work owners.owned of_plan.fits.fitting.each_job)
         (λ block. sym (length-map (of_block.records_on w block) record_deed) ∙ ap length (deeds block))

@@ -1,7 +1,6 @@
 -- What is told by the records of operations that are done.
-use Rattle.std.proofs.Common.{◌≡◌, ℕ, ◌≤◌, List, [], ◌∷◌, Option, refl, ◌⊎◌, inl, inr}
+use Rattle.std.proofs.Common.{◌≡◌, ℕ, ◌≤◌, List, [], Option, refl, ◌⊎◌, inl, inr}
 use Rattle.std.specs.declared.option.Option.TheVariants.{None, Some}
-use Rattle.std.specs.List.{Contains, AllByRecursion}
 use Rattle.stamp_order.specs.declared.Stamp.{Stamp}
 use Rattle.run_words.specs.declared.outcome.Outcome.TheVariants.{Wrote, Spent, Gave, Outvoted}
 use Rattle.protocol.specs.Operations.{Work, Outcome}
@@ -10,7 +9,6 @@ use Rattle.protocol.specs.World.{World, Record}
 use Rattle.protocol.specs.Facts.{IsTold, IsOutcomeOf}
 use Rattle.protocol.specs.History.{Entry, Kind, entry_as}
 use Rattle.protocol.specs.History.Kind.{Read as ReadKind, Write as WriteKind}
-use Rattle.protocol.proofs.Lists.{Contains-head, Contains-rest}
 use Rattle.soak_loads.specs.Serial.{IsDone}
 
 -- the stamp and the value of an outcome
@@ -90,7 +88,3 @@ done_write (Writes value) client (Some (Gave given v how rounds)) k d = absurd d
 done_write (Writes value) client (Some (Wrote wrote)) k d = d
 done_write (Writes value) client (Some Spent) k d = absurd d
 done_write (Writes value) client (Some (Outvoted nodes)) k d = absurd d
-
-pub each : {X : Type 0} (P : X → Type 0) (xs : List X) → ((x : X) → Contains xs x → P x) → AllByRecursion P xs
-each P [] h = tt
-each P (x ∷ xs) h = (h x (Contains-head x xs), each P xs (λ y k. h y (Contains-rest y x xs k)))

@@ -9,12 +9,13 @@ use Rattle.protocol.specs.Operations.{Work}
 use Rattle.protocol.specs.Operations.Work.{Reads, Writes}
 use Rattle.protocol.specs.World.{Record}
 use Rattle.protocol.specs.History.{Entry, entry_cmp, is_read, IsSorted}
-use Rattle.protocol.proofs.Lists.{Contains-head, Contains-rest, Contains-none}
-use Rattle.protocol.proofs.Entries.{nat_less, less_by_stamp, less_by_kind, less_by_end, member_of}
+use Rattle.protocol.proofs.Entries.{less_by_stamp, less_by_kind, less_by_end, member_of}
 use Rattle.protocol.proofs.Order.{lower_time}
 use Rattle.soak_loads.specs.Serial.{IsPast, AreInTurn}
-use Rattle.soak_loads.proofs.Records.{stamp_of, record_entry, kind_by, IsReading, each}
+use Rattle.soak_loads.proofs.Records.{stamp_of, record_entry, kind_by, IsReading}
 use Rattle.soak_loads.proofs.Walk.{Stamped, IsNext, next_stamp, later, own_next}
+use Rattle.lists.proofs.Members.{Contains-head, Contains-none, Contains-rest, all_of}
+use Rattle.lists.proofs.Orders.{nat_less}
 
 -- each starts by its end
 abbrev pub EndsInOrder : Record → Type 0
@@ -66,7 +67,7 @@ sorted_append [] ys a b h = b
 sorted_append (x ∷ xs) ys a b h = (both xs ys a.0 (λ y j. h x y (Contains-head x xs) j), sorted_append xs ys a.1 b (λ z y i j. h z y (Contains-rest z x xs i) j))
   where
     both : (xs ys : List Entry) → AllByRecursion (λ f. entry_cmp x f ≡ Less) xs → ((y : Entry) → Contains ys y → entry_cmp x y ≡ Less) → AllByRecursion (λ f. entry_cmp x f ≡ Less) (xs ++ ys)
-    both [] ys p k = each (λ f. entry_cmp x f ≡ Less) ys k
+    both [] ys p k = all_of (λ f. entry_cmp x f ≡ Less) ys k
     both (z ∷ zs) ys p k = (p.0, both zs ys p.1 k)
 
 -- what stands in a flat map over blocks

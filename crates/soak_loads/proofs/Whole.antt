@@ -14,11 +14,10 @@ use Rattle.protocol.specs.History.{Entry, NoClash}
 use Rattle.protocol.specs.Report.{mark}
 use Rattle.protocol.specs.Laws.{InEachCluster, HistoriesAreLegal, HistoriesAreOne, RecordsAreTold, CompletedIsHeld, AcceptedIsKnown, WritesDrawAbove, ReadsGiveUp, StartsAscend, MarksAreOne, MarksFollow}
 use Rattle.protocol.specs.Instance.{InEachRun}
-use Rattle.protocol.proofs.Lists.{Contains-head, Contains-rest, Contains-map_cases}
-use Rattle.history_entries.specs.declared.entry.Entry.{Entry as BookEntry}
-use Rattle.history_entries.specs.declared.entry.Kind.{Kind}
-use Rattle.history_entries.specs.declared.entry.Kind.TheVariants.{Read as ReadKind, Write as WriteKind}
-use Rattle.history_entries.specs.Books.{Book}
+use Rattle.history_making.specs.declared.entry.Entry.{Entry as BookEntry}
+use Rattle.history_making.specs.declared.entry.Kind.{Kind}
+use Rattle.history_making.specs.declared.entry.Kind.TheVariants.{Read as ReadKind, Write as WriteKind}
+use Rattle.history_making.specs.Books.{Book}
 use Rattle.history_making.specs.Tellings.{Tells, told_entry, told_with}
 use Rattle.soak_loads.specs.Soaks.{plain_line}
 use Rattle.soak_loads.specs.Plain.{Register, first_register, entry_of, entries_from}
@@ -29,6 +28,7 @@ use Rattle.soak_loads.proofs.Walk.{Stamped, IsNext, next_stamp, AreOrdered, Stan
 use Rattle.soak_loads.proofs.Sorted.{sorted, sorted_flat}
 use Rattle.soak_loads.proofs.Exact.{block_entries, all_entries, stamp_is, end_is, record_of, origin, exact, entries_there}
 use Rattle.soak_loads.proofs.Values.{Valued, IsGiven, next_value, legal_in, valued}
+use Rattle.lists.proofs.Members.{Contains-head, Contains-rest, Contains-map_cases}
 
 -- ---- lines
 

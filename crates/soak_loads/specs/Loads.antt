@@ -5,7 +5,7 @@ use Rattle.protocol.specs.Setting.{Setting, first_stamp}
 use Rattle.protocol.specs.World.{World}
 use Rattle.protocol.specs.Lines.{Line, IsRun}
 use Rattle.protocol.specs.History.{Entry, NoClash}
-use Rattle.history_entries.specs.Books.{Book}
+use Rattle.history_making.specs.Books.{Book}
 use Rattle.history_making.specs.Tellings.{Tells}
 use Rattle.soak_loads.specs.Soaks.{soak_text}
 use Rattle.protocol.specs.Seen.{block_of}

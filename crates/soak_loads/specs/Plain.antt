@@ -7,9 +7,9 @@ use Rattle.quorum_rules.specs.Limits.{Numbers}
 use Rattle.wire_forms.specs.declared.op.Op.{Op}
 use Rattle.wire_forms.specs.declared.op.Op.TheVariants.{Read as ReadOp, Write as WriteOp}
 use Rattle.protocol.specs.Seen.{block_of}
-use Rattle.history_entries.specs.declared.entry.Kind.{Kind}
-use Rattle.history_entries.specs.declared.entry.Kind.TheVariants.{Read, Write}
-use Rattle.history_entries.specs.declared.entry.Entry.{Entry}
+use Rattle.history_making.specs.declared.entry.Kind.{Kind}
+use Rattle.history_making.specs.declared.entry.Kind.TheVariants.{Read, Write}
+use Rattle.history_making.specs.declared.entry.Entry.{Entry}
 use Rattle.plan_words.specs.declared.job.Job.{Job}
 use Rattle.plan_words.specs.declared.job.Job.TheVariants.{Block}
 use Rattle.plan_words.specs.declared.plan.Plan.{Plan}

@@ -10,7 +10,7 @@ use Rattle.protocol.specs.Operations.{Work, Outcome}
 use Rattle.protocol.specs.Operations.Work.{Reads, Writes}
 use Rattle.protocol.specs.World.{World, Record}
 use Rattle.protocol.specs.History.{Entry, NoClash}
-use Rattle.history_entries.specs.Books.{Book}
+use Rattle.history_making.specs.Books.{Book}
 use Rattle.history_making.specs.Tellings.{Tells}
 use Rattle.soak_loads.specs.Soaks.{plain_line}
 use Rattle.soak_loads.specs.Plain.{Deed, first_register, entries_from}

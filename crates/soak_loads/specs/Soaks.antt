@@ -4,9 +4,9 @@ use Rattle.hex.specs.Hex.{encode_lower}
 use Rattle.cross_sum.specs.Digest.{digest}
 use Rattle.text_lines.specs.Fields.{value_text}
 use Rattle.text_lines.specs.Lines.{line_of_fields, text_of_lines}
-use Rattle.history_entries.specs.declared.entry.Entry.{Entry}
-use Rattle.history_entries.specs.Books.{Book}
-use Rattle.history_texts.specs.Reports.{stamp_text, kind_word, count_text}
+use Rattle.history_making.specs.declared.entry.Entry.{Entry}
+use Rattle.history_making.specs.Books.{Book}
+use Rattle.history_book.specs.Reports.{stamp_text, kind_word, count_text}
 
 -- what an entry is, whose, and its value
 abbrev pub deed_fields : Entry → List (List ℕ)

@@ -1,10 +1,10 @@
 ghost use Rattle.std.specs.Prelude.{◌≡◌, [], ◌∷◌, ◌++◌, codes, map, IfOk, OnOk};
 ghost use Rattle.text_lines.specs.Lines.{line_of_fields, text_of_lines};
-ghost use Rattle.history_texts.specs.Reports.{count_text, kind_word, stamp_text};
+ghost use Rattle.history_book.specs.Reports.{count_text, kind_word, stamp_text};
 ghost use Rattle.soak_loads.specs.Soaks.{deed_fields, entries_sum, line_with, outcome_fields, plain_line, soak_text, sum_field};
 
 use cross_sum::{Bytes, Hash, sha};
-use history_entries::{Counts, Entry, History, Kind};
+use history_making::{Counts, Entry, History, Kind};
 use lists::NoMemory;
 use std::alloc::Global;
 use text_lines::Text;

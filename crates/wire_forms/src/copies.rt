@@ -1,4 +1,3 @@
-use crate::device::DeviceOp;
 use crate::message::{Ask, Body, Message, Reply, Request, Version};
 use crate::op::Op;
 use lists::{Copied, NoMemory};
@@ -71,21 +70,6 @@ impl Copied for Op {
             Op::Write { block, value } => Ok(Op::Write {
                 block: *block,
                 value: value.copy()?,
-            }),
-        }
-    }
-}
-
-impl Copied for DeviceOp {
-    fn copy(&self) -> Result<DeviceOp, NoMemory> {
-        match self {
-            DeviceOp::Get { offset, length } => Ok(DeviceOp::Get {
-                offset: *offset,
-                length: *length,
-            }),
-            DeviceOp::Put { offset, bytes } => Ok(DeviceOp::Put {
-                offset: *offset,
-                bytes: bytes.copy()?,
             }),
         }
     }

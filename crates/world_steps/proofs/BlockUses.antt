@@ -20,12 +20,6 @@ use Rattle.world_steps.specs.BlockUses.{is_on, works_at, use_of, unused, AreUses
 
 -- ---- numbers that are the same
 
-pub eqb-same : (k : ℕ) → eqb k k ≡ true
-eqb-same k = elim (eqb_tells k k) [ inl h ↦ h.0 | inr h ↦ absurd (h.1 refl) ]
-
-pub eqb-other : (j k : ℕ) → (j ≡ k → ⊥) → eqb j k ≡ false
-eqb-other j k other = elim (eqb_tells j k) [ inl h ↦ absurd (other h.1) | inr h ↦ h.0 ]
-
 -- ---- counts
 
 -- how many numbers pass is how many items pass

@@ -16,7 +16,8 @@ use Rattle.world_steps.specs.declared.node_slot.NodeSlot.{NodeSlot}
 use Rattle.world_steps.specs.declared.client_slot.ClientSlot.{ClientSlot}
 use Rattle.world_steps.specs.declared.state.State.TheInside.{Inside}
 use Rattle.world_steps.specs.Slots.{IsWorld, IsClientSlot, IsTaskOf}
-use Rattle.world_steps.proofs.ListItems.{slice_get-set_cases, slice_get-set_other, slice_get-push, slice_get-push_cases}
+use Rattle.world_steps.proofs.ListItems.{slice_get-set_cases, slice_get-set_other, slice_get-push_cases}
+use Rattle.lists.proofs.Members.{slice_get-push}
 
 -- a task stays told where the place is raised, and the record of its number is what it was
 task_kept : (c : Numbers) (records more : List Record) (p q k start index : ℕ) (o : Option SeenTask)

@@ -28,22 +28,6 @@ module _ {A : Type 0} (xs : List A) where
       slice_get-get_or (slice_set xs i x) k y (let n = length-set xs i x in omega (arith, l, n))
       ∙ ap Some (get_or-set_other xs i k x y ne ∙ get_or_from_slice_get xs k y y e)
 
--- what has a number, put in its place again, changes nothing
-pub slice_set-there : {A : Type 0} (xs : List A) (i : ℕ) (x : A) → slice_get xs i ≡ Some x → slice_set xs i x ≡ xs
-slice_set-there [] i x e = absurd (cc)
-slice_set-there (z ∷ zs) zero x e = let q : x ≡ z = cc in λ j. q j ∷ zs
-slice_set-there (z ∷ zs) (suc i) x e = λ j. z ∷ slice_set-there zs i x e j
-
--- what has a number when one more stands at the end
-pub slice_get-push : {A : Type 0} (xs : List A) (x : A) (k : ℕ) (y : A) → slice_get xs k ≡ Some y → slice_get (xs ++ x ∷ []) k ≡ Some y
-slice_get-push [] x k y e = absurd (cc)
-slice_get-push (z ∷ zs) x zero y e = e
-slice_get-push (z ∷ zs) x (suc k) y e = slice_get-push zs x k y e
-
-pub slice_get-end : {A : Type 0} (xs : List A) (x : A) → slice_get (xs ++ x ∷ []) (length xs) ≡ Some x
-slice_get-end [] x = refl
-slice_get-end (z ∷ zs) x = slice_get-end zs x
-
 pub slice_get-push_cases : {A : Type 0} (xs : List A) (x : A) (k : ℕ) (y : A) → slice_get (xs ++ x ∷ []) k ≡ Some y → ((k ≡ length xs) × (y ≡ x)) ⊎ (slice_get xs k ≡ Some y)
 slice_get-push_cases [] x zero y e = inl (refl, cc)
 slice_get-push_cases [] x (suc k) y e = absurd (cc)

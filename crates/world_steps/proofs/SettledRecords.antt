@@ -24,9 +24,10 @@ use Rattle.world_steps.specs.Worlds.{world_in}
 use Rattle.world_steps.specs.Slots.{IsWorld, IsTaskOf, IsUnderWay}
 use Rattle.world_steps.specs.Steps.{HasBecome}
 use Rattle.world_steps.specs.AnswerEffects.{IsSame, Becomes, settled}
-use Rattle.world_steps.proofs.ListItems.{slice_get-set_same, slice_set-there}
+use Rattle.world_steps.proofs.ListItems.{slice_get-set_same}
 use Rattle.world_steps.proofs.KeptWorlds.{told}
 use Rattle.world_steps.proofs.ClientSlots.{update-known, world-client_slot, slot-lying, slot-task, slot-crashed, client_slot-there}
+use Rattle.lists.proofs.Members.{slice_set-there}
 
 -- ---- the record of an operation is the one that began at its place
 

@@ -24,8 +24,10 @@ use Rattle.world_steps.specs.BlockUses.{is_on, works_at, unused, IsAtWork, one_l
 use Rattle.world_steps.specs.AnswerEffects.{IsSame, MayGoOn, Becomes}
 use Rattle.world_steps.proofs.ClientSlots.{slot-task, slot-crashed}
 use Rattle.world_steps.proofs.GreatestGiven.{given_none, given_here, given_elsewhere, greatest-told}
-use Rattle.world_steps.proofs.BlockUses.{count_items, eqb-same, eqb-other, works_on_task, idle_works_nowhere, crashed_works_nowhere, used-there, use-there, uses-kept, uses-set, count-kept, works-there}
+use Rattle.world_steps.proofs.BlockUses.{count_items, works_on_task, idle_works_nowhere, crashed_works_nowhere, used-there, use-there, uses-kept, uses-set, count-kept, works-there}
 use Rattle.world_steps.proofs.SettledRecords.{record-there, task-there, task-is}
+use Rattle.lists.proofs.Tests.{eqb_self}
+use Rattle.std.proofs.lemmas.Bool.{ne_eqb}
 
 -- ---- the world's count
 
@@ -79,7 +81,7 @@ module _ (w : Inside) (k : ℕ) (inside : k < length w.client_slots.items) (slot
 
     module _ (awake : slot.crashed ≡ false) where
       at-work : works_at t.block slot ≡ true
-      at-work = works_on_task t.block slot t awake busy ∙ eqb-same t.block
+      at-work = works_on_task t.block slot t awake busy ∙ eqb_self t.block
 
       -- somebody works on it, so it is one of the cluster's
       pub block-there : t.block < length w.uses.items
@@ -101,7 +103,7 @@ module _ (w : Inside) (k : ℕ) (inside : k < length w.client_slots.items) (slot
               omega (arith, e, f, l)
 
           elsewhere : (block : ℕ) → (block ≡ t.block → ⊥) → works_at block new ≡ works_at block slot
-          elsewhere block other = nowhere block ∙ sym (works_on_task block slot t awake busy ∙ eqb-other t.block block (λ same. other (sym same)))
+          elsewhere block other = nowhere block ∙ sym (works_on_task block slot t awake busy ∙ ne_eqb t.block block (λ same. other (sym same)))
 
           -- one client less works on it
           pub stops-uses : AreUses w.config (slice_set w.client_slots.items k new) w.records (slice_set w.uses.items t.block (record u { at_work = u.at_work - 1 }))
@@ -125,10 +127,10 @@ module _ (w : Inside) (k : ℕ) (inside : k < length w.client_slots.items) (slot
               gave = ap (λ (x : BlockUse). x.given) (use-there w.config w.client_slots.items w.records w.uses.items uses t.block u block-there used)
 
               here : given_of t.block (record_of next) ≡ stamp_given next.outcome
-              here = given_here t.block (record_of next) (ap (λ (n : ℕ). eqb n t.block) same ∙ eqb-same t.block)
+              here = given_here t.block (record_of next) (ap (λ (n : ℕ). eqb n t.block) same ∙ eqb_self t.block)
 
               apart : (block : ℕ) → (block ≡ t.block → ⊥) → given_of block (record_of next) ≡ None
-              apart block other = given_elsewhere block (record_of next) (ap (λ (n : ℕ). eqb n block) same ∙ eqb-other t.block block (λ e. other (sym e)))
+              apart block other = given_elsewhere block (record_of next) (ap (λ (n : ℕ). eqb n block) same ∙ ne_eqb t.block block (λ e. other (sym e)))
 
     -- its operation goes on
     pub goes-on-uses : (new : ClientSlot) (u : SeenTask) (r next : Told) → new.crashed ≡ slot.crashed → new.client.seen.task ≡ Some u → u.block ≡ t.block

@@ -23,11 +23,13 @@ use Rattle.world_steps.specs.Worlds.{WorldView, setting_in, world_in}
 use Rattle.world_steps.specs.Slots.{IsWorld, IsTaskOf}
 use Rattle.world_steps.specs.BlockUses.{works_at, AreUses}
 use Rattle.world_steps.specs.Steps.{HasBecome, client_in}
-use Rattle.world_steps.proofs.ListItems.{slice_get-end}
 use Rattle.world_steps.proofs.KeptWorlds.{added}
 use Rattle.world_steps.proofs.ClientSlots.{update-known, world-client_slot, slot-lying, slot-crashed}
 use Rattle.world_steps.proofs.GreatestGiven.{greatest-more}
-use Rattle.world_steps.proofs.BlockUses.{eqb-same, eqb-other, works_on_task, idle_works_nowhere, use-there, uses-set}
+use Rattle.world_steps.proofs.BlockUses.{works_on_task, idle_works_nowhere, use-there, uses-set}
+use Rattle.lists.proofs.Members.{get_new}
+use Rattle.lists.proofs.Tests.{eqb_self}
+use Rattle.std.proofs.lemmas.Bool.{ne_eqb}
 
 -- no stamp is chosen at the beginning
 no_stamp : (op : Op) → chosen_stamp (work_of op) (first_work (work_of op)) ≡ None
@@ -64,7 +66,7 @@ module _ (w : Inside) (k : ℕ) (inside : k < length w.client_slots.items) (slot
               answers = length-begun (setting w.config) (ops_of (client_in (the_view w) k).seen + 1) (block_of op) (work_of op);
               phases = (let l = later in omega (arith, l));
               told = rw map-append
-                  (let e = slice_get-end (map record_of w.records) (record_of new_told) in
+                  (let e = get_new (map record_of w.records) (record_of new_told) in
                   let n : length (map record_of w.records) ≡ length w.records = length-map w.records record_of in
                   ap (slice_get (map record_of w.records ++ record_of new_told ∷ [])) (sym n) ∙ e ∙ ap Some told_open);
             });
@@ -104,9 +106,9 @@ module _ (w : Inside) (k : ℕ) (inside : k < length w.client_slots.items) (slot
   begun-uses uses idle awake u l e =
       subst (λ (rs : List Told). AreUses w.config (slice_set w.client_slots.items k new_slot) rs (slice_set w.uses.items (block_of op) (record u { at_work = u.at_work + 1 }))) (sym are)
       (uses-set w.config w.client_slots.items w.records w.uses.items uses k inside slot new_slot there (w.records ++ new_told ∷ []) (block_of op) u (record u { at_work = u.at_work + 1 }) l e
-      (let f = ap {B = ℕ} (λ (b : Bool). cond b 1 0) (nowhere (block_of op)) in let g = ap {B = ℕ} (λ (b : Bool). cond b 1 0) (at_block (block_of op) ∙ eqb-same (block_of op)) in omega (arith, f, g))
+      (let f = ap {B = ℕ} (λ (b : Bool). cond b 1 0) (nowhere (block_of op)) in let g = ap {B = ℕ} (λ (b : Bool). cond b 1 0) (at_block (block_of op) ∙ eqb_self (block_of op)) in omega (arith, f, g))
       (ap (λ (x : BlockUse). x.given) (use-there w.config w.client_slots.items w.records w.uses.items uses (block_of op) u l e) ∙ sym (gives (block_of op)))
-      (λ block other. at_block block ∙ eqb-other (block_of op) block (λ same. other (sym same)) ∙ sym (nowhere block))
+      (λ block other. at_block block ∙ ne_eqb (block_of op) block (λ same. other (sym same)) ∙ sym (nowhere block))
       (λ block other. gives block))
     where
       nowhere : (block : ℕ) → works_at block slot ≡ false

@@ -5,16 +5,15 @@ use Rattle.protocol.specs.Messages.{Message}
 use Rattle.protocol.specs.Setting.{Setting}
 use Rattle.protocol.specs.World.{World, Event as AnyEvent, happens}
 use Rattle.protocol.specs.World.Event.{Start as Starts, Resend as Resends, Give as Gives, Hear as Hears, CrashNode as NodeCrashes, CrashClient as ClientCrashes, Lie as Lies, Prune as Prunes, Back as ComesBack}
-use Rattle.protocol.specs.Lines.{Line}
+use Rattle.protocol.specs.Lines.{Line, start_line}
 use Rattle.protocol.specs.Seen.{block_of, work_of}
 use Rattle.run_words.specs.declared.line.Line.TheVariants as lines
-use Rattle.world_steps.specs.Starts.{start_of}
 use Rattle.world_steps.specs.declared.event.Event.{Event}
 use Rattle.world_steps.specs.declared.event.Event.TheVariants.{Start, Resend, Give, Hear, CrashNode, CrashClient, Lie, Prune, Back}
 
 -- the line of which it is the only event
 abbrev pub line_of : Event → Line
-line_of (Start c op) = start_of c op
+line_of (Start c op) = start_line c op
 line_of (Resend c) = lines.Resend c
 line_of (Give i k) = lines.Give i k
 line_of (Hear c k) = lines.Hear c k

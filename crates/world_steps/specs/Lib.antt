@@ -6,6 +6,5 @@ pub mod Actors
 pub mod Acceptances
 pub mod AnswerEffects
 pub mod Beginnings
-pub mod Starts
 pub mod Events
 pub mod Faults

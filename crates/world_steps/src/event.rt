@@ -1,7 +1,7 @@
 //! Single events of a run.
 
 ghost use Rattle.std.specs.Prelude.{◌≡◌, IfOk};
-ghost use Rattle.world_steps.specs.Starts.{start_of};
+ghost use Rattle.protocol.specs.Lines.{start_line};
 
 use lists::{Copied, NoMemory};
 use run_words::{BoxedMessage, Line};
@@ -63,7 +63,7 @@ impl Event {
 
 /// The line in which the client starts the operation.
 fn start(client: u32, op: &Op) -> Result<Line, NoMemory>
-    ensures { IfOk result (λ line. line ≡ start_of client op.now) }
+    ensures { IfOk result (λ line. line ≡ start_line client op.now) }
 {
     match op {
         Op::Read { block } => Ok(Line::Read {

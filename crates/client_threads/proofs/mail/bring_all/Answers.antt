@@ -4,9 +4,10 @@ use Rattle.locked_nodes.specs.Cells.{KeptCell, HasNoLateMail, HasMoreAside}
 use Rattle.locked_nodes.proofs.Aside.{aside_none}
 use Rattle.client_threads.proofs.Stepping.{partly_all, partly_stays, partly_old, partly_long}
 use Rattle.client_threads.proofs.Stepping.Partly.{Same}
-use Rattle.client_threads.proofs.Keepers.{partly_map, partly_next, zip_right, set_all, all_of}
+use Rattle.client_threads.proofs.Keepers.{partly_map, partly_next, zip_right, set_all}
 use Rattle.client_threads.proofs.Mailing.{HasAllAside, same_desk, keeps_then}
 use Rattle.client_threads.proofs.mail.bring_all.Goals as goal
+use Rattle.lists.proofs.Members.{all_at}
 
 pub loop-cell-init : goal.loop-cell-init
 loop-cell-init g c = (same_desk c.args.courier.now, Same c.args.cells.now, c.know_cells.ensures)
@@ -16,7 +17,7 @@ bring-requires-clause-cell g c =
     let i = c.loop-cell.cell-index in
     let x = get_or c.loop-cell.cells i c.cell-item.result in
     let at = slice_get-get_or c.loop-cell.cells i c.cell-item.result (omega (arith, c.loop-cell-test.true, c.loop-cell.auto.cells)) in
-    all_of (λ x. x.charter.pass.clock ≡ c.args.clock.now) c.args.cells.now i x c.requires.cells (partly_old HasAllAside c.args.cells.now c.loop-cell.cells i x c.loop-cell.invariant.1 at)
+    all_at (λ x. x.charter.pass.clock ≡ c.args.clock.now) c.args.cells.now i x c.requires.cells (partly_old HasAllAside c.args.cells.now c.loop-cell.cells i x c.loop-cell.invariant.1 at)
 
 pub returns-in_err-bring-clause-cells : goal.returns-in_err-bring-clause-cells
 returns-in_err-bring-clause-cells g c =

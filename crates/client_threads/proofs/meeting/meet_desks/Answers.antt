@@ -7,8 +7,9 @@ use Rattle.client_threads.specs.Met.{HasMetSeat}
 use Rattle.client_threads.proofs.Stepping.{partly_all, partly_old, partly_long}
 use Rattle.client_threads.proofs.Stepping.Partly.{Same}
 use Rattle.client_threads.proofs.Working.{zip_map}
-use Rattle.client_threads.proofs.Keepers.{MeetsSeat, same_keeper, keeper_on, meets_seat, seats_on, zip_right, all_desks, partly_next, all_of}
+use Rattle.client_threads.proofs.Keepers.{MeetsSeat, same_keeper, keeper_on, meets_seat, seats_on, zip_right, all_desks, partly_next}
 use Rattle.client_threads.proofs.meeting.meet_desks.Goals as goal
+use Rattle.lists.proofs.Members.{all_at}
 
 pub loop-seat-init : goal.loop-seat-init
 loop-seat-init c = (same_keeper c.args.keeper.now, Same c.args.seats.now)
@@ -21,7 +22,7 @@ meet-requires-clause-clock c =
     let x = get_or c.loop-seat.seats i c.seat-item.result in
     let at = slice_get-get_or c.loop-seat.seats i c.seat-item.result (omega (arith, c.loop-seat-test.true, c.loop-seat.auto.seats)) in
     let was = partly_old (MeetsSeat low c.loop-seat.keeper.seen) seats c.loop-seat.seats i x c.loop-seat.invariant.1 at in
-    all_of (λ x. x.desk.pass.clock ≡ c.args.clock.now) seats i x c.requires.desks was
+    all_at (λ x. x.desk.pass.clock ≡ c.args.clock.now) seats i x c.requires.desks was
 
 pub loop-seat-preserved : goal.loop-seat-preserved
 loop-seat-preserved c =

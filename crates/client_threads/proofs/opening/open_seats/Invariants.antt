@@ -1,7 +1,7 @@
 use Rattle.std.proofs.Common.{◌≡◌, ◌+◌, List, length, map, All}
 use Rattle.std.specs.Vec.Iter.{into_iter_items, into_iter_len}
-use Rattle.plan_tasks.specs.declared.task.Task.{Task}
-use Rattle.plan_tasks.specs.Tasks.{client_of}
+use Rattle.client_work.specs.declared.task.Task.{Task}
+use Rattle.client_work.specs.Tasks.{client_of}
 use Rattle.client_threads.specs.Opened.{IsUnusedPass, IsNewSeat}
 use Rattle.crews.proofs.Places.{Walked}
 use Rattle.client_threads.proofs.opening.open_seats.Given as goal

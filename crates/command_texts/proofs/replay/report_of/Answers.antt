@@ -4,7 +4,7 @@ use Rattle.command_texts.proofs.replay.report_of.Goals as goal
 use Rattle.line_forms.specs.declared.refusal.ScriptRefusal.{ScriptRefusal}
 use Rattle.line_forms.specs.Texts.{IsFaultless}
 use Rattle.script_text.specs.Replays.{Spells, replay_script}
-use Rattle.call_words.specs.declared.words.Command.TheVariants.{Replay}
+use Rattle.command_texts.specs.declared.words.Command.TheVariants.{Replay}
 use Rattle.command_texts.specs.Replays.{IsScript, Replays}
 use Rattle.command_texts.proofs.Replaying.{replays, refuses}
 

@@ -1,7 +1,7 @@
 use Rattle.std.proofs.Common.{◌≡◌, ℕ, Some, true, false, length, refl, sym, ◌∙◌, subst, arith, below_more}
 use Rattle.std.specs.Prelude.{slice_get}
 use Rattle.std.proofs.lemmas.Option.{slice_get_read, slice_get_within}
-use Rattle.history_entries.specs.declared.entry.Entry.{Entry}
+use Rattle.history_making.specs.declared.entry.Entry.{Entry}
 use Rattle.history_book.specs.Sweeps.{StartsAfter}
 use Rattle.history_book.proofs.judging.first_after.Goals as goal
 use Rattle.history_book.proofs.judging.first_after.Goals.{else-entry-block-via-then-entry-block+else-starts_after, else-entry-block-via-else-entry-block}

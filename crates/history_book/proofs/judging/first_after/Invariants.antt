@@ -1,6 +1,6 @@
 use Rattle.std.proofs.Common.{◌≡◌, ℕ, ◌<◌, Some}
 use Rattle.std.specs.Prelude.{slice_get}
-use Rattle.history_entries.specs.declared.entry.Entry.{Entry}
+use Rattle.history_making.specs.declared.entry.Entry.{Entry}
 use Rattle.history_book.specs.Sweeps.{StartsAfter}
 use Rattle.history_book.proofs.judging.first_after.Given as goal
 

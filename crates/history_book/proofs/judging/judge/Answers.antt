@@ -1,8 +1,8 @@
 use Rattle.std.proofs.Common.{◌≡◌, ◌+◌, Some, length, refl, sym, ap, subst, ◌∙◌, arith}
 use Rattle.std.specs.Prelude.{slice_get}
 use Rattle.std.proofs.lemmas.Option.{slice_get_read}
-use Rattle.history_entries.specs.declared.entry.Entry.{Entry}
-use Rattle.history_entries.specs.Books.{IsBook}
+use Rattle.history_making.specs.declared.entry.Entry.{Entry}
+use Rattle.history_making.specs.Books.{IsBook}
 use Rattle.history_book.specs.Judging.{HasNoFlaw}
 use Rattle.history_book.proofs.Flaws.{moved, sound, told_flawed, where_none}
 use Rattle.history_book.proofs.Times.{same_entry}

@@ -2,7 +2,7 @@ use Rattle.std.proofs.Common.{◌≡◌, ◌++◌, map, drop, All}
 use Rattle.protocol.specs.Seen.{record_of}
 use Rattle.protocol.specs.Report.{spent_writes}
 use Rattle.history_making.specs.Tellings.{told_spent}
-use Rattle.history_entries.specs.Numbers.{HasClient}
+use Rattle.history_making.specs.Numbers.{HasClient}
 use Rattle.history_making.proofs.counts.spent_writes.Given as goal
 
 abbrev pub invariant-loop-operation : goal.invariant-loop-operation

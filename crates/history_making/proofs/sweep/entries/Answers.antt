@@ -3,7 +3,7 @@ use Rattle.std.proofs.lemmas.List.{length-map}
 use Rattle.std.proofs.lemmas.Result.{IfOk-weaker}
 use Rattle.protocol.specs.Seen.{record_of}
 use Rattle.protocol.specs.History.{Entry as FullEntry, IsSorted}
-use Rattle.history_entries.specs.Books.{IsBook}
+use Rattle.history_making.specs.Books.{IsBook}
 use Rattle.history_making.specs.Tellings.{IsHistoryOf, told_entry}
 use Rattle.history_making.specs.Drafts.{entry_of, entries_of, AreKept}
 use Rattle.history_making.proofs.Blocks.{told_blocks}

@@ -1,7 +1,7 @@
 use Rattle.std.proofs.Common.{ℕ, List, [], ◌∷◌, ◌++◌, map, take, ap, ◌∙◌}
 use Rattle.std.proofs.lemmas.List.Elements.{All-push}
-use Rattle.history_entries.specs.declared.entry.Entry.{Entry}
-use Rattle.history_entries.specs.Numbers.{HasNumbers}
+use Rattle.history_making.specs.declared.entry.Entry.{Entry}
+use Rattle.history_making.specs.Numbers.{HasNumbers}
 use Rattle.history_making.specs.Tellings.{told_entry, told_with}
 use Rattle.history_making.specs.Drafts.{entry_of, entries_of}
 use Rattle.history_making.proofs.Steps.{marked_step, told_step, room}

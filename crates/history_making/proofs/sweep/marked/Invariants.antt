@@ -1,6 +1,6 @@
 use Rattle.std.proofs.Common.{◌≡◌, take, map, MatchOption, All}
 use Rattle.history_making.specs.Tellings.{told_entry}
-use Rattle.history_entries.specs.Numbers.{HasNumbers}
+use Rattle.history_making.specs.Numbers.{HasNumbers}
 use Rattle.history_making.specs.Drafts.{entries_of}
 use Rattle.history_making.proofs.Steps.{IsMarked}
 use Rattle.history_making.proofs.sweep.marked.Given as goal

@@ -1,7 +1,7 @@
 use Rattle.std.proofs.Common.{◌≡◌, ◌*◌, ◌++◌, ◌∙◌, sym, ap, refl, length}
 use Rattle.quorum_rules.specs.Limits.{Numbers}
 use Rattle.node_device.specs.Devices.{SeenDevice}
-use Rattle.nbd_words.specs.Replies.{error_of, reply_head}
+use Rattle.nbd_front.specs.Replies.{error_of, reply_head}
 use Rattle.nbd_front.specs.Arrays.{array_of}
 use Rattle.nbd_front.specs.Sessions.{sent_of, array_after}
 use Rattle.nbd_front.proofs.Devices.{length_array}

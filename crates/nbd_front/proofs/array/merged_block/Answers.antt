@@ -1,8 +1,8 @@
 use Rattle.std.proofs.Common.{◌≡◌, ◌∙◌, ap, length, arith}
 use Rattle.quorum_rules.specs.Limits.{Numbers}
-use Rattle.nbd_front.proofs.Blocks.{merged_whole}
 use Rattle.node_device.specs.Held.{held_at}
 use Rattle.nbd_front.proofs.array.merged_block.Goals as goal
+use Rattle.block_device.proofs.Merges.{merged_whole}
 
 pub returns-then-piece-size-clause-value : goal.returns-then-piece-size-clause-value
 returns-then-piece-size-clause-value c =

@@ -5,7 +5,7 @@ use Rattle.outside_io.specs.Causes.{Rose}
 use Rattle.outside_io.specs.Written.{Adds, TakesPrefix}
 use Rattle.outside_io.proofs.Known.{Consumes-none}
 use Rattle.quorum_rules.specs.Limits.{Numbers}
-use Rattle.nbd_words.specs.Replies.{greeting}
+use Rattle.nbd_front.specs.Replies.{greeting}
 use Rattle.nbd_front.specs.declared.ending.Served.TheVariants.{Over}
 use Rattle.nbd_front.specs.declared.ending.SessionEnd.TheVariants.{NoMemory, WriteFault}
 use Rattle.nbd_front.specs.Sessions.{IsWholeInput}

@@ -1,7 +1,7 @@
 use Rattle.std.proofs.Common.{rules, ◌≡◌, ◌≢◌, ◌+◌, ◌≤◌, ◌++◌, ◌∙◌, Err, ap, sym, subst, arith, length, length-append}
 use Rattle.outside_io.proofs.Known.{Consumes-then}
 use Rattle.node_device.specs.Devices.{SeenDevice}
-use Rattle.nbd_words.specs.Requests.{request_of, data_len}
+use Rattle.nbd_front.specs.Requests.{request_of, data_len}
 use Rattle.nbd_front.specs.Arrays.{array_of}
 use Rattle.nbd_front.specs.Sessions.{leave_kind, reply_of, array_after}
 use Rattle.nbd_front.specs.Servers.{most_len, HasCome}

@@ -2,9 +2,9 @@ use Rattle.std.proofs.Common.{List, ℕ, ap, subst, sym}
 use Rattle.std.specs.Prelude.{Err}
 use Rattle.command_texts.specs.PlanRuns.{Soaks}
 use Rattle.command_texts.specs.Texts.{Refuses}
-use Rattle.call_words.specs.Statuses.{refusal_of_run}
-use Rattle.call_words.specs.declared.words.Command.TheVariants.{Soak}
-use Rattle.call_words.specs.declared.refusal.Refusal.TheVariants.{NoMemory}
+use Rattle.command_texts.specs.Statuses.{refusal_of_run}
+use Rattle.command_texts.specs.declared.words.Command.TheVariants.{Soak}
+use Rattle.command_texts.specs.declared.refusal.Refusal.TheVariants.{NoMemory}
 use Rattle.pasis_shell.proofs.RunsOfPlans.{soak_refuses, given_on}
 use Rattle.pasis_shell.proofs.planned.soak_of.Goals as goal
 

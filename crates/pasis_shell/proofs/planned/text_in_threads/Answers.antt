@@ -1,7 +1,7 @@
 use Rattle.std.proofs.Common.{sym, subst}
 use Rattle.std.specs.Prelude.{IfErr}
 use Rattle.command_texts.specs.Texts.{Refuses}
-use Rattle.call_words.specs.declared.words.Command.{Command}
+use Rattle.command_texts.specs.declared.words.Command.{Command}
 use Rattle.pasis_shell.proofs.planned.text_in_threads.Goals as goal
 
 pub returns-in-Soak-clause-refused : goal.returns-in-Soak-clause-refused

@@ -1,11 +1,11 @@
 use Rattle.std.proofs.Common.{List, ℕ, refl, subst}
 use Rattle.quorum_rules.specs.Limits.{Numbers}
-use Rattle.call_words.specs.Words.{texts, words_of}
+use Rattle.command_texts.specs.Words.{texts, words_of}
 use Rattle.command_texts.specs.Texts.{IsAccepted}
 use Rattle.pasis_shell.specs.Sessions.{Serves}
 use Rattle.pasis_shell.proofs.Accepted.{complete, some_answered}
-use Rattle.call_words.proofs.Commands.{runs_none}
-use Rattle.call_words.proofs.NbdForms.{one_nbd}
+use Rattle.command_texts.proofs.Commands.{runs_none}
+use Rattle.command_texts.proofs.NbdForms.{one_nbd}
 use Rattle.pasis_shell.proofs.top.alone.Goals as goal
 
 pub returns-in-Some-clause-session : goal.returns-in-Some-clause-session

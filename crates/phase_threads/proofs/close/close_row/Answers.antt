@@ -5,9 +5,10 @@ use Rattle.locked_nodes.specs.declared.charter.Item.{Item}
 use Rattle.locked_nodes.specs.Cells.{items}
 use Rattle.crews.specs.Crews.{Beside}
 use Rattle.phase_threads.specs.Phased.{IsClosed}
-use Rattle.crews.proofs.Places.{none_beside, push_beside, walk_on, walk_end, all_at, get_last}
+use Rattle.crews.proofs.Places.{none_beside, push_beside, walk_on, walk_end}
 use Rattle.phase_threads.proofs.Closing.{AreWithout, all_hands, none_empty, without_more, chits_are, chits_own, chits_rest}
 use Rattle.phase_threads.proofs.close.close_row.Goals as goal
+use Rattle.lists.proofs.Members.{all_at, slice_get-seam}
 
 pub loop-vault-init : goal.loop-vault-init
 loop-vault-init c =
@@ -51,7 +52,7 @@ close-requires-clause-all c =
     let vault = c.in-Some.vault in
     let rest = into_iter_items c.next.new.self in
     let list = inv.1.0 ∙ ap (λ l. inv.0 ++ l) c.in-Some.ensures.steps.0 in
-    let at = all_at (λ (v : Deposit Item). v.chits ≡ length c.args.hands.items) (inv.0 ++ vault ∷ rest) (length inv.0) vault (subst (All (λ (v : Deposit Item). v.chits ≡ length c.args.hands.items)) list c.requires.all) (get_last inv.0 vault rest) in
+    let at = all_at (λ (v : Deposit Item). v.chits ≡ length c.args.hands.items) (inv.0 ++ vault ∷ rest) (length inv.0) vault (subst (All (λ (v : Deposit Item). v.chits ≡ length c.args.hands.items)) list c.requires.all) (slice_get-seam inv.0 vault rest) in
     c.in_ok-chits.ensures.all ∙ sym inv.3.count ∙ sym at
 
 pub loop-vault-preserved : goal.loop-vault-preserved

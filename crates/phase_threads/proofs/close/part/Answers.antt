@@ -8,8 +8,9 @@ use Rattle.phase_threads.specs.declared.duty.Seat.{Seat}
 use Rattle.phase_threads.specs.declared.crew.Post.{Post}
 use Rattle.crews.specs.Crews.{Beside}
 use Rattle.phase_threads.specs.Phased.{IsSeatOf, IsHandOf}
-use Rattle.crews.proofs.Places.{none_beside, push_beside, walk_on, walk_end, all_at, get_last}
+use Rattle.crews.proofs.Places.{none_beside, push_beside, walk_on, walk_end}
 use Rattle.phase_threads.proofs.close.part.Goals as goal
+use Rattle.lists.proofs.Members.{all_at, slice_get-seam}
 
 pub loop-post-init : goal.loop-post-init
 loop-post-init g c =
@@ -30,7 +31,7 @@ into_parts-desk-requires g c =
     let post = c.in-Some.post in
     let rest = into_iter_items c.next.new.self in
     let list : c.args.posts.items ≡ inv.0 ++ post ∷ rest = inv.1.0 ∙ ap (λ l. inv.0 ++ l) steps.0 in
-    record { chits = all_at (λ (p : Post g.row.T.Denot). p.keys.mail ≡ None) (inv.0 ++ post ∷ rest) (length inv.0) post (subst (All (λ (p : Post g.row.T.Denot). p.keys.mail ≡ None)) list c.requires.chits) (get_last inv.0 post rest) }
+    record { chits = all_at (λ (p : Post g.row.T.Denot). p.keys.mail ≡ None) (inv.0 ++ post ∷ rest) (length inv.0) post (subst (All (λ (p : Post g.row.T.Denot). p.keys.mail ≡ None)) list c.requires.chits) (slice_get-seam inv.0 post rest) }
 
 pub loop-post-preserved : goal.loop-post-preserved
 loop-post-preserved g c =

@@ -9,8 +9,9 @@ use Rattle.phase_threads.specs.declared.duty.Seat.{Seat}
 use Rattle.phase_threads.specs.declared.crew.Post.{Post}
 use Rattle.crews.specs.Crews.{Beside}
 use Rattle.phase_threads.specs.Phased.{IsPostOf}
-use Rattle.crews.proofs.Places.{none_beside, push_beside, walk_on, walk_end, all_at, get_last}
+use Rattle.crews.proofs.Places.{none_beside, push_beside, walk_on, walk_end}
 use Rattle.phase_threads.proofs.open.open_posts.Goals as goal
+use Rattle.lists.proofs.Members.{all_at, slice_get-seam}
 
 pub loop-seat-init : goal.loop-seat-init
 loop-seat-init g c =
@@ -46,7 +47,7 @@ new-keys-requires-clause-agree g c =
     let seat = c.in-Some.seat in
     let hand = c.in-Some-pop.hand in
     let list : c.args.seats.items ≡ inv.0 ++ seat ∷ into_iter_items c.next.new.self = inv.1.0 ∙ ap (λ l. inv.0 ++ l) steps.0 in
-    let at = all_at (λ (s : Seat g.row.T.Denot). All (λ h. Agree s.desk h) c.loop-seat.hands) (inv.0 ++ seat ∷ into_iter_items c.next.new.self) (length inv.0) seat (subst (All (λ (s : Seat g.row.T.Denot). All (λ h. Agree s.desk h) c.loop-seat.hands)) list inv.4) (get_last inv.0 seat (into_iter_items c.next.new.self)) in
+    let at = all_at (λ (s : Seat g.row.T.Denot). All (λ h. Agree s.desk h) c.loop-seat.hands) (inv.0 ++ seat ∷ into_iter_items c.next.new.self) (length inv.0) seat (subst (All (λ (s : Seat g.row.T.Denot). All (λ h. Agree s.desk h) c.loop-seat.hands)) list inv.4) (slice_get-seam inv.0 seat (into_iter_items c.next.new.self)) in
     subst (Agree seat.desk) (sym c.into_vec.ensures) (All-pop (λ (h : List (Chit Item)). Agree seat.desk h) c.loop-seat.hands c.pop.new.self (Some hand) c.in-Some-pop.ensures.items at).1
 
 pub loop-seat-preserved : goal.loop-seat-preserved

@@ -2,8 +2,8 @@ use Rattle.std.proofs.Common.{◌≡◌, ◌≢◌, [], refl, ap, subst, ◌∙�
 use Rattle.std.proofs.lemmas.Grind.{common_steps}
 use Rattle.line_forms.proofs.Tables.{refusal_here}
 use Rattle.plan_words.specs.declared.plan.Plan.{Plan}
-use Rattle.plan_lines.specs.declared.line.PlanLine.{PlanLine}
-use Rattle.plan_lines.specs.Lines.{IsPlanLine, line_text}
+use Rattle.plan_words.specs.declared.line.PlanLine.{PlanLine}
+use Rattle.plan_words.specs.Lines.{IsPlanLine, line_text}
 use Rattle.plan_text.specs.Marks.{Marks, line_marks}
 use Rattle.plan_text.specs.Plans.{plan_script}
 use Rattle.plan_text.specs.Reading.{seen_cause, with_liar}

@@ -1,7 +1,7 @@
 use Rattle.std.proofs.Common.{subst, sym, ap, ◌∙◌, Err}
 use Rattle.command_texts.specs.Texts.{Refuses}
 use Rattle.line_forms.specs.declared.refusal.ScriptRefusal.{ScriptRefusal}
-use Rattle.call_words.specs.declared.words.Command.TheVariants.{Replay}
+use Rattle.command_texts.specs.declared.words.Command.TheVariants.{Replay}
 use Rattle.run_pictures.proofs.Refusing.{refuses}
 use Rattle.run_pictures.proofs.top.performed.Goals as goal
 

@@ -1,5 +1,5 @@
 use Rattle.std.proofs.Common.{◌≡◌, sym, ap, ◌∙◌, Err}
-use Rattle.call_words.specs.declared.status.Status.TheVariants.{BadScript}
+use Rattle.command_texts.specs.declared.status.Status.TheVariants.{BadScript}
 use Rattle.run_pictures.proofs.Refusing.{told}
 use Rattle.run_pictures.proofs.top.text_of.Goals as goal
 

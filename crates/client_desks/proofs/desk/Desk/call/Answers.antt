@@ -2,14 +2,15 @@ use Rattle.std.proofs.Common.{◌≡◌, sym, ap, subst, ◌∙◌}
 use Rattle.std.specs.Prelude.{IfSome}
 use Rattle.std.specs.declared.option.Option.TheVariants.{Some}
 use Rattle.client_desks.specs.Desks.{asks_of, CanCall}
-use Rattle.client_desks.proofs.Desking.{calls_as, some_in, on_ok_calls, if_ok_ended}
+use Rattle.client_desks.proofs.Desking.{calls_as, on_ok_calls, if_ok_ended}
 use Rattle.client_desks.proofs.desk.Desk.call.Goals as goal
+use Rattle.lists.proofs.Tests.{some_is}
 
 pub unreachable-requires : goal.unreachable-requires
 unreachable-requires c =
     let now = c.args.self.now in
     let asked = c.in_ok-asked.ensures.asked ∙ ap (asks_of now) c.number-node.ensures in
-    let some = some_in (asks_of now c.args.cell.now.charter.number) c.requires.can.asks in
+    let some = some_is (asks_of now c.args.cell.now.charter.number) c.requires.can.asks in
     c.in_default.not-Some some.0 (asked ∙ some.1)
 
 pub ask-requires-clause-may : goal.ask-requires-clause-may

@@ -1,6 +1,6 @@
 use Rattle.std.proofs.Common.{◌∙◌, ap, refl, sym, subst}
 use Rattle.plan_words.specs.declared.plan.Plan.{Plan}
-use Rattle.plan_tasks.specs.Tasks.{IsClientTask}
+use Rattle.client_work.specs.Tasks.{IsClientTask}
 use Rattle.client_work.specs.Work.{phase_in}
 use Rattle.client_work.proofs.Beginning.{begins, none_done}
 use Rattle.client_work.proofs.worker.ClientWorker.new.Goals as goal

@@ -1,7 +1,0 @@
-use Rattle.std.proofs.Common.{◌≡◌}
-use Rattle.gf_field.specs.Interpolation.{product_below}
-use Rattle.block_rows.specs.Points.{added}
-use Rattle.block_rows.proofs.points.Points.whole.Given as goal
-
-abbrev pub invariant-loop-number : goal.invariant-loop-number
-invariant-loop-number g l = l.out.0 ≡ product_below l.number-index (added l.number-items l.x)

@@ -1,4 +1,0 @@
-pub mod Alone
-pub mod Commands
-pub mod Forms
-pub mod NbdForms

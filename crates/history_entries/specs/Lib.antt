@@ -1,4 +1,0 @@
-pub mod Kinds
-pub mod Books
-pub mod Numbers
-pub mod Orders

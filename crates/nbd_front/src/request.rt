@@ -1,0 +1,84 @@
+ghost use Rattle.std.specs.Prelude.{◌≡◌, length};
+ghost use Rattle.std.specs.Int.{w16, w32, w64, from_be_bytes};
+ghost use Rattle.nbd_front.specs.Requests.{fields_of, data_len};
+ghost use Rattle.nbd_front.specs.Replies.{error_of};
+
+/// What a client asks.
+#[derive(Clone, Copy, Debug, PartialEq, Eq)]
+pub struct Request {
+    pub flags: u16,
+    /// 0 reads, 1 writes, 2 leaves, 3 flushes; others aren't served.
+    pub kind: u16,
+    /// What the client knows the reply by.
+    pub handle: [u8; 8],
+    /// The place of the range's first byte.
+    pub offset: u64,
+    /// How many bytes the range has.
+    pub len: u32,
+}
+
+impl Request {
+    /// The request with these bytes after its magic.
+    pub fn of(rest: &[u8]) -> Request
+        requires { length rest.now ≡ 24 }
+        ensures { result ≡ fields_of rest.now }
+    {
+        let mut handle = [0u8; 8];
+        handle.copy_from_slice(&rest[4..12]);
+        Request {
+            flags: two(&rest[..2]),
+            kind: two(&rest[2..4]),
+            handle,
+            offset: eight(&rest[12..20]),
+            len: four(&rest[20..24]),
+        }
+    }
+
+    /// The error of its reply by a device of so many bytes, 0 where it is served: 22 where it isn't served or reads past the
+    /// end, 28 where it writes past the end. A flush has no range.
+    pub fn error(&self, size: u64) -> u32
+        ensures { result ≡ error_of size self.now }
+    {
+        if self.kind > 3 || self.flags != 0 {
+            return 22;
+        }
+        let within = self.offset <= size && u64::from(self.len) <= size - self.offset;
+        if self.kind == 3 || within {
+            return 0;
+        }
+        if self.kind == 1 { 28 } else { 22 }
+    }
+
+    /// How many bytes of data follow it.
+    pub fn data_len(&self) -> u32
+        ensures { result ≡ data_len self.now }
+    {
+        if self.kind == 1 { self.len } else { 0 }
+    }
+}
+
+/// The number of two bytes.
+fn two(bytes: &[u8]) -> u16
+    requires { length bytes.now ≡ 2 }
+    ensures { result ≡ from_be_bytes w16 bytes.now }
+{
+    u16::from_be_bytes([bytes[0], bytes[1]])
+}
+
+/// The number of four bytes.
+pub(crate) fn four(bytes: &[u8]) -> u32
+    requires { length bytes.now ≡ 4 }
+    ensures { result ≡ from_be_bytes w32 bytes.now }
+{
+    u32::from_be_bytes([bytes[0], bytes[1], bytes[2], bytes[3]])
+}
+
+/// The number of eight bytes.
+fn eight(bytes: &[u8]) -> u64
+    requires { length bytes.now ≡ 8 }
+    ensures { result ≡ from_be_bytes w64 bytes.now }
+{
+    u64::from_be_bytes([
+        bytes[0], bytes[1], bytes[2], bytes[3], bytes[4], bytes[5], bytes[6], bytes[7],
+    ])
+}

@@ -1,7 +1,0 @@
-use Rattle.std.proofs.Common.{◌≡◌, codes, refl, rules}
-use Rattle.std.proofs.lemmas.Slice.Eq.{text_from_reads}
-use Rattle.plan_lines.proofs.liars.rule_of.Goals as goal
-
-pub returns-in-silent-clause-there : goal.returns-in-silent-clause-there
-returns-in-silent-clause-there c =
-    let e : c.args.field.now ≡ codes "silent" = text_from_reads c.args.field.now (codes "silent") (search rules) (search rules) in rw e refl

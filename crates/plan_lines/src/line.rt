@@ -1,8 +1,0 @@
-use plan_words::{Fault, Job};
-
-/// A line of a plan.
-#[derive(Drop)]
-pub enum PlanLine {
-    Rule(Fault),
-    Work(Job),
-}

@@ -1,4 +1,0 @@
-pub mod Steps
-pub mod Folding
-pub mod OncePaired
-pub mod Mails

@@ -1,0 +1,15 @@
+use Rattle.std.proofs.Common.{◌≡◌, ◌∷◌, ap, sym}
+use Rattle.std.specs.Prelude.{codes}
+use Rattle.std.proofs.lemmas.Slice.Eq.{bytes_eq-Decides}
+use Rattle.text_lines.specs.Lines.{texts}
+use Rattle.plan_words.specs.Forms.{number_at}
+use Rattle.plan_words.proofs.FormCauses.{node_cause}
+use Rattle.plan_words.proofs.liars.liar.Goals as goal
+
+pub returns-then-eq : goal.returns-then-eq
+returns-then-eq c =
+    let what = c.in-Some.what.now.now in
+    let rest = texts c.in-Some.rest.now in
+    let split : texts c.args.fields.now ≡ what ∷ rest = ap texts c.in-Some.ensures.cases.0 in
+    let is : what ≡ codes "node" = (bytes_eq-Decides what (codes "node")).0 (rw c.as_slice.ensures at (sym c.if-eq.ensures)) in
+    rw (split, is, node_cause c.args.config.now rest (number_at 4 (codes "node" ∷ rest))) c.liar_node.ensures
