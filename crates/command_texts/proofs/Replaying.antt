@@ -10,7 +10,7 @@ use Rattle.protocol.specs.World.{World}
 use Rattle.protocol.specs.History.{NoClash}
 use Rattle.history_making.specs.Tellings.{Tells}
 use Rattle.history_book.specs.Judging.{IsLegal, IsInTime}
-use Rattle.world_steps.specs.Worlds.{WorldView, setting_in, world_in}
+use Rattle.world_state.specs.Worlds.{WorldView, setting_in, world_in}
 use Rattle.script_run.specs.Registers.{AreRegisters}
 use Rattle.script_run.specs.Performing.{CommandQueues, Performs, StopsAt}
 use Rattle.line_forms.specs.declared.refusal.ScriptRefusal.{ScriptRefusal}

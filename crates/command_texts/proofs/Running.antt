@@ -7,7 +7,7 @@ use Rattle.quorum_rules.specs.Limits.{Numbers}
 use Rattle.wire_forms.specs.Liars.{Liars, AreLiars}
 use Rattle.protocol.specs.Setting.{Setting}
 use Rattle.protocol.specs.Lines.{Line}
-use Rattle.world_steps.specs.Worlds.{WorldView, world_in}
+use Rattle.world_state.specs.Worlds.{WorldView, world_in}
 use Rattle.journals.specs.declared.whole.Journals.{Journals}
 use Rattle.journals.specs.Journals.{setting_for, IsMerge}
 use Rattle.merge_trace.specs.Traces.{placed, AreOfSomeRun}

@@ -14,7 +14,7 @@ use Rattle.history_making.specs.Tellings.{Tells}
 use Rattle.history_book.specs.Reports.{report_text}
 use Rattle.history_book.specs.ReportTexts.{IsReport}
 use Rattle.history_book.specs.Judging.{IsLegal, IsInTime}
-use Rattle.world_steps.specs.Worlds.{WorldView, setting_in, world_in}
+use Rattle.world_state.specs.Worlds.{WorldView, setting_in, world_in}
 use Rattle.script_run.specs.Registers.{AreRegisters}
 use Rattle.script_run.specs.Performing.{CommandQueues, Performs, StopsAt}
 

@@ -3,7 +3,7 @@ use Rattle.std.specs.Prelude.{◌≡◌, ℕ, List}
 use Rattle.protocol.specs.Setting.{Setting}
 use Rattle.protocol.specs.World.{World}
 use Rattle.protocol.specs.Lines.{Line, IsRun}
-use Rattle.world_steps.specs.Worlds.{WorldView, setting_in, world_in}
+use Rattle.world_state.specs.Worlds.{WorldView, setting_in, world_in}
 use Rattle.history_making.specs.Books.{Book}
 use Rattle.history_book.specs.Reports.{report_text}
 use Rattle.script_run.specs.Histories.{TellsHistory}

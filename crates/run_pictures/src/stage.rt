@@ -23,7 +23,7 @@ pub struct Stage {
 
 impl Model for Stage {
     ghost use Rattle.std.specs.Prelude.{◌≡◌};
-    ghost use Rattle.world_steps.specs.Worlds.{WorldView};
+    ghost use Rattle.world_state.specs.Worlds.{WorldView};
 
     ghost Value = { WorldView };
 

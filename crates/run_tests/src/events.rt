@@ -4,7 +4,7 @@ ghost use Rattle.std.specs.Prelude.{◌≡◌, ◌<◌};
 ghost use Rattle.quorum_rules.specs.Faults.{numbers};
 ghost use Rattle.quorum_rules.specs.declared.Edition.TheVariants.{One};
 ghost use Rattle.protocol.specs.Lines.{FitsLine};
-ghost use Rattle.world_steps.specs.Worlds.{setting_in};
+ghost use Rattle.world_state.specs.Worlds.{setting_in};
 ghost use Rattle.world_steps.specs.Events.{line_of};
 
 use crate::clients::cluster;

@@ -5,7 +5,8 @@ use Rattle.stamp_order.specs.declared.Stamp.{Stamp}
 use Rattle.protocol.specs.Setting.{IsValid, first_stamp}
 use Rattle.protocol.specs.World.{Record}
 use Rattle.protocol.proofs.Cluster.{cluster_valid}
-use Rattle.world_steps.specs.Worlds.{WorldView, IsReached, setting_in, world_in}
+use Rattle.world_state.specs.Worlds.{WorldView, setting_in, world_in}
+use Rattle.world_steps.specs.Reached.{IsReached}
 use Rattle.script_run.specs.Histories.{AreOfRun}
 
 is_valid : (v : WorldView) → IsReached v → IsValid (setting_in v)

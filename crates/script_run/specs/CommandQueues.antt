@@ -5,7 +5,7 @@ use Rattle.std.specs.List.{All}
 use Rattle.quorum_rules.specs.Limits.{Numbers}
 use Rattle.block_device.specs.declared.steps.BlockStep.{BlockStep}
 use Rattle.block_device.specs.Steps.{Fits}
-use Rattle.world_steps.specs.Worlds.{WorldView, world_in}
+use Rattle.world_state.specs.Worlds.{WorldView, world_in}
 use Rattle.script_run.specs.Performing.{CommandQueues}
 
 -- the world, and by client number what is left

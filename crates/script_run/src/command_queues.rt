@@ -13,7 +13,7 @@ ghost use Rattle.event_lines.specs.declared.line.ReplayLine.TheVariants.{Plain};
 ghost use Rattle.line_forms.specs.declared.cause.Cause.TheVariants.{Step};
 ghost use Rattle.line_forms.specs.declared.cause.Cause.{Cause as Causes};
 ghost use Rattle.event_lines.specs.Lines.{IsEventLine};
-ghost use Rattle.world_steps.specs.Worlds.{setting_in, world_in};
+ghost use Rattle.world_state.specs.Worlds.{setting_in, world_in};
 ghost use Rattle.script_run.specs.Performing.{returning, start_queues, cause_of, after_line, started_by, command_cause, next_cause, begun, stepped, latest_read};
 ghost use Rattle.script_run.specs.CommandQueues.{queues_in};
 

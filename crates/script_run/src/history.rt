@@ -4,7 +4,7 @@ ghost use Rattle.std.specs.Prelude.{◌<◌, ◌^◌, ◌-◌, IfOk, map};
 ghost use Rattle.protocol.specs.Setting.{Setting};
 ghost use Rattle.protocol.specs.World.{World as AnyWorld};
 ghost use Rattle.protocol.specs.Seen.{record_of};
-ghost use Rattle.world_steps.specs.Worlds.{setting_in, world_in};
+ghost use Rattle.world_state.specs.Worlds.{setting_in, world_in};
 ghost use Rattle.script_run.specs.Histories.{AreOfRun, TellsHistory};
 
 use history_book::History;

@@ -4,7 +4,7 @@ ghost use Rattle.wire_forms.specs.Liars.{has_number, IsAscending, IsClientNumber
 ghost use Rattle.protocol.specs.Instance.{setting_of};
 ghost use Rattle.line_forms.specs.declared.cause.Cause.{Cause as Causes};
 ghost use Rattle.script_text.specs.Replays.{IsReplay};
-ghost use Rattle.world_steps.specs.Worlds.{setting_in, world_in};
+ghost use Rattle.world_state.specs.Worlds.{setting_in, world_in};
 ghost use Rattle.script_run.specs.Performing.{CommandQueues as TheQueues, Performs, StopsAt};
 
 use crate::command_queues::CommandQueues;

@@ -15,7 +15,7 @@ use Rattle.protocol.specs.World.{World, only_place, happens, sent, given, heard,
 use Rattle.protocol.specs.Lines.{plays, called, given_at, heard_at, is_actor, is_ask_to}
 use Rattle.protocol.specs.Lines.Actor.{Node}
 use Rattle.run_words.specs.declared.line.Line.TheVariants.{Call, Give, Hear, Tell, Poke}
-use Rattle.world_steps.specs.Steps.{handles, asked_by}
+use Rattle.world_state.specs.Changes.{handles, asked_by}
 
 module _ (s : Setting) (place : ℕ) where
   -- a world of this place stays as it is where nothing but the place changes

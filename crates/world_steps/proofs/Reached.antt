@@ -12,7 +12,8 @@ use Rattle.protocol.specs.Lines.{Line, IsRun, FitsLine, fault, plays}
 use Rattle.protocol.specs.Instance.{setting_of}
 use Rattle.protocol.specs.Seen.{SeenWorld}
 use Rattle.protocol.proofs.Kept.{run_parts}
-use Rattle.world_steps.specs.Worlds.{WorldView, setting_in, world_in, IsReached}
+use Rattle.world_state.specs.Worlds.{WorldView, setting_in, world_in}
+use Rattle.world_steps.specs.Reached.{IsReached}
 use Rattle.world_steps.specs.Steps.{IsPlayedBy}
 
 -- a run goes on by a line

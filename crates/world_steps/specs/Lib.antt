@@ -1,10 +1,5 @@
-pub mod Worlds
-pub mod Slots
-pub mod BlockUses
+pub mod Reached
 pub mod Steps
 pub mod Actors
-pub mod Acceptances
-pub mod AnswerEffects
-pub mod Beginnings
 pub mod Events
 pub mod Faults

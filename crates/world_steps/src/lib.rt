@@ -3,19 +3,11 @@
 #![tactic(auto)]
 
 mod actors;
-mod answer_effect;
-mod block_use;
-mod client_slot;
-mod clients;
 pub mod event;
 mod fault;
 pub mod laws;
-mod lying;
-mod node_slot;
-mod nodes;
 mod play;
 pub mod refusal;
-mod state;
 pub mod world;
 
 pub use event::Event;

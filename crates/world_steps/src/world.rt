@@ -9,12 +9,13 @@ ghost use Rattle.protocol.specs.Seen.{record_of, accepted_of};
 ghost use Rattle.run_words.specs.declared.line.StepFault.{StepFault as Faults};
 ghost use Rattle.node_core.specs.Seen.{versions_in};
 ghost use Rattle.version_disk.specs.Held.{held};
-ghost use Rattle.world_steps.specs.Worlds.{setting_in, world_in, node_in, IsReached};
+ghost use Rattle.world_state.specs.Worlds.{setting_in, world_in, node_in};
+ghost use Rattle.world_steps.specs.Reached.{IsReached};
 ghost use Rattle.world_steps.specs.Events.{line_of, Happens};
 
 use crate::event::Event;
+use crate::play::play;
 use crate::refusal::StepRefusal;
-use crate::state::State;
 use lists::{ItemList, NoMemory};
 use quorum_rules::Config;
 use run_words::{Accepted, Line, Record};
@@ -22,6 +23,7 @@ use stamp_order::Stamp;
 use std::alloc::Global;
 use std::marker::Model;
 use wire_forms::{Liars, Message};
+use world_state::State;
 
 /// The last world of a run. Contracts see the cluster's numbers, who lies, and the world of the definitions; and that lines of
 /// a run lead to it, so that the laws of every run hold of it.
@@ -32,7 +34,8 @@ pub struct World {
 }
 
 impl Model for World {
-    ghost use Rattle.world_steps.specs.Worlds.{WorldView, IsReached};
+    ghost use Rattle.world_state.specs.Worlds.{WorldView};
+    ghost use Rattle.world_steps.specs.Reached.{IsReached};
 
     ghost Value = { WorldView };
 
@@ -51,7 +54,6 @@ impl World {
         ensures start { IfOk result (λ w. world_in w ≡ start_world (setting_in w)) }
     {
         let state = State::new(alloc, config, liars)?;
-        let _ = &state.place;
         Ok(World {
             state: Box::new(alloc, state)?,
         })
@@ -72,7 +74,7 @@ impl World {
             → fault (setting_in self.old) (world_in self.old) line.now ≡ Some f }
         ensures unchanged { OnErr result (self.new ≡ self.old) }
     {
-        self.state.play(place, line)
+        play(&mut self.state, place, line)
     }
 
     /// Does the event, and nothing else, at one place. An event that can't take place is refused with the first fault that it
@@ -92,7 +94,7 @@ impl World {
             → fault (setting_in self.old) (world_in self.old) (line_of event.now) ≡ Some f }
         ensures unchanged { OnErr result (self.new ≡ self.old) }
     {
-        let line = event.line(self.state.alloc)?;
+        let line = event.line(self.state.allocator())?;
         self.play(place, &line)
     }
 
@@ -100,14 +102,14 @@ impl World {
     pub fn pool(&self) -> &[Message]
         ensures { result.now ≡ self.now.seen.pool }
     {
-        self.state.pool.as_slice()
+        self.state.pool()
     }
 
     /// The operations of correct clients, in order of start.
     pub fn records(&self) -> &[Record]
         ensures { map record_of result.now ≡ self.now.seen.records }
     {
-        self.state.records.as_slice()
+        self.state.records()
     }
 
     /// The operations of correct clients alone, in order of start: all else is given up.
@@ -115,22 +117,21 @@ impl World {
         ensures { map record_of result ≡ self.seen.records }
     {
         let World { state } = self;
-        let State { records, .. } = Box::into_inner(state);
-        records
+        Box::into_inner(state).into_records()
     }
 
     /// The versions that nodes accepted, in order of acceptance, first versions aside.
     pub fn accepted(&self) -> &[Accepted]
         ensures { map accepted_of result.now ≡ self.now.seen.accepted }
     {
-        self.state.accepted.as_slice()
+        self.state.accepted()
     }
 
     /// The place of the last line that took place, 0 at first.
     pub fn place(&self) -> u64
         ensures { result ≡ self.now.seen.place }
     {
-        self.state.place
+        self.state.place()
     }
 
     /// The stamp that each block has from the beginning.

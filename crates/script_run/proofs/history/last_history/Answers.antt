@@ -1,6 +1,6 @@
 use Rattle.std.proofs.Common.{map, ◌∙◌, ap}
 use Rattle.protocol.specs.Seen.{record_of}
-use Rattle.world_steps.specs.Worlds.{setting_in, world_in}
+use Rattle.world_state.specs.Worlds.{setting_in, world_in}
 use Rattle.script_run.proofs.LastWorlds.{are_of_run}
 use Rattle.script_run.proofs.history.last_history.Goals as goal
 

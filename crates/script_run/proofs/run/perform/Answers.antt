@@ -7,7 +7,7 @@ use Rattle.quorum_rules.specs.Limits.{Numbers}
 use Rattle.protocol.specs.Setting.{Setting}
 use Rattle.protocol.specs.Instance.{setting_of}
 use Rattle.event_lines.specs.declared.line.ReplayLine.{ReplayLine}
-use Rattle.world_steps.specs.Worlds.{WorldView, setting_in, world_in}
+use Rattle.world_state.specs.Worlds.{WorldView, setting_in, world_in}
 use Rattle.script_run.specs.Performing.{cause_of, after_line, start_queues, LeadsTo, Performs}
 use Rattle.script_run.specs.Performing.{CommandQueues as TheQueues}
 use Rattle.script_run.specs.CommandQueues.{queues_in}

@@ -1,7 +1,7 @@
 use Rattle.std.proofs.Common.{◌≡◌, ◌≤◌, take, drop, length}
 use Rattle.wire_forms.specs.Liars.{has_number}
 use Rattle.protocol.specs.Instance.{setting_of}
-use Rattle.world_steps.specs.Worlds.{setting_in}
+use Rattle.world_state.specs.Worlds.{setting_in}
 use Rattle.script_run.specs.Performing.{LeadsTo, start_queues}
 use Rattle.script_run.specs.CommandQueues.{queues_in}
 use Rattle.script_run.proofs.run.perform.Given as goal

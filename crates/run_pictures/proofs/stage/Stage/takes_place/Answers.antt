@@ -2,7 +2,7 @@ use Rattle.std.proofs.Common.{false, sym, subst}
 use Rattle.std.specs.Prelude.{slice_index_or}
 use Rattle.event_lines.specs.Lines.{IsLine, IsEventLine}
 use Rattle.event_lines.specs.declared.line.ReplayLine.{ReplayLine}
-use Rattle.world_steps.specs.Worlds.{WorldView}
+use Rattle.world_state.specs.Worlds.{WorldView}
 use Rattle.script_run.proofs.Fitting.{fits_line}
 use Rattle.run_pictures.proofs.stage.Stage.takes_place.Goals as goal
 

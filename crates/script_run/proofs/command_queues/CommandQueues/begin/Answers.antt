@@ -5,7 +5,7 @@ use Rattle.quorum_rules.specs.Limits.{Numbers}
 use Rattle.protocol.specs.Count.{update}
 use Rattle.protocol.specs.World.{only_place}
 use Rattle.block_device.specs.Steps.{Fits, steps_of}
-use Rattle.world_steps.specs.Worlds.{setting_in, world_in}
+use Rattle.world_state.specs.Worlds.{setting_in, world_in}
 use Rattle.script_run.specs.Performing.{begun}
 use Rattle.script_run.specs.CommandQueues.{QueuesView, queues_in}
 use Rattle.script_run.proofs.Keeping.{both, left_set, set_queue}

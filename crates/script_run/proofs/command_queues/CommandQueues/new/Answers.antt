@@ -1,6 +1,6 @@
 use Rattle.std.proofs.Common.{[]}
 use Rattle.protocol.specs.World.{start_world}
-use Rattle.world_steps.specs.Worlds.{setting_in, world_in}
+use Rattle.world_state.specs.Worlds.{setting_in, world_in}
 use Rattle.script_run.proofs.Keeping.{both, none_left, new_queues}
 use Rattle.script_run.proofs.command_queues.CommandQueues.new.Goals as goal
 

@@ -5,7 +5,7 @@ use Rattle.line_forms.specs.declared.cause.Cause.{Cause as Causes}
 use Rattle.line_forms.specs.declared.refusal.LineRefusal.TheVariants as refusals
 use Rattle.protocol.specs.Lines.{plays}
 use Rattle.event_lines.specs.declared.line.ReplayLine.TheVariants.{Plain}
-use Rattle.world_steps.specs.Worlds.{setting_in, world_in}
+use Rattle.world_state.specs.Worlds.{setting_in, world_in}
 use Rattle.script_run.specs.Performing.{without, cause_of, after_line}
 use Rattle.script_run.specs.CommandQueues.{QueuesView, queues_in}
 use Rattle.script_run.proofs.Keeping.{both, left_without, returning_within, queues_without}

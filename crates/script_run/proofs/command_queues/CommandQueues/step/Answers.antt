@@ -8,7 +8,7 @@ use Rattle.block_device.specs.Steps.{Fits}
 use Rattle.line_forms.specs.declared.cause.Cause.{Cause as Causes}
 use Rattle.line_forms.specs.declared.cause.Cause.TheVariants.{Step}
 use Rattle.line_forms.specs.declared.refusal.LineRefusal.TheVariants as refusals
-use Rattle.world_steps.specs.Worlds.{setting_in, world_in}
+use Rattle.world_state.specs.Worlds.{setting_in, world_in}
 use Rattle.script_run.specs.Performing.{next_cause, started_by, stepped}
 use Rattle.script_run.specs.CommandQueues.{QueuesView, queues_in}
 use Rattle.script_run.proofs.Keeping.{both, on_ok, left_set, queue_is, step_fits, queues_stay}

@@ -1,7 +1,7 @@
 -- What the line of the event makes of the world, the event does.
 use Rattle.std.proofs.Common.{◌≡◌, subst, OnOk}
 use Rattle.protocol.specs.Lines.{Line, plays}
-use Rattle.world_steps.specs.Worlds.{setting_in, world_in}
+use Rattle.world_state.specs.Worlds.{setting_in, world_in}
 use Rattle.world_steps.proofs.SingleEvents.{happened_on_ok}
 use Rattle.world_steps.proofs.world.World.step.Goals as goal
 

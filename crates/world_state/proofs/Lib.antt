@@ -1,0 +1,16 @@
+pub mod ListItems
+pub mod Became
+pub mod KeptWorlds
+pub mod ClientSlots
+pub mod GreatestGiven
+pub mod BlockUses
+pub mod NodeSlots
+pub mod SettledRecords
+pub mod SettledUses
+pub mod ChangedClients
+pub mod CountedAnswers
+pub mod HeardEffects
+pub mod StartedOperations
+pub mod ReturnedClients
+pub mod OutstandingMail
+pub mod FirstWorlds
