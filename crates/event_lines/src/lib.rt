@@ -9,10 +9,11 @@ mod forms;
 pub mod laws;
 mod line;
 mod message;
-pub mod numbers;
+mod numbers;
 mod printing;
 mod word;
 
 pub use event::read_event;
 pub use line::ReplayLine;
+pub use numbers::{client_and_block, client_and_u64, is_block, is_client, is_node};
 pub use printing::add_event;

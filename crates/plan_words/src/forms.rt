@@ -14,7 +14,7 @@ use crate::line::PlanLine;
 use crate::numbers::{client_and_count, node_and_count, read_asks};
 use crate::word::Word;
 use crate::{Fault, Job};
-use event_lines::numbers::{client_and_block, client_and_u64, is_client};
+use event_lines::{client_and_block, client_and_u64, is_client};
 use line_forms::{Cause, LineRefusal, any_value, has_empty, value_of_len};
 use quorum_rules::Config;
 use std::alloc::Global;

@@ -14,7 +14,7 @@ use crate::Fault;
 use crate::line::PlanLine;
 use crate::numbers::{Forged, read_flood, read_forged};
 use crate::word::Word;
-use event_lines::numbers::is_node;
+use event_lines::is_node;
 use line_forms::{Cause, LineRefusal, has_empty, two_values, value_of_len};
 use quorum_rules::Config;
 use std::alloc::Global;

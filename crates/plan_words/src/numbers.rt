@@ -10,7 +10,7 @@ ghost use Rattle.wire_forms.specs.Liars.{IsClientNumber};
 ghost use Rattle.event_lines.specs.Lines.{IsNode, IsBlock};
 ghost use Rattle.plan_words.specs.Forms.{number_at};
 
-use event_lines::numbers::{is_block, is_client, is_node};
+use event_lines::{is_block, is_client, is_node};
 use line_forms::{Cause, LineRefusal};
 use quorum_rules::Config;
 use text_lines::{number, number_u8, number_u32};
