@@ -4,6 +4,8 @@ use Rattle.std.specs.List.{flat_map, concat, slice_range, range_with_len}
 use Rattle.std.proofs.lemmas.Bool.{cases_lt}
 use Rattle.std.proofs.lemmas.Nat.{div-add-mod', div-mul-add, mod-mul-add}
 use Rattle.std.proofs.lemmas.List.{ext_get_or, length-take, length-drop, length-append, get_or-take, get_or-drop, get_or_append_left, get_or-append_right}
+use Rattle.std.proofs.lemmas.List.Concat.{concat_is}
+use Rattle.std.proofs.lemmas.List.Folds.{flat_map-map}
 use Rattle.std.proofs.lemmas.List.FromFn.{length-map-range_with_len, get_or-map-range_with_len}
 use Rattle.quorum_rules.specs.Limits.{Numbers}
 use Rattle.wire_forms.specs.declared.device.DeviceOp.TheVariants.{Get}
@@ -32,29 +34,32 @@ byte_in size held k at h =
     ap (λ j. get_or (held j) at 0) (sym (div-mul-add k size at h))
     ∙ ap (λ i. get_or (held ((k * size + at) / size)) i 0) (sym (mod-mul-add k size at h))
 
-length-blocks : (size : ℕ) (held : ℕ → List ℕ) (n first : ℕ) → ((k : ℕ) → first ≤ k → k < first + n → length (held k) ≡ size)
-    → length (concat (map held (range_with_len first n))) ≡ n * size
+pub length-blocks : (size : ℕ) (held : ℕ → List ℕ) (n first : ℕ) → ((k : ℕ) → first ≤ k → k < first + n → length (held k) ≡ size)
+    → length (flat_map held (range_with_len first n)) ≡ n * size
 length-blocks size held zero first h = omega arith
 length-blocks size held (suc n) first h =
     let more = length-blocks size held n (first + 1) (λ k low high. h k (omega arith) (omega arith)) in
     let one = h first (omega arith) (omega arith) in
-    let both = length-append (held first) (concat (map held (range_with_len (first + 1) n))) in
+    let both = length-append (held first) (flat_map held (range_with_len (first + 1) n)) in
     omega arith
 
-blocks-at : (size : ℕ) (held : ℕ → List ℕ) (n first q : ℕ) → ((k : ℕ) → first ≤ k → k < first + n → length (held k) ≡ size) → q < n * size
-    → get_or (concat (map held (range_with_len first n))) q 0 ≡ byte_at size held (first * size + q)
-blocks-at size held zero first q h below = absurd (omega arith)
-blocks-at size held (suc n) first q h below =
-    let rest = concat (map held (range_with_len (first + 1) n)) in
+pub blocks_at : (size : ℕ) (held : ℕ → List ℕ) (n first q : ℕ) → ((k : ℕ) → first ≤ k → k < first + n → length (held k) ≡ size) → q < n * size
+    → get_or (flat_map held (range_with_len first n)) q 0 ≡ byte_at size held (first * size + q)
+blocks_at size held zero first q h below = absurd (omega arith)
+blocks_at size held (suc n) first q h below =
+    let rest = flat_map held (range_with_len (first + 1) n) in
     let one = h first (omega arith) (omega arith) in
     elim (cases_lt q size) [
       | inl here ↦ get_or_append_left (held first) rest 0 q (omega arith) ∙ byte_in size held first q here
       | inr later ↦
           let place : (first + 1) * size + (q - size) ≡ first * size + q = omega arith in
           get_or-append_right (held first) rest size q 0 one later
-          ∙ blocks-at size held n (first + 1) (q - size) (λ k low high. h k (omega arith) (omega arith)) (omega arith)
+          ∙ blocks_at size held n (first + 1) (q - size) (λ k low high. h k (omega arith) (omega arith)) (omega arith)
           ∙ ap (byte_at size held) place
     ]
+
+joined : (held : ℕ → List ℕ) (ks : List ℕ) → concat (map held ks) ≡ flat_map held ks
+joined held ks = concat_is (map held ks) ∙ flat_map-map (λ (x : List ℕ). x) held ks
 
 -- ---- a get
 pub get_gives : (c : Numbers) (d : Device) (start len : ℕ) → AreBlocks c.size c.blocks d.held → fault_of c (Get start len) ≡ None
@@ -71,7 +76,7 @@ get_gives c d start len blocks faultless =
     let n = last + 1 - first in
     let count : first + n ≡ last + 1 = omega arith in
     let place : first * size + from ≡ start = div-add-mod' start size in
-    let string = concat (map d.held (range_with_len first n)) in
+    let string = flat_map d.held (range_with_len first n) in
     let whole : (k : ℕ) → first ≤ k → k < first + n → length (d.held k) ≡ size = λ k low high. blocks k (omega arith) in
     let most : (first + n) * size ≡ (last + 1) * size = ap (λ z. z * size) count in
     let end = last_place size (start + len - 1) within.sized in
@@ -82,11 +87,12 @@ get_gives c d start len blocks faultless =
     let t = length-take (from + len - from) (drop from string) in let e = length-drop from string in omega arith in
     ap (λ s. slice_range (concat s) from (from + len)) (reads_of size start len (touched c (Get start len)) d)
     ∙ ap (λ ks. slice_range (concat (map d.held ks)) from (from + len)) (touched_range size c.blocks start len n within.sized within.some within.end count)
+    ∙ ap (λ s. slice_range s from (from + len)) (joined d.held (range_with_len first n))
     ∙ ext_get_or 0 (slice_range string from (from + len)) (bytes_of size d.held start len) (cut ∙ sym (length-map-range_with_len (byte_at size d.held) start len))
     (λ i h.
     let there : first * size + (from + i) ≡ start + i = omega arith in
     get_or-take (from + len - from) (drop from string) i 0 (omega arith)
     ∙ get_or-drop from string i 0
-    ∙ blocks-at size d.held n first (from + i) whole (omega arith)
+    ∙ blocks_at size d.held n first (from + i) whole (omega arith)
     ∙ ap (byte_at size d.held) there
     ∙ sym (get_or-map-range_with_len (byte_at size d.held) start len i (start + i) 0 (omega arith) refl))

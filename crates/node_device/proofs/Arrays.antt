@@ -7,32 +7,9 @@ use Rattle.std.proofs.lemmas.List.{ext_get_or, length-take, length-drop, length-
 use Rattle.std.proofs.lemmas.List.FromFn.{length-map-range_with_len, get_or-map-range_with_len}
 use Rattle.block_device.specs.Device.{byte_at, bytes_of, merged, AreBlocks, IsWritten}
 use Rattle.node_device.specs.Moments.{array_of}
-use Rattle.block_device.proofs.Reading.{byte_in}
+use Rattle.block_device.proofs.Reading.{byte_in, length-blocks, blocks_at}
 
 -- ---- neighbouring blocks
-
-length_blocks : (size : ℕ) (held : ℕ → List ℕ) (n first : ℕ) → ((k : ℕ) → first ≤ k → k < first + n → length (held k) ≡ size) → length (flat_map held (range_with_len first n)) ≡ n * size
-length_blocks size held zero first h = omega arith
-length_blocks size held (suc n) first h =
-    let more = length_blocks size held n (first + 1) (λ k low high. h k (omega arith) (omega arith)) in
-    let one = h first (omega arith) (omega arith) in
-    let both = length-append (held first) (flat_map held (range_with_len (first + 1) n)) in
-    omega arith
-
-blocks_at : (size : ℕ) (held : ℕ → List ℕ) (n first q : ℕ) → ((k : ℕ) → first ≤ k → k < first + n → length (held k) ≡ size) → q < n * size
-    → get_or (flat_map held (range_with_len first n)) q 0 ≡ byte_at size held (first * size + q)
-blocks_at size held zero first q h below = absurd (omega arith)
-blocks_at size held (suc n) first q h below =
-    let rest = flat_map held (range_with_len (first + 1) n) in
-    let one = h first (omega arith) (omega arith) in
-    elim (cases_lt q size) [
-      | inl here ↦ get_or_append_left (held first) rest 0 q (omega arith) ∙ byte_in size held first q here
-      | inr later ↦
-          let place : (first + 1) * size + (q - size) ≡ first * size + q = omega arith in
-          get_or-append_right (held first) rest size q 0 one later
-          ∙ blocks_at size held n (first + 1) (q - size) (λ k low high. h k (omega arith) (omega arith)) (omega arith)
-          ∙ ap (byte_at size held) place
-    ]
 
 same_blocks : (f g : ℕ → List ℕ) (n first : ℕ) → ((k : ℕ) → first ≤ k → k < first + n → f k ≡ g k) → flat_map f (range_with_len first n) ≡ flat_map g (range_with_len first n)
 same_blocks f g zero first h = refl
@@ -46,7 +23,7 @@ same_array blocks f g h = same_blocks f g blocks 0 (λ k low high. h k (omega ar
 
 module _ (size blocks : ℕ) (held : ℕ → List ℕ) (are : AreBlocks size blocks held) where
   pub length_array : length (array_of blocks held) ≡ blocks * size
-  length_array = length_blocks size held blocks 0 (λ k low high. are k (omega arith))
+  length_array = length-blocks size held blocks 0 (λ k low high. are k (omega arith))
 
   pub array_at : (p : ℕ) → p < blocks * size → get_or (array_of blocks held) p 0 ≡ byte_at size held p
   array_at p below =
