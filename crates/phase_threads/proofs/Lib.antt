@@ -1,3 +1,4 @@
+mod Dealing
 mod Opening
 mod Closing
 mod Pairing

@@ -1,3 +1,4 @@
+pub mod Hands
 pub mod Phased
 pub mod Phases
 pub mod Standing

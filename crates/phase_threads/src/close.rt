@@ -6,18 +6,18 @@ ghost use Rattle.phase_threads.specs.Phased.{IsSeatOf, IsHandOf, AreTaken, IsClo
 
 use crate::crew::Post;
 use crate::duty::{Duty, Seat};
-use crate::open::Hand;
+use crate::hands::Hands;
 use crate::refusal::first_refusal;
 use lists::{ItemList, NoMemory};
 use locked_nodes::{CellRefusal, Item, NodeCell};
 use receipt_lock::laws::each_entry_has_one_receipt;
-use receipt_lock::{Chits, Vault};
+use receipt_lock::{Chit, Chits, Vault};
 use std::alloc::Global;
 
 /// What posts leave: the desks with their duties, the desks' chits, the last vault's first, and the refusal that counts.
 pub struct Parted<T> {
     pub seats: Vec<Seat<T>>,
-    pub hands: Vec<Hand>,
+    pub hands: Hands<Chit<NodeCell>>,
     pub refused: Option<CellRefusal>,
 }
 
@@ -55,7 +55,7 @@ pub fn part<T: Duty>(alloc: Global, posts: Vec<Post<T>>) -> Result<Parted<T>, No
 pub fn close_row(
     alloc: Global,
     vaults: Vec<Vault<NodeCell>>,
-    mut hands: Vec<Hand>,
+    mut hands: Hands<Chit<NodeCell>>,
 ) -> Result<Vec<NodeCell>, NoMemory>
     requires own { All (λ h.
         map (λ c. c.vault) (reverse h) ≡ map (λ v. v.id) vaults.items) hands.items }
@@ -73,7 +73,7 @@ pub fn close_row(
 }
 
 // The last chit of each hand.
-fn gather(alloc: Global, hands: &mut Vec<Hand>) -> Result<Chits<NodeCell>, NoMemory>
+fn gather(alloc: Global, hands: &mut Hands<Chit<NodeCell>>) -> Result<Chits<NodeCell>, NoMemory>
     requires { All (λ h. 0 < length h) hands.old.items }
     ensures { IfOk result (AreTaken hands.old.items hands.new.items) }
 {

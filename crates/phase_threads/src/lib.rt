@@ -9,11 +9,13 @@
 mod close;
 mod crew;
 pub mod duty;
+mod hands;
 pub mod laws;
 mod open;
 pub mod phase;
 pub mod refusal;
 
 pub use duty::{Duty, Seat};
+pub use hands::{Hands, deal, empty_hands};
 pub use phase::{Left, run_phase};
 pub use refusal::first_refusal;

@@ -1,5 +1,5 @@
 //! Cells in vaults, and desks with their chits, before the threads start.
-ghost use Rattle.std.specs.Prelude.{◌≡◌, ◌≤◌, ◌++◌, ◌∷◌, [], List, length, All, None, IfOk};
+ghost use Rattle.std.specs.Prelude.{◌≡◌, ◌≤◌, List, length, All, None, IfOk};
 ghost use Rattle.receipt_lock.specs.Chits.{Holder as ChitOf, new_chit};
 ghost use Rattle.locked_nodes.specs.declared.charter.Item.{Item};
 ghost use Rattle.desk_keys.specs.Keys.{Agree};
@@ -8,31 +8,29 @@ ghost use Rattle.phase_threads.specs.Phased.{IsVaultOf, IsPostOf, new_hand};
 
 use crate::crew::Post;
 use crate::duty::{Duty, Seat};
+use crate::hands::{Hands, deal, empty_hands};
 use desk_keys::Keys;
-use lists::{ItemList, NoMemory};
+use lists::NoMemory;
 use locked_nodes::NodeCell;
 use receipt_lock::{Chit, Chits, Vault};
 use std::alloc::Global;
-
-/// The chits of one desk.
-pub type Hand = ItemList<Chit<NodeCell>>;
 
 /// Each cell in a vault of its own, in their order, and so many hands with a chit for each vault.
 pub fn open_row(
     alloc: Global,
     cells: Vec<NodeCell>,
     count: u32,
-) -> Result<(Vec<Vault<NodeCell>>, ItemList<Hand>), NoMemory>
+) -> Result<(Vec<Vault<NodeCell>>, Hands<Chit<NodeCell>>), NoMemory>
     requires count { (1 ≤ count) × (count ≤ 65536) }
     ensures vaults { IfOk result (λ r. Beside (IsVaultOf count) cells.items r.0.items) }
     ensures hands { IfOk result (λ r.
-        (length r.1 ≡ count) × All (λ h. h ≡ new_hand r.0.items) r.1) }
+        (length r.1.items ≡ count) × All (λ h. h ≡ new_hand r.0.items) r.1.items) }
 {
     let mut vaults = Vec::new(alloc);
     let mut hands = empty_hands(alloc, count)?;
     for cell in cells {
         let (vault, chits) = open_cell(alloc, cell, count)?;
-        hands = deal(alloc, hands, chits)?;
+        deal(&mut hands, chits)?;
         vaults.push(vault)?;
     }
     Ok((vaults, hands))
@@ -53,50 +51,17 @@ fn open_cell(
     Vault::new(alloc, cell.go_on(false), count)
 }
 
-fn empty_hands(alloc: Global, count: u32) -> Result<ItemList<Hand>, NoMemory>
-    ensures { IfOk result (λ hands. (length hands ≡ count) × All (λ h. h ≡ []) hands) }
-{
-    let mut hands = ItemList::new(alloc);
-    for _ in 0..count {
-        hands.push(ItemList::new(alloc))?;
-    }
-    Ok(hands)
-}
-
-// A chit more in each hand. All hands are alike, and all chits.
-fn deal(
-    alloc: Global,
-    mut hands: ItemList<Hand>,
-    mut chits: Chits<NodeCell>,
-) -> Result<ItemList<Hand>, NoMemory>
-    requires count { length hands ≡ length chits }
-    ensures count { IfOk result (λ dealt. length dealt ≡ length hands) }
-    ensures each { IfOk result (λ dealt.
-        (old : List (ChitOf Item)) (chit : ChitOf Item) → All (λ h. h ≡ old) hands →
-        All (λ c. c ≡ chit) chits → All (λ h. h ≡ old ++ chit ∷ []) dealt) }
-{
-    let mut dealt = ItemList::new(alloc);
-    while let Some(mut hand) = hands.pop() {
-        let Some(chit) = chits.pop() else {
-            unreachable!()
-        };
-        hand.push(chit)?;
-        dealt.push(hand)?;
-    }
-    Ok(dealt)
-}
-
 /// Each desk with a hand, and its duty, in their order.
 pub fn open_posts<T: Duty>(
     alloc: Global,
-    mut hands: ItemList<Hand>,
+    mut hands: Hands<Chit<NodeCell>>,
     seats: Vec<Seat<T>>,
 ) -> Result<Vec<Post<T>>, NoMemory>
-    requires enough { length hands ≡ length seats.items }
-    requires rest { All (λ h. All (λ c. c.holds ≡ None) h) hands }
-    requires agree { All (λ s. All (λ h. Agree s.desk h) hands) seats.items }
+    requires enough { length hands.items ≡ length seats.items }
+    requires rest { All (λ h. All (λ c. c.holds ≡ None) h) hands.items }
+    requires agree { All (λ s. All (λ h. Agree s.desk h) hands.items) seats.items }
     ensures { IfOk result (λ posts.
-        (hand : List (ChitOf Item)) → All (λ h. h ≡ hand) hands →
+        (hand : List (ChitOf Item)) → All (λ h. h ≡ hand) hands.items →
         Beside (IsPostOf hand) seats.items posts.items) }
 {
     let mut posts = Vec::new(alloc);

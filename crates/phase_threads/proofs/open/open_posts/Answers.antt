@@ -30,15 +30,16 @@ pub unreachable-requires : goal.unreachable-requires
 unreachable-requires g c =
     let inv = c.loop-seat.invariant in
     let one = c.in-Some.ensures.steps.1 in
-    let none = ap length c.in_default.ensures.none in
-    omega (arith, inv.2, one, none)
+    let none = c.in_default.ensures.cases.0 in
+    let own = c.loop-seat.hands.ok.0 in
+    omega (arith, inv.2, one, none, own)
 
 pub new-keys-requires-clause-rest : goal.new-keys-requires-clause-rest
 new-keys-requires-clause-rest g c =
     let inv = c.loop-seat.invariant in
     let hand = c.in-Some-pop.hand in
     subst (All (λ (x : Chit Item). x.holds ≡ None)) (sym c.into_vec.ensures)
-    (All-pop (λ (h : List (Chit Item)). All (λ (x : Chit Item). x.holds ≡ None) h) c.loop-seat.hands c.pop.new.self (Some hand) c.in-Some-pop.ensures.items inv.3).1
+    (All-pop (λ (h : List (Chit Item)). All (λ (x : Chit Item). x.holds ≡ None) h) c.loop-seat.hands.items c.pop.new.self.items (Some hand) c.in-Some-pop.ensures.items inv.3).1
 
 pub new-keys-requires-clause-agree : goal.new-keys-requires-clause-agree
 new-keys-requires-clause-agree g c =
@@ -47,8 +48,8 @@ new-keys-requires-clause-agree g c =
     let seat = c.in-Some.seat in
     let hand = c.in-Some-pop.hand in
     let list : c.args.seats.items ≡ inv.0 ++ seat ∷ into_iter_items c.next.new.self = inv.1.0 ∙ ap (λ l. inv.0 ++ l) steps.0 in
-    let at = all_at (λ (s : Seat g.row.T.Denot). All (λ h. Agree s.desk h) c.loop-seat.hands) (inv.0 ++ seat ∷ into_iter_items c.next.new.self) (length inv.0) seat (subst (All (λ (s : Seat g.row.T.Denot). All (λ h. Agree s.desk h) c.loop-seat.hands)) list inv.4) (slice_get-seam inv.0 seat (into_iter_items c.next.new.self)) in
-    subst (Agree seat.desk) (sym c.into_vec.ensures) (All-pop (λ (h : List (Chit Item)). Agree seat.desk h) c.loop-seat.hands c.pop.new.self (Some hand) c.in-Some-pop.ensures.items at).1
+    let at = all_at (λ (s : Seat g.row.T.Denot). All (λ h. Agree s.desk h) c.loop-seat.hands.items) (inv.0 ++ seat ∷ into_iter_items c.next.new.self) (length inv.0) seat (subst (All (λ (s : Seat g.row.T.Denot). All (λ h. Agree s.desk h) c.loop-seat.hands.items)) list inv.4) (slice_get-seam inv.0 seat (into_iter_items c.next.new.self)) in
+    subst (Agree seat.desk) (sym c.into_vec.ensures) (All-pop (λ (h : List (Chit Item)). Agree seat.desk h) c.loop-seat.hands.items c.pop.new.self.items (Some hand) c.in-Some-pop.ensures.items at).1
 
 pub loop-seat-preserved : goal.loop-seat-preserved
 loop-seat-preserved g c =
@@ -56,8 +57,8 @@ loop-seat-preserved g c =
     let steps = c.in-Some.ensures.steps in
     let seat = c.in-Some.seat in
     let hand = c.in-Some-pop.hand in
-    let was = c.loop-seat.hands in
-    let now = c.pop.new.self in
+    let was = c.loop-seat.hands.items in
+    let now = c.pop.new.self.items in
     let popped = c.in-Some-pop.ensures.items in
     let few = ap length popped in
     let post : Post g.row.T.Denot = record { keys = c.new-keys.result; duty = seat.duty } in (

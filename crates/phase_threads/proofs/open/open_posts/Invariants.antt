@@ -14,7 +14,7 @@ use Rattle.phase_threads.proofs.open.open_posts.Given as goal
 abbrev pub invariant-loop-seat : goal.invariant-loop-seat
 invariant-loop-seat g l =
     (done : List (Seat g.row.T.Denot)) × Walked l.fn.seats.items done (into_iter_items l.seat-iterator) (into_iter_len l.seat-iterator)
-    × (length l.hands ≡ into_iter_len l.seat-iterator)
-    × All (λ h. All (λ c. c.holds ≡ None) h) l.hands
-    × All (λ s. All (λ h. Agree s.desk h) l.hands) l.fn.seats.items
-    × ((hand : List (Chit Item)) → All (λ h. h ≡ hand) l.fn.hands → All (λ h. h ≡ hand) l.hands × Beside (IsPostOf hand) done l.posts.items)
+    × (length l.hands.items ≡ into_iter_len l.seat-iterator)
+    × All (λ h. All (λ c. c.holds ≡ None) h) l.hands.items
+    × All (λ s. All (λ h. Agree s.desk h) l.hands.items) l.fn.seats.items
+    × ((hand : List (Chit Item)) → All (λ h. h ≡ hand) l.fn.hands.items → All (λ h. h ≡ hand) l.hands.items × Beside (IsPostOf hand) done l.posts.items)

@@ -11,5 +11,5 @@ abbrev pub invariant-loop-cell : goal.invariant-loop-cell
 invariant-loop-cell l =
     (done : List CellView) × Walked l.fn.cells.items done (into_iter_items l.cell-iterator) (into_iter_len l.cell-iterator)
     × Beside (IsVaultOf l.count) done l.vaults.items
-    × (length l.hands ≡ l.count)
-    × All (λ h. h ≡ new_hand l.vaults.items) l.hands
+    × (length l.hands.items ≡ l.count)
+    × All (λ h. h ≡ new_hand l.vaults.items) l.hands.items

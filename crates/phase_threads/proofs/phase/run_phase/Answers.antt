@@ -13,7 +13,7 @@ use Rattle.phase_threads.proofs.phase.run_phase.Goals as goal
 
 pub open_posts-requires-clause-rest : goal.open_posts-requires-clause-rest
 open_posts-requires-clause-rest g c =
-    hands_rest c.in_ok-vaults.vaults.items c.in_ok-vaults.hands c.in_ok-vaults.ensures.hands.1
+    hands_rest c.in_ok-vaults.vaults.items c.in_ok-vaults.hands.items c.in_ok-vaults.ensures.hands.1
 
 pub open_posts-requires-clause-agree : goal.open_posts-requires-clause-agree
 open_posts-requires-clause-agree g c =
@@ -21,7 +21,7 @@ open_posts-requires-clause-agree g c =
     let seats = c.args.seats.items in
     let vaults = c.in_ok-vaults.vaults.items in
     let opened = c.in_ok-vaults.ensures.vaults in
-    hands_agree _ cells vaults seats c.in_ok-vaults.hands opened c.requires.pairs c.in_ok-vaults.ensures.hands.1
+    hands_agree _ cells vaults seats c.in_ok-vaults.hands.items opened c.requires.pairs c.in_ok-vaults.ensures.hands.1
 
 pub work_all-posts-requires-clause-fit : goal.work_all-posts-requires-clause-fit
 work_all-posts-requires-clause-fit g c κs within =
@@ -111,7 +111,7 @@ close_row-requires-clause-all g c =
     let is = ap (λ (f : FloorView). f.vaults) c.new-floor.ensures in
     let rows = c.into_parts-clock.result.1.items in
     let row = c.into_parts-clock.ensures.vaults ∙ is in
-    let enough : length c.in_ok-vaults.hands ≡ length seats = search rules in
+    let enough : length c.in_ok-vaults.hands.items ≡ length seats = search rules in
     chits_all _ cells vaults seats posts opened posted ends lasts hands went left given rows row (sym c.in_ok-vaults.ensures.hands.0 ∙ enough)
 
 pub returns : goal.returns
