@@ -1,4 +1,3 @@
-mod Dealing
 mod Opening
 mod Settling
 mod Working

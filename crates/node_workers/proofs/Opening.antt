@@ -15,7 +15,8 @@ use Rattle.node_serving.specs.Workers.{WorkerView}
 use Rattle.node_workers.specs.declared.crew.Post.{Post}
 use Rattle.node_workers.specs.declared.crew.Post.TheVariants.{Client, Node}
 use Rattle.node_workers.specs.Posts.{nodes_in, clients_in}
-use Rattle.node_workers.specs.Hands.{AreDealt, AreNewPutters, AreSpread}
+use Rattle.phase_threads.specs.Hands.{AreDealt}
+use Rattle.node_workers.specs.Hands.{AreNewPutters, AreSpread}
 use Rattle.node_workers.specs.Opened.{IsAnswerBox}
 use Rattle.lists.proofs.Members.{all_at, slice_get-seam, at_place, within}
 

@@ -1,12 +1,7 @@
--- Things that are dealt out, one to each hand; and boxes, of each of which every hand gets a putter.
-use Rattle.std.specs.Prelude.{◌≡◌, ℕ, List, [], ◌∷◌, ◌++◌, length, slice_get}
+-- Boxes, of each of which every hand gets a putter.
+use Rattle.std.specs.Prelude.{◌≡◌, ℕ, List, length, slice_get}
 use Rattle.std.specs.declared.option.Option.TheVariants.{Some}
 use Rattle.inboxes.specs.Sides.{Putting, Taking, AreNew, new_putter}
-
--- each hand got the thing at its place
-pub record AreDealt {A : Type 0} (old : List (List A)) (things : List A) (new : List (List A)) : Type 0 where
-  pub count : length new ≡ length old
-  pub each : (k : ℕ) (was now : List A) (x : A) → slice_get old k ≡ Some was → slice_get new k ≡ Some now → slice_get things k ≡ Some x → now ≡ was ++ x ∷ []
 
 -- so many putters into a box that have put nothing, whose numbers are their places
 pub record AreNewPutters {T P : Type 0} (count : ℕ) (box : Taking T P) (putters : List (Putting T P)) : Type 0 where

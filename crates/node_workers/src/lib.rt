@@ -4,7 +4,6 @@
 
 mod close;
 mod crew;
-mod hands;
 mod open;
 pub mod phase;
 pub mod run;
