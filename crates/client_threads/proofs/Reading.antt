@@ -3,22 +3,11 @@ use Rattle.std.proofs.Common.{◌≡◌, ℕ, zero, suc, ◌+◌, ◌≤◌, Lis
 use Rattle.std.specs.Prelude.{slice_get}
 use Rattle.std.specs.declared.option.Option.TheVariants.{Some}
 use Rattle.std.specs.List.{AllZip}
+use Rattle.std.proofs.lemmas.List.{take_all, drop_all}
 use Rattle.plan_followed.specs.declared.prunes.BlockStamp.{BlockStamp}
 use Rattle.phase_threads.specs.declared.duty.Seat.{Seat}
 use Rattle.client_work.specs.declared.work.Work.{Work}
 use Rattle.client_threads.specs.Reads.{reads_of, early_reads, late_reads, block_stamp}
-
-pub drop_all : {X : Type 0} (xs : List X) (i : ℕ) → length xs ≤ i → drop i xs ≡ []
-drop_all [] zero l = refl
-drop_all [] (suc i) l = refl
-drop_all (x ∷ xs) zero l = absurd (omega (arith, l))
-drop_all (x ∷ xs) (suc i) l = drop_all xs i (omega (arith, l))
-
-pub take_all : {X : Type 0} (xs : List X) (i : ℕ) → length xs ≤ i → take i xs ≡ xs
-take_all [] zero l = refl
-take_all [] (suc i) l = refl
-take_all (x ∷ xs) zero l = absurd (omega (arith, l))
-take_all (x ∷ xs) (suc i) l = ap (λ ys. x ∷ ys) (take_all xs i (omega (arith, l)))
 
 -- the reads from a client on are its own and those of the others after it
 pub early_on : (ss : List (Seat Work)) (ns : List ℕ) (i : ℕ) (s : Seat Work) (n : ℕ) → slice_get ss i ≡ Some s → slice_get ns i ≡ Some n
@@ -40,13 +29,13 @@ pub add_on : (all given new some rest tail : List BlockStamp) → given ++ tail 
 add_on all given new some rest tail was is added = ap (λ l. l ++ rest) added ∙ append_assoc given some rest ∙ ap (λ l. given ++ l) (sym is) ∙ was
 
 pub early_end : (all given : List BlockStamp) (ss : List (Seat Work)) (ns : List ℕ) (i : ℕ) → length ss ≤ i → given ++ early_reads (drop i ss) (drop i ns) ≡ all → given ≡ all
-early_end all given ss ns i l is = append_none given (early_reads (drop i ss) (drop i ns)) (ap (λ xs. early_reads xs (drop i ns)) (drop_all ss i l)) ∙ is
+early_end all given ss ns i l is = append_none given (early_reads (drop i ss) (drop i ns)) (ap (λ xs. early_reads xs (drop i ns)) (drop_all i ss l)) ∙ is
   where
     append_none : (xs ys : List BlockStamp) → ys ≡ [] → xs ≡ xs ++ ys
     append_none xs ys e = sym (ap (λ l. xs ++ l) e ∙ append-nil xs)
 
 pub late_end : (all given : List BlockStamp) (ss : List (Seat Work)) (ns : List ℕ) (i : ℕ) → length ss ≤ i → given ++ late_reads (drop i ss) (drop i ns) ≡ all → given ≡ all
-late_end all given ss ns i l is = append_none given (late_reads (drop i ss) (drop i ns)) (ap (λ xs. late_reads xs (drop i ns)) (drop_all ss i l)) ∙ is
+late_end all given ss ns i l is = append_none given (late_reads (drop i ss) (drop i ns)) (ap (λ xs. late_reads xs (drop i ns)) (drop_all i ss l)) ∙ is
   where
     append_none : (xs ys : List BlockStamp) → ys ≡ [] → xs ≡ xs ++ ys
     append_none xs ys e = sym (ap (λ l. xs ++ l) e ∙ append-nil xs)
@@ -68,7 +57,7 @@ counted_more f (v ∷ xs) (o ∷ old) (suc i) x l a = ap (λ ys. f v ∷ ys) (co
 
 pub counted_all : {X : Type 0} (f : X → ℕ) (xs : List X) (old new : List ℕ) (i : ℕ) → length old ≡ length xs → length xs ≤ i → new ≡ map f (take i xs) ++ drop i old → new ≡ map f xs
 counted_all f xs old new i same l is =
-    is ∙ ap (λ ys. map f ys ++ drop i old) (take_all xs i l) ∙ ap (λ ys. map f xs ++ ys) (drop_all old i (omega (arith, l, same))) ∙ append-nil (map f xs)
+    is ∙ ap (λ ys. map f ys ++ drop i old) (take_all i xs l) ∙ ap (λ ys. map f xs ++ ys) (drop_all i old (omega (arith, l, same))) ∙ append-nil (map f xs)
 
 pub counted_next : {X : Type 0} (f : X → ℕ) (xs : List X) (old : List ℕ) (i : ℕ) (x : X) → length old ≡ length xs → slice_get xs i ≡ Some x
     → set (map f (take i xs) ++ drop i old) i (f x) ≡ map f (take (i + 1) xs) ++ drop (i + 1) old
