@@ -1,4 +1,5 @@
 //! How messages are drawn.
+use crate::drawing::Drawing;
 use crate::layout::Layout;
 use crate::picture::{Actor, Arrow, Fate};
 use crate::px::{Point, Px, at};
@@ -34,66 +35,68 @@ fn class_of(arrow: &Arrow) -> &'static str {
     }
 }
 
-/// Draws a message.
-pub fn draw_arrow(svg: &mut Svg, layout: &Layout, arrow: &Arrow) -> Result<(), NoMemory> {
-    let class = class_of(arrow);
-    let from = layout.x(arrow.from);
-    let to = layout.x(arrow.to);
-    match arrow.from {
-        Actor::Client(_) => draw_ask(svg, layout, arrow, class, from + BAR, to),
-        Actor::Node(_) => draw_answer(svg, layout, arrow, class, from, to + BAR),
-    }
+/// The way of a message: points of its arrow, for each that may become of it.
+#[derive(Clone, Copy)]
+struct Way {
+    /// Where it leaves in the row in which it arrives, and where it arrives.
+    start: Point,
+    end: Point,
+    /// Where it leaves in an earlier row, and where it bends then.
+    leave: Point,
+    bend: Point,
+    /// Where it is lost, and where it ends that is never given or heard.
+    lost: Point,
+    unheard: Point,
 }
 
-fn draw_ask(
-    svg: &mut Svg,
-    layout: &Layout,
-    arrow: &Arrow,
-    class: &str,
-    client: Px,
-    node: Px,
-) -> Result<(), NoMemory> {
-    let sent = layout.y(arrow.sent);
+/// The way of an ask from its client to its node.
+fn way_of_ask(layout: &Layout, arrow: &Arrow) -> Way {
+    let client = layout.x(arrow.from) + BAR;
+    let node = layout.x(arrow.to);
+    let leave = layout.y(arrow.sent) + LATER;
     let got = layout.y(arrow.got) - LANE;
-    match arrow.fate {
-        Fate::NeverGiven => {
-            let leave = sent + LATER;
-            draw_unheard(svg, class, at(client, leave), at(node - SHORT, leave))
-        }
-        Fate::Lost => draw_lost(svg, class, at(client, got), at(node - SHORT, got)),
-        Fate::Arrived | Fate::Stale if arrow.sent == arrow.got => {
-            svg.line(class, at(client, got), at(node - Px(1), got))
-        }
-        Fate::Arrived | Fate::Stale => {
-            let leave = sent + LATER;
-            let bend = at(layout.columns.channel, leave);
-            svg.path(class, &[at(client, leave), bend, at(node - Px(1), got)])
-        }
+    Way {
+        start: at(client, got),
+        end: at(node - Px(1), got),
+        leave: at(client, leave),
+        bend: at(layout.columns.channel, leave),
+        lost: at(node - SHORT, got),
+        unheard: at(node - SHORT, leave),
     }
 }
 
-fn draw_answer(
-    svg: &mut Svg,
-    layout: &Layout,
-    arrow: &Arrow,
-    class: &str,
-    node: Px,
-    client: Px,
-) -> Result<(), NoMemory> {
-    let sent = layout.y(arrow.sent) + LANE;
+/// The way of an answer from its node to its client.
+fn way_of_answer(layout: &Layout, arrow: &Arrow) -> Way {
+    let node = layout.x(arrow.from);
+    let client = layout.x(arrow.to) + BAR;
+    let leave = layout.y(arrow.sent) + LANE;
     let got = layout.y(arrow.got) + LANE;
-    match arrow.fate {
-        Fate::NeverGiven => {
-            let end = at(node - SHORT - SHORT, sent);
-            draw_unheard(svg, class, at(node, sent), end)
-        }
-        Fate::Lost => draw_lost(svg, class, at(node, got), at(client + SHORT, got)),
-        Fate::Arrived | Fate::Stale if arrow.sent == arrow.got => {
-            svg.line(class, at(node, got), at(client, got))
-        }
-        Fate::Arrived | Fate::Stale => {
-            let bend = at(layout.columns.channel, got);
-            svg.path(class, &[at(node, sent), bend, at(client, got)])
+    Way {
+        start: at(node, got),
+        end: at(client, got),
+        leave: at(node, leave),
+        bend: at(layout.columns.channel, got),
+        lost: at(client + SHORT, got),
+        unheard: at(node - SHORT - SHORT, leave),
+    }
+}
+
+impl<'p> Drawing<'p> {
+    /// Draws a message.
+    pub(crate) fn draw_arrow(&mut self, arrow: &Arrow) -> Result<(), NoMemory> {
+        let way = match arrow.from {
+            Actor::Client(_) => way_of_ask(self.layout, arrow),
+            Actor::Node(_) => way_of_answer(self.layout, arrow),
+        };
+        let class = class_of(arrow);
+        let svg = &mut self.svg;
+        match arrow.fate {
+            Fate::NeverGiven => draw_unheard(svg, class, way.leave, way.unheard),
+            Fate::Lost => draw_lost(svg, class, way.start, way.lost),
+            Fate::Arrived | Fate::Stale if arrow.sent == arrow.got => {
+                svg.line(class, way.start, way.end)
+            }
+            Fate::Arrived | Fate::Stale => svg.path(class, &[way.leave, way.bend, way.end]),
         }
     }
 }

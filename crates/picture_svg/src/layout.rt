@@ -1,5 +1,5 @@
 //! Where everything stands: columns by the widths of their texts, rows of one height.
-use crate::picture::{Actor, Label, Picture};
+use crate::picture::{Actor, Picture};
 use crate::px::{Px, width_of};
 use lists::NoMemory;
 use std::alloc::Global;
@@ -16,6 +16,10 @@ pub const MARGIN: Px = Px(16);
 
 /// How far a client's label is from its lifeline.
 pub const LABEL_GAP: Px = Px(11);
+
+/// What a reader must know of stamps.
+pub const STAMPS: &str =
+    "a stamp is TIME.CLIENT.MARK as in the report, or ends with its verifier's first digits where the report hasn't it";
 
 /// How wide a node's column is.
 const NODE: Px = Px(58);
@@ -35,27 +39,21 @@ pub struct Columns {
 
 impl Columns {
     /// The columns of a picture from here on, each client's as wide as its widest label needs.
-    fn of(
-        alloc: Global,
-        picture: &Picture,
-        from: Px,
-        labels: &BTreeMap<u32, Px>,
-    ) -> Result<Columns, NoMemory> {
+    fn of(alloc: Global, picture: &Picture, from: Px) -> Result<Columns, NoMemory> {
         let mut columns = Columns {
             lifelines: BTreeMap::new(alloc),
             channel: from,
             end: from,
         };
-        columns.add_all(picture, labels)?;
+        columns.add_all(picture)?;
         Ok(columns)
     }
 
-    fn add_all(&mut self, picture: &Picture, labels: &BTreeMap<u32, Px>) -> Result<(), NoMemory> {
+    fn add_all(&mut self, picture: &Picture) -> Result<(), NoMemory> {
         for lifeline in &picture.lifelines {
             match lifeline.actor {
                 Actor::Client(client) => {
-                    let label = labels.get(&client).copied().unwrap_or(Px(0));
-                    self.add_client(lifeline.actor, label)?;
+                    self.add_client(lifeline.actor, width_of_labels(picture, client))?;
                 }
                 Actor::Node(_) => self.add_node(lifeline.actor)?,
             }
@@ -78,10 +76,6 @@ impl Columns {
         self.end = self.end + NODE;
         Ok(())
     }
-
-    fn x(&self, actor: Actor) -> Px {
-        self.lifelines.get(&actor).copied().unwrap_or(self.channel)
-    }
 }
 
 /// Where the columns and the rows of a picture are.
@@ -98,42 +92,43 @@ pub struct Layout {
     pub top: Px,
     /// Where they end.
     pub end: Px,
-    /// How wide the rows are.
+    /// The height of the report's title.
+    pub report: Px,
+    /// The height of the line about stamps.
+    pub stamps: Px,
+    /// How wide the picture is: as wide as the widest of its parts.
     pub width: Px,
 }
 
 impl Layout {
     pub fn of(alloc: Global, picture: &Picture) -> Result<Layout, NoMemory> {
-        let labels = label_widths(alloc, picture)?;
-        Layout::with_labels(alloc, picture, &labels)
-    }
-
-    /// The layout for labels that are so wide.
-    fn with_labels(
-        alloc: Global,
-        picture: &Picture,
-        labels: &BTreeMap<u32, Px>,
-    ) -> Result<Layout, NoMemory> {
         let place = MARGIN + width_of(3);
         let line = place + MARGIN;
-        let texts = TextWidths::of(picture);
-        let columns = Columns::of(alloc, picture, line + texts.line + MARGIN, labels)?;
+        let (lines, notes) = widest_of_rows(picture);
+        let columns = Columns::of(alloc, picture, line + lines + MARGIN)?;
         let note = columns.end + CHANNEL + MARGIN;
         let top = MARGIN + LINE.times(picture.caption.len()) + ROW;
+        let end = top + ROW.times(picture.rows.len()) + MARGIN;
+        let report = end + LINE * 2;
         Ok(Layout {
             place,
             line,
             note,
             top,
-            end: top + ROW.times(picture.rows.len()) + MARGIN,
-            width: note + texts.note + MARGIN,
+            end,
+            report,
+            stamps: report + LINE.times(picture.report.len()) + LINE * 2,
+            width: (note + notes + MARGIN).max(width_of_lines(picture)),
             columns,
         })
     }
 
     /// Where the lifeline of one who takes part is.
     pub fn x(&self, actor: Actor) -> Px {
-        self.columns.x(actor)
+        match self.columns.lifelines.get(&actor) {
+            Some(x) => *x,
+            None => self.columns.channel,
+        }
     }
 
     /// The middle of a row.
@@ -142,45 +137,46 @@ impl Layout {
     }
 }
 
+/// How wide the lines above and below the rows are, with their margins.
+fn width_of_lines(picture: &Picture) -> Px {
+    let stamps = width_of(STAMPS.len());
+    let texts = widest(&picture.caption).max(widest(&picture.report));
+    texts.max(stamps) + MARGIN * 2
+}
+
+/// How wide the widest of these texts is.
+fn widest(texts: &[String]) -> Px {
+    let mut width = Px(0);
+    for text in texts {
+        width = width.max(width_of_text(text));
+    }
+    width
+}
+
 /// How wide a text is.
-pub fn width_of_text(text: &String) -> Px {
+fn width_of_text(text: &String) -> Px {
     width_of(text.chars().count())
 }
 
-/// How wide the widest of the rows' texts are.
-#[derive(Clone, Copy)]
-struct TextWidths {
-    line: Px,
-    note: Px,
-}
-
-impl TextWidths {
-    fn of(picture: &Picture) -> TextWidths {
-        let mut line = Px(0);
-        let mut note = Px(0);
-        for row in &picture.rows {
-            line = line.max(width_of_text(&row.line));
-            note = note.max(width_of_text(&row.note));
-        }
-        TextWidths { line, note }
-    }
-}
-
-/// How wide the widest label of each client is.
-fn label_widths(alloc: Global, picture: &Picture) -> Result<BTreeMap<u32, Px>, NoMemory> {
-    let mut widths = BTreeMap::new(alloc);
+/// How wide the widest line and the widest note of the rows are.
+fn widest_of_rows(picture: &Picture) -> (Px, Px) {
+    let mut line = Px(0);
+    let mut note = Px(0);
     for row in &picture.rows {
-        if let Some(label) = &row.label {
-            widen(&mut widths, label)?;
-        }
+        line = line.max(width_of_text(&row.line));
+        note = note.max(width_of_text(&row.note));
     }
-    Ok(widths)
+    (line, note)
 }
 
-/// Makes room for a client's label.
-fn widen(widths: &mut BTreeMap<u32, Px>, label: &Label) -> Result<(), NoMemory> {
-    let before = widths.get(&label.client).copied().unwrap_or(Px(0));
-    let lines = width_of_text(&label.first).max(width_of_text(&label.second));
-    widths.insert(label.client, before.max(lines))?;
-    Ok(())
+/// How wide the widest text beside the bar of a client is.
+fn width_of_labels(picture: &Picture, client: u32) -> Px {
+    let mut width = Px(0);
+    for row in &picture.rows {
+        if row.client == client {
+            let lines = width_of_text(&row.first).max(width_of_text(&row.second));
+            width = width.max(lines);
+        }
+    }
+    width
 }

@@ -1,8 +1,8 @@
 //! The legend: what the signs of a picture mean, for those that it has.
 use crate::arrows::{draw_lost, draw_unheard};
-use crate::bars;
-use crate::marks::draw_sign;
-use crate::picture::{Actor, Arrow, Fate, Mark, Picture, Sign, Stretch, Work};
+use crate::layout::{LINE, Layout, MARGIN};
+use crate::lives::{class_of_bar, draw_sign};
+use crate::picture::{Actor, Arrow, Fate, Picture, Sign, Work};
 use crate::px::{Point, Px, at, width_of};
 use crate::svg::Svg;
 use lists::NoMemory;
@@ -28,99 +28,45 @@ enum Item {
     Sign(Sign),
 }
 
-const ITEMS: [Item; 15] = [
-    Item::Ask,
-    Item::Answer,
-    Item::Lie,
-    Item::Stale,
-    Item::Lost,
-    Item::NeverGiven,
-    Item::Phase(Work::Times),
-    Item::Phase(Work::Store),
-    Item::Phase(Work::Round),
-    Item::Phase(Work::Repair),
-    Item::Unended,
-    Item::Sign(Sign::Holds),
-    Item::Sign(Sign::Prune),
-    Item::Sign(Sign::Crash),
-    Item::Sign(Sign::Back),
+/// The items of a legend in their order, each with its words.
+const ITEMS: [(Item, &'static str); 15] = [
+    (Item::Ask, "asks"),
+    (Item::Answer, "answers"),
+    (Item::Lie, "told by a liar"),
+    (Item::Stale, "heard, changes nothing"),
+    (Item::Lost, "lost"),
+    (Item::NeverGiven, "sent, never given or heard"),
+    (Item::Phase(Work::Times), "a write asks for times"),
+    (Item::Phase(Work::Store), "a write stores"),
+    (Item::Phase(Work::Round), "a read asks for versions"),
+    (Item::Phase(Work::Repair), "a read repairs"),
+    (Item::Unended, "an operation that never ended"),
+    (Item::Sign(Sign::Holds), "holds the version"),
+    (Item::Sign(Sign::Prune), "drops old versions"),
+    (Item::Sign(Sign::Crash), "crashes"),
+    (Item::Sign(Sign::Back), "is back"),
 ];
-
-fn words_of(item: Item) -> &'static str {
-    match item {
-        Item::Ask => "asks",
-        Item::Answer => "answers",
-        Item::Lie => "told by a liar",
-        Item::Stale => "heard, changes nothing",
-        Item::Lost => "lost",
-        Item::NeverGiven => "sent, never given or heard",
-        Item::Phase(Work::Times) => "a write asks for times",
-        Item::Phase(Work::Store) => "a write stores",
-        Item::Phase(Work::Round) => "a read asks for versions",
-        Item::Phase(Work::Repair) => "a read repairs",
-        Item::Unended => "an operation that never ended",
-        Item::Sign(Sign::Holds) => "holds the version",
-        Item::Sign(Sign::Prune) => "drops old versions",
-        Item::Sign(Sign::Crash) => "crashes",
-        Item::Sign(Sign::Back) => "is back",
-    }
-}
-
-fn is_ask(arrow: &Arrow) -> bool {
-    matches!(arrow.from, Actor::Client(_))
-}
-
-fn has_arrived(arrow: &Arrow) -> bool {
-    matches!(arrow.fate, Fate::Arrived)
-}
 
 /// Whether a picture has what the item explains.
 fn is_in(picture: &Picture, item: Item) -> bool {
-    for arrow in &picture.arrows {
-        if explains_arrow(item, arrow) {
-            return true;
-        }
+    match item {
+        Item::Phase(work) => picture.stretches.iter().any(|it| it.work == work),
+        Item::Unended => picture.stretches.iter().any(|it| it.is_open),
+        Item::Sign(sign) => picture.marks.iter().any(|it| it.sign == sign),
+        _ => picture.arrows.iter().any(|it| explains(item, it)),
     }
-    for stretch in &picture.stretches {
-        if explains_stretch(item, stretch) {
-            return true;
-        }
-    }
-    for mark in &picture.marks {
-        if explains_mark(item, mark) {
-            return true;
-        }
-    }
-    false
 }
 
 /// Whether an item explains an arrow.
-fn explains_arrow(item: Item, arrow: &Arrow) -> bool {
+fn explains(item: Item, arrow: &Arrow) -> bool {
     match item {
-        Item::Ask => has_arrived(arrow) && is_ask(arrow),
-        Item::Answer => has_arrived(arrow) && !is_ask(arrow),
+        Item::Ask => matches!((arrow.fate, arrow.from), (Fate::Arrived, Actor::Client(_))),
+        Item::Answer => matches!((arrow.fate, arrow.from), (Fate::Arrived, Actor::Node(_))),
         Item::Lie => arrow.is_lie,
         Item::Stale => matches!(arrow.fate, Fate::Stale),
         Item::Lost => matches!(arrow.fate, Fate::Lost),
         Item::NeverGiven => matches!(arrow.fate, Fate::NeverGiven),
         Item::Phase(_) | Item::Unended | Item::Sign(_) => false,
-    }
-}
-
-/// Whether it explains a stretch of a bar.
-fn explains_stretch(item: Item, stretch: &Stretch) -> bool {
-    match item {
-        Item::Phase(work) => stretch.work == work,
-        Item::Unended => stretch.is_open,
-        _ => false,
-    }
-}
-
-/// Whether it explains a mark.
-fn explains_mark(item: Item, mark: &Mark) -> bool {
-    match item {
-        Item::Sign(sign) => mark.sign == sign,
-        _ => false,
     }
 }
 
@@ -135,7 +81,7 @@ fn draw_sample(svg: &mut Svg, item: Item, point: Point) -> Result<(), NoMemory> 
         Item::Stale => svg.line("stale", right, point),
         Item::Lost => draw_lost(svg, "lost", point, at(right.x - Px(4), y)),
         Item::NeverGiven => draw_unheard(svg, "never", point, at(right.x - Px(3), y)),
-        Item::Phase(work) => draw_bar(svg, bars::class_of(work, false), point),
+        Item::Phase(work) => draw_bar(svg, class_of_bar(work, false), point),
         Item::Unended => draw_bar(svg, "store open", point),
         Item::Sign(sign) => draw_sign(svg, sign, at(x + Px(17), y)),
     }
@@ -143,72 +89,67 @@ fn draw_sample(svg: &mut Svg, item: Item, point: Point) -> Result<(), NoMemory> 
 
 /// Draws a piece of a bar in the room of a sample.
 fn draw_bar(svg: &mut Svg, class: &str, point: Point) -> Result<(), NoMemory> {
-    let corner = at(point.x + Px(12), point.y - Px(6));
-    svg.rect(class, corner, Px(10), Px(12))
+    let Point { x, y } = point;
+    svg.rect(class, at(x + Px(12), y - Px(6)), at(x + Px(22), y + Px(6)))
 }
 
-/// How wide an item is, with what is left free beside it.
-fn width_of_item(item: Item) -> Px {
-    SAMPLE + width_of(words_of(item).len()) + GAP
+/// An item where it stands.
+#[derive(Clone, Copy)]
+struct Entry {
+    item: Item,
+    words: &'static str,
+    point: Point,
 }
 
-/// The items of a picture, each where it stands.
+/// The items of a picture.
 #[derive(Drop)]
 pub struct Legend {
-    items: Vec<(Item, Point)>,
-    end: Px,
+    entries: Vec<Entry>,
+    /// Where the next item stands, if the line has room for it.
+    next: Point,
 }
 
 impl Legend {
-    /// The legend of a picture from a point on, in lines of this height that end before the right.
-    pub fn of(
-        alloc: Global,
-        picture: &Picture,
-        from: Point,
-        right: Px,
-        line: Px,
-    ) -> Result<Legend, NoMemory> {
+    /// The legend of a picture: a line of items below the one about stamps, and more where they don't fit.
+    pub fn of(alloc: Global, picture: &Picture, layout: &Layout) -> Result<Legend, NoMemory> {
         let mut legend = Legend {
-            items: Vec::new(alloc),
-            end: from.y,
+            entries: Vec::new(alloc),
+            next: at(MARGIN, layout.stamps + LINE),
         };
-        legend.add_items(picture, from.x, right, line)?;
+        legend.add_items(picture, layout.width)?;
         Ok(legend)
     }
 
-    /// Adds the items that a picture has, between the left and the right.
-    fn add_items(
-        &mut self,
-        picture: &Picture,
-        left: Px,
-        right: Px,
-        line: Px,
-    ) -> Result<(), NoMemory> {
-        let mut x = left;
-        for item in &ITEMS {
+    /// Adds the items that a picture has, in lines that end before the right.
+    fn add_items(&mut self, picture: &Picture, right: Px) -> Result<(), NoMemory> {
+        for (item, words) in &ITEMS {
             if is_in(picture, *item) {
-                let width = width_of_item(*item);
-                if x + width > right && x > left {
-                    x = left;
-                    self.end = self.end + line;
-                }
-                self.items.push((*item, at(x, self.end)))?;
-                x = x + width;
+                self.add(*item, *words, right)?;
             }
         }
         Ok(())
     }
 
+    fn add(&mut self, item: Item, words: &'static str, right: Px) -> Result<(), NoMemory> {
+        let width = SAMPLE + width_of(words.len()) + GAP;
+        if self.next.x + width > right && self.next.x > MARGIN {
+            self.next = at(MARGIN, self.next.y + LINE);
+        }
+        let point = self.next;
+        self.entries.push(Entry { item, words, point })?;
+        self.next = at(point.x + width, point.y);
+        Ok(())
+    }
+
     /// The height of its last line.
     pub fn end(&self) -> Px {
-        self.end
+        self.next.y
     }
 
     pub fn draw(&self, svg: &mut Svg) -> Result<(), NoMemory> {
-        for (item, point) in &self.items {
+        for Entry { item, words, point } in &self.entries {
             draw_sample(svg, *item, at(point.x, point.y - Px(4)))?;
-            let beside = at(point.x + SAMPLE, point.y);
-            svg.plain(beside, words_of(*item))?;
+            svg.plain(at(point.x + SAMPLE, point.y), *words)?;
         }
         Ok(())
     }

@@ -2,14 +2,13 @@
 #![tactic(auto)]
 
 mod arrows;
-mod bars;
 mod drawing;
 mod layout;
 mod legend;
-mod marks;
+mod lives;
 pub mod picture;
 mod px;
 mod svg;
 
 pub use drawing::svg_of;
-pub use picture::{Actor, Arrow, Fate, Label, Lifeline, Mark, Picture, Row, Sign, Stretch, Work};
+pub use picture::{Actor, Arrow, Fate, Lifeline, Mark, Picture, Row, Sign, Stretch, Work};

@@ -28,40 +28,27 @@ pub struct Lifeline {
     pub is_liar: bool,
 }
 
-/// What a client's operation does or gives at a place, in one or two lines.
-pub struct Label {
-    pub client: u32,
-    pub first: String,
-    /// The second line, which may be empty.
-    pub second: String,
-}
-
-// By hand, as those of a row and of a picture, since a derived drop is proved anew wherever one is let go.
-impl Drop for Label {
-    fn drop(self) {
-        let Label {
-            client: _client,
-            first: _first,
-            second: _second,
-        } = self;
-    }
-}
-
 /// A place of the run. Places count from 1, rows from 0.
 pub struct Row {
     /// The line of the script.
     pub line: String,
-    /// What is written beside the client's bar.
-    pub label: Option<Label>,
+    /// The client beside whose bar it is written what its operation does or gives.
+    pub client: u32,
+    /// What is written there, if anything is: one line, or two.
+    pub first: String,
+    pub second: String,
     /// What came of the line.
     pub note: String,
 }
 
+// By hand, as that of a picture, since a derived drop is proved anew wherever one is let go.
 impl Drop for Row {
     fn drop(self) {
         let Row {
             line: _line,
-            label: _label,
+            client: _client,
+            first: _first,
+            second: _second,
             note: _note,
         } = self;
     }

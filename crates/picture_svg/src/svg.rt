@@ -93,16 +93,15 @@ impl Svg {
             text: String::new(alloc),
         };
         svg.begin(width, height)?;
-        svg.add(STYLE)?;
-        svg.add(MARKERS)?;
         Ok(svg)
     }
 
     fn begin(&mut self, width: Px, height: Px) -> Result<(), NoMemory> {
         self.add("<svg xmlns=\"http://www.w3.org/2000/svg\"")?;
-        self.add_lengths(&[("width", width), ("height", height)])?;
+        write!(self.text, " width=\"{width}\" height=\"{height}\"")?;
         write!(self.text, " viewBox=\"0 0 {width} {height}\">\n")?;
-        Ok(())
+        self.add(STYLE)?;
+        self.add(MARKERS)
     }
 
     /// The whole text.
@@ -114,31 +113,7 @@ impl Svg {
 
     /// Markup as it is written here.
     fn add(&mut self, markup: &str) -> Result<(), NoMemory> {
-        self.text.push_str(markup)?;
-        Ok(())
-    }
-
-    /// The beginning of an element: its name, its class, and lengths by their names.
-    fn begin_element(
-        &mut self,
-        element: &str,
-        class: &str,
-        lengths: &[(&str, Px)],
-    ) -> Result<(), NoMemory> {
-        write!(self.text, "<{element} class=\"{class}\"")?;
-        self.add_lengths(lengths)
-    }
-
-    fn add_lengths(&mut self, lengths: &[(&str, Px)]) -> Result<(), NoMemory> {
-        for (name, length) in lengths {
-            self.add_length(name, *length)?;
-        }
-        Ok(())
-    }
-
-    fn add_length(&mut self, name: &str, length: Px) -> Result<(), NoMemory> {
-        write!(self.text, " {name}=\"{length}\"")?;
-        Ok(())
+        Ok(self.text.push_str(markup)?)
     }
 
     /// A text beside its point.
@@ -175,11 +150,20 @@ impl Svg {
         self.end_text()
     }
 
-    fn begin_text(&mut self, class: &str, anchor: Anchor, point: Point) -> Result<(), NoMemory> {
-        self.begin_element("text", class, &[("x", point.x), ("y", point.y)])?;
-        let anchor = anchor.word();
-        write!(self.text, " text-anchor=\"{anchor}\">")?;
+    /// The beginning of an element at a point: its name, its class and where it is.
+    fn begin_element(&mut self, element: &str, class: &str, point: Point) -> Result<(), NoMemory> {
+        let Point { x, y } = point;
+        write!(
+            self.text,
+            "<{element} class=\"{class}\" x=\"{x}\" y=\"{y}\""
+        )?;
         Ok(())
+    }
+
+    fn begin_text(&mut self, class: &str, anchor: Anchor, point: Point) -> Result<(), NoMemory> {
+        self.begin_element("text", class, point)?;
+        let anchor = anchor.word();
+        Ok(write!(self.text, " text-anchor=\"{anchor}\">")?)
     }
 
     fn end_text(&mut self) -> Result<(), NoMemory> {
@@ -204,48 +188,25 @@ impl Svg {
         write!(self.text, "<path class=\"{class}\" d=\"")?;
         let mut letter = 'M';
         for point in points {
-            self.add_step(letter, *point)?;
+            let Point { x, y } = *point;
+            write!(self.text, "{letter}{x} {y}")?;
             letter = 'L';
         }
         self.add("\"/>\n")
     }
 
-    /// A step of a path: the letter of its kind, and the point to which it leads.
-    fn add_step(&mut self, letter: char, to: Point) -> Result<(), NoMemory> {
-        let Point { x, y } = to;
-        write!(self.text, "{letter}{x} {y}")?;
-        Ok(())
-    }
-
-    /// A shape without points of its own: an element with its class and lengths.
-    fn shape(
-        &mut self,
-        element: &str,
-        class: &str,
-        lengths: &[(&str, Px)],
-    ) -> Result<(), NoMemory> {
-        self.begin_element(element, class, lengths)?;
-        self.add("/>\n")
-    }
-
-    pub fn rect(
-        &mut self,
-        class: &str,
-        corner: Point,
-        width: Px,
-        height: Px,
-    ) -> Result<(), NoMemory> {
-        let Point { x, y } = corner;
-        self.shape(
-            "rect",
-            class,
-            &[("x", x), ("y", y), ("width", width), ("height", height)],
-        )
+    /// A rectangle from its left upper corner to its right lower one.
+    pub fn rect(&mut self, class: &str, from: Point, to: Point) -> Result<(), NoMemory> {
+        self.begin_element("rect", class, from)?;
+        let width = to.x - from.x;
+        let height = to.y - from.y;
+        Ok(write!(self.text, " width=\"{width}\" height=\"{height}\"/>\n")?)
     }
 
     pub fn circle(&mut self, class: &str, center: Point, radius: Px) -> Result<(), NoMemory> {
         let Point { x, y } = center;
-        self.shape("circle", class, &[("cx", x), ("cy", y), ("r", radius)])
+        write!(self.text, "<circle class=\"{class}\" cx=\"{x}\" cy=\"{y}\"")?;
+        Ok(write!(self.text, " r=\"{radius}\"/>\n")?)
     }
 
     /// Two lines that cross.

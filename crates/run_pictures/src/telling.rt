@@ -23,9 +23,15 @@ pub fn told(
     requires { AreLiars replay.now.config replay.now.liars }
 {
     let marks = marks_of(alloc, history)?;
-    let first = *world.first_stamp();
     let config = &replay.config;
-    let run = Run::of(alloc, config, &replay.liars, world.records(), first, &marks)?;
+    let run = Run {
+        alloc,
+        config,
+        liars: &replay.liars,
+        records: world.records(),
+        first: *world.first_stamp(),
+        marks: &marks,
+    };
     let stage = Stage::new(alloc, config, &replay.liars)?;
     let mut picture = lines_told(alloc, Teller::new(run), stage, script, replay.lines.len())?;
     picture.report = report_lines(alloc, history)?;
@@ -77,6 +83,7 @@ fn tell(
         None => stage.play(place, text.as_bytes())?,
     };
     teller.tell(&Step {
+        place,
         text,
         line: line.as_ref(),
         pool: stage.pool(),

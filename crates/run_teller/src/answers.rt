@@ -2,7 +2,6 @@
 use crate::teller::{Step, Teller};
 use crate::words::add_words;
 use lists::NoMemory;
-use stamp_order::Stamp;
 use std::fmt::Write;
 use wire_forms::{Ask, Body, Message, Reason, Reply, Request};
 
@@ -25,64 +24,63 @@ fn ask<'s>(step: &Step<'s>, number: usize) -> Option<&'s Ask> {
     }
 }
 
-/// The block and the stamp that an ask of this number asks to store.
-pub fn stored_by(step: &Step<'_>, number: usize) -> Option<(u32, Stamp)> {
-    let ask = ask(step, number)?;
-    match &ask.request {
-        Request::Write(version) => Some((ask.block, version.stamp)),
-        Request::Time | Request::Read(_) => None,
+/// Whether the message of this number asks to store a version.
+pub fn is_store(step: &Step<'_>, number: usize) -> bool {
+    match ask(step, number) {
+        Some(ask) => matches!(ask.request, Request::Write(_)),
+        None => false,
     }
 }
 
 impl<'a> Teller<'a> {
-    /// Adds what the message of this number answers, and whether it counted.
+    /// Adds what a message answers, and whether it counted.
     pub(crate) fn add_answer(
         &self,
         note: &mut String,
         step: &Step<'_>,
-        number: usize,
+        message: &Message,
         counts: bool,
     ) -> Result<(), NoMemory> {
-        let Some(message) = step.message(number) else {
-            return Ok(());
-        };
         let Body::Answer(reply) = &message.body else {
             return Ok(());
         };
         let node = message.node;
-        let says = if self.run.liars.node(node) {
-            " lies"
-        } else {
-            ""
-        };
-        write!(note, "node {node}{says}: ")?;
-        self.add_reply(note, step, message, reply)?;
-        add_words(
-            note,
-            if counts {
-                ""
-            } else {
-                ", which changes nothing"
-            },
-        )
+        write!(note, "node {node}")?;
+        if self.run.liars.node(node) {
+            add_words(note, " lies")?;
+        }
+        add_words(note, ": ")?;
+        self.add_reply(note, self.asked(step, message), reply)?;
+        if !counts {
+            add_words(note, ", which changes nothing")?;
+        }
+        Ok(())
     }
 
+    /// The ask that an answer may belong to.
+    fn asked<'s>(&self, step: &Step<'s>, answer: &Message) -> Option<&'s Ask> {
+        ask(step, self.post.ask_of(answer)?)
+    }
+
+    /// Adds what a node replies to an ask.
     fn add_reply(
         &self,
         note: &mut String,
-        step: &Step<'_>,
-        message: &Message,
+        ask: Option<&Ask>,
         reply: &Reply,
     ) -> Result<(), NoMemory> {
         match reply {
             Reply::TimeIs(time) => Ok(write!(note, "time {time}")?),
             Reply::Found(version) => {
                 add_words(note, "found ")?;
-                let block = self.block_of(step, message);
-                self.run.stamps.add_name(note, block, &version.stamp)
+                let block = match ask {
+                    Some(ask) => ask.block,
+                    None => 0,
+                };
+                self.run.add_name(note, block, &version.stamp)
             }
             Reply::Nothing => add_words(note, "found nothing"),
-            Reply::Ack => self.add_ack(note, step, message),
+            Reply::Ack => self.add_ack(note, ask),
             Reply::Refused(reason) => {
                 add_words(note, "refused, ")?;
                 add_words(note, reason_word(*reason))
@@ -90,34 +88,13 @@ impl<'a> Teller<'a> {
         }
     }
 
-    fn add_ack(
-        &self,
-        note: &mut String,
-        step: &Step<'_>,
-        message: &Message,
-    ) -> Result<(), NoMemory> {
-        let stored = match self.post.ask_of(message) {
-            Some(ask) => stored_by(step, ask),
-            None => None,
-        };
-        match stored {
-            Some((block, stamp)) => {
+    fn add_ack(&self, note: &mut String, ask: Option<&Ask>) -> Result<(), NoMemory> {
+        if let Some(ask) = ask {
+            if let Request::Write(version) = &ask.request {
                 add_words(note, "holds ")?;
-                self.run.stamps.add_name(note, block, &stamp)
+                return self.run.add_name(note, ask.block, &version.stamp);
             }
-            None => add_words(note, "ack"),
         }
-    }
-
-    /// The block that an answer is about.
-    fn block_of(&self, step: &Step<'_>, answer: &Message) -> u32 {
-        let asked = match self.post.ask_of(answer) {
-            Some(number) => ask(step, number),
-            None => None,
-        };
-        match asked {
-            Some(ask) => ask.block,
-            None => 0,
-        }
+        add_words(note, "ack")
     }
 }

@@ -8,7 +8,6 @@ mod caption;
 mod phases;
 mod run;
 mod sent;
-mod stamps;
 mod teller;
 mod words;
 

@@ -1,10 +1,9 @@
 //! The phases of operations: the stretches of a client's bar, and what is written beside them.
-use crate::run::Run;
-use crate::stamps::block_of;
+use crate::run::{Run, block_of};
 use crate::teller::{Step, Teller};
 use crate::words::{add_value, add_words};
 use lists::NoMemory;
-use picture_svg::{Label, Stretch, Work};
+use picture_svg::{Row, Stretch, Work};
 use run_words::{How, Outcome, Record};
 use stamp_order::Bound;
 use std::collections::BTreeMap;
@@ -13,16 +12,16 @@ use wire_forms::{Ask, Body, Liars, Message, Op, Reply, Request, Tag};
 
 /// A phase of a client's operation that is under way.
 #[derive(Clone, Copy)]
-pub struct Phase {
+pub struct Phase<'a> {
     pub tag: Tag,
     pub work: Work,
-    /// The number of the operation's record.
-    pub record: usize,
+    /// The operation.
+    pub record: &'a Record,
     /// The row in which the phase began.
     pub row: usize,
 }
 
-impl Phase {
+impl<'a> Phase<'a> {
     /// Whether an answer is of the kind that the phase asks for.
     pub(crate) fn is_answered_by(&self, reply: &Reply) -> bool {
         match self.work {
@@ -67,56 +66,35 @@ fn first_ask<'m>(sent: &'m [Message], liars: &Liars) -> Option<(&'m Message, &'m
 }
 
 impl<'a> Teller<'a> {
-    /// Begins the phase whose asks were sent in a row, and tells in the label what it does. Asks that are sent again begin none.
-    pub(crate) fn begin_phase(
-        &mut self,
-        step: &Step<'_>,
-        row: usize,
-        place: u64,
-        label: &mut Option<Label>,
-    ) -> Result<(), NoMemory> {
+    /// Begins the phase whose asks a line sends, and tells in its row what the phase does. Asks that are sent again begin none.
+    pub(crate) fn begin_phase(&mut self, row: &mut Row, step: &Step<'_>) -> Result<(), NoMemory> {
         let Some((message, ask)) = first_ask(step.sent(), self.run.liars) else {
             return Ok(());
         };
-        let Some((phase, record)) = self.begun(message, ask, row, place) else {
+        let Some(phase) = self.begun(message, ask, step) else {
             return Ok(());
         };
-        *label = Some(
-            self.run
-                .phase_label(message.client, record, ask, phase.tag)?,
-        );
-        self.enter(message.client, phase)
+        row.client = message.client;
+        self.run.tell_phase(row, &phase, ask)?;
+        self.leave(message.client, phase.row, false)?;
+        self.phases.insert(message.client, phase)?;
+        Ok(())
     }
 
-    /// The phase that an ask begins in a row, with the record of its operation.
-    fn begun(
-        &self,
-        message: &Message,
-        ask: &Ask,
-        row: usize,
-        place: u64,
-    ) -> Option<(Phase, &'a Record)> {
+    /// The phase that an ask begins.
+    fn begun(&self, message: &Message, ask: &Ask, step: &Step<'_>) -> Option<Phase<'a>> {
         let tag = message.tag;
-        let number = match self.phases.get(&message.client) {
+        let record = match self.phases.get(&message.client) {
             Some(phase) if phase.tag == tag => return None,
             Some(phase) => phase.record,
-            None => self.run.started_at(place)?,
+            None => self.run.started_at(step.place)?,
         };
-        let record = self.run.record(number)?;
-        let phase = Phase {
+        Some(Phase {
             tag,
             work: work_of(&record.op, &ask.request),
-            record: number,
-            row,
-        };
-        Some((phase, record))
-    }
-
-    /// Ends the phase of a client that was under way, and begins this one.
-    fn enter(&mut self, client: u32, phase: Phase) -> Result<(), NoMemory> {
-        self.leave(client, phase.row, false)?;
-        self.phases.insert(client, phase)?;
-        Ok(())
+            record,
+            row: step.row(),
+        })
     }
 
     /// Ends the phase of a client that was under way, if there is one.
@@ -128,19 +106,16 @@ impl<'a> Teller<'a> {
         Ok(())
     }
 
-    /// Ends the operation that ends in a row, and tells how in the label.
-    pub(crate) fn end_phase(
-        &mut self,
-        row: usize,
-        place: u64,
-        label: &mut Option<Label>,
-    ) -> Result<(), NoMemory> {
-        let Some(record) = self.run.ended_at(place) else {
+    /// Ends the operation that a line ends, and tells how in its row.
+    pub(crate) fn end_phase(&mut self, row: &mut Row, step: &Step<'_>) -> Result<(), NoMemory> {
+        let Some(record) = self.run.ended_at(step.place) else {
             return Ok(());
         };
-        self.leave(record.client, row, false)?;
-        *label = Some(self.run.end_label(record)?);
-        Ok(())
+        self.leave(record.client, step.row(), false)?;
+        row.client = record.client;
+        row.first.clear();
+        row.second.clear();
+        self.run.tell_end(row, record)
     }
 
     /// Breaks off a client's operation, if one is under way.
@@ -158,7 +133,7 @@ impl<'a> Teller<'a> {
 /// Adds the stretches of phases that are still under way in the last row.
 fn add_open_stretches(
     stretches: &mut Vec<Stretch>,
-    phases: &BTreeMap<u32, Phase>,
+    phases: &BTreeMap<u32, Phase<'_>>,
     last: usize,
 ) -> Result<(), NoMemory> {
     for (client, phase) in phases.iter() {
@@ -168,93 +143,72 @@ fn add_open_stretches(
 }
 
 impl<'a> Run<'a> {
-    /// A label of a client that says nothing yet.
-    fn empty_label(&self, client: u32) -> Label {
-        Label {
-            client,
-            first: String::new(self.alloc),
-            second: String::new(self.alloc),
-        }
-    }
-
-    /// What a phase does: the operation, for its first one.
-    fn phase_label(
-        &self,
-        client: u32,
-        record: &Record,
-        ask: &Ask,
-        tag: Tag,
-    ) -> Result<Label, NoMemory> {
-        let mut label = self.empty_label(client);
-        self.tell_phase(&mut label, record, ask, tag.phase)?;
-        Ok(label)
-    }
-
-    fn tell_phase(
-        &self,
-        label: &mut Label,
-        record: &Record,
-        ask: &Ask,
-        round: u64,
-    ) -> Result<(), NoMemory> {
+    /// Tells what a phase that an ask begins does: the operation, for its first one.
+    fn tell_phase(&self, row: &mut Row, phase: &Phase<'_>, ask: &Ask) -> Result<(), NoMemory> {
+        let op = &phase.record.op;
         match &ask.request {
-            Request::Read(bound) if round > 1 => self.tell_round(label, ask.block, bound, round),
-            Request::Write(version) => {
-                add_words(&mut label.first, store_words(&record.op))?;
-                self.stamps
-                    .add_name(&mut label.second, ask.block, &version.stamp)
+            Request::Read(bound) if phase.tag.phase > 1 => {
+                let round = phase.tag.phase;
+                write!(row.first, "round {round}")?;
+                self.add_bound(&mut row.second, ask.block, bound)
             }
-            Request::Time | Request::Read(_) => self.tell_op(label, &record.op),
+            Request::Write(version) => {
+                add_words(&mut row.first, store_words(op))?;
+                self.add_name(&mut row.second, ask.block, &version.stamp)
+            }
+            Request::Time | Request::Read(_) => self.tell_op(row, op),
         }
     }
 
     /// Tells an operation, with its value, and its block where the cluster has several.
-    fn tell_op(&self, label: &mut Label, op: &Op) -> Result<(), NoMemory> {
-        add_op(&mut label.first, op)?;
+    fn tell_op(&self, row: &mut Row, op: &Op) -> Result<(), NoMemory> {
+        add_op(&mut row.first, op)?;
         if self.config.blocks() > 1 {
             let block = block_of(op);
-            write!(label.second, "block {block}")?;
+            write!(row.second, "block {block}")?;
         }
         Ok(())
     }
 
-    /// Tells which stamps of a block a later round of a read asks for.
-    fn tell_round(
-        &self,
-        label: &mut Label,
-        block: u32,
-        bound: &Bound,
-        round: u64,
-    ) -> Result<(), NoMemory> {
-        write!(label.first, "round {round}")?;
+    /// Adds which stamps of a block a later round of a read asks for.
+    fn add_bound(&self, words: &mut String, block: u32, bound: &Bound) -> Result<(), NoMemory> {
         let (word, stamp) = match bound {
             Bound::All => return Ok(()),
             Bound::AtMost(stamp) => ("up to ", stamp),
             Bound::Below(stamp) => ("below ", stamp),
         };
-        add_words(&mut label.second, word)?;
-        self.stamps.add_name(&mut label.second, block, stamp)
+        add_words(words, word)?;
+        self.add_name(words, block, stamp)
     }
 
-    /// How an operation ended.
-    fn end_label(&self, record: &Record) -> Result<Label, NoMemory> {
-        let mut label = self.empty_label(record.client);
-        add_outcome(&mut label.first, record)?;
-        self.add_stamp(&mut label.second, record)?;
-        Ok(label)
-    }
-
-    /// Adds the stamp under which an operation ended, and whether it repaired.
-    fn add_stamp(&self, words: &mut String, record: &Record) -> Result<(), NoMemory> {
-        let (stamp, note) = match &record.outcome {
-            Some(Outcome::Wrote(stamp)) => (stamp, ""),
-            Some(Outcome::Gave { stamp, how, .. }) => (stamp, how_words(*how)),
-            Some(Outcome::Spent) => return add_words(words, "no time is left"),
-            Some(Outcome::Outvoted(_)) | None => return Ok(()),
-        };
+    /// Tells how an operation ended, under which stamp, and whether it repaired.
+    fn tell_end(&self, row: &mut Row, record: &Record) -> Result<(), NoMemory> {
         let block = block_of(&record.op);
-        self.stamps.add_name(words, block, stamp)?;
-        add_words(words, note)
+        let Some(outcome) = &record.outcome else {
+            return Ok(());
+        };
+        match outcome {
+            Outcome::Wrote(stamp) => {
+                add_words(&mut row.first, "wrote")?;
+                self.add_name(&mut row.second, block, stamp)
+            }
+            Outcome::Gave {
+                stamp,
+                value,
+                how,
+                ..
+            } => {
+                add_words(&mut row.first, "gives ")?;
+                add_value(&mut row.first, value.as_slice())?;
+                self.add_name(&mut row.second, block, stamp)?;
+                add_words(&mut row.second, how_words(*how))
+            }
+            Outcome::Spent => {
+                add_words(&mut row.first, "spent")?;
+                add_words(&mut row.second, "no time is left")
+            }
+            Outcome::Outvoted(_) => add_words(&mut row.first, "outvoted"),
+        }
     }
 }
 
@@ -274,20 +228,6 @@ fn add_op(words: &mut String, op: &Op) -> Result<(), NoMemory> {
             add_words(words, "write ")?;
             add_value(words, value.as_slice())
         }
-    }
-}
-
-/// Adds how an operation ended.
-fn add_outcome(words: &mut String, record: &Record) -> Result<(), NoMemory> {
-    match &record.outcome {
-        Some(Outcome::Wrote(_)) => add_words(words, "wrote"),
-        Some(Outcome::Gave { value, .. }) => {
-            add_words(words, "gives ")?;
-            add_value(words, value.as_slice())
-        }
-        Some(Outcome::Spent) => add_words(words, "spent"),
-        Some(Outcome::Outvoted(_)) => add_words(words, "outvoted"),
-        None => Ok(()),
     }
 }
 

@@ -1,87 +1,73 @@
 //! A run whose lines have all taken place, and are told again.
-use crate::stamps::Stamps;
 use lists::NoMemory;
 use quorum_rules::Config;
 use run_words::Record;
 use stamp_order::Stamp;
 use std::alloc::Global;
 use std::collections::BTreeMap;
-use wire_forms::Liars;
+use std::fmt::Write;
+use wire_forms::{Liars, Op};
 
-/// The cluster, who lies, the records, and which of them start and end at a place.
+/// The cluster, who lies, the records, and how the report names stamps.
+#[derive(Clone, Copy)]
 pub struct Run<'a> {
-    pub(crate) alloc: Global,
-    pub(crate) config: &'a Config,
-    pub(crate) liars: &'a Liars,
-    pub(crate) stamps: Stamps,
-    records: &'a [Record],
-    starts: BTreeMap<u64, usize>,
-    ends: BTreeMap<u64, usize>,
-}
-
-// By hand, since a derived drop is proved anew wherever a run is let go.
-impl<'a> Drop for Run<'a> {
-    fn drop(self) {
-        let Run {
-            alloc: _alloc,
-            config: _config,
-            liars: _liars,
-            stamps: _stamps,
-            records: _records,
-            starts: _starts,
-            ends: _ends,
-        } = self;
-    }
+    pub alloc: Global,
+    pub config: &'a Config,
+    pub liars: &'a Liars,
+    pub records: &'a [Record],
+    /// The first stamp of each block.
+    pub first: Stamp,
+    /// The mark that the report gives the stamp of an operation, by the place at which this starts.
+    pub marks: &'a BTreeMap<u64, u32>,
 }
 
 impl<'a> Run<'a> {
-    /// The run of these records, in a cluster whose blocks have this first stamp. The report of the run gives the stamp of an
-    /// operation the mark that stands here at its start.
-    pub fn of(
-        alloc: Global,
-        config: &'a Config,
-        liars: &'a Liars,
-        records: &'a [Record],
-        first: Stamp,
-        marks: &BTreeMap<u64, u32>,
-    ) -> Result<Run<'a>, NoMemory> {
-        let mut run = Run {
-            alloc,
-            config,
-            liars,
-            stamps: Stamps::of(alloc, first, records, marks)?,
-            records,
-            starts: BTreeMap::new(alloc),
-            ends: BTreeMap::new(alloc),
-        };
-        run.add_places()?;
-        Ok(run)
-    }
-
-    /// Adds where the operations start and end.
-    fn add_places(&mut self) -> Result<(), NoMemory> {
-        for (number, record) in self.records.iter().enumerate() {
-            self.starts.insert(record.start, number)?;
-            if let Some(end) = record.end {
-                self.ends.insert(end, number)?;
-            }
-        }
-        Ok(())
-    }
-
-    /// The number of the operation that starts at a place.
-    pub(crate) fn started_at(&self, place: u64) -> Option<usize> {
-        self.starts.get(&place).copied()
+    /// The operation that starts at a place.
+    pub(crate) fn started_at(&self, place: u64) -> Option<&'a Record> {
+        self.records.iter().find(|record| record.start == place)
     }
 
     /// The operation that ends at a place.
     pub(crate) fn ended_at(&self, place: u64) -> Option<&'a Record> {
-        let number = self.ends.get(&place)?;
-        self.records.get(*number)
+        self.records.iter().find(|record| record.end == Some(place))
     }
 
-    /// The operation of this number.
-    pub(crate) fn record(&self, number: usize) -> Option<&'a Record> {
-        self.records.get(number)
+    /// The mark that the report gives a stamp of a block.
+    fn mark_of(&self, block: u32, stamp: &Stamp) -> Option<u32> {
+        for record in self.records {
+            if block_of(&record.op) == block && record.stamp == Some(*stamp) {
+                if let Some(mark) = self.marks.get(&record.start) {
+                    return Some(*mark);
+                }
+            }
+        }
+        if self.first == *stamp { Some(1) } else { None }
+    }
+
+    /// Adds time, client and mark of a stamp; for one that the report hasn't, the first digits of its verifier in place of the
+    /// mark.
+    pub(crate) fn add_name(
+        &self,
+        name: &mut String,
+        block: u32,
+        stamp: &Stamp,
+    ) -> Result<(), NoMemory> {
+        let Stamp { time, client, .. } = *stamp;
+        write!(name, "{time}.{client}")?;
+        match self.mark_of(block, stamp) {
+            Some(mark) => write!(name, ".{mark}")?,
+            None => {
+                let [a, b, ..] = stamp.verifier;
+                write!(name, "#{a:02x}{b:02x}")?;
+            }
+        }
+        Ok(())
+    }
+}
+
+/// The block that an operation is on.
+pub fn block_of(op: &Op) -> u32 {
+    match op {
+        Op::Read { block } | Op::Write { block, .. } => *block,
     }
 }

@@ -1,5 +1,5 @@
 //! A run, told line by line.
-use crate::answers::stored_by;
+use crate::answers::is_store;
 use crate::caption::caption_of;
 use crate::phases::Phase;
 use crate::run::Run;
@@ -17,6 +17,8 @@ use wire_forms::{Body, Liars, Message, Reply, Tag};
 /// A line that took place.
 #[derive(Clone, Copy)]
 pub struct Step<'s> {
+    /// The place at which it took place.
+    pub place: u64,
     /// The text of the line in its script.
     pub text: &'s str,
     /// What took place; none for a command of the device.
@@ -28,6 +30,11 @@ pub struct Step<'s> {
 }
 
 impl<'s> Step<'s> {
+    /// The row of the line.
+    pub(crate) fn row(&self) -> usize {
+        (self.place as usize).saturating_sub(1)
+    }
+
     /// The message of this number.
     pub(crate) fn message(&self, number: usize) -> Option<&'s Message> {
         self.pool.get(number)
@@ -44,7 +51,7 @@ pub struct Teller<'a> {
     pub(crate) run: Run<'a>,
     pub(crate) post: Post,
     /// The phases that are under way, by client.
-    pub(crate) phases: BTreeMap<u32, Phase>,
+    pub(crate) phases: BTreeMap<u32, Phase<'a>>,
     /// The phase in which the last answer counted, by client and node.
     pub(crate) counted: BTreeMap<Pair, Tag>,
     /// The clients that took part.
@@ -82,32 +89,32 @@ impl<'a> Teller<'a> {
 
     /// The operation that starts at a place, whatever line starts it.
     pub fn started_at(&self, place: u64) -> Option<&'a Record> {
-        self.run.record(self.run.started_at(place)?)
+        self.run.started_at(place)
     }
 
     /// Tells the next line of the script.
     pub fn tell(&mut self, step: &Step<'_>) -> Result<(), NoMemory> {
-        let number = self.picture.rows.len();
         let alloc = self.run.alloc;
         let mut row = Row {
             line: short_line(alloc, step.text)?,
-            label: None,
+            client: 0,
+            first: String::new(alloc),
+            second: String::new(alloc),
             note: String::new(alloc),
         };
-        self.tell_row(&mut row, step, number)?;
+        self.tell_row(&mut row, step)?;
         self.picture.rows.push(row)?;
         Ok(())
     }
 
-    /// Tells in the row of this number what a line does and what came of it.
-    fn tell_row(&mut self, row: &mut Row, step: &Step<'_>, number: usize) -> Result<(), NoMemory> {
-        let place = (number as u64).saturating_add(1);
-        self.add_sent(step, number)?;
+    /// Tells in its row what a line does and what came of it.
+    fn tell_row(&mut self, row: &mut Row, step: &Step<'_>) -> Result<(), NoMemory> {
+        self.add_sent(step)?;
         if let Some(line) = step.line {
-            self.add_note(&mut row.note, step, line, number)?;
+            self.add_note(&mut row.note, step, line)?;
         }
-        self.begin_phase(step, number, place, &mut row.label)?;
-        self.end_phase(number, place, &mut row.label)
+        self.begin_phase(row, step)?;
+        self.end_phase(row, step)
     }
 
     /// The whole picture but for the report, when all lines are told.
@@ -137,10 +144,10 @@ impl<'a> Teller<'a> {
     }
 
     /// Adds the messages that a line sends.
-    fn add_sent(&mut self, step: &Step<'_>, row: usize) -> Result<(), NoMemory> {
+    fn add_sent(&mut self, step: &Step<'_>) -> Result<(), NoMemory> {
         for message in step.sent() {
             self.clients.insert(message.client)?;
-            self.post.add(message, row, self.run.liars)?;
+            self.post.add(message, step.row(), self.run.liars)?;
         }
         Ok(())
     }
@@ -151,32 +158,41 @@ impl<'a> Teller<'a> {
         note: &mut String,
         step: &Step<'_>,
         line: &Line,
-        row: usize,
     ) -> Result<(), NoMemory> {
-        match Event::of(line, step.before) {
-            Event::Said(words) => add_words(note, words),
-            Event::Called => self.call(note, step, row),
-            Event::Given { ask, answer } => self.give(note, step, ask, answer, row),
-            Event::Heard { answer } => self.hear(note, step, answer, row),
-            Event::Lost(pair) => self.lose(note, pair, row),
-            Event::Signed { actor, sign } => self.mark(note, actor, sign, row),
-            Event::Crashed { client } => self.crash_client(note, client, row),
+        let first = step.before;
+        match line {
+            Line::Write { .. } | Line::Read { .. } => Ok(()),
+            Line::Resend { .. } => add_words(note, "asks again"),
+            Line::Lie { .. } => add_words(note, "told, and not given yet"),
+            Line::Call { .. } | Line::False { .. } => self.call(note, step),
+            Line::Give { message, .. } => self.give(note, step, *message as usize, first),
+            Line::Poke { .. } | Line::Sound { .. } | Line::Mix { .. } => {
+                self.give(note, step, first, first.saturating_add(1))
+            }
+            Line::Hear { message, .. } => self.hear(note, step, *message as usize),
+            Line::Tell { .. } => self.hear(note, step, first),
+            Line::Lost { client, node } => self.lose(note, step, *client, *node),
+            Line::CrashClient { client } => self.crash_client(note, step, *client),
+            Line::CrashNode { node } => self.mark(note, step, Actor::Node(*node), Sign::Crash),
+            Line::Prune { node, .. } => self.mark(note, step, Actor::Node(*node), Sign::Prune),
+            Line::Back { client } => self.mark(note, step, Actor::Client(*client), Sign::Back),
+            Line::Restart { node } => self.mark(note, step, Actor::Node(*node), Sign::Back),
         }
     }
 
     /// A client's ask to a node and the node's answer, which the client hears.
-    fn call(&mut self, note: &mut String, step: &Step<'_>, row: usize) -> Result<(), NoMemory> {
+    fn call(&mut self, note: &mut String, step: &Step<'_>) -> Result<(), NoMemory> {
         let answer = step.before;
         let ask = match step.message(answer) {
             Some(message) => self.post.ask_of(message),
             None => None,
         };
         if let Some(ask) = ask {
-            let arrow = self.post.settle_call(ask, row);
+            let arrow = self.post.settle_call(ask, step.row());
             add_arrow(&mut self.picture.arrows, arrow)?;
-            self.hold(step, ask, answer, row)?;
+            self.hold(step, ask, answer)?;
         }
-        self.hear(note, step, answer, row)
+        self.hear(note, step, answer)
     }
 
     /// An ask that a node is given, and the node's answer, which nobody hears yet.
@@ -186,22 +202,18 @@ impl<'a> Teller<'a> {
         step: &Step<'_>,
         ask: usize,
         answer: usize,
-        row: usize,
     ) -> Result<(), NoMemory> {
-        let arrow = self.post.settle(ask, row, Fate::Arrived);
+        let arrow = self.post.settle(ask, step.row(), Fate::Arrived);
         add_arrow(&mut self.picture.arrows, arrow)?;
-        self.hold(step, ask, answer, row)?;
-        self.add_answer(note, step, answer, true)
+        self.hold(step, ask, answer)?;
+        match step.message(answer) {
+            Some(message) => self.add_answer(note, step, message, true),
+            None => Ok(()),
+        }
     }
 
     /// An answer that a client hears.
-    fn hear(
-        &mut self,
-        note: &mut String,
-        step: &Step<'_>,
-        answer: usize,
-        row: usize,
-    ) -> Result<(), NoMemory> {
+    fn hear(&mut self, note: &mut String, step: &Step<'_>, answer: usize) -> Result<(), NoMemory> {
         let Some(message) = step.message(answer) else {
             return Ok(());
         };
@@ -210,9 +222,9 @@ impl<'a> Teller<'a> {
             self.counted.insert(pair_of(message), message.tag)?;
         }
         let fate = if counts { Fate::Arrived } else { Fate::Stale };
-        let arrow = self.post.settle(answer, row, fate);
+        let arrow = self.post.settle(answer, step.row(), fate);
         add_arrow(&mut self.picture.arrows, arrow)?;
-        self.add_answer(note, step, answer, counts)
+        self.add_answer(note, step, message, counts)
     }
 
     /// Whether an answer is the first of its node to the client's phase under way, and of the kind that this asks for.
@@ -229,102 +241,61 @@ impl<'a> Teller<'a> {
     }
 
     /// Marks a correct node that acknowledges the version of an ask.
-    fn hold(
-        &mut self,
-        step: &Step<'_>,
-        ask: usize,
-        answer: usize,
-        row: usize,
-    ) -> Result<(), NoMemory> {
-        let Some(message) = step.message(answer) else {
+    fn hold(&mut self, step: &Step<'_>, ask: usize, answer: usize) -> Result<(), NoMemory> {
+        let Some(Message { node, body, .. }) = step.message(answer) else {
             return Ok(());
         };
-        let is_ack = matches!(message.body, Body::Answer(Reply::Ack));
-        let is_store = stored_by(step, ask).is_some();
-        if is_ack && is_store && !self.run.liars.node(message.node) {
-            let mark = Mark {
-                actor: Actor::Node(message.node),
-                row,
-                sign: Sign::Holds,
-            };
-            return add_mark(&mut self.picture.marks, mark);
+        let is_ack = matches!(body, Body::Answer(Reply::Ack));
+        if is_ack && is_store(step, ask) && !self.run.liars.node(*node) {
+            return self.add_mark(step, Actor::Node(*node), Sign::Holds);
         }
         Ok(())
     }
 
-    fn lose(&mut self, note: &mut String, pair: Pair, row: usize) -> Result<(), NoMemory> {
-        let arrow = self.post.lose(pair, row);
-        self.clients.insert(pair.client)?;
+    fn lose(
+        &mut self,
+        note: &mut String,
+        step: &Step<'_>,
+        client: u32,
+        node: u8,
+    ) -> Result<(), NoMemory> {
+        let arrow = self.post.lose(Pair { client, node }, step.row());
+        self.clients.insert(client)?;
         self.picture.arrows.push(arrow)?;
         add_words(note, "lost")
     }
 
+    /// Marks one who takes part, and tells what happens to it.
     fn mark(
         &mut self,
         note: &mut String,
+        step: &Step<'_>,
         actor: Actor,
         sign: Sign,
-        row: usize,
     ) -> Result<(), NoMemory> {
-        add_client(&mut self.clients, actor)?;
-        add_mark(&mut self.picture.marks, Mark { actor, row, sign })?;
-        add_sign_words(note, actor, sign)
-    }
-
-    fn crash_client(&mut self, note: &mut String, client: u32, row: usize) -> Result<(), NoMemory> {
-        self.break_off(client, row)?;
-        self.mark(note, Actor::Client(client), Sign::Crash, row)
-    }
-}
-
-/// What takes place between those who take part.
-#[derive(Clone, Copy)]
-enum Event {
-    /// Nothing but these words.
-    Said(&'static str),
-    Called,
-    Given { ask: usize, answer: usize },
-    Heard { answer: usize },
-    Lost(Pair),
-    Signed { actor: Actor, sign: Sign },
-    Crashed { client: u32 },
-}
-
-impl Event {
-    /// What a line does, whose first message has this number.
-    fn of(line: &Line, first: usize) -> Event {
-        match line {
-            Line::Write { .. } | Line::Read { .. } => Event::Said(""),
-            Line::Resend { .. } => Event::Said("asks again"),
-            Line::Lie { .. } => Event::Said("told, and not given yet"),
-            Line::Call { .. } | Line::False { .. } => Event::Called,
-            Line::Give { message, .. } => Event::Given {
-                ask: *message as usize,
-                answer: first,
-            },
-            Line::Poke { .. } | Line::Sound { .. } | Line::Mix { .. } => Event::Given {
-                ask: first,
-                answer: first.saturating_add(1),
-            },
-            Line::Hear { message, .. } => Event::Heard {
-                answer: *message as usize,
-            },
-            Line::Tell { .. } => Event::Heard { answer: first },
-            Line::Lost { client, node } => Event::Lost(Pair {
-                client: *client,
-                node: *node,
-            }),
-            Line::CrashClient { client } => Event::Crashed { client: *client },
-            Line::CrashNode { node } => signed(Actor::Node(*node), Sign::Crash),
-            Line::Prune { node, .. } => signed(Actor::Node(*node), Sign::Prune),
-            Line::Back { client } => signed(Actor::Client(*client), Sign::Back),
-            Line::Restart { node } => signed(Actor::Node(*node), Sign::Back),
+        if let Actor::Client(client) = actor {
+            self.clients.insert(client)?;
         }
+        self.add_mark(step, actor, sign)?;
+        let what = sign_words(sign);
+        Ok(write!(note, "{actor} {what}")?)
     }
-}
 
-fn signed(actor: Actor, sign: Sign) -> Event {
-    Event::Signed { actor, sign }
+    fn add_mark(&mut self, step: &Step<'_>, actor: Actor, sign: Sign) -> Result<(), NoMemory> {
+        let row = step.row();
+        self.picture.marks.push(Mark { actor, row, sign })?;
+        Ok(())
+    }
+
+    fn crash_client(
+        &mut self,
+        note: &mut String,
+        step: &Step<'_>,
+        client: u32,
+    ) -> Result<(), NoMemory> {
+        self.break_off(client, step.row())?;
+        self.mark(note, step, Actor::Client(client), Sign::Crash)
+    }
 }
 
 /// Adds the clients that took part or are declared lying.
@@ -367,26 +338,6 @@ fn add_arrow(arrows: &mut Vec<Arrow>, arrow: Option<Arrow>) -> Result<(), NoMemo
     if let Some(arrow) = arrow {
         arrows.push(arrow)?;
     }
-    Ok(())
-}
-
-/// Adds one who takes part to the clients, if it is a client.
-fn add_client(clients: &mut BTreeSet<u32>, actor: Actor) -> Result<(), NoMemory> {
-    if let Actor::Client(client) = actor {
-        clients.insert(client)?;
-    }
-    Ok(())
-}
-
-fn add_mark(marks: &mut Vec<Mark>, mark: Mark) -> Result<(), NoMemory> {
-    marks.push(mark)?;
-    Ok(())
-}
-
-/// Adds who has a sign, and what it says.
-fn add_sign_words(note: &mut String, actor: Actor, sign: Sign) -> Result<(), NoMemory> {
-    let what = sign_words(sign);
-    write!(note, "{actor} {what}")?;
     Ok(())
 }
 
