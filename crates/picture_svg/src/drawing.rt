@@ -65,8 +65,8 @@ impl<'p> Drawing<'p> {
 
     fn draw_row(&mut self, row: &Row, number: usize, y: Px) -> Result<(), NoMemory> {
         let layout = self.layout;
-        self.svg
-            .number(at(layout.place, y), number.saturating_add(1))?;
+        let place = number.saturating_add(1);
+        self.svg.number(at(layout.place, y), place)?;
         self.svg.plain(at(layout.line, y), row.line.as_str())?;
         self.draw_label(row, y)?;
         self.svg.plain(at(layout.note, y), row.note.as_str())

@@ -1,5 +1,5 @@
 //! Where everything stands: columns by the widths of their texts, rows of one height.
-use crate::picture::{Actor, Picture};
+use crate::picture::{Actor, Picture, Row};
 use crate::px::{Px, width_of};
 use lists::NoMemory;
 use std::alloc::Global;
@@ -45,15 +45,16 @@ impl Columns {
             channel: from,
             end: from,
         };
-        columns.add_all(picture)?;
+        columns.add_all(picture, &label_widths(alloc, picture)?)?;
         Ok(columns)
     }
 
-    fn add_all(&mut self, picture: &Picture) -> Result<(), NoMemory> {
+    fn add_all(&mut self, picture: &Picture, labels: &BTreeMap<u32, Px>) -> Result<(), NoMemory> {
         for lifeline in &picture.lifelines {
             match lifeline.actor {
                 Actor::Client(client) => {
-                    self.add_client(lifeline.actor, width_of_labels(picture, client))?;
+                    let label = labels.get(&client).copied().unwrap_or(Px(0));
+                    self.add_client(lifeline.actor, label)?;
                 }
                 Actor::Node(_) => self.add_node(lifeline.actor)?,
             }
@@ -139,9 +140,8 @@ impl Layout {
 
 /// How wide the lines above and below the rows are, with their margins.
 fn width_of_lines(picture: &Picture) -> Px {
-    let stamps = width_of(STAMPS.len());
     let texts = widest(&picture.caption).max(widest(&picture.report));
-    texts.max(stamps) + MARGIN * 2
+    texts.max(width_of(STAMPS.len())) + MARGIN * 2
 }
 
 /// How wide the widest of these texts is.
@@ -169,14 +169,19 @@ fn widest_of_rows(picture: &Picture) -> (Px, Px) {
     (line, note)
 }
 
-/// How wide the widest text beside the bar of a client is.
-fn width_of_labels(picture: &Picture, client: u32) -> Px {
-    let mut width = Px(0);
+/// How wide the widest text beside each client's bar is.
+fn label_widths(alloc: Global, picture: &Picture) -> Result<BTreeMap<u32, Px>, NoMemory> {
+    let mut widths = BTreeMap::new(alloc);
     for row in &picture.rows {
-        if row.client == client {
-            let lines = width_of_text(&row.first).max(width_of_text(&row.second));
-            width = width.max(lines);
-        }
+        widen(&mut widths, row)?;
     }
-    width
+    Ok(widths)
+}
+
+/// Makes room for what is written in a row beside its client's bar.
+fn widen(widths: &mut BTreeMap<u32, Px>, row: &Row) -> Result<(), NoMemory> {
+    let before = widths.get(&row.client).copied().unwrap_or(Px(0));
+    let texts = width_of_text(&row.first).max(width_of_text(&row.second));
+    widths.insert(row.client, before.max(texts))?;
+    Ok(())
 }

@@ -24,14 +24,8 @@ pub fn told(
 {
     let marks = marks_of(alloc, history)?;
     let config = &replay.config;
-    let run = Run {
-        alloc,
-        config,
-        liars: &replay.liars,
-        records: world.records(),
-        first: *world.first_stamp(),
-        marks: &marks,
-    };
+    let first = *world.first_stamp();
+    let run = Run::of(alloc, config, &replay.liars, world.records(), first, &marks)?;
     let stage = Stage::new(alloc, config, &replay.liars)?;
     let mut picture = lines_told(alloc, Teller::new(run), stage, script, replay.lines.len())?;
     picture.report = report_lines(alloc, history)?;

@@ -9,39 +9,77 @@ use std::fmt::Write;
 use wire_forms::{Liars, Op};
 
 /// The cluster, who lies, the records, and how the report names stamps.
-#[derive(Clone, Copy)]
+#[derive(Drop)]
 pub struct Run<'a> {
-    pub alloc: Global,
-    pub config: &'a Config,
-    pub liars: &'a Liars,
-    pub records: &'a [Record],
+    pub(crate) alloc: Global,
+    pub(crate) config: &'a Config,
+    pub(crate) liars: &'a Liars,
+    /// In order of start.
+    records: &'a [Record],
+    /// The operation that ends at a place.
+    ends: BTreeMap<u64, &'a Record>,
     /// The first stamp of each block.
-    pub first: Stamp,
-    /// The mark that the report gives the stamp of an operation, by the place at which this starts.
-    pub marks: &'a BTreeMap<u64, u32>,
+    first: Stamp,
+    /// The mark that the report gives a stamp of a block.
+    marks: BTreeMap<(u32, Stamp), u32>,
 }
 
 impl<'a> Run<'a> {
+    /// The run of these records, which stand in order of start, in a cluster whose blocks have this first stamp. The report gives
+    /// the stamp of an operation the mark that stands here at its start.
+    pub fn of(
+        alloc: Global,
+        config: &'a Config,
+        liars: &'a Liars,
+        records: &'a [Record],
+        first: Stamp,
+        marks: &BTreeMap<u64, u32>,
+    ) -> Result<Run<'a>, NoMemory> {
+        let mut run = Run {
+            alloc,
+            config,
+            liars,
+            records,
+            ends: BTreeMap::new(alloc),
+            first,
+            marks: BTreeMap::new(alloc),
+        };
+        run.add_all(marks)?;
+        Ok(run)
+    }
+
+    fn add_all(&mut self, marks: &BTreeMap<u64, u32>) -> Result<(), NoMemory> {
+        for record in self.records {
+            if let Some(end) = record.end {
+                self.ends.insert(end, record)?;
+            }
+            if let (Some(stamp), Some(mark)) = (record.stamp, marks.get(&record.start)) {
+                self.marks.insert((block_of(&record.op), stamp), *mark)?;
+            }
+        }
+        Ok(())
+    }
+
     /// The operation that starts at a place.
     pub(crate) fn started_at(&self, place: u64) -> Option<&'a Record> {
-        self.records.iter().find(|record| record.start == place)
+        let number = self
+            .records
+            .binary_search_by_key(&place, |record| record.start);
+        self.records.get(number.ok()?)
     }
 
     /// The operation that ends at a place.
     pub(crate) fn ended_at(&self, place: u64) -> Option<&'a Record> {
-        self.records.iter().find(|record| record.end == Some(place))
+        self.ends.get(&place).copied()
     }
 
     /// The mark that the report gives a stamp of a block.
     fn mark_of(&self, block: u32, stamp: &Stamp) -> Option<u32> {
-        for record in self.records {
-            if block_of(&record.op) == block && record.stamp == Some(*stamp) {
-                if let Some(mark) = self.marks.get(&record.start) {
-                    return Some(*mark);
-                }
-            }
+        match self.marks.get(&(block, *stamp)) {
+            Some(mark) => Some(*mark),
+            None if self.first == *stamp => Some(1),
+            None => None,
         }
-        if self.first == *stamp { Some(1) } else { None }
     }
 
     /// Adds time, client and mark of a stamp; for one that the report hasn't, the first digits of its verifier in place of the
