@@ -1,5 +1,5 @@
-//! What stands below the model, where no program shows it: lists, byte strings and streams; texts of messages that no line of a
-//! script prints, and how far a text that is none begins one; the field, the erasure code by both of its forms, which give the same
+//! What stands below the model, where no program shows it: lists, byte strings and streams; the limits of each edition; texts of
+//! messages that no line of a script prints, and how far a text that is none begins one; the field, the erasure code by both of its forms, which give the same
 //! fragments, and whether fragments belong together. Tests alone.
 #![tactic(auto)]
 
@@ -7,6 +7,8 @@
 mod bytes;
 #[cfg(test)]
 mod checks;
+#[cfg(test)]
+mod configs;
 #[cfg(test)]
 mod fields;
 #[cfg(test)]

@@ -178,7 +178,7 @@ fn len_of(op: &DeviceOp) -> u64
 /// How many bytes the device has.
 fn len_of_device(config: &Config) -> u64
     ensures is { result ≡ config.now.size * config.now.blocks }
-    ensures small { result ≤ 67108864 }
+    ensures small { result ≤ 1073741824 }
 {
     u64::from(config.size()) * u64::from(config.blocks())
 }

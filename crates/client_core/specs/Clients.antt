@@ -13,7 +13,7 @@ use Rattle.protocol.specs.Seen.{SeenTask, SeenOperation, SeenClient, Hearing, ta
 use Rattle.protocol.specs.Seen.Hearing.{Ignored, Counted, Begins, Ended}
 use Rattle.operation_core.specs.declared.stage.Stage.{Stage}
 use Rattle.operation_core.specs.Stages.{stage_of}
-use Rattle.operation_core.specs.Counting.{hears_in, next_task, IsPhaseEnd}
+use Rattle.operation_core.specs.Counting.{hears_in, next_task, AnswerDoes, IsPhaseEnd}
 use Rattle.client_core.specs.declared.step.Step.{Step}
 use Rattle.client_core.specs.declared.step.Step.TheVariants.{Ignored as Unheard, Counts, EndsPhase}
 use Rattle.client_core.specs.declared.heard.Heard.{Heard}
@@ -85,7 +85,7 @@ is_only_counted (Ended outcome) = false
 abbrev pub IsStep : ClientView → Hearing → Step → Type 0
 IsStep c h Unheard = h ≡ Ignored
 IsStep c h (Counts node tag reply) = (t : SeenTask) × (h ≡ Counted t) × (hears_answer c node tag reply ≡ Counted t)
-IsStep c h (EndsPhase end) = IsPhaseEnd (operation_of c) h end
+IsStep c h (EndsPhase end) = AnswerDoes (operation_of c) h × IsPhaseEnd (operation_of c) h end
 
 -- the answer says what the message did, and the client did it
 abbrev pub IsHeard : ClientView → ClientView → Message → Heard → Type 0

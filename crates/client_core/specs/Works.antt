@@ -12,7 +12,7 @@ use Rattle.client_core.specs.declared.client.Work.TheVariants.{Idle, Writing, Re
 abbrev pub task_of : Work → Option SeenTask
 task_of Idle = None
 task_of (Writing o) = o.task
-task_of (Reading o) = o.task
+task_of (Reading r) = r.operation.task
 
 -- an operation of this client, which isn't over
 pub record IsOwn (config : Numbers) (id : ℕ) (o : SeenOperation) : Type 0 where
@@ -24,7 +24,7 @@ pub record IsOwn (config : Numbers) (id : ℕ) (o : SeenOperation) : Type 0 wher
 abbrev pub IsWork : Numbers → ℕ → Work → Type 0
 IsWork config id Idle = Unit {0}
 IsWork config id (Writing o) = IsOwn config id o
-IsWork config id (Reading o) = IsOwn config id o
+IsWork config id (Reading r) = IsOwn config id r.operation
 
 -- the stamp is that of the cluster's first version, the lives and operations are numbers of 32 bits, and the operation under way is
 -- the client's own

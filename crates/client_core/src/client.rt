@@ -3,7 +3,7 @@ ghost use Rattle.protocol.specs.Seen.{ops_of, block_of, work_of, has_answered, p
 ghost use Rattle.protocol.specs.World.{Fits};
 ghost use Rattle.protocol.specs.Instance.{setting};
 ghost use Rattle.wire_forms.specs.Firsts.{first_of};
-ghost use Rattle.operation_core.specs.Counting.{begun_task, first_mail, ends_in, outstanding_in, MayBegin, IsPhaseEnd};
+ghost use Rattle.operation_core.specs.Counting.{begun_task, first_mail, ends_in, outstanding_in, GoesOn, IsAtEnd, IsPhaseEnd};
 ghost use Rattle.client_core.specs.Works.{HasBegun};
 ghost use Rattle.client_core.specs.Clients.{operation_of, idle_client, hears, hears_answer, with_task, with_started, next_of, started, mail_of, is_only_counted, goes_to, IsStep, IsHeard};
 
@@ -178,9 +178,9 @@ impl Client {
         }
     }
 
-    /// Begins the next phase of the operation under way.
+    /// Begins the next phase of the operation under way, as an answer that ends the present phase has it.
     pub fn go_on(&mut self, stage: Stage)
-        requires { MayBegin (operation_of self.old) stage }
+        requires { GoesOn (operation_of self.old) stage }
         ensures { self.new ≡ with_task self.old (next_of self.old stage) }
     {
         match &mut self.work {
@@ -190,8 +190,9 @@ impl Client {
         }
     }
 
-    /// Ends the operation under way.
+    /// Ends the operation under way, as an answer that ends the present phase has it.
     pub fn end(&mut self)
+        requires { IsAtEnd (operation_of self.old) }
         ensures { self.new ≡ with_task self.old None }
     {
         self.work = Work::Idle;

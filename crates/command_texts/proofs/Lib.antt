@@ -7,5 +7,7 @@ mod Ascending
 mod Events
 mod Formed
 mod Loads
+pub mod OneReport
 mod Running
 mod Told
+pub mod Unspent

@@ -9,7 +9,7 @@ use Rattle.std.proofs.lemmas.Fmt.{decimal_injective}
 use Rattle.quorum_rules.specs.Limits.{Numbers, IsValid}
 use Rattle.quorum_rules.specs.Faults.{numbers}
 use Rattle.quorum_rules.specs.declared.Edition.TheVariants.{One}
-use Rattle.quorum_rules.proofs.FaultLaws.{size_at_most}
+use Rattle.quorum_rules.proofs.FaultLaws.{size_at_most, blocks_at_most}
 use Rattle.text_lines.specs.Fields.{number_of}
 use Rattle.text_lines.proofs.Numbers.{number_of-some, number_of-text}
 use Rattle.command_texts.specs.Words.{texts, words_of, nbd_words, IsForm, IsNbd, IsNbdForm, AskForThreads}
@@ -58,6 +58,7 @@ record AreSmall (c : Numbers) : Type 0 where
 small : (c : Numbers) → IsValid c → AreSmall c
 small c v =
     let size = size_at_most c v in
+    let blocks = blocks_at_most c v in
     record { n = omega arith; t = omega arith; b = omega arith; qc = omega arith; m = omega arith; size = omega arith; blocks = omega arith }
 
 same : (m n : ℕ) → m < 2 ^ 32 → n < 2 ^ 32 → decimal m ≡ decimal n → m ≡ n

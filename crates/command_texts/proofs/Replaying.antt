@@ -7,12 +7,13 @@ use Rattle.line_forms.specs.declared.refusal.ScriptFault.{ScriptFault}
 use Rattle.event_lines.specs.declared.line.ReplayLine.{ReplayLine}
 use Rattle.protocol.specs.Setting.{Setting, first_stamp}
 use Rattle.protocol.specs.World.{World}
+use Rattle.protocol.specs.Lines.{IsRun}
 use Rattle.protocol.specs.History.{NoClash}
 use Rattle.history_making.specs.Tellings.{Tells}
 use Rattle.history_book.specs.Judging.{IsLegal, IsInTime}
 use Rattle.world_state.specs.Worlds.{WorldView, setting_in, world_in}
 use Rattle.script_run.specs.Registers.{AreRegisters}
-use Rattle.script_run.specs.Performing.{CommandQueues, Performs, StopsAt}
+use Rattle.script_run.specs.Performing.{CommandQueues, Performs, run_lines, StopsAt}
 use Rattle.line_forms.specs.declared.refusal.ScriptRefusal.{ScriptRefusal}
 use Rattle.line_forms.specs.declared.refusal.ScriptRefusal.TheVariants as scripts
 use Rattle.command_texts.specs.declared.words.Command.TheVariants.{Replay}
@@ -23,8 +24,8 @@ use Rattle.command_texts.specs.Replays.{cluster_of, IsReportOf, IsScript, Replay
 module _ (input : List ℕ) (c : Numbers) (liars : Liars) (lines : List ReplayLine) (script : IsScript input c liars lines) where
   -- the report of the world to which the script's run leads
   pub replays : (text : List ℕ) (w : WorldView) → w.config ≡ c → setting_in w ≡ cluster_of c liars
-      → (d : CommandQueues) × Performs (setting_in w) w.config lines d × (d.world ≡ world_in w) → IsReportOf w text → Replays input text
-  replays text w same cluster run report =
+      → (d : CommandQueues) × Performs (setting_in w) w.config lines d × (d.world ≡ world_in w) → IsRun (setting_in w) (run_lines (setting_in w) w.config lines) (world_in w) → IsReportOf w text → Replays input text
+  replays text w same cluster run on report =
       let s = cluster_of c liars in
       let d = run.0 in
       record {
@@ -34,6 +35,9 @@ module _ (input : List ℕ) (c : Numbers) (liars : Liars) (lines : List ReplayLi
         script = script;
         queues = d;
         run = subst (λ (z : Setting). Performs z c lines d) cluster (subst (λ (k : Numbers). Performs (setting_in w) k lines d) same run.1);
+        is_run =
+            subst (λ (v : World). IsRun s (run_lines s c lines) v) (sym run.2)
+            (subst (λ (z : Setting). IsRun z (run_lines z c lines) (world_in w)) cluster (subst (λ (k : Numbers). IsRun (setting_in w) (run_lines (setting_in w) k lines) (world_in w)) same on));
         history = report.history;
         book = report.book;
         tells = subst (λ (v : World). Tells v.records (first_stamp s) report.history report.book) (sym run.2) (subst (λ (z : Setting). Tells w.seen.records (first_stamp z) report.history report.book) cluster report.tells);

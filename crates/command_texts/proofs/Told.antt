@@ -1,23 +1,23 @@
 -- The history of a run whose records were made out of its journals.
-use Rattle.std.proofs.Common.{◌≡◌, ℕ, ◌+◌, ◌-◌, ◌^◌, ◌<◌, List, [], ◌∷◌, map, Option, sym, ◌∙◌, ap, subst, arith}
+use Rattle.std.proofs.Common.{◌≡◌, ℕ, ◌+◌, ◌-◌, ◌^◌, ◌≤◌, ◌<◌, List, [], ◌∷◌, map, Option, refl, sym, ◌∙◌, ap, subst, arith}
 use Rattle.stamp_order.specs.declared.Stamp.{Stamp}
 use Rattle.wire_forms.specs.Liars.{has_number}
 use Rattle.wire_forms.specs.Firsts.{first_of}
 use Rattle.protocol.specs.Setting.{Setting}
 use Rattle.protocol.specs.World.{World, Record}
 use Rattle.protocol.specs.Lines.{Line, IsRun}
-use Rattle.protocol.proofs.Cluster.{cluster_valid}
 use Rattle.protocol.proofs.Firsts.{first_stamp_is}
 use Rattle.history_making.specs.Books.{Book}
 use Rattle.history_book.specs.Reports.{report_text}
-use Rattle.script_run.specs.Histories.{AreOfRun, TellsHistory}
+use Rattle.script_run.specs.Histories.{FitsHistory, AreOfRun, TellsHistory}
 use Rattle.journals.specs.Steps.{Step}
 use Rattle.journals.specs.Merging.{Merged, next_world, line_of}
 use Rattle.journals.specs.declared.whole.Journals.{Journals}
 use Rattle.journals.specs.Journals.{setting_for, IsMerge, AreOfRun as AreOfRunInThreads}
 use Rattle.merge_trace.specs.Traces.{placed}
 use Rattle.journal_records.specs.Lines.{HasRun, LinesAreThere, LastPlaceIsCount}
-use Rattle.journal_records.specs.Records.{AreAllRecords, RecordsAreThose}
+use Rattle.journal_records.specs.Records.{AreAllRecords, WorldsHaveAllRecords, RecordsAreThose}
+use Rattle.journal_records.specs.Few.{RecordsFitHistory}
 use Rattle.plan_words.specs.declared.plan.Plan.{Plan}
 use Rattle.plan_followed.specs.Asked.{conduct_of}
 use Rattle.plan_followed.specs.Laws.{PlansRun}
@@ -34,6 +34,14 @@ merged_placed s w place [] lines none = ap (λ (ls : List (ℕ × Line)). placed
 merged_placed s w place (e ∷ es) lines h =
     let rest = merged_placed s (next_world s w (place + 1) (line_of s h.0 e)) (place + 1) es h.1 h.4 in
     ap (λ (ls : List (ℕ × Line)). placed place (lines_in ls)) h.3 ∙ ap (λ (ls : List (ℕ × Line)). (place + 1, line_of s h.0 e) ∷ ls) rest ∙ sym h.3
+
+-- a plan's run fits a history
+pub fits_history : PlansRun → LastPlaceIsCount → WorldsHaveAllRecords → RecordsFitHistory → (plan : Plan) (j : Journals) (drawn : ℕ) → AreOfPlan plan j drawn → drawn ≤ 2 ^ 56
+    → (lines : List (ℕ × Line)) (w : World) → IsMerge j lines → IsRun (setting_for j) lines w → FitsHistory w
+fits_history runs counted had rare plan j drawn of low lines w merge run =
+    let place = counted j drawn lines w of.numbers merge run in
+    let few = rare plan j drawn w.records of low (had (conduct_of plan.rules) j lines w (runs plan j drawn of) of.follows.are_for.ascend merge run) in
+    record { places = omega (arith, place, low); records = few.0; rounds = few.1 }
 
 module _ (runs : PlansRun) (there : LinesAreThere) (plan : Plan) (j : Journals) (drawn : ℕ) (of : AreOfPlan plan j drawn) where
   abbrev in_threads : AreOfRunInThreads (conduct_of plan.rules) j
@@ -60,14 +68,13 @@ module _ (runs : PlansRun) (there : LinesAreThere) (plan : Plan) (j : Journals) 
   pub tells_plan : (book : Book) → TellsHistory (setting_for j) last_world book → TellsPlan plan j book
   tells_plan book told = record { made = made_run; of = told }
 
-  module _ (counted : LastPlaceIsCount) (those : RecordsAreThose) (few : drawn < 2 ^ 31 - 1) (records : List Record) (all : AreAllRecords j records) (first : Stamp) (begins : first ≡ (first_of j.config).stamp) where
+  module _ (counted : LastPlaceIsCount) (had : WorldsHaveAllRecords) (those : RecordsAreThose) (rare : RecordsFitHistory) (low : drawn ≤ 2 ^ 56) (records : List Record) (all : AreAllRecords j records) (first : Stamp) (begins : first ≡ (first_of j.config).stamp) where
     pub are_of_run : AreOfRun (setting_for j) last_world records first
     are_of_run = record {
-      valid = cluster_valid j.config (has_number j.liars.nodes) (has_number j.liars.clients) in_threads.cluster;
-      some = in_threads.cluster.config.size.0;
+      cluster = record { config = j.config; lying_node = has_number j.liars.nodes; lying_client = has_number j.liars.clients; cluster = in_threads.cluster; is = refl };
       lines = has_run.lines;
       run = has_run.run;
-      low = (let place = counted j drawn has_run.lines has_run.last of.numbers has_run.merge has_run.run in omega (arith, place, few));
+      fits = fits_history runs counted had rare plan j drawn of low has_run.lines has_run.last has_run.merge has_run.run;
       has = those (conduct_of plan.rules) j has_run.lines has_run.last records in_threads of.follows.are_for.ascend has_run.merge has_run.run all;
       begins = sym (begins ∙ first_stamp_is j.config in_threads.cluster.config);
     }

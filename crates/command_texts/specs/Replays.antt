@@ -8,6 +8,7 @@ use Rattle.event_lines.specs.declared.line.ReplayLine.{ReplayLine}
 use Rattle.script_text.specs.Replays.{IsReplay, Spells, replay_script}
 use Rattle.protocol.specs.Setting.{Setting, first_stamp}
 use Rattle.protocol.specs.Instance.{setting_of}
+use Rattle.protocol.specs.Lines.{IsRun}
 use Rattle.protocol.specs.History.{Entry, NoClash}
 use Rattle.history_making.specs.Books.{Book}
 use Rattle.history_making.specs.Tellings.{Tells}
@@ -16,7 +17,7 @@ use Rattle.history_book.specs.ReportTexts.{IsReport}
 use Rattle.history_book.specs.Judging.{IsLegal, IsInTime}
 use Rattle.world_state.specs.Worlds.{WorldView, setting_in, world_in}
 use Rattle.script_run.specs.Registers.{AreRegisters}
-use Rattle.script_run.specs.Performing.{CommandQueues, Performs, StopsAt}
+use Rattle.script_run.specs.Performing.{CommandQueues, Performs, run_lines, StopsAt}
 
 -- the setting of a cluster in which these lie
 abbrev pub cluster_of : Numbers → Liars → Setting
@@ -44,15 +45,17 @@ pub record Replays (input text : List ℕ) : Type 0 where
   pub liars : Liars
   pub lines : List ReplayLine
   pub script : IsScript input config liars lines
-  -- the run of the lines leads to this world
+  -- the lines lead to this world
   pub queues : CommandQueues
   pub run : Performs (cluster_of config liars) config lines queues
+  -- it is the last of a run of the definitions, whose lines these are: so what holds of every run holds of it
+  pub is_run : IsRun (cluster_of config liars) (run_lines (cluster_of config liars) config lines) queues.world
   -- the history of that run, and its report
   pub history : List Entry
   pub book : Book
   pub tells : Tells queues.world.records (first_stamp (cluster_of config liars)) history book
   pub shown : text ≡ report_text book
-  -- whatever starts, deliveries, losses, repeats, crashes, returns, prunes and lies the lines make: it is a legal history of one register per block, and in time
+  -- whatever starts, deliveries, losses, repeats, crashes, returns, prunes and lies the lines make: the run is linearizable, and its history is a legal one of one register per block, and in time
   pub registers : AreRegisters (cluster_of config liars) queues.world history
   -- it is a history that a report tells, and for the judge too it is legal and in time
   pub told : IsReport book

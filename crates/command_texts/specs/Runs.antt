@@ -47,7 +47,7 @@ pub record TellsPlan (plan : Plan) (j : Journals) (book : Book) : Type 0 where
   pub of : TellsHistory (setting_for j) made.world book
 
 -- the text is the report of the run of the plan that the journals tell, which has each operation of each client that neither lies
--- nor crashes
+-- nor crashed in it
 pub record RunsPlan (plan : Plan) (j : Journals) (text : List ℕ) : Type 0 where
   pub made : PlanRun plan j
   pub reports : Reports (setting_for j) made.world text

@@ -1,6 +1,6 @@
 //! What is told of a load: the line of a run of the plan that a number makes.
 
-ghost use Rattle.std.specs.Prelude.{◌≡◌, IfOk};
+ghost use Rattle.std.specs.Prelude.{◌≡◌, ◌≤◌, ◌^◌, IfOk};
 ghost use Rattle.plan_words.specs.Plans.{Fits};
 ghost use Rattle.plan_followed.specs.Followed.{AreOfPlan};
 ghost use Rattle.command_texts.specs.Loads.{load_of as load_told, TellsLoad};
@@ -37,6 +37,7 @@ pub fn load_text(
 ) -> Result<Bytes, NoMemory>
     requires load { load.now ≡ load_told number }
     requires run { AreOfPlan load.now journals.now drawn }
+    requires clock { drawn ≤ 2 ^ 56 }
     ensures { IfOk result (TellsLoad number journals.now) }
 {
     soak_loads::laws::plain_loads();

@@ -1,6 +1,6 @@
 //! The report of a run of a plan.
 
-ghost use Rattle.std.specs.Prelude.{IfOk};
+ghost use Rattle.std.specs.Prelude.{IfOk, ◌≤◌, ◌^◌};
 ghost use Rattle.plan_followed.specs.Followed.{AreOfPlan};
 ghost use Rattle.command_texts.specs.Runs.{RunsPlan, TellsPlan};
 
@@ -15,9 +15,6 @@ use script_run::history_of_records;
 use std::alloc::Global;
 use wire_forms::First;
 
-/// The most numbers of which a history is told, which is more than memory has room for.
-pub(crate) const MOST_LINES: u64 = (1 << 31) - 2;
-
 /// The history of the run that the journals tell, for which so many numbers were drawn. They are those of a run of the plan. Its
 /// records are those of the clients' journals, so none of its lines is played.
 pub(crate) fn told_history(
@@ -26,29 +23,29 @@ pub(crate) fn told_history(
     journals: &Journals,
     drawn: u64,
 ) -> Result<History, NoMemory>
-    requires { AreOfPlan plan.now journals.now drawn }
+    requires run { AreOfPlan plan.now journals.now drawn }
+    requires clock { drawn ≤ 2 ^ 56 }
     ensures { IfOk result (TellsPlan plan.now journals.now) }
 {
-    if drawn > MOST_LINES {
-        return Err(NoMemory);
-    }
     plan_followed::laws::followed_plans();
     journal_records::laws::merged_lines();
     journal_records::laws::all_records();
+    journal_records::laws::few_records();
     let records = records_of(alloc, journals)?;
     let first = First::of(alloc, &journals.config)?;
     let history = history_of_records(alloc, records.as_slice(), &first.stamp)?;
     Ok(history)
 }
 
-/// The report of that history, which has each operation of each client that neither lies nor crashes.
+/// The report of that history, which has each operation of each client that neither lies nor crashed in the run.
 pub fn run_text(
     alloc: Global,
     plan: &Plan,
     journals: &Journals,
     drawn: u64,
 ) -> Result<Bytes, NoMemory>
-    requires { AreOfPlan plan.now journals.now drawn }
+    requires run { AreOfPlan plan.now journals.now drawn }
+    requires clock { drawn ≤ 2 ^ 56 }
     ensures { IfOk result (RunsPlan plan.now journals.now) }
 {
     journal_records::laws::complete_histories();

@@ -1,14 +1,16 @@
 //! The trace of a run of a plan: its lines as a script, and its report.
 
-ghost use Rattle.std.specs.Prelude.{◌≡◌, ◌++◌, ◌∷◌, [], codes, IfOk};
+ghost use Rattle.std.specs.Prelude.{◌≡◌, ◌++◌, ◌∷◌, ◌≤◌, ◌^◌, [], codes, IfOk};
 ghost use Rattle.std.specs.List.{AllByRecursion};
 ghost use Rattle.text_lines.specs.Lines.{text_of_lines};
 ghost use Rattle.journal_records.specs.Told.{IsTold};
-ghost use Rattle.command_texts.specs.Runs.{AreOfPlanRun, IsPlanRun, ReportsWorld};
+ghost use Rattle.command_texts.specs.Runs.{IsPlanRun, ReportsWorld};
 ghost use Rattle.command_texts.specs.Traces.{TracesPlan};
+ghost use Rattle.plan_followed.specs.Followed.{AreOfPlan};
+ghost use Rattle.script_run.specs.Histories.{FitsHistory};
+ghost use Rattle.world_state.specs.Worlds.{world_in};
 
 use crate::laws::plans_declare;
-use crate::report::MOST_LINES;
 use crate::script::script_of;
 use cross_sum::Bytes;
 use history_book::print;
@@ -21,26 +23,34 @@ use std::alloc::Global;
 use text_lines::Text;
 use world_steps::World;
 
-/// The run that journals of a run of the plan tell.
-fn merged(alloc: Global, plan: &Plan, journals: &Journals) -> Result<MergedRun, NoMemory>
-    requires { AreOfPlanRun plan.now journals.now }
+/// The run that journals of a run of the plan tell, for which so many numbers were drawn.
+fn merged(
+    alloc: Global,
+    plan: &Plan,
+    journals: &Journals,
+    drawn: u64,
+) -> Result<MergedRun, NoMemory>
+    requires run { AreOfPlan plan.now journals.now drawn }
+    requires clock { drawn ≤ 2 ^ 56 }
     ensures run { IfOk result (λ r. IsPlanRun plan.now journals.now r.lines r.world) }
     ensures told { IfOk result (λ r. AllByRecursion (IsTold plan.now.config) r.lines) }
+    ensures fits { IfOk result (λ r. FitsHistory (world_in r.world)) }
 {
     plan_followed::laws::plans();
     plan_followed::laws::followed_plans();
     journal_records::laws::told_lines();
+    journal_records::laws::merged_lines();
+    journal_records::laws::all_records();
+    journal_records::laws::few_records();
     let merged_run = merge_run(alloc, journals)?;
     Ok(merged_run)
 }
 
 /// The report of the history of a world.
 fn report_of(alloc: Global, world: &World) -> Result<Bytes, NoMemory>
+    requires { FitsHistory (world_in world.now) }
     ensures { IfOk result (λ text. ReportsWorld world.now text) }
 {
-    if world.place() > MOST_LINES {
-        return Err(NoMemory);
-    }
     let history = history_of(alloc, world)?;
     print(alloc, &history)
 }
@@ -58,14 +68,20 @@ fn joined(alloc: Global, script: &Bytes, report: &Bytes) -> Result<Bytes, NoMemo
 }
 
 /// The lines of the run that the journals tell as a script, the line `report`, and the run's report. The journals are those of a
-/// run of the plan.
-pub fn trace_text(alloc: Global, plan: &Plan, journals: Journals) -> Result<Bytes, NoMemory>
-    requires { AreOfPlanRun plan.now journals }
+/// run of the plan, for which so many numbers were drawn.
+pub fn trace_text(
+    alloc: Global,
+    plan: &Plan,
+    journals: Journals,
+    drawn: u64,
+) -> Result<Bytes, NoMemory>
+    requires run { AreOfPlan plan.now journals drawn }
+    requires clock { drawn ≤ 2 ^ 56 }
     ensures { IfOk result (TracesPlan plan.now journals) }
 {
     journal_records::laws::complete_histories();
     plans_declare();
-    let merged_run = merged(alloc, plan, &journals)?;
+    let merged_run = merged(alloc, plan, &journals, drawn)?;
     let report = report_of(alloc, &merged_run.world)?;
     let MergedRun { lines, world } = merged_run;
     drop(world);

@@ -21,7 +21,11 @@ fn prune_time(deed: u64) -> Option<u64> {
 }
 
 // Lets the node do one deed.
-fn act<D: Disk>(alloc: Global, node: &mut StoredNode<D>, deed: u64) -> Result<(), StoreRefusal>
+pub(crate) fn act<D: Disk>(
+    alloc: Global,
+    node: &mut StoredNode<D>,
+    deed: u64,
+) -> Result<(), StoreRefusal>
     requires block { 0 < node.old.node.config.blocks }
     requires small { deed < 100 }
     ensures { node.new.node.config ≡ node.old.node.config }
@@ -135,8 +139,8 @@ fn all_deeds_are_there_where_no_call_fails(rt: HostRuntime) -> Result<(), Fail> 
 
 // The same numbers are drawn for a seed each time.
 #[derive(Drop)]
-struct Draws {
-    random: u64,
+pub(crate) struct Draws {
+    pub(crate) random: u64,
 }
 
 impl Draws {
@@ -155,7 +159,7 @@ impl Draws {
 
 // What a crash may leave of these bytes, when the range was written after they were synced: any length up to its end, and any bytes
 // in it.
-fn torn(
+pub(crate) fn torn(
     alloc: Global,
     bytes: &[u8],
     at: usize,

@@ -2,6 +2,10 @@
 #![tactic(auto)]
 
 #[cfg(test)]
+mod batches;
+#[cfg(test)]
+mod compaction;
+#[cfg(test)]
 mod crashes;
 #[cfg(test)]
 mod disks;

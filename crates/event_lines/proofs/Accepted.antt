@@ -5,6 +5,7 @@ use Rattle.std.specs.Str.{bytes_eq}
 use Rattle.std.proofs.lemmas.Bool.{eq-eqb}
 use Rattle.quorum_rules.specs.Limits.{Numbers}
 use Rattle.quorum_rules.specs.declared.Edition.{Edition}
+use Rattle.quorum_rules.specs.declared.Edition.TheVariants.{One, Two, Three}
 use Rattle.text_lines.specs.Lines.{fields_of, line_of_fields}
 use Rattle.text_lines.specs.Fields.{value_text}
 use Rattle.text_lines.proofs.Values.{value_of-text}
@@ -20,7 +21,7 @@ use Rattle.line_forms.specs.declared.cause.Cause.TheVariants.{UnknownWord}
 use Rattle.event_lines.specs.declared.line.ReplayLine.{ReplayLine}
 use Rattle.event_lines.specs.declared.line.ReplayLine.TheVariants.{Plain, Put, Get, Next}
 use Rattle.event_lines.specs.Lines.{IsNode, IsBlock, IsValue, IsEventLine, event_fields, event_text, rule_text}
-use Rattle.event_lines.specs.Forms.{rule, in_two, fields_cause, message_cause, line_cause, event_cause}
+use Rattle.event_lines.specs.Forms.{rule, since_two, fields_cause, message_cause, line_cause, event_cause}
 use Rattle.event_lines.specs.Messages.{Part, are_of}
 use Rattle.event_lines.proofs.Lacking.{event_lacks}
 use Rattle.event_lines.proofs.Messages.{any_fits, ask_fits, answer_fits}
@@ -32,6 +33,11 @@ with_words b x y e h = rw e h
 
 only_form : (form : List Kind) (fields : List (List ℕ)) → AreFine form fields → fields_cause (form ∷ []) fields ≡ None
 only_form form fields h = with_words (some_field is_other_word form fields) (form_cause form fields) (Some UnknownWord) (none_passes is_other_word (λ kind field f. f.words) form fields h) (fine form fields h)
+
+late_form : (edition : Edition) (form : List Kind) (fields : List (List ℕ)) → edition ≢ One → AreFine form fields → fields_cause (since_two edition form) fields ≡ None
+late_form One form fields late h = absurd (late refl)
+late_form Two form fields late h = only_form form fields h
+late_form Three form fields late h = only_form form fields h
 
 -- ---- fields
 
@@ -88,11 +94,11 @@ plain_fine c (Prune i b) h = only_form (node c.n ∷ block c.blocks ∷ []) (dec
 plain_fine c (Back k) h =
     let fields = codes "client" ∷ decimal k ∷ [] in
     let form = word (codes "client" ∷ []) ∷ client ∷ [] in
-    ap (λ (e : Edition). fields_cause (in_two e form) fields) h.0 ∙ only_form form fields (a_word (codes "client") refl refl, (a_client k h.1, tt))
+    late_form c.edition form fields h.0 (a_word (codes "client") refl refl, (a_client k h.1, tt))
 plain_fine c (Restart i) h =
     let fields = codes "node" ∷ decimal i ∷ [] in
     let form = word (codes "node" ∷ []) ∷ node c.n ∷ [] in
-    ap (λ (e : Edition). fields_cause (in_two e form) fields) h.0 ∙ only_form form fields (a_word (codes "node") refl refl, (a_node c i h.1, tt))
+    late_form c.edition form fields h.0 (a_word (codes "node") refl refl, (a_node c i h.1, tt))
 
 pub line_fine : (c : Numbers) (l : ReplayLine) → IsEventLine c l → line_cause c (event_fields l) ≡ None
 line_fine c (Plain l) h = plain_fine c l h

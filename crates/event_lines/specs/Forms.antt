@@ -2,7 +2,7 @@
 use Rattle.std.specs.Prelude.{ℕ, Bool, not, List, [], ◌∷◌, ◌++◌, codes, Option, Some, None, if◌then◌else◌}
 use Rattle.quorum_rules.specs.Limits.{Numbers}
 use Rattle.quorum_rules.specs.declared.Edition.{Edition}
-use Rattle.quorum_rules.specs.declared.Edition.TheVariants.{One, Two}
+use Rattle.quorum_rules.specs.declared.Edition.TheVariants.{One, Two, Three}
 use Rattle.text_lines.specs.Lines.{fields_of}
 use Rattle.line_forms.specs.Tables.{first_of}
 use Rattle.line_forms.specs.Texts.{is_empty}
@@ -22,10 +22,11 @@ use Rattle.event_lines.specs.declared.word.Word.TheVariants.{Form as Fields, Spe
 abbrev pub rule : Kind
 rule = word (codes "old" ∷ codes "top" ∷ codes "bad" ∷ [])
 
--- a form of edition 2 alone
-abbrev pub in_two : Edition → List Kind → List (List Kind)
-in_two One form = []
-in_two Two form = form ∷ []
+-- a form that edition 1 hasn't
+abbrev pub since_two : Edition → List Kind → List (List Kind)
+since_two One form = []
+since_two Two form = form ∷ []
+since_two Three form = form ∷ []
 
 -- the fields: those of one of these forms, which their fixed words tell apart
 abbrev pub forms_of : Numbers → Form → List (List Kind)
@@ -41,8 +42,8 @@ forms_of c False = (client ∷ node c.n ∷ rule ∷ []) ∷ []
 forms_of c Sound = (client ∷ node c.n ∷ block c.blocks ∷ any_u64 ∷ value c.size ∷ []) ∷ []
 forms_of c Mix = (client ∷ node c.n ∷ block c.blocks ∷ any_u64 ∷ value c.size ∷ value c.size ∷ []) ∷ []
 forms_of c Prune = (node c.n ∷ block c.blocks ∷ []) ∷ []
-forms_of c Back = in_two c.edition (word (codes "client" ∷ []) ∷ client ∷ [])
-forms_of c Restart = in_two c.edition (word (codes "node" ∷ []) ∷ node c.n ∷ [])
+forms_of c Back = since_two c.edition (word (codes "client" ∷ []) ∷ client ∷ [])
+forms_of c Restart = since_two c.edition (word (codes "node" ∷ []) ∷ node c.n ∷ [])
 forms_of c Put = (client ∷ any_u64 ∷ bytes ∷ []) ∷ []
 forms_of c Get = (client ∷ any_u64 ∷ any_u64 ∷ []) ∷ []
 forms_of c Next = (client ∷ []) ∷ []

@@ -1,7 +1,7 @@
 -- The event lines of a replay script, and their texts.
 use Rattle.std.specs.Prelude.{◌≡◌, ◌≢◌, ℕ, ◌^◌, ◌<◌, true, List, [], ◌∷◌, length, codes, decimal}
 use Rattle.quorum_rules.specs.Limits.{Numbers}
-use Rattle.quorum_rules.specs.declared.Edition.TheVariants.{Two}
+use Rattle.quorum_rules.specs.declared.Edition.TheVariants.{One}
 use Rattle.text_lines.specs.Lines.{line_of_fields}
 use Rattle.text_lines.specs.Fields.{value_text, IsBytes}
 use Rattle.wire_forms.specs.Liars.{IsClientNumber}
@@ -46,8 +46,8 @@ IsLine c (False client node rule) = IsClientNumber client × IsNode c node × (r
 IsLine c (Sound client node block time value) = IsClientNumber client × IsNode c node × IsBlock c block × (time < 2 ^ 64) × IsValue c value
 IsLine c (Mix client node block time value other) = IsClientNumber client × IsNode c node × IsBlock c block × (time < 2 ^ 64) × IsValue c value × IsValue c other
 IsLine c (Prune node block) = IsNode c node × IsBlock c block
-IsLine c (Back client) = (c.edition ≡ Two) × IsClientNumber client
-IsLine c (Restart node) = (c.edition ≡ Two) × IsNode c node
+IsLine c (Back client) = (c.edition ≢ One) × IsClientNumber client
+IsLine c (Restart node) = (c.edition ≢ One) × IsNode c node
 
 -- an event line of a replay script for a cluster of these numbers
 abbrev pub IsEventLine : Numbers → ReplayLine → Type 0

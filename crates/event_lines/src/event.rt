@@ -6,7 +6,7 @@ ghost use Rattle.quorum_rules.specs.Limits.{Numbers};
 ghost use Rattle.text_lines.specs.Lines.{fields_of, texts};
 ghost use Rattle.line_forms.specs.Kinds.Kind.{word as fixed, number as whole};
 ghost use Rattle.line_forms.specs.Tables.{Gives};
-ghost use Rattle.event_lines.specs.Forms.{fields_cause, forms_of, in_two, has_its_words, event_cause};
+ghost use Rattle.event_lines.specs.Forms.{fields_cause, forms_of, since_two, has_its_words, event_cause};
 ghost use Rattle.event_lines.specs.Lines.{IsEventLine, IsSpelled, event_text};
 ghost use Rattle.event_lines.specs.Rests.{fields_after};
 ghost use Rattle.event_lines.specs.Words.{form_text};
@@ -28,7 +28,7 @@ use text_lines::{cut, fields};
 /// a space at an end or beside another; `BadNumber`, where a field isn't a number of its type;
 /// `OutOfRange`, where a client isn't 1 to 1000, or the cluster hasn't the node or the block;
 /// `BadValue`, where a value isn't one, or hasn't the length of a block (what `put` writes has any
-/// length). The lines `back` and `restart` may stand in edition 2 alone.
+/// length). The lines `back` and `restart` may not stand in edition 1.
 ///
 /// After `lie`, `tell` and `poke` comes the text of a message: `WrongCount` where nothing follows the
 /// word, and `BadMessage` where the rest isn't the text of a message, of an answer after `tell`, or of
@@ -123,8 +123,8 @@ fn has_words(config: &Config, form: Form, fields: &[&[u8]]) -> bool
 {
     match form {
         Form::Crash => has_crash_word(fields),
-        Form::Back => has_word_of_two(config, b"client", fields),
-        Form::Restart => has_word_of_two(config, b"node", fields),
+        Form::Back => has_word_since_two(config, b"client", fields),
+        Form::Restart => has_word_since_two(config, b"node", fields),
         Form::False => has_rule(fields),
         _ => true,
     }
@@ -141,11 +141,11 @@ fn has_crash_word(fields: &[&[u8]]) -> bool
     }
 }
 
-/// Whether a form of edition 2, this word and a number, may stand here, and the word is the first
-/// field, or nothing is.
-fn has_word_of_two(config: &Config, word: &[u8], fields: &[&[u8]]) -> bool
+/// Whether a form that edition 1 hasn't, this word and a number, may stand here, and the word is the
+/// first field, or nothing is.
+fn has_word_since_two(config: &Config, word: &[u8], fields: &[&[u8]]) -> bool
     ensures { (limit from end : ℕ) → result ≡ list_any (has_its_words (texts fields.now))
-        (in_two config.now.edition (fixed (word.now ∷ []) ∷ whole limit from end ∷ [])) }
+        (since_two config.now.edition (fixed (word.now ∷ []) ∷ whole limit from end ∷ [])) }
 {
     if config.edition() == 1 {
         return false;

@@ -1,13 +1,16 @@
 //! The examples in the folder that the program runs in. A script NAME.txt is replayed, its report is compared with NAME.out and
-//! checked, and its picture is compared with NAME.svg; a report NAME.report is checked, and the verdict compared with
-//! NAME.verdict. Of a plan NAME.plan there is a trace, whose script must replay to its report, and that report is checked; where
+//! checked, and its picture is compared with NAME.svg; no two different strings in its messages share a digest. A report NAME.report
+//! is checked, and the verdict compared with NAME.verdict. Of a plan NAME.plan there is a trace, whose script must replay to its report, and that report is checked; where
 //! a file NAME.trace lies beside it the run is the same each time, and the trace is compared with it. Writes a line for each
 //! example.
 #![tactic(auto)]
 
+mod pools;
+
 use cross_sum::Bytes;
 use outside_io::{Calls, MemorySink, MemorySource};
 use pasis_shell::{OpenGate, Status, alone, pasis};
+use pools::has_no_clash;
 use run_pictures::draw;
 use std::alloc::Global;
 use std::io::ErrorKind;
@@ -26,6 +29,8 @@ enum Outcome {
     Differs,
     // The report of a script or of a plan isn't legal.
     Illegal,
+    // Two different strings in the messages of a script share a digest.
+    Clash,
     // The script of a trace doesn't replay to its report.
     OtherReport,
     // The picture that lies beside the script is another than the one that was drawn.
@@ -38,6 +43,7 @@ impl Outcome {
             Outcome::Ok => "ok",
             Outcome::Differs => "differs",
             Outcome::Illegal => "illegal",
+            Outcome::Clash => "clash",
             Outcome::OtherReport => "other report",
             Outcome::OtherPicture => "other picture",
         }
@@ -94,6 +100,8 @@ fn of_script(alloc: Global, script: &[u8], report: &[u8], picture: &[u8]) -> io:
         Ok(Outcome::Differs)
     } else if !is_legal(alloc, report)? {
         Ok(Outcome::Illegal)
+    } else if !has_no_clash(alloc, script)? {
+        Ok(Outcome::Clash)
     } else if !draws(alloc, script, picture)? {
         Ok(Outcome::OtherPicture)
     } else {

@@ -1,5 +1,5 @@
--- The history of a plan's run has each operation of each client that neither lies nor crashes.
-use Rattle.std.proofs.Common.{◌≡◌, ℕ, ◌+◌, Bool, false, List, ◌++◌, length, map, Option, option_map, refl, sym, ◌∙◌, ap, subst, inl, inr, append-nil}
+-- The history of a plan's run has each operation of each client that neither lies nor crashed.
+use Rattle.std.proofs.Common.{◌≡◌, ℕ, ◌+◌, Bool, true, false, List, ◌++◌, length, map, Option, option_map, refl, sym, ◌∙◌, ap, subst, inl, inr, append-nil}
 use Rattle.std.specs.Prelude.{slice_get, ◌↔◌}
 use Rattle.std.specs.declared.option.Option.TheVariants.{Some}
 use Rattle.std.specs.List.{Contains}
@@ -30,13 +30,14 @@ use Rattle.journals.specs.Journals.{setting_for, at_desk}
 use Rattle.journals.specs.Agreement.{ended_record}
 use Rattle.journals.specs.Merged.{OfMerged, AllRecorded}
 use Rattle.plan_words.specs.declared.plan.Plan.{Plan}
-use Rattle.plan_followed.specs.Asked.{steps_for, conduct_of}
+use Rattle.plan_followed.specs.Asked.{steps_for, conduct_of, client_crash}
 use Rattle.plan_followed.specs.Laws.{PlansRun}
-use Rattle.plan_followed.specs.Clients.{ClientFollows, IsDone, IsFinished, IsNextStart, GoesByPlan, client_after, op_of, latest_read, starts, times}
+use Rattle.plan_followed.specs.Clients.{ClientFollows, IsDone, IsFinished, IsNextStart, GoesByPlan, client_after, op_of, latest_read, starts, asks, times}
 use Rattle.plan_followed.specs.Followed.{AreOfPlan, FollowsAs}
-use Rattle.journal_records.specs.Shown.{ended_by, IsOf, IsShown, IsSteady, HistoriesAreComplete}
+use Rattle.journal_records.specs.Shown.{ended_by, IsOf, IsShown, HasCrashed, IsSteady, HistoriesAreComplete}
 use Rattle.journal_records.proofs.Operations.{What, of_op, of_ended, of_task, begun_all, started_in, started_count, kth_started}
 use Rattle.journal_records.proofs.Ongoing.{some_once}
+use Rattle.journal_records.proofs.Crashes.{down_by, down_has}
 
 -- an operation of a step is of that step
 is_of : (d : DeskState) (step : BlockStep) (x : Ended) (op : Op) → op ≡ op_of d step → of_ended x ≡ of_op op → IsOf step x
@@ -50,27 +51,39 @@ is_of d (Merge block at bytes) x op e f =
     let p : of_ended x ≡ (block, Writes (merged (latest_read d block) at bytes)) = f ∙ ap of_op e in
     (ap (λ (w : What). w.0) p, merged (latest_read d block) at bytes, ap (λ (w : What). w.1) p)
 
-module _ (plan : Plan) (j : Journals) (drawn : ℕ) (h : AreOfPlan plan j drawn) (c : ℕ) (steady : IsSteady plan c) where
+-- whoever crashed made as many asks as it may
+module _ (plan : Plan) (j : Journals) (drawn : ℕ) (h : AreOfPlan plan j drawn) (c : ℕ) (right : has_number plan.liars.clients c ≡ false) where
+  pub correct : has_number j.liars.clients c ≡ false
+  correct = ap (λ (l : Liars). has_number l.clients c) h.follows.are_for.liars ∙ right
+
+  pub follows : ClientFollows plan c h.follows.phases (at_desk j c)
+  follows = subst (λ (b : Bool). FollowsAs b plan h.follows.phases c (at_desk j c)) right (h.follows.clients c)
+
+  pub crash_planned : HasCrashed j c → client_crash plan.rules c ≡ Some (times asks (at_desk j c))
+  crash_planned crashed = at follows.done
+    where
+      at : IsDone plan c (steps_for plan.config c plan.work) (at_desk j c) → client_crash plan.rules c ≡ Some (times asks (at_desk j c))
+      at (inl finished) =
+          let up : (client_after plan c (at_desk j c)).crashed ≡ false = finished.up in
+          let down : (client_after plan c (at_desk j c)).crashed ≡ true = down_by (at_desk j c) (new_desk plan.config c) crashed in
+          absurd (cc)
+      at (inr cut) = cut.count
+
+module _ (plan : Plan) (j : Journals) (drawn : ℕ) (h : AreOfPlan plan j drawn) (c : ℕ) (steady : IsSteady plan j c) where
   steps : List BlockStep
   steps = steps_for plan.config c plan.work
-
-  pub correct : has_number j.liars.clients c ≡ false
-  correct = ap (λ (l : Liars). has_number l.clients c) h.follows.are_for.liars ∙ steady.0
-
-  follows : ClientFollows plan c h.follows.phases (at_desk j c)
-  follows = subst (λ (b : Bool). FollowsAs b plan h.follows.phases c (at_desk j c)) steady.0 (h.follows.clients c)
 
   kept : DeskKept false (new_desk plan.config c) (at_desk j c)
   kept =
       subst (λ (k : Numbers). DeskKept false (new_desk k c) (at_desk j c)) h.follows.are_for.config
-      (subst (λ (b : Bool). DeskKept b (new_desk j.config c) (at_desk j c)) correct (h.kept.desks c).goes)
+      (subst (λ (b : Bool). DeskKept b (new_desk j.config c) (at_desk j c)) (correct plan j drawn h c steady.0) (h.kept.desks c).goes)
 
   by_done : IsDone plan c (steps_for plan.config c plan.work) (at_desk j c) → IsFinished plan c (steps_for plan.config c plan.work) (at_desk j c)
   by_done (inl finished) = finished
-  by_done (inr cut) = absurd (let some = cut.count in let none = steady.1 in cc)
+  by_done (inr cut) = absurd (steady.1 (down_has (at_desk j c) (new_desk plan.config c) refl cut.down))
 
   pub finished : IsFinished plan c (steps_for plan.config c plan.work) (at_desk j c)
-  finished = by_done follows.done
+  finished = by_done (follows plan j drawn h c steady.0).done
 
   same : ended_by j c ≡ (client_after plan c (at_desk j c)).ended
   same = ap (λ (k : Numbers). (desk_after_all (new_desk k c) (at_desk j c)).ended) h.follows.are_for.config
@@ -98,7 +111,7 @@ module _ (plan : Plan) (j : Journals) (drawn : ℕ) (h : AreOfPlan plan j drawn)
       let what : slice_get (started_in es) k ≡ Some (of_ended x) =
       ap (λ (xs : List What). slice_get xs k) (sym all_ended) ∙ slice_get-map of_ended d.ended k ∙ ap (option_map of_ended) here in
       let kth = kth_started es k (of_ended x) what in
-      let goes : GoesByPlan plan c kth.before kth.entry.act = follows.acts kth.before kth.rest kth.entry kth.split in
+      let goes : GoesByPlan plan c kth.before kth.entry.act = (follows plan j drawn h c steady.0).acts kth.before kth.rest kth.entry kth.split in
       let start : IsNextStart plan c (steps_for plan.config c plan.work) kth.before (Start kth.op) =
       subst (λ (a : DeskAct). IsNextStart plan c (steps_for plan.config c plan.work) kth.before a) kth.starts goes.start in
       let place : times starts kth.before ≡ k = started_count kth.before ∙ kth.place in
@@ -141,9 +154,9 @@ complete recorded told low spent runs plan j drawn lines w history h merged_line
     record {
       all = λ c steady. each_ended plan j drawn h c steady;
       each = λ c k step x steady at done. each_is plan j drawn h c steady k step x at done;
-      shown = λ c x steady there.
-          let right : has_number j.liars.clients c ≡ false = ap (λ (l : Liars). has_number l.clients c) h.follows.are_for.liars ∙ steady.0 in
-          let here : Contains w.records (ended_record c x) = recorded (conduct_of plan.rules) j lines of merged_lines w c x run right there in
+      shown = λ c x right there.
+          let here : Contains w.records (ended_record c x) = recorded (conduct_of plan.rules) j lines of merged_lines w c x run (correct plan j drawn h c right) there in
           is_shown j w history is.1 (spent w.records) c x here (told j.config lying_node lying_client of.cluster lines w run (ended_record c x) here);
+      crashes = λ c right crashed. crash_planned plan j drawn h c right crashed;
       spent = (low j.config lying_node lying_client of.cluster lines w run).spent;
     }

@@ -1,4 +1,4 @@
--- The records of a plan's run are those of the operations that its clients ended, where none of them lies or crashes.
+-- The records of a plan's run are those of the operations that its clients ended, where none of them lies or crashed.
 use Rattle.std.proofs.Common.{◌≡◌, ◌⊎◌, ℕ, ◌+◌, ◌≤◌, false, List, Option, refl, sym, ◌∙◌, ap, subst, inl, inr, arith}
 use Rattle.std.specs.declared.option.Option.TheVariants.{None, Some}
 use Rattle.std.specs.List.{Contains}
@@ -26,12 +26,12 @@ use Rattle.journal_records.proofs.Completing.{correct, finished}
 use Rattle.journal_records.proofs.Turns.{come_in_turn}
 
 module _ (reach : OfMerged AllReach) (recorded : OfMerged AllRecorded) (tell : InEachRun (λ s w. RecordsTellTasks w)) (runs : PlansRun) (plan : Plan) (j : Journals) (drawn : ℕ) (lines : List (ℕ × Line)) (w : World)
-    (h : AreOfPlan plan j drawn) (merge : IsMerge j lines) (run : IsRun (setting_for j) lines w) (all : AllSteady plan) where
+    (h : AreOfPlan plan j drawn) (merge : IsMerge j lines) (run : IsRun (setting_for j) lines w) (all : AllSteady plan j) where
   of : AreOfRun (conduct_of plan.rules) j
   of = runs plan j drawn h
 
   right : (c : ℕ) → (setting_for j).lying_client c ≡ false
-  right c = correct plan j drawn h c (all c)
+  right c = correct plan j drawn h c (all c).0
 
   -- the client at last
   abbrev last : ℕ → DeskState

@@ -5,9 +5,6 @@ use Rattle.std.specs.List.{Contains, AllByRecursion, flat_map, filter_map, range
 use Rattle.std.proofs.Math.Nat.{mod-add-div', le-mul_of_pos_right}
 use Rattle.std.proofs.lemmas.List.{length-replicate}
 use Rattle.quorum_rules.specs.Limits.{Numbers}
-use Rattle.quorum_rules.specs.declared.Edition.{Edition}
-use Rattle.quorum_rules.specs.declared.Edition.TheVariants.{One, Two}
-use Rattle.quorum_rules.specs.Limits as limits
 use Rattle.stamp_order.specs.declared.Stamp.{Stamp}
 use Rattle.stamp_order.specs.Stamps.{has}
 use Rattle.wire_forms.specs.declared.Request.TheVariants.{Time, Read as AskRead, Write as AskWrite}
@@ -45,10 +42,6 @@ share_few m size some small =
     let parts = mod-add-div' size m in
     let most = le-mul_of_pos_right (size / m) some in
     omega (arith, parts, most, small)
-
-pub edition_small : (e : Edition) → limits.most_size e ≤ 16384
-edition_small One = omega arith
-edition_small Two = omega arith
 
 length_collect : {A : Type 0} (n : ℕ) (f : ℕ → A) → length (collect n (λ i. Some (f i))) ≡ n
 length_collect zero f = refl

@@ -56,7 +56,7 @@ is_told j (d ∷ ds) r h = elim (Contains-append_cases (told_by j d) (told_recor
   | inr later ↦ (let t = is_told j ds r later in record { desk = t.desk; there = Contains-rest t.desk d ds t.there; correct = t.correct; told = t.told })
 ]
 
-has_told : (j : Journals) (ds : List DeskJournal) (d : DeskJournal) (r : Record) → Contains ds d → (setting_for j).lying_client d.client ≡ false → Contains (client_records d.client (last_desk j d)) r → Contains (told_records j ds) r
+pub has_told : (j : Journals) (ds : List DeskJournal) (d : DeskJournal) (r : Record) → Contains ds d → (setting_for j).lying_client d.client ≡ false → Contains (client_records d.client (last_desk j d)) r → Contains (told_records j ds) r
 has_told j [] d r there correct told = absurd (Contains-none d there)
 has_told j (x ∷ ds) d r there correct told = elim (Contains-cons_cases d x ds there) [
   | inl is ↦ Contains-append_left (told_by j x) (told_records j ds) r

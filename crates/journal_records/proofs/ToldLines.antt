@@ -4,6 +4,7 @@ use Rattle.std.specs.declared.option.Option.TheVariants.{None, Some}
 use Rattle.std.specs.List.{Contains, AllByRecursion}
 use Rattle.std.proofs.lemmas.List.{length-replicate}
 use Rattle.quorum_rules.specs.Limits.{Numbers}
+use Rattle.quorum_rules.proofs.FaultLaws.{size_at_most}
 use Rattle.wire_forms.specs.Liars.{Liars, has_number, IsClientNumber}
 use Rattle.message_texts.specs.Texts.{HasLimits}
 use Rattle.wire_forms.specs.declared.op.Op.TheVariants.{Read as ReadOp, Write as WriteOp}
@@ -42,7 +43,7 @@ use Rattle.plan_followed.specs.Followed.{AreOfPlan, FollowsAs}
 use Rattle.plan_followed.specs.Laws.{PlansRun}
 use Rattle.journal_records.specs.Told.{IsTold, LinesAreTold}
 use Rattle.journal_records.proofs.Late.{late_lost}
-use Rattle.journal_records.proofs.Short.{IsShortAsk, share_few, edition_small, reply_short, messages_short, asked_there}
+use Rattle.journal_records.proofs.Short.{IsShortAsk, share_few, reply_short, messages_short, asked_there}
 use Rattle.lists.proofs.Members.{Contains-head, Contains-none, Contains-rest}
 use Rattle.journals.proofs.Fitting.{node_once}
 use Rattle.journals.proofs.Projections.{there_below}
@@ -61,9 +62,7 @@ module _ (valid : InEachCluster IsValid) (fits : AllFit) (plan : Plan) (j : Jour
 
   short_share : (setting_for j).share ≤ 16384
   short_share =
-      let size = of.cluster.config.size.1 in
-      let edition = edition_small j.config.edition in
-      share_few j.config.m j.config.size of.cluster.config.shares.0 (omega (arith, size, edition))
+      share_few j.config.m j.config.size of.cluster.config.shares.0 (size_at_most j.config of.cluster.config)
 
   client_at : (k : ℕ) (e : DeskEntry) → Contains (at_desk j k) e → IsClientNumber k
   client_at k e there = of.follow.clients k e there
@@ -87,9 +86,7 @@ module _ (valid : InEachCluster IsValid) (fits : AllFit) (plan : Plan) (j : Jour
       subst (λ (b : Bool). FollowsAs b plan h.follows.phases ask.client (at_desk j ask.client)) lying (h.follows.clients ask.client) in
       let same : plan.config ≡ j.config = sym h.follows.are_for.config in
       let config = h.fits.valid in
-      let size = config.size.1 in
-      let edition = edition_small plan.config.edition in
-      let share = share_few plan.config.m plan.config.size config.shares.0 (omega (arith, size, edition)) in
+      let share = share_few plan.config.m plan.config.size config.shares.0 (size_at_most plan.config config) in
       let cluster : IsCluster plan.config nobody = record { config = config; few = (let none = nobody_counts plan.config.n in omega (arith, none)) } in
       let good : IsValid (setting plan.config) = valid plan.config nobody nobody cluster in
       let all = messages_short plan.config good config.nodes.1 share ask.client plan.rules h.fits.fitting.each_rule in

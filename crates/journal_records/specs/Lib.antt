@@ -1,6 +1,7 @@
 pub mod Open
 pub mod Lines
 pub mod Records
+pub mod Few
 pub mod Retelling
 pub mod Telling
 pub mod Shown

@@ -1,4 +1,4 @@
--- What the records of a plan's run are where no client lies or crashes.
+-- What the records of a plan's run are where no client lies or crashed.
 use Rattle.std.specs.Prelude.{◌≡◌, ℕ, ◌<◌, List, [], ◌∷◌}
 use Rattle.std.specs.List.{Contains, AllByRecursion}
 use Rattle.protocol.specs.World.{World, Record}
@@ -11,9 +11,9 @@ use Rattle.plan_words.specs.declared.plan.Plan.{Plan}
 use Rattle.plan_followed.specs.Followed.{AreOfPlan}
 use Rattle.journal_records.specs.Shown.{ended_by, IsSteady}
 
--- no client lies or is to crash
-abbrev pub AllSteady : Plan → Type 0
-AllSteady plan = (c : ℕ) → IsSteady plan c
+-- no client lies or crashed in the run
+abbrev pub AllSteady : Plan → Journals → Type 0
+AllSteady plan j = (c : ℕ) → IsSteady plan j c
 
 -- each operation ended before those behind it started
 abbrev pub ComeInTurn : List Ended → Type 0
@@ -30,5 +30,5 @@ pub record AreSteady (j : Journals) (w : World) : Type 0 where
 abbrev pub RecordsAreSteady : Type 0
 RecordsAreSteady =
     (plan : Plan) (j : Journals) (drawn : ℕ) (lines : List (ℕ × Line)) (w : World)
-    → AreOfPlan plan j drawn → IsMerge j lines → IsRun (setting_for j) lines w → AllSteady plan
+    → AreOfPlan plan j drawn → IsMerge j lines → IsRun (setting_for j) lines w → AllSteady plan j
     → AreSteady j w

@@ -4,6 +4,7 @@ ghost use Rattle.protocol.specs.Instance.{InEachRun};
 ghost use Rattle.journal_records.specs.Open.{RecordsTellTasks, TasksAreRecorded, RecordsAreOfCorrect};
 ghost use Rattle.journal_records.specs.Lines.{LinesAreThere, LinesAreCounted, LastPlaceIsCount};
 ghost use Rattle.journal_records.specs.Records.{WorldsHaveAllRecords, RecordsAreThose};
+ghost use Rattle.journal_records.specs.Few.{RecordsFitHistory};
 ghost use Rattle.journal_records.specs.Shown.{HistoriesAreComplete};
 ghost use Rattle.journal_records.specs.Steady.{RecordsAreSteady};
 ghost use Rattle.journal_records.specs.Told.{LinesAreTold};
@@ -42,8 +43,17 @@ pub fn all_records()
     journals::laws::merged_runs();
 }
 
-/// In the run of a plan's journals each step of each client that neither lies nor crashes was done to its end, in order, and stands
-/// in the history or among the writes that ended as spent. A write is spent only where the times that liars sent leave it none.
+/// The records of a plan's run are fewer than 2^31, and the rounds of its reads fewer than 2^64: a plan has at most 64 clients and
+/// 4,000 block operations, and a client begins no more rounds than its journal has entries.
+pub fn few_records()
+    ensures { RecordsFitHistory }
+{
+    plan_followed::laws::followed_plans();
+}
+
+/// In the run of a plan's journals each step of each client that neither lies nor crashed in it was done to its end, in order, and
+/// stands in the history or among the writes that ended as spent. A client crashes only where the plan has it crash, after just so
+/// many asks. A write is spent only where the times that liars sent leave it none.
 pub fn complete_histories()
     ensures { HistoriesAreComplete }
 {
@@ -54,7 +64,7 @@ pub fn complete_histories()
     plan_followed::laws::followed_plans();
 }
 
-/// In the run of a plan none of whose clients lies or crashes no operation is left open: the records are those of the operations
+/// In a run of a plan in which no client lies or crashed no operation is left open: the records are those of the operations
 /// that the clients ended, and each client's came one after another.
 pub fn steady_records()
     ensures { RecordsAreSteady }

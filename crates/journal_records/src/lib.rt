@@ -8,7 +8,7 @@
 //! So each correct client goes through its own journal once more (`retelling`), and the records of all clients are put in the
 //! order of their starts (`telling`). No node and no message is played again.
 //!
-//! Where the run is one of a plan, each operation of a client that neither lies nor crashes stands in the history (specs/Shown), and
+//! Where the run is one of a plan, each operation of a client that neither lies nor crashed in it stands in the history (specs/Shown), and
 //! each line is one that a script may have (specs/Told).
 #![tactic(auto)]
 

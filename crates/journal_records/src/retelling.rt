@@ -6,6 +6,7 @@ ghost use Rattle.protocol.specs.World.{Record as Told, stamp_of_outcome};
 ghost use Rattle.client_core.specs.Clients.{hears};
 ghost use Rattle.journals.specs.Desks.{DeskState, new_desk, desk_after, desk_after_all, desk_heard, DeskGoes, DeskKept, MayStart};
 ghost use Rattle.journal_records.specs.Records.{client_records};
+ghost use Rattle.journal_records.specs.Telling.{HavePlaces};
 ghost use Rattle.journal_records.specs.Retelling.{Tells, closed};
 
 use client_core::{Client, Heard};
@@ -45,6 +46,7 @@ impl Retelling {
     fn follow(&mut self, entry: &DeskEntry) -> Result<(), NoMemory>
         requires goes { (d : DeskState) × Tells self.now.id d self.now × DeskGoes d entry.now.act }
         requires phase { phase_of self.now.client.seen.task < 2 ^ 64 - 1 }
+        requires place { entry.now.number < 2 ^ 64 - 1 }
         ensures tells { (d : DeskState) → Tells self.old.id d self.old
             → OnOk result
             (Tells self.old.id (desk_after d entry.now.number entry.now.act) self.new) }
@@ -60,21 +62,21 @@ impl Retelling {
         }
     }
 
-    /// Starts an operation, whose record is opened.
+    /// Starts an operation, whose record is opened. The place of its line is its number plus one, as places count from 1.
     fn start(&mut self, number: u64, op: &Op) -> Result<(), NoMemory>
         requires may { MayStart self.now.client op.now }
+        requires place { number < 2 ^ 64 - 1 }
         ensures tells { (d : DeskState) → Tells self.old.id d self.old
             → OnOk result
             (Tells self.old.id (desk_after d number (DeskAct.Start op.now)) self.new) }
         ensures id { self.new.id ≡ self.old.id }
     {
-        let start = place_of(number)?;
         let op_told = op.copy()?;
         let _mail = self.client.start(op)?;
         self.under_way = Some(Record {
             client: self.id,
             op: op_told,
-            start,
+            start: number + 1,
             end: None,
             stamp: None,
             outcome: None,
@@ -85,6 +87,7 @@ impl Retelling {
     /// Hears a reply, which may end the operation under way.
     fn hear(&mut self, number: u64, reply: &Message) -> Result<(), NoMemory>
         requires phase { phase_of self.now.client.seen.task < 2 ^ 64 - 1 }
+        requires place { number < 2 ^ 64 - 1 }
         ensures tells { (d : DeskState) → Tells self.old.id d self.old
             → OnOk result
             (Tells self.old.id (desk_heard d number (hears d.client d.client.seen.task reply.now))
@@ -93,7 +96,7 @@ impl Retelling {
     {
         match self.client.hear(reply)? {
             Heard::Unchanged | Heard::More | Heard::Send(_) => Ok(()),
-            Heard::Ended(outcome) => self.close(place_of(number)?, outcome),
+            Heard::Ended(outcome) => self.close(number + 1, outcome),
         }
     }
 
@@ -142,6 +145,7 @@ pub(crate) fn records_of_client(
     desk: &DeskJournal,
 ) -> Result<Vec<Record>, NoMemory>
     requires kept { DeskKept false (new_desk config.now desk.now.client) desk.now.entries }
+    requires places { HavePlaces desk.now.entries }
     ensures { IfOk result (λ records.
         map record_of records.items
         ≡ client_records desk.now.client
@@ -152,13 +156,6 @@ pub(crate) fn records_of_client(
         retelling.follow(entry)?;
     }
     retelling.finish()
-}
-
-/// The place of the line of this number: places count from 1, and numbers from 0. No run has so many lines that there is none.
-fn place_of(number: u64) -> Result<u64, NoMemory>
-    ensures { IfOk result (λ place. place ≡ number + 1) }
-{
-    number.checked_add(1).ok_or(NoMemory)
 }
 
 /// The stamp that an operation wrote or gave.

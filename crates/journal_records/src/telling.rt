@@ -1,13 +1,13 @@
 //! The records of all clients.
 
-ghost use Rattle.std.specs.Prelude.{◌≡◌, map, IfOk};
+ghost use Rattle.std.specs.Prelude.{◌≡◌, ◌<◌, ◌^◌, ℕ, All, map, IfOk};
 ghost use Rattle.std.specs.List.Sorted.{IsPermutation, IsNonDecreasingBy};
 ghost use Rattle.protocol.specs.Report.{Ascend};
 ghost use Rattle.protocol.specs.Seen.{record_of};
 ghost use Rattle.journals.specs.Steps.{Conduct};
-ghost use Rattle.journals.specs.Journals.{AreOfRun};
+ghost use Rattle.journals.specs.Journals.{NumbersBelow, AreOfRun};
 ghost use Rattle.journal_records.specs.Records.{AreAllRecords};
-ghost use Rattle.journal_records.specs.Telling.{IsKeptDesk, AreKeptDesks, told_by, told_records};
+ghost use Rattle.journal_records.specs.Telling.{IsKeptDesk, AreKeptDesks, HavePlaces, told_by, told_records};
 
 use crate::retelling::records_of_client;
 use journals::{DeskJournal, Journals};
@@ -15,10 +15,11 @@ use lists::{ItemList, NoMemory};
 use run_words::Record;
 use std::alloc::Global;
 
-/// The records of the run that the journals of a run in threads tell, by start.
+/// The records of the run that the journals of a run in threads tell, by start. Each number has a place of 64 bits.
 pub fn records_of(alloc: Global, journals: &Journals) -> Result<ItemList<Record>, NoMemory>
     requires run { (conduct : Conduct) × AreOfRun conduct journals.now }
     requires desks { Ascend (map (λ d. d.client) journals.now.desks) }
+    requires numbers { (drawn : ℕ) × NumbersBelow journals.now drawn × (drawn < 2 ^ 64) }
     ensures { IfOk result (λ records. AreAllRecords journals.now (map record_of records)) }
 {
     let mut records = records_by_client(alloc, journals)?;
@@ -29,6 +30,7 @@ pub fn records_of(alloc: Global, journals: &Journals) -> Result<ItemList<Record>
 /// The records of all correct clients, one client's after another's.
 fn records_by_client(alloc: Global, journals: &Journals) -> Result<Vec<Record>, NoMemory>
     requires kept { AreKeptDesks journals.now }
+    requires places { All (λ d. HavePlaces d.entries) journals.now.desks }
     ensures { IfOk result (λ records.
         map record_of records.items ≡ told_records journals.now journals.now.desks) }
 {
@@ -47,6 +49,7 @@ fn records_at_desk(
     desk: &DeskJournal,
 ) -> Result<Vec<Record>, NoMemory>
     requires kept { IsKeptDesk journals.now desk.now }
+    requires places { HavePlaces desk.now.entries }
     ensures { IfOk result (λ records. map record_of records.items ≡ told_by journals.now desk.now) }
 {
     if journals.liars.client(desk.client) {

@@ -5,14 +5,14 @@ use Rattle.std.specs.List.{list_any, AllByRecursion}
 use Rattle.std.proofs.lemmas.Fmt.{decimal_nonempty}
 use Rattle.quorum_rules.specs.Limits.{Numbers, IsValid}
 use Rattle.quorum_rules.specs.declared.Edition.{Edition}
-use Rattle.quorum_rules.specs.declared.Edition.TheVariants.{One, Two}
-use Rattle.quorum_rules.proofs.FaultLaws.{none_of_valid, size_at_most}
+use Rattle.quorum_rules.specs.declared.Edition.TheVariants.{One, Two, Three}
+use Rattle.quorum_rules.proofs.FaultLaws.{none_of_valid, size_at_most, blocks_at_most}
 use Rattle.text_lines.specs.Lines.{parts_of, fields_of, line_of_fields, Lacks, AllLack}
 use Rattle.text_lines.proofs.Numbers.{number_of-decimal}
 use Rattle.text_lines.proofs.Joined.{parts-joined, part_before, Lacks-append, Lacks-decimal}
 use Rattle.line_forms.specs.Kinds.{has_empty_field}
 use Rattle.line_forms.specs.Texts.{ReadsTo}
-use Rattle.line_forms.specs.Heads.{Body, script, header, edition_of, head_lines, head_text, cluster_fields, cluster_cause, config_cause, numbers_at, numbers_in, u32_of, is_no_u32}
+use Rattle.line_forms.specs.Heads.{Body, IsOfScripts, script, header, edition_of, head_lines, head_text, cluster_fields, cluster_cause, config_cause, numbers_at, numbers_in, u32_of, is_no_u32}
 use Rattle.line_forms.proofs.Clusters.{spelled}
 use Rattle.line_forms.proofs.Heads.{edition_back, header_read, head_read, head_apart}
 use Rattle.lists.proofs.Tests.{not_zero}
@@ -44,22 +44,22 @@ abbrev in_order : Numbers → List ℕ
 in_order c = c.n ∷ c.t ∷ c.b ∷ c.qc ∷ c.m ∷ c.size ∷ c.blocks ∷ []
 
 small : (c : Numbers) → IsValid c → AreSmall (in_order c)
-small c v = let size = size_at_most c v in (omega arith, (omega arith, (omega arith, (omega arith, (omega arith, (omega arith, (omega arith, tt)))))))
+small c v = let size = size_at_most c v in let blocks = blocks_at_most c v in (omega arith, (omega arith, (omega arith, (omega arith, (omega arith, (omega arith, (omega arith, tt)))))))
 
 -- the fields of a cluster line are those that it was joined of
 pub cluster_apart : (c : Numbers) → IsValid c → fields_of (line_of_fields (cluster_fields c)) ≡ cluster_fields c
 cluster_apart c v = parts-joined 32 (codes "cluster") (map decimal (in_order c)) (refl, all_lack 32 (in_order c) (omega arith) (small c v))
 
 -- and they spell its numbers
-pub numbers_back : (c : Numbers) → IsValid c → numbers_in (edition_of (header c.edition)) (fields_of (line_of_fields (cluster_fields c))) ≡ c
-numbers_back c v =
-    ap (λ (e : Option Edition). numbers_in (unwrap_or e One) (fields_of (line_of_fields (cluster_fields c)))) (edition_back c.edition)
+pub numbers_back : (c : Numbers) → IsValid c → IsOfScripts c → numbers_in (edition_of (header c.edition)) (fields_of (line_of_fields (cluster_fields c))) ≡ c
+numbers_back c v named =
+    ap (λ (e : Option Edition). numbers_in (unwrap_or e One) (fields_of (line_of_fields (cluster_fields c)))) (edition_back c.edition named)
     ∙ ap (numbers_in c.edition) (cluster_apart c v) ∙ sym (ap (numbers_at c.edition) (all_read (in_order c) (small c v)))
 
 -- lines that begin with the head lines of a valid configuration begin with those of no other
-pub one_head : (c d : Numbers) (xs ys : List (List ℕ)) → IsValid c → IsValid d → head_lines c ++ xs ≡ head_lines d ++ ys → c ≡ d
-one_head c d xs ys v w e =
-    sym (numbers_back c v) ∙ ap (λ (ls : List (List ℕ)). numbers_in (edition_of (get_or ls 0 [])) (fields_of (get_or ls 1 []))) e ∙ numbers_back d w
+pub one_head : (c d : Numbers) (xs ys : List (List ℕ)) → IsValid c → IsOfScripts c → IsValid d → IsOfScripts d → head_lines c ++ xs ≡ head_lines d ++ ys → c ≡ d
+one_head c d xs ys v named w named' e =
+    sym (numbers_back c v named) ∙ ap (λ (ls : List (List ℕ)). numbers_in (edition_of (get_or ls 0 [])) (fields_of (get_or ls 1 []))) e ∙ numbers_back d w named'
 
 no_config_cause : (c : Numbers) → IsValid c → config_cause c ≡ None
 no_config_cause c v = rw (none_of_valid c v) refl
@@ -83,16 +83,17 @@ line_apart first fields rest h = ap parts_of (append_assoc (line_of_fields (firs
 header_lacks : (edition : Edition) → Lacks 10 (header edition)
 header_lacks One = refl
 header_lacks Two = refl
+header_lacks Three = refl
 
 -- a text that begins with a valid head is read so far, whatever may follow
-pub head_accepted : (body : Body) (c : Numbers) (rest : List ℕ) → IsValid c → ReadsTo (script body) (head_text c ++ rest) (head_lines c) rest
-head_accepted body c rest v =
+pub head_accepted : (body : Body) (c : Numbers) (rest : List ℕ) → IsValid c → IsOfScripts c → ReadsTo (script body) (head_text c ++ rest) (head_lines c) rest
+head_accepted body c rest v known =
     let line = line_of_fields (cluster_fields c) in
     let lack : AllLack 10 (cluster_fields c) = (refl, all_lack 10 (in_order c) (omega arith) (small c v)) in
     let after = (line ++ 10 ∷ []) ++ rest in
     let text : head_text c ++ rest ≡ header c.edition ++ 10 ∷ after = ap (λ (t : List ℕ). t ++ rest) (head_apart c) ∙ append_assoc (header c.edition) (10 ∷ (line ++ 10 ∷ [])) rest in
     let first : parts_of (head_text c ++ rest) ≡ header c.edition ∷ parts_of after = ap parts_of text ∙ part_before 10 (header c.edition) after (header_lacks c.edition) in
     let second : parts_of after ≡ line ∷ parts_of rest = line_apart (codes "cluster") (map decimal (in_order c)) rest lack in
-    let named = edition_back c.edition in
+    let named = edition_back c.edition known in
     let one = header_read body (head_text c ++ rest) (header c.edition) after c.edition first named in
     head_read body (head_text c ++ rest) (header c.edition) line after rest c.edition c one named second (cluster_accepted c v) (refl, sym (cluster_apart c v), v)

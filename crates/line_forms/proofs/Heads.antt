@@ -1,5 +1,5 @@
 -- The head lines at the front of a text.
-use Rattle.std.proofs.Common.{◌≡◌, ℕ, Bool, true, false, if◌then◌else◌, List, [], ◌∷◌, ◌++◌, Some, None, refl, sym, ap, subst, ◌∙◌, append_assoc, lit<}
+use Rattle.std.proofs.Common.{◌≡◌, ◌≢◌, ℕ, Bool, true, false, if◌then◌else◌, List, [], ◌∷◌, ◌++◌, Some, None, refl, sym, ap, subst, ◌∙◌, append_assoc, lit<}
 use Rattle.std.specs.Prelude.{codes, decimal}
 use Rattle.std.specs.Str.{bytes_eq}
 use Rattle.std.proofs.lemmas.Fmt.{decimal_digit}
@@ -7,7 +7,7 @@ use Rattle.std.proofs.lemmas.List.{append-nil}
 use Rattle.std.proofs.lemmas.Slice.Eq.{bytes_eq-Decides}
 use Rattle.quorum_rules.specs.Limits.{Numbers, edition_number}
 use Rattle.quorum_rules.specs.declared.Edition.{Edition}
-use Rattle.quorum_rules.specs.declared.Edition.TheVariants.{One, Two}
+use Rattle.quorum_rules.specs.declared.Edition.TheVariants.{One, Two, Three}
 use Rattle.text_lines.specs.Lines.{parts_of, fields_of, line_of_fields}
 use Rattle.text_lines.proofs.Joined.{line_from_fields}
 use Rattle.line_forms.specs.Texts.{IsFault, ReadsTo}
@@ -30,10 +30,20 @@ header_is first edition e = one_of_two (bytes_eq first (header One)) (bytes_eq f
     one_of_two false true h k e = let same : Two ≡ edition = cc in k refl ∙ ap header same
     one_of_two false false h k e = cc
 
--- the header of an edition names it
-pub edition_back : (edition : Edition) → edition_in (header edition) ≡ Some edition
-edition_back One = refl
-edition_back Two = refl
+-- the header of an edition that scripts name names it
+pub edition_back : (edition : Edition) → edition ≢ Three → edition_in (header edition) ≡ Some edition
+edition_back One named = refl
+edition_back Two named = refl
+edition_back Three named = absurd (named refl)
+
+-- no first line names the third edition
+pub never_third : (first : List ℕ) (edition : Edition) → edition_in first ≡ Some edition → edition ≢ Three
+never_third first edition e third = one_of_two (bytes_eq first (header One)) (bytes_eq first (header Two)) (e ∙ ap (λ (x : Edition). Some x) third)
+  where
+    one_of_two : (p q : Bool) → (if p then Some One else (if q then Some Two else None)) ≡ Some Three → ⊥
+    one_of_two true q e = cc
+    one_of_two false true e = cc
+    one_of_two false false e = cc
 
 -- the first line was read
 pub header_read : (body : Body) (text line rest : List ℕ) (edition : Edition) → parts_of text ≡ line ∷ parts_of rest → edition_in line ≡ Some edition → ReadsTo (script body) text (line ∷ []) rest
@@ -63,6 +73,7 @@ head_read body text first line rest after edition c r is e none h =
 header_written : (edition : Edition) → codes "pasis " ++ decimal (edition_number edition) ≡ header edition
 header_written One = ap (λ (d : List ℕ). codes "pasis " ++ d) (decimal_digit 1 (lit< tt))
 header_written Two = ap (λ (d : List ℕ). codes "pasis " ++ d) (decimal_digit 2 (lit< tt))
+header_written Three = ap (λ (d : List ℕ). codes "pasis " ++ d) (decimal_digit 3 (lit< tt))
 
 -- the head is the header, a newline and the cluster line
 pub head_apart : (c : Numbers) → head_text c ≡ header c.edition ++ 10 ∷ (line_of_fields (cluster_fields c) ++ 10 ∷ [])

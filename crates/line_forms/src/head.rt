@@ -1,6 +1,6 @@
 ghost use Rattle.std.specs.Prelude.{◌≡◌, ◌∷◌, ◌++◌, ◌≤◌, decimal, drop, length, IfOk, IfErr, OnOk};
 ghost use Rattle.quorum_rules.specs.Limits.{IsValid};
-ghost use Rattle.line_forms.specs.Heads.{Body, script, edition_in, head_lines, head_text};
+ghost use Rattle.line_forms.specs.Heads.{Body, IsOfScripts, script, edition_in, head_lines, head_text};
 ghost use Rattle.line_forms.specs.Texts.{IsRefusal, ReadsTo};
 
 use crate::cause::Cause;
@@ -19,6 +19,7 @@ pub fn read_head(alloc: Global, text: &[u8]) -> Result<(Config, usize), ScriptRe
         (body : Body) → ReadsTo (script body) text.now (head_lines head.0) (drop head.1 text.now)) }
     ensures within { IfOk result (λ head. head.1 ≤ length text.now) }
     ensures valid { IfOk result (λ head. IsValid head.0) }
+    ensures of_scripts { IfOk result (λ head. IsOfScripts head.0) }
     // A refusal is the first line that has a cause, whatever may follow the head lines.
     ensures fault { IfErr result (λ refusal.
         (body : Body) → IsRefusal (script body) text.now refusal) }
@@ -47,7 +48,7 @@ fn edition_in(first: &[u8]) -> Option<Edition>
     }
 }
 
-/// Adds the two head lines of a script for this configuration.
+/// Adds the two head lines of a script for this configuration. No script begins with those of edition 3.
 ///
 /// After `NoMemory` the text may end within them.
 pub fn add_head(text: &mut Text, config: &Config) -> Result<(), NoMemory>

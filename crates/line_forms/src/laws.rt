@@ -2,7 +2,7 @@
 ghost use Rattle.std.specs.Prelude.{◌≡◌, ◌++◌, ℕ, List};
 ghost use Rattle.quorum_rules.specs.Limits.{Numbers, IsValid};
 ghost use Rattle.text_lines.specs.Lines.{fields_of, line_of_fields};
-ghost use Rattle.line_forms.specs.Heads.{Body, script, head_lines, head_text, header, cluster_fields, edition_of, numbers_in};
+ghost use Rattle.line_forms.specs.Heads.{Body, IsOfScripts, script, head_lines, head_text, header, cluster_fields, edition_of, numbers_in};
 ghost use Rattle.line_forms.specs.Texts.{Grammar, IsFault, IsFaultless, ReadsTo};
 ghost use Rattle.line_forms.specs.declared.cause.Cause.{Cause};
 
@@ -14,11 +14,12 @@ pub fn a_text_has_one_fault()
         → IsFault g text l c → ⊥ }
 {}
 
-/// The head lines of a valid configuration have no cause, whatever may follow them, and spell its numbers.
+/// The head lines of a valid configuration that a script can describe have no cause, whatever may follow them, and spell its
+/// numbers.
 pub fn valid_heads_are_accepted()
-    ensures read { (body : Body) (c : Numbers) (rest : List ℕ) → IsValid c
+    ensures read { (body : Body) (c : Numbers) (rest : List ℕ) → IsValid c → IsOfScripts c
         → ReadsTo (script body) (head_text c ++ rest) (head_lines c) rest }
-    ensures spelled { (c : Numbers) → IsValid c
+    ensures spelled { (c : Numbers) → IsValid c → IsOfScripts c
         → numbers_in (edition_of (header c.edition))
         (fields_of (line_of_fields (cluster_fields c))) ≡ c }
 {}

@@ -1,5 +1,5 @@
 -- Devices in order, after reads and writes.
-use Rattle.std.proofs.Common.{◌≡◌, ℕ, ◌+◌, ◌-◌, ◌*◌, ◌^◌, ◌<◌, ◌≤◌, List, length, take, refl, sym, ◌∙◌, ap, arith, inl, inr, slice_range, slice_set}
+use Rattle.std.proofs.Common.{◌≡◌, ℕ, ◌+◌, ◌-◌, ◌*◌, ◌^◌, ◌<◌, ◌≤◌, Bool, false, List, length, take, refl, sym, ◌∙◌, ap, subst, arith, inl, inr, slice_range, slice_set}
 use Rattle.std.proofs.lemmas.Bool.{cases_eq}
 use Rattle.std.proofs.lemmas.List.{take_all, get_or-set_same, get_or-set_other, length-set}
 use Rattle.std.proofs.Math.Nat.{mul_comm}
@@ -10,9 +10,9 @@ use Rattle.protocol.specs.Setting.{IsBlock}
 use Rattle.protocol.specs.Instance.{setting}
 use Rattle.node_device.specs.Held.{Held, held_at, unwritten, rewritten}
 use Rattle.node_device.specs.Devices.{SeenDevice}
-use Rattle.nbd_front.specs.Arrays.{array_of, IsInOrder, HasRead, HasWritten}
+use Rattle.nbd_front.specs.Arrays.{array_of, once, time_at, IsInOrder, HasRead, HasWritten}
 use Rattle.nbd_front.proofs.Blocks.{Parts, parts, array_len, middle, merged_middle}
-use Rattle.quorum_rules.proofs.FaultLaws.{most_of_all}
+use Rattle.quorum_rules.proofs.FaultLaws.{size_at_most, blocks_at_most}
 
 module _ (d : SeenDevice) (o : IsInOrder d) where
   sized : (i : ℕ) → i < length d.held → length (held_at d.config d.held i).value ≡ d.config.size
@@ -63,6 +63,12 @@ module _ (d : SeenDevice) (o : IsInOrder d) where
       apart : (j : ℕ) → (j ≡ k → ⊥) → held_at d.config now.held j ≡ held_at d.config d.held j
       apart j other = get_or-set_other d.held k j (rewritten old value) (unwritten d.config) other
 
+      pub write_here : time_at now k ≡ time_at d k + 1
+      write_here = ap (λ (h : Held). h.time) here
+
+      pub write_apart : (j : ℕ) → (j ≡ k → ⊥) → time_at now j ≡ time_at d j
+      write_apart j other = ap (λ (h : Held). h.time) (apart j other)
+
       pub write_order : IsInOrder now
       write_order = record {
         whole = o.whole;
@@ -72,32 +78,30 @@ module _ (d : SeenDevice) (o : IsInOrder d) where
           | inl same ↦ rw (same, here) is
           | inr other ↦ rw (apart j other) (o.blocks j l)
         ];
+        unwritten = λ j l never. elim (cases_eq j k) [
+          | inl same ↦ absurd (let t : time_at now k ≡ 0 = subst (λ i. time_at now i ≡ 0) same never in omega (arith, t, write_here))
+          | inr other ↦ ap (λ (h : Held). h.value) (apart j other) ∙ o.unwritten j l (sym (write_apart j other) ∙ never)
+        ];
       }
 
-      pub write_early : (j : ℕ) → (held_at d.config now.held j).time ≤ (held_at d.config d.held j).time + 1
-      write_early j = elim (cases_eq j k) [
-        | inl same ↦ rw (same, here) (omega arith)
-        | inr other ↦ rw (apart j other) (omega arith)
-      ]
-
-      pub write_apart : (j : ℕ) → (j ≡ k → ⊥) → (held_at d.config now.held j).time ≡ (held_at d.config d.held j).time
-      write_apart j other = ap (λ (h : Held). h.time) (apart j other)
-
-      pub write_rest : (j : ℕ) → k < j → (held_at d.config now.held j).time ≡ (held_at d.config d.held j).time
-      write_rest j l = rw (apart j (λ e. omega (arith, l, e))) refl
-
 pub read_order : (n : ℕ) (d e : SeenDevice) → IsInOrder d → HasRead n d e → IsInOrder e
-read_order n d e o r = rw r.same (record { whole = o.whole; valid = o.valid; count = o.count; blocks = o.blocks })
+read_order n d e o r = rw r.same (record { whole = o.whole; valid = o.valid; count = o.count; blocks = o.blocks; unwritten = o.unwritten })
 
--- reads change no byte
-pub read_written : (d e : SeenDevice) → IsInOrder d → HasRead 4096 d e → HasWritten 8192 (array_of d.held) d e
-read_written d e o r =
-    let steps : e.started ≤ d.started + 8192 = omega (arith, r.steps) in
-    rw r.same (record { order = record { whole = o.whole; valid = o.valid; count = o.count; blocks = o.blocks }; config = refl; life = refl; bytes = refl; times = λ n h k l. omega (arith, h k l); steps = steps })
+-- nothing was written
+pub same_written : (wrote : ℕ → Bool) (d : SeenDevice) → IsInOrder d → ((k : ℕ) → wrote k ≡ false) → HasWritten 131072 (array_of d.held) wrote d d
+same_written wrote d o none = record { order = o; config = refl; life = refl; bytes = refl; times = λ k l. rw (none k) (omega arith); steps = omega arith }
 
-pub same_written : (d : SeenDevice) → IsInOrder d → HasWritten 8192 (array_of d.held) d d
-same_written d o = record { order = o; config = refl; life = refl; bytes = refl; times = λ n h k l. omega (arith, h k l); steps = omega arith }
+-- what was written, told otherwise
+pub as_told : {most : ℕ} {array other : List ℕ} {wrote told : ℕ → Bool} {d e : SeenDevice} → array ≡ other → ((k : ℕ) → wrote k ≡ told k) → HasWritten most array wrote d e → HasWritten most other told d e
+as_told {d = d} same blocks w = record {
+  order = w.order;
+  config = w.config;
+  life = w.life;
+  bytes = w.bytes ∙ same;
+  times = λ k l. w.times k l ∙ ap (λ b. time_at d k + once b) (blocks k);
+  steps = w.steps;
+}
 
--- a device has at most 2^26 bytes
-pub small_array : (c : Numbers) → IsValid c → c.size * c.blocks ≤ 2 ^ 26
-small_array c v = let m = most_of_all c.edition in mul-le c.size c.blocks 16384 4096 (omega (arith, v.size, m)) (omega (arith, v.blocks))
+-- a device has at most 2^30 bytes
+pub small_array : (c : Numbers) → IsValid c → c.size * c.blocks ≤ 2 ^ 30
+small_array c v = mul-le c.size c.blocks 16384 65536 (size_at_most c v) (blocks_at_most c v)

@@ -9,3 +9,5 @@ mod Lives
 mod Replying
 mod Stepping
 mod Completing
+mod Held
+mod Parsing

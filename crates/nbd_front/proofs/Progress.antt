@@ -10,12 +10,13 @@ use Rattle.block_device.proofs.Touching.{last_place, first_place}
 abbrev pub reached : ℕ → ℕ → ℕ → ℕ → ℕ
 reached size start end k = min end (max start (k * size))
 
-up_to : (size j k : ℕ) → j ≤ k → j * size ≤ k * size
+pub up_to : (size j k : ℕ) → j ≤ k → j * size ≤ k * size
 up_to size j k h = mul-le-mul_right size h
 
 -- a block of the span
 pub record IsStep (size start end blocks k place : ℕ) : Type 0 where
   pub block : k < blocks
+  pub above : k * size < end
   pub low : k * size ≤ place
   pub high : place ≤ k * size + min (end - k * size) size
   pub first : start ≤ place
@@ -37,6 +38,7 @@ step size start end blocks k place sized order within from to here =
     ] in
     record {
       block = there;
+      above = above;
       low = omega (arith, here, above);
       high = omega (arith, here, above, below);
       first = omega (arith, here, order);
@@ -44,6 +46,10 @@ step size start end blocks k place sized order within from to here =
       fits = omega (arith, above);
       next = omega (arith, more, above, below);
     }
+
+-- before its first block a walk hasn't passed the end
+pub not_past : (size start end : ℕ) → 0 < size → start ≤ end → (start / size) * size < end + size
+not_past size start end sized order = let f = first_place size start in omega (arith, f, order, sized)
 
 pub begins : (size start end : ℕ) → start ≤ end → start ≡ reached size start end (start / size)
 begins size start end order = let f = first_place size start in omega arith

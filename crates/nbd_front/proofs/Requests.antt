@@ -5,6 +5,7 @@ use Rattle.std.specs.Io.KnownBytes.{Consumes}
 use Rattle.std.specs.Int.{w32, from_be_bytes}
 use Rattle.outside_io.specs.Given.{GaveAtMost}
 use Rattle.outside_io.proofs.Known.{Consumes-then}
+use Rattle.node_device.specs.Devices.{SeenDevice}
 use Rattle.nbd_front.specs.declared.request.Request.{Request}
 use Rattle.nbd_front.specs.declared.filling.TakeRefusal.{TakeRefusal}
 use Rattle.nbd_front.specs.declared.filling.TakeRefusal.TheVariants as refusals
@@ -15,7 +16,7 @@ use Rattle.nbd_front.specs.declared.ending.SessionEnd.TheVariants.{NoMemory, Rea
 use Rattle.nbd_front.specs.Ends.{end_of}
 use Rattle.nbd_front.specs.Sessions.{leave_kind, most_requests, IsRequest, IsPart}
 use Rattle.nbd_front.specs.Answers.{HasStopped}
-use Rattle.nbd_front.specs.Servers.{HasNotCome}
+use Rattle.nbd_front.specs.Servers.{HasNotCome, HasEndedEarly}
 
 -- a request is known by its first bytes
 pub front_magic : (head more : List ℕ) → 4 ≤ length head → magic_of (head ++ more) ≡ magic_of head
@@ -53,13 +54,13 @@ pub begun_part : (bytes : List ℕ) → length bytes < head_len → (4 ≤ lengt
 begun_part bytes short magic = record { magic = magic; short = λ l. absurd (omega (arith, l, short)) }
 
 -- ---- ends before a request was there
-pub not_come : (r : TakeRefusal) (served place : ℕ) (left left_after : Option (List ℕ)) → (r ≡ refusals.ReadFault → HasBegun left left_after) → (r ≡ refusals.NoMemory → GaveAtMost head_len left left_after) → HasNotCome (end_of r) served place left left_after
-not_come refusals.NoMemory served place left left_after fault memory =
+pub not_come : (r : TakeRefusal) (served place : ℕ) (left left_after : Option (List ℕ)) → served < most_requests → (r ≡ refusals.ReadFault → HasBegun left left_after) → (r ≡ refusals.NoMemory → GaveAtMost head_len left left_after) → HasNotCome (end_of r) served place left left_after
+not_come refusals.NoMemory served place left left_after few fault memory =
     let g = memory refl in
-    record { bytes = g.0; gave = g.1; ends = tt; early = λ e. cc }
-not_come refusals.ReadFault served place left left_after fault memory =
+    record { bytes = g.0; gave = g.1; few = omega (arith, few); ends = tt; early = λ e. cc }
+not_come refusals.ReadFault served place left left_after few fault memory =
     let g = fault refl in
-    record { bytes = g.0; gave = g.1; ends = begun_part g.0 g.2 g.3; early = λ e. cc }
+    record { bytes = g.0; gave = g.1; few = omega (arith, few); ends = (begun_part g.0 g.2 g.3, λ all. absurd (omega (arith, all, few))); early = λ e. cc }
 
 -- ---- ends within the data
 pub stopped : (q : Request) (r : TakeRefusal) (place : ℕ) (left left_after : Option (List ℕ)) → (r ≡ refusals.ReadFault → GaveFewer (data_len q) left left_after) → (r ≡ refusals.NoMemory → GaveAtMost (data_len q) left left_after) → HasStopped q place left left_after (end_of r)
@@ -70,13 +71,17 @@ stopped q refusals.ReadFault place left left_after fault memory = fault refl
 pub ended_within : (head : List ℕ) (r : Request) (end : SessionEnd) (served place : ℕ) (left mid left_after : Option (List ℕ)) → length head ≡ head_len → magic_of head ≡ request_magic → r ≡ request_of head → served < most_requests
     → Consumes left mid head → HasStopped r place mid left_after end → HasNotCome end served place left left_after
 ended_within head r NoMemory served place left mid left_after size magic is few gave s =
-    record { bytes = head ++ s.0; gave = Consumes-then _ _ _ head s.0 gave s.1; ends = tt; early = λ e. cc }
+    record { bytes = head ++ s.0; gave = Consumes-then _ _ _ head s.0 gave s.1; few = omega (arith, few); ends = tt; early = λ e. cc }
 ended_within head r ReadFault served place left mid left_after size magic is few gave s =
-    record { bytes = head ++ s.0; gave = Consumes-then _ _ _ head s.0 gave s.1; ends = is_part head s.0 size magic (subst (λ q. length s.0 < data_len q) is s.2); early = λ e. cc }
+    record { bytes = head ++ s.0; gave = Consumes-then _ _ _ head s.0 gave s.1; few = omega (arith, few); ends = (is_part head s.0 size magic (subst (λ q. length s.0 < data_len q) is s.2), λ all. absurd (omega (arith, all, few))); early = λ e. cc }
 ended_within head r (CutRequest at) served place left mid left_after size magic is few gave s =
     let cut = s.1 in
     let long = length-append head cut.0 in
-    record { bytes = head ++ cut.0; gave = Consumes-then _ _ _ head cut.0 gave cut.1; ends = (s.0, few, omega (arith, long, size), is_part head cut.0 size magic (subst (λ q. length cut.0 < data_len q) is cut.2), cut.3); early = λ e. cc }
+    record { bytes = head ++ cut.0; gave = Consumes-then _ _ _ head cut.0 gave cut.1; few = omega (arith, few); ends = (s.0, few, omega (arith, long, size), is_part head cut.0 size magic (subst (λ q. length cut.0 < data_len q) is cut.2), cut.3); early = λ e. cc }
 ended_within head r WriteFault served place left mid left_after size magic is few gave s = absurd s
 ended_within head r (BadMagic at) served place left mid left_after size magic is few gave s = absurd s
 ended_within head r TooManyRequests served place left mid left_after size magic is few gave s = absurd s
+
+-- or for want of memory, when all of it was read
+pub no_memory : (bytes : List ℕ) (served place : ℕ) (old new : SeenDevice) (left left_after : Option (List ℕ)) → Consumes left left_after bytes → served < most_requests → HasEndedEarly NoMemory served place old new left left_after
+no_memory bytes served place old new left left_after gave few = (record { bytes = bytes; gave = gave; few = omega (arith, few); ends = tt; early = λ e. cc }, λ no. absurd (no refl))

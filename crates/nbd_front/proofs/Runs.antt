@@ -1,5 +1,5 @@
 -- Sessions that go on by one request.
-use Rattle.std.proofs.Common.{◌≡◌, ℕ, ◌+◌, List, [], ◌∷◌, ◌++◌, length, refl, sym, ◌∙◌, ap, subst, arith, length-append, append_assoc, Option, Some, None, Result, Ok, Err}
+use Rattle.std.proofs.Common.{◌≡◌, ℕ, ◌+◌, ◌<◌, ◌≤◌, List, [], ◌∷◌, ◌++◌, length, refl, sym, ◌∙◌, ap, subst, arith, length-append, append_assoc, Option, Some, None, Result, Ok, Err}
 use Rattle.std.specs.List.{All, concat}
 use Rattle.std.proofs.lemmas.List.{append-nil}
 use Rattle.std.proofs.lemmas.List.Elements.{All-append, All-cons, All-nil}
@@ -10,7 +10,7 @@ use Rattle.nbd_front.specs.declared.ending.Served.{Served}
 use Rattle.nbd_front.specs.declared.ending.Served.TheVariants.{Next, Over}
 use Rattle.nbd_front.specs.declared.ending.SessionEnd.{SessionEnd}
 use Rattle.nbd_front.specs.declared.ending.SessionEnd.TheVariants.{NoMemory, ReadFault, WriteFault, BadMagic, CutRequest, TooManyRequests}
-use Rattle.nbd_front.specs.Sessions.{reply_to, after_request, replies, after_requests, IsRequest, IsEnd, HasTaken, IsSession}
+use Rattle.nbd_front.specs.Sessions.{reply_to, after_request, replies, after_requests, most_requests, IsRequest, IsEnd, HasTaken, IsSession}
 
 pub Adds-none : (a : Option (List ℕ)) → Adds a a []
 Adds-none None = tt
@@ -78,28 +78,30 @@ module _ (array : List ℕ) (count place : ℕ) (left taken : Option (List ℕ))
   said_at (Ok Next) taken_next n w e = absurd (n refl)
   said_at (Ok Over) taken_next n w e = rw e h.said
 
-  pub has_ended : (end : Result Served SessionEnd) (bytes : List ℕ) (left_next taken_next : Option (List ℕ)) → Consumes left_now left_next bytes → IsEnd end count_now place_now bytes left_next
+  pub has_ended : (end : Result Served SessionEnd) (bytes : List ℕ) (left_next taken_next : Option (List ℕ)) → Consumes left_now left_next bytes → count_now ≤ most_requests → IsEnd end count_now place_now bytes left_next
       → (end ≡ Ok Next → ⊥) → (end ≡ Err WriteFault → ⊥) → taken_next ≡ taken_now → IsSession [] array count place end left left_next taken taken_next
-  has_ended end bytes left_next taken_next gave is n w e = record {
+  has_ended end bytes left_next taken_next gave few is n w e = record {
     requests = h.requests;
     rest = bytes;
     whole = h.whole;
+    few = omega (arith, few, h.served);
     gave = Consumes-then _ _ _ (concat h.requests) bytes h.gave gave;
     ended = subst (λ m. IsEnd end m (place + length (concat h.requests)) bytes left_next) h.served (subst (λ m. IsEnd end count_now m bytes left_next) h.place_is is);
     said = said_at end taken_next n w e;
   }
 
   -- the sink failed in the midst of a reply
-  pub has_failed : (bytes : List ℕ) (left_next taken_next : Option (List ℕ)) → Consumes left_now left_next bytes → IsRequest bytes → TakesPrefix taken_now taken_next (reply_to array_now bytes)
+  pub has_failed : (bytes : List ℕ) (left_next taken_next : Option (List ℕ)) → Consumes left_now left_next bytes → count_now < most_requests → IsRequest bytes → TakesPrefix taken_now taken_next (reply_to array_now bytes)
       → IsSession [] array count place (Err WriteFault) left left_next taken taken_next
-  has_failed bytes left_next taken_next gave is t =
+  has_failed bytes left_next taken_next gave few is t =
       let rs = h.requests in
       record {
         requests = rs ++ bytes ∷ [];
         rest = [];
         whole = All-append IsRequest rs (bytes ∷ []) h.whole (All-cons IsRequest bytes [] is (All-nil IsRequest));
+        few = omega (arith, few, h.served, length-append rs (bytes ∷ []));
         gave = rw (append-nil (concat (rs ++ bytes ∷ [])), concat_more rs bytes) (Consumes-then _ _ _ (concat rs) bytes h.gave gave);
-        ended = tt;
+        ended = refl;
         said = rw (replies_more array rs bytes) (Adds-prefix taken taken_now taken_next (replies array rs) (reply_to (after_requests array rs) bytes) h.said (rw (sym h.array_is) t));
       }
 
@@ -109,6 +111,7 @@ with_words words array end left left_after taken greeted taken_after adds s = re
   requests = s.requests;
   rest = s.rest;
   whole = s.whole;
+  few = s.few;
   gave = s.gave;
   ended = s.ended;
   said = said_after end (replies array s.requests) s.said;
@@ -126,7 +129,7 @@ with_words words array end left left_after taken greeted taken_after adds s = re
 
 -- a session that ended before its first request: with its words not written whole, or not begun
 pub not_greeted : (words array : List ℕ) (left taken taken_after : Option (List ℕ)) → Consumes left left [] → TakesPrefix taken taken_after words → IsSession words array 0 0 (Err WriteFault) left left taken taken_after
-not_greeted words array left taken taken_after none t = record { requests = []; rest = []; whole = All-nil IsRequest; gave = none; ended = tt; said = rw (append-nil words) t }
+not_greeted words array left taken taken_after none t = record { requests = []; rest = []; whole = All-nil IsRequest; few = omega arith; gave = none; ended = refl; said = rw (append-nil words) t }
 
 pub not_made : (words array : List ℕ) (left taken : Option (List ℕ)) → Consumes left left [] → IsSession words array 0 0 (Err NoMemory) left left taken taken
-not_made words array left taken none = record { requests = []; rest = []; whole = All-nil IsRequest; gave = none; ended = tt; said = ([], words ++ [], refl, Adds-none taken) }
+not_made words array left taken none = record { requests = []; rest = []; whole = All-nil IsRequest; few = omega arith; gave = none; ended = tt; said = ([], words ++ [], refl, Adds-none taken) }

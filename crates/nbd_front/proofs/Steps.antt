@@ -1,18 +1,21 @@
 -- What a read or a write of one block adds to a walk over the blocks of a span.
-use Rattle.std.proofs.Common.{◌≡◌, ℕ, ◌+◌, ◌-◌, ◌*◌, ◌<◌, ◌≤◌, min, List, ◌++◌, length, take, refl, sym, ◌∙◌, ap, subst, arith, inl, inr, slice_range, slice_set}
-use Rattle.std.proofs.lemmas.Bool.{cases_eq}
+use Rattle.std.proofs.Common.{◌≡◌, ℕ, ◌+◌, ◌-◌, ◌*◌, ◌/◌, ◌<◌, ◌≤◌, min, max, false, List, ◌++◌, length, take, refl, sym, ◌∙◌, ap, subst, arith, inl, inr, slice_range, slice_set}
+use Rattle.std.proofs.lemmas.Bool.{cases_eq, cases_lt, lt-ltb, le-ltb}
+use Rattle.std.specs.Int.{div_ceil}
+use Rattle.std.proofs.lemmas.Grind.{div_ceil_times}
 use Rattle.std.proofs.lemmas.List.{append_assoc, length-take-le}
 use Rattle.std.proofs.lemmas.List.Edits.{length-between}
-use Rattle.quorum_rules.specs.Limits.{Numbers}
 use Rattle.block_device.specs.Device.{merged}
 use Rattle.protocol.specs.Setting.{IsBlock}
 use Rattle.protocol.specs.Instance.{setting}
 use Rattle.node_device.specs.Held.{held_at, rewritten}
 use Rattle.node_device.specs.Devices.{SeenDevice}
-use Rattle.nbd_front.specs.Arrays.{array_of, IsInOrder, IsWrittenUpTo, HasRead}
+use Rattle.block_device.specs.Ranges.{is_touched}
+use Rattle.block_device.proofs.Touching.{last_place, first_place}
+use Rattle.nbd_front.specs.Arrays.{array_of, once, time_at, IsInOrder, HasRead}
 use Rattle.nbd_front.proofs.Blocks.{merged_then, parts_then, start_then}
-use Rattle.nbd_front.proofs.Devices.{block_part, block_merged, write_order, write_early, write_apart, write_rest}
-use Rattle.nbd_front.proofs.Progress.{IsStep}
+use Rattle.nbd_front.proofs.Devices.{block_part, block_merged, write_order, write_here, write_apart}
+use Rattle.nbd_front.proofs.Progress.{IsStep, up_to}
 
 -- a text with the bytes up to a place, and those of the next block's part
 pub read_more : (d0 : SeenDevice) → IsInOrder d0 → (d : SeenDevice) → d ≡ record d0 { started = d.started } → (k start end place from to : ℕ)
@@ -94,37 +97,85 @@ read_same d0 d e h k =
     (k ∙ ap (λ (x : SeenDevice). record x { started = d.started + 1 }) h ∙ ap (λ m. record d0 { started = m }) (sym n), n)
 
 -- one more write
-pub record HasWrittenOne (d0 d e : SeenDevice) (k : ℕ) (value : List ℕ) : Type 0 where
+pub record HasWrittenOne (d e : SeenDevice) (k : ℕ) (value : List ℕ) : Type 0 where
   pub order : IsInOrder e
   pub config : e.config ≡ d.config
   pub life : e.life ≡ d.life
   pub held : e.held ≡ slice_set d.held k (rewritten (held_at d.config d.held k) value)
-  pub early : (j : ℕ) → (held_at e.config e.held j).time ≤ (held_at e.config d0.held j).time + 1
-  pub rest : (j : ℕ) → k + 1 ≤ j → (held_at e.config e.held j).time ≡ (held_at e.config d0.held j).time
+  pub here : time_at e k ≡ time_at d k + 1
+  pub apart : (j : ℕ) → (j ≡ k → ⊥) → time_at e j ≡ time_at d j
 
-pub write_one : (d0 d r e : SeenDevice) (k : ℕ) (value : List ℕ) → IsInOrder d → k < d.config.blocks → IsBlock (setting d.config) value → HasRead 1 d r
+pub write_one : (d r e : SeenDevice) (k : ℕ) (value : List ℕ) → IsInOrder d → k < d.config.blocks → IsBlock (setting d.config) value → HasRead 1 d r
     → e ≡ record r { held = slice_set r.held k (rewritten (held_at r.config r.held k) value); started = r.started + 1 }
-    → ((j : ℕ) → (held_at d.config d.held j).time ≤ (held_at d.config d0.held j).time + 1) → ((j : ℕ) → k ≤ j → (held_at d.config d.held j).time ≡ (held_at d.config d0.held j).time)
-    → HasWrittenOne d0 d e k value
-write_one d0 d r e k value o there is read wrote early rest =
+    → HasWrittenOne d e k value
+write_one d r e k value o there is read wrote =
     let n = r.started + 1 in
     let by_read : e ≡ record d { held = slice_set d.held k (rewritten (held_at d.config d.held k) value); started = n } =
     wrote ∙ ap (λ (x : SeenDevice). record x { held = slice_set x.held k (rewritten (held_at x.config x.held k) value); started = n }) read.same in
-    subst (λ (x : SeenDevice). HasWrittenOne d0 d x k value) (sym by_read) (record {
+    subst (λ (x : SeenDevice). HasWrittenOne d x k value) (sym by_read) (record {
       order = write_order d o k there value is n;
       config = refl;
       life = refl;
       held = refl;
-      early = λ j. elim (cases_eq j k) [
-        | inl same ↦ (let w = write_early d o k there value is n j in let h = rest j (omega (arith, same)) in omega (arith, w, h))
-        | inr other ↦ (let w = write_apart d o k there value is n j other in omega (arith, w, early j))
-      ];
-      rest = λ j l. (let w = write_rest d o k there value is n j (omega (arith, l)) in let h = rest j (omega (arith, l)) in omega (arith, w, h));
+      here = write_here d o k there value is n;
+      apart = write_apart d o k there value is n;
     })
 
--- no block was written more than once more
-pub written_up_to : (d0 d : SeenDevice) (n : ℕ) → d.config ≡ d0.config → ((j : ℕ) → (held_at d.config d.held j).time ≤ (held_at d.config d0.held j).time + 1) → IsWrittenUpTo n d0 → (k : ℕ) → k < d.config.blocks → (held_at d.config d.held k).time ≤ n + 1
-written_up_to d0 d n same early h k l =
-    let before : (held_at d.config d0.held k).time ≤ n = subst (λ (c : Numbers). k < c.blocks → (held_at c d0.held k).time ≤ n) (sym same) (h k) l in
-    let now = early k in
-    omega (arith, now, before)
+-- ---- the blocks that a walk has written
+-- from the first block up to one of them each was written once more, and no other
+pub record HaveWalked (first block : ℕ) (old new : SeenDevice) : Type 0 where
+  pub before : (j : ℕ) → j < first → time_at new j ≡ time_at old j
+  pub written : (j : ℕ) → first ≤ j → j < block → time_at new j ≡ time_at old j + 1
+  pub rest : (j : ℕ) → block ≤ j → time_at new j ≡ time_at old j
+
+pub walk_begins : (first : ℕ) (d : SeenDevice) → HaveWalked first first d d
+walk_begins first d = record { before = λ j l. refl; written = λ j l h. absurd (omega (arith, l, h)); rest = λ j l. refl }
+
+pub walk_goes_on : (first block : ℕ) (old d e : SeenDevice) → first ≤ block → HaveWalked first block old d → time_at e block ≡ time_at d block + 1 → ((j : ℕ) → (j ≡ block → ⊥) → time_at e j ≡ time_at d j) → HaveWalked first (block + 1) old e
+walk_goes_on first block old d e from w here apart = record {
+  before = λ j l. apart j (λ same. omega (arith, same, from, l)) ∙ w.before j l;
+  written = λ j l h. elim (cases_eq j block) [
+    | inl same ↦ (let t : time_at e j ≡ time_at d j + 1 = subst (λ i. time_at e i ≡ time_at d i + 1) (sym same) here in let s = w.rest j (omega (arith, same)) in omega (arith, t, s))
+    | inr other ↦ apart j other ∙ w.written j l (omega (arith, h, other))
+  ];
+  rest = λ j l. apart j (λ same. omega (arith, same, l)) ∙ w.rest j (omega (arith, l));
+}
+
+-- a range of no bytes has none of any block
+pub untouched : (size start k : ℕ) → is_touched size start 0 k ≡ false
+unfolding is_touched
+untouched size start k = le-ltb (max start (k * size)) (min (start + 0) ((k + 1) * size)) (omega arith)
+
+-- a walk over the blocks of a range that has a byte has written those of which it has one
+pub walk_ends : (size start len block : ℕ) (old new : SeenDevice) → 0 < size → 0 < len → div_ceil (start + len) size ≤ block → block * size < (start + len) + size → HaveWalked (start / size) block old new
+    → (k : ℕ) → time_at new k ≡ time_at old k + once (is_touched size start len k)
+unfolding is_touched
+walk_ends size start len block old new sized some last near w k =
+    let end = start + len in
+    let low = max start (k * size) in
+    let high = min end ((k + 1) * size) in
+    let more : (k + 1) * size ≡ k * size + size = omega arith in
+    let first = first_place size start in
+    let next = last_place size start sized in
+    let all = div_ceil_times end size sized in
+    elim (cases_lt low high) [
+      | inl touched ↦ (let from : start / size ≤ k = elim (cases_lt k (start / size)) [
+        | inl h ↦ absurd (let u = up_to size (k + 1) (start / size) (omega (arith, h)) in omega (arith, u, first, touched))
+        | inr h ↦ h
+      ] in
+          let to : k < block = elim (cases_lt k block) [
+            | inl h ↦ h
+            | inr h ↦ absurd (let u = up_to size (div_ceil end size) k (omega (arith, h, last)) in omega (arith, u, all.0, touched))
+          ] in
+          w.written k from to ∙ ap (λ b. time_at old k + once b) (sym (lt-ltb low high touched)))
+      | inr apart ↦ (let none : time_at new k ≡ time_at old k = elim (cases_lt k (start / size)) [
+        | inl h ↦ w.before k h
+        | inr h ↦ (let u = up_to size (start / size + 1) (k + 1) (omega (arith, h)) in
+            let past : end ≤ k * size = omega (arith, u, next, apart, more, some, sized) in
+            w.rest k (elim (cases_lt k block) [
+              | inl l ↦ absurd (let v = up_to size (k + 1) block (omega (arith, l)) in omega (arith, v, near, past, more))
+              | inr l ↦ l
+            ]))
+      ] in
+          none ∙ omega arith ∙ ap (λ b. time_at old k + once b) (sym (le-ltb low high apart)))
+    ]

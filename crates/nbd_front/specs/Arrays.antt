@@ -1,8 +1,8 @@
 -- A device's bytes as one array.
-use Rattle.std.specs.Prelude.{◌≡◌, ℕ, ◌+◌, ◌*◌, ◌<◌, ◌≤◌, true, List, length}
+use Rattle.std.specs.Prelude.{◌≡◌, ℕ, ◌+◌, ◌*◌, ◌<◌, ◌≤◌, Bool, true, if◌then◌else◌, List, length}
 use Rattle.std.specs.List.{flat_map}
 use Rattle.quorum_rules.specs.Limits.{Numbers, IsValid}
-use Rattle.protocol.specs.Setting.{IsBlock}
+use Rattle.protocol.specs.Setting.{zeros, IsBlock}
 use Rattle.protocol.specs.Instance.{setting}
 use Rattle.node_device.specs.Held.{Held, held_at}
 use Rattle.node_device.specs.Devices.{SeenDevice}
@@ -16,16 +16,21 @@ value_of h = h.value
 abbrev pub array_of : List Held → List ℕ
 array_of held = flat_map value_of held
 
--- a device in order: no operation was cut off, and each of its blocks is one
+-- the time of the latest write of block k, 0 where there was none
+abbrev pub time_at : SeenDevice → ℕ → ℕ
+time_at d k = (held_at d.config d.held k).time
+
+-- a device in order: no operation was cut off, and each of its blocks is one, of zeros where it was never written
 pub record IsInOrder (d : SeenDevice) : Type 0 where
   pub whole : d.whole ≡ true
   pub valid : IsValid d.config
   pub count : length d.held ≡ d.config.blocks
   pub blocks : (k : ℕ) → k < d.config.blocks → IsBlock (setting d.config) (held_at d.config d.held k).value
+  pub unwritten : (k : ℕ) → k < d.config.blocks → time_at d k ≡ 0 → (held_at d.config d.held k).value ≡ zeros (setting d.config)
 
 -- no block was written more often
 abbrev pub IsWrittenUpTo : ℕ → SeenDevice → Type 0
-IsWrittenUpTo most d = (k : ℕ) → k < d.config.blocks → (held_at d.config d.held k).time ≤ most
+IsWrittenUpTo most d = (k : ℕ) → k < d.config.blocks → time_at d k ≤ most
 
 -- a span of the array's bytes
 abbrev pub IsWithin : Span → Numbers → Type 0
@@ -36,11 +41,19 @@ pub record HasRead (most : ℕ) (old new : SeenDevice) : Type 0 where
   pub same : new ≡ record old { started = new.started }
   pub steps : new.started ≤ old.started + most
 
--- the array is this one now; each block was written at most once more
-pub record HasWritten (most : ℕ) (array : List ℕ) (old new : SeenDevice) : Type 0 where
+-- one where it is so
+abbrev pub once : Bool → ℕ
+once written = if written then 1 else 0
+
+-- these blocks were written once more, and no other
+abbrev pub HaveTimes : (ℕ → Bool) → SeenDevice → SeenDevice → Type 0
+HaveTimes wrote old new = (k : ℕ) → k < old.config.blocks → time_at new k ≡ time_at old k + once (wrote k)
+
+-- the array is this one now, and these blocks were written once more
+pub record HasWritten (most : ℕ) (array : List ℕ) (wrote : ℕ → Bool) (old new : SeenDevice) : Type 0 where
   pub order : IsInOrder new
   pub config : new.config ≡ old.config
   pub life : new.life ≡ old.life
   pub bytes : array_of new.held ≡ array
-  pub times : (n : ℕ) → IsWrittenUpTo n old → IsWrittenUpTo (n + 1) new
+  pub times : HaveTimes wrote old new
   pub steps : new.started ≤ old.started + most

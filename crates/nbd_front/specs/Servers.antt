@@ -1,8 +1,9 @@
 -- What contracts see of a server.
-use Rattle.std.specs.Prelude.{◌≡◌, ℕ, ◌+◌, ◌*◌, ◌^◌, ◌<◌, ◌≤◌, Bool, true, List, [], length, Option, Some, None, Result, Ok, Err, ◌≢◌}
+use Rattle.std.specs.Prelude.{◌≡◌, ℕ, ◌+◌, ◌*◌, ◌^◌, ◌<◌, ◌≤◌, Bool, true, List, [], length, slice_range, Option, Some, None, Result, Ok, Err, ◌≢◌}
 use Rattle.std.specs.Io.KnownBytes.{Consumes}
+use Rattle.node_device.specs.Held.{Held}
 use Rattle.node_device.specs.Devices.{SeenDevice}
-use Rattle.nbd_front.specs.Arrays.{array_of, IsInOrder, IsWrittenUpTo}
+use Rattle.nbd_front.specs.Arrays.{array_of, time_at, HaveTimes, IsInOrder, IsWrittenUpTo}
 use Rattle.nbd_front.specs.Answers.{most_steps}
 use Rattle.nbd_front.specs.declared.request.Request.{Request}
 use Rattle.nbd_front.specs.Requests.{request_magic, magic_of, head_len, request_of}
@@ -12,7 +13,7 @@ use Rattle.nbd_front.specs.declared.ending.Served.{Served}
 use Rattle.nbd_front.specs.declared.ending.Served.TheVariants.{Next, Over}
 use Rattle.nbd_front.specs.declared.turn.Turn.{Turn}
 use Rattle.outside_io.specs.Written.{Adds, TakesPrefix}
-use Rattle.nbd_front.specs.Sessions.{reply_to, after_request, most_requests, IsEnd, IsRequest}
+use Rattle.nbd_front.specs.Sessions.{reply_to, after_request, writes_to, most_requests, IsEnd, IsRequest}
 
 -- a server: its device, how many requests it served, how many bytes of the input they had, and whether it can serve more
 pub record SeenServer : Type 0 where
@@ -25,13 +26,17 @@ pub record SeenServer : Type 0 where
 abbrev pub bytes_of : SeenServer → List ℕ
 bytes_of s = array_of s.device.held
 
+-- block k of them, with how often it was written
+abbrev pub block_of : SeenServer → ℕ → Held
+block_of s k = record { time = time_at s.device k; value = slice_range (bytes_of s) (k * s.device.config.size) ((k + 1) * s.device.config.size) }
+
 -- how many bytes a request has at most, with its data
 abbrev pub most_len : ℕ
 most_len = 2 ^ 32 + 28
 
 -- how many requests a client serves before another one takes its place
 abbrev pub life_len : ℕ
-life_len = 2 ^ 18
+life_len = 2 ^ 14
 
 -- a client serves the requests of its life, each by few operations
 pub record IsInLife (d : SeenDevice) (served : ℕ) : Type 0 where
@@ -47,7 +52,7 @@ pub record IsServer (d : SeenDevice) (served place : ℕ) : Type 0 where
   pub few : served ≤ most_requests
   pub near : place ≤ served * most_len
 
--- it serves as long as no call of it failed
+-- it serves as long as memory was found
 abbrev pub IsWhole : SeenDevice → ℕ → ℕ → Bool → Type 0
 IsWhole d served place whole = whole ≡ true → IsServer d served place
 
@@ -56,6 +61,7 @@ pub record HasServed (bytes : List ℕ) (old new : SeenServer) : Type 0 where
   pub whole : new.whole ≡ true
   pub config : new.device.config ≡ old.device.config
   pub array : bytes_of new ≡ after_request (bytes_of old) bytes
+  pub times : HaveTimes (writes_to old.device.config (request_of bytes)) old.device new.device
   pub served : new.served ≡ old.served + 1
   pub place : new.place ≡ old.place + length bytes
 
@@ -74,10 +80,11 @@ pub record HasCome (r : Request) (served : ℕ) (left left_after : Option (List 
   pub is : r ≡ request_of bytes
   pub few : served < most_requests
 
--- the source gave bytes by which the session ends, before anything was written
+-- the source gave bytes by which the session ends, and no request is answered
 pub record HasNotCome (end : SessionEnd) (served place : ℕ) (left left_after : Option (List ℕ)) : Type 0 where
   pub bytes : List ℕ
   pub gave : Consumes left left_after bytes
+  pub few : served ≤ most_requests
   pub ends : IsEnd (Err end) served place bytes left_after
   pub early : end ≢ WriteFault
 
@@ -94,6 +101,7 @@ IsPastTheLast (CutRequest at) left left_after = ⊥
 pub record HasLeft (served place : ℕ) (old new : SeenDevice) (left left_after : Option (List ℕ)) : Type 0 where
   pub bytes : List ℕ
   pub gave : Consumes left left_after bytes
+  pub few : served ≤ most_requests
   pub ends : IsEnd (Ok Over) served place bytes left_after
   pub same : new ≡ old
 
@@ -107,27 +115,34 @@ pub record HasReplied (served place : ℕ) (old new : SeenDevice) (left left_aft
   pub long : turn.len ≡ length bytes
   pub config : new.config ≡ old.config
   pub array : array_of new.held ≡ after_request (array_of old.held) bytes
+  pub times : HaveTimes (writes_to old.config (request_of bytes)) old new
   pub server : IsServer new (served + 1) (place + length bytes)
+
+-- the session ended before a reply; only where no memory was found may the device be another
+abbrev pub HasEndedEarly : SessionEnd → ℕ → ℕ → SeenDevice → SeenDevice → Option (List ℕ) → Option (List ℕ) → Type 0
+HasEndedEarly end served place old new left left_after = HasNotCome end served place left left_after × (end ≢ NoMemory → new ≡ old)
 
 -- what became of a turn: the client left, or the input ended; or a request was answered; or the session ended before its reply
 abbrev pub HasTurned : ℕ → ℕ → SeenDevice → SeenDevice → Option (List ℕ) → Option (List ℕ) → Result (Option Turn) SessionEnd → Type 0
 HasTurned served place old new left left_after (Ok None) = HasLeft served place old new left left_after
 HasTurned served place old new left left_after (Ok (Some turn)) = HasReplied served place old new left left_after turn
-HasTurned served place old new left left_after (Err end) = HasNotCome end served place left left_after
+HasTurned served place old new left left_after (Err end) = HasEndedEarly end served place old new left left_after
 
--- the session has ended here, and the server is as it was
+-- the session has ended here
 pub record HasFinished (end : Result Served SessionEnd) (old : SeenServer) (left left_after : Option (List ℕ)) : Type 0 where
   pub bytes : List ℕ
   pub gave : Consumes left left_after bytes
+  pub few : old.served ≤ most_requests
   pub ends : IsEnd end old.served old.place bytes left_after
 
--- what a call did: it served a request, whose reply was taken; or the session has ended, and only where the sink failed was a beginning of a reply taken
+-- what a call did: it served a request, whose reply was taken, or a beginning of it where the sink failed; or the session has ended,
+-- and but for want of memory the server is as it was
 abbrev pub HasStepped : SeenServer → SeenServer → Option (List ℕ) → Option (List ℕ) → Option (List ℕ) → Option (List ℕ) → Result Served SessionEnd → Type 0
 HasStepped old new left left_after taken taken_after (Ok Next) = (bytes : List ℕ) × IsRequest bytes × (old.served < most_requests) × Consumes left left_after bytes × HasServed bytes old new × Adds taken taken_after (reply_to (bytes_of old) bytes)
 HasStepped old new left left_after taken taken_after (Ok Over) = HasFinished (Ok Over) old left left_after × (new ≡ old)
-HasStepped old new left left_after taken taken_after (Err WriteFault) = (bytes : List ℕ) × IsRequest bytes × Consumes left left_after bytes × TakesPrefix taken taken_after (reply_to (bytes_of old) bytes)
+HasStepped old new left left_after taken taken_after (Err WriteFault) = (bytes : List ℕ) × IsRequest bytes × (old.served < most_requests) × Consumes left left_after bytes × HasServed bytes old new × TakesPrefix taken taken_after (reply_to (bytes_of old) bytes)
 HasStepped old new left left_after taken taken_after (Err NoMemory) = HasFinished (Err NoMemory) old left left_after
-HasStepped old new left left_after taken taken_after (Err ReadFault) = HasFinished (Err ReadFault) old left left_after
-HasStepped old new left left_after taken taken_after (Err (BadMagic at)) = HasFinished (Err (BadMagic at)) old left left_after
-HasStepped old new left left_after taken taken_after (Err (CutRequest at)) = HasFinished (Err (CutRequest at)) old left left_after
-HasStepped old new left left_after taken taken_after (Err TooManyRequests) = HasFinished (Err TooManyRequests) old left left_after
+HasStepped old new left left_after taken taken_after (Err ReadFault) = HasFinished (Err ReadFault) old left left_after × (new ≡ old)
+HasStepped old new left left_after taken taken_after (Err (BadMagic at)) = HasFinished (Err (BadMagic at)) old left left_after × (new ≡ old)
+HasStepped old new left left_after taken taken_after (Err (CutRequest at)) = HasFinished (Err (CutRequest at)) old left left_after × (new ≡ old)
+HasStepped old new left left_after taken taken_after (Err TooManyRequests) = HasFinished (Err TooManyRequests) old left left_after × (new ≡ old)

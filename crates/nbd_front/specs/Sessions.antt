@@ -1,8 +1,10 @@
 -- A session: requests, the replies to them, and how it ends. A request is the bytes that it has.
-use Rattle.std.specs.Prelude.{◌≡◌, ◌≢◌, ◌⊎◌, ⊤, ℕ, ◌+◌, ◌^◌, ◌<◌, ◌≤◌, ◌==◌, ◌&&◌, if◌then◌else◌, List, [], ◌∷◌, ◌++◌, length, drop, slice_range, Option, Some, Result, Ok, Err}
+use Rattle.std.specs.Prelude.{◌≡◌, ◌≢◌, ◌⊎◌, ⊤, ℕ, ◌+◌, ◌*◌, ◌^◌, ◌<◌, ◌≤◌, ◌==◌, ◌&&◌, Bool, if◌then◌else◌, List, [], ◌∷◌, ◌++◌, length, drop, slice_range, Option, Result, Ok, Err}
 use Rattle.std.specs.Io.KnownBytes.{Consumes, IsAtEnd}
 use Rattle.std.specs.List.{All, concat}
+use Rattle.quorum_rules.specs.Limits.{Numbers}
 use Rattle.block_device.specs.Device.{merged}
+use Rattle.block_device.specs.Ranges.{is_touched}
 use Rattle.outside_io.specs.Written.{Adds, TakesPrefix}
 use Rattle.nbd_front.specs.declared.request.Request.{Request}
 use Rattle.nbd_front.specs.Requests.{request_magic, magic_of, head_len, request_of, data_len, write_kind}
@@ -39,6 +41,10 @@ array_after array r bytes =
     if r.kind == write_kind && error_of (length array) r == 0 then merged array r.offset bytes
     else array
 
+-- a write that is served puts its data into each block of which its range has a byte
+abbrev pub writes_to : Numbers → Request → ℕ → Bool
+writes_to c r k = r.kind == write_kind && error_of (c.size * c.blocks) r == 0 && is_touched c.size r.offset r.len k
+
 -- the reply to a request by its bytes, and the array after it
 abbrev pub reply_to : List ℕ → List ℕ → List ℕ
 reply_to array bytes = reply_of array (request_of bytes)
@@ -72,15 +78,16 @@ pub record IsPart (bytes : List ℕ) : Type 0 where
   pub magic : 4 ≤ length bytes → magic_of bytes ≡ request_magic
   pub short : head_len ≤ length bytes → length bytes < head_len + data_len (request_of bytes)
 
--- why a session ended after the requests before this count and place, where these bytes followed them and these are left
+-- why a session ended after the requests before this count and place, where these bytes followed them and these are left. No request
+-- begins after the last that a session may have
 abbrev pub IsEnd : Result Served SessionEnd → ℕ → ℕ → List ℕ → Option (List ℕ) → Type 0
 IsEnd (Ok Next) count place bytes left = ⊥
-IsEnd (Ok Over) count place bytes left = IsLeave bytes ⊎ ((bytes ≡ []) × IsAtEnd left)
+IsEnd (Ok Over) count place bytes left = (IsLeave bytes × (count < most_requests)) ⊎ ((bytes ≡ []) × IsAtEnd left)
 IsEnd (Err (BadMagic at)) count place bytes left = (at ≡ place) × (count < most_requests) × (length bytes ≡ 4) × (magic_of bytes ≢ request_magic)
 IsEnd (Err (CutRequest at)) count place bytes left = (at ≡ place) × (count < most_requests) × (0 < length bytes) × IsPart bytes × IsAtEnd left
 IsEnd (Err TooManyRequests) count place bytes left = (count ≡ most_requests) × (length bytes ≡ 1)
-IsEnd (Err ReadFault) count place bytes left = IsPart bytes
-IsEnd (Err WriteFault) count place bytes left = ⊤
+IsEnd (Err ReadFault) count place bytes left = IsPart bytes × (count ≡ most_requests → bytes ≡ [])
+IsEnd (Err WriteFault) count place bytes left = bytes ≡ []
 IsEnd (Err NoMemory) count place bytes left = ⊤
 
 -- at these ends the sink has the whole text; where it failed, or memory was wanting, a beginning of it
@@ -101,6 +108,7 @@ pub record IsSession (words array : List ℕ) (count place : ℕ) (result : Resu
   pub requests : List (List ℕ)
   pub rest : List ℕ
   pub whole : All IsRequest requests
+  pub few : count + length requests ≤ most_requests
   pub gave : Consumes left left_after (concat requests ++ rest)
   pub ended : IsEnd result (count + length requests) (place + length (concat requests)) rest left_after
   pub said : HasTaken result (words ++ replies array requests) taken taken_after
@@ -109,10 +117,27 @@ pub record IsSession (words array : List ℕ) (count place : ℕ) (result : Resu
 abbrev pub IsLast : ℕ → List ℕ → Type 0
 IsLast count rest = ((rest ≡ []) × (count ≤ most_requests)) ⊎ ((leave : List ℕ) × (more : List ℕ) × (rest ≡ leave ++ more) × IsLeave leave × (count < most_requests))
 
--- the input of a session after so many requests: whole requests, and then its end or one that leaves
-pub record IsWholeInput (count : ℕ) (left : Option (List ℕ)) : Type 0 where
+-- how a session ends that meets no fault and finds memory, by what stands in its input after the whole requests before this count and
+-- place
+abbrev pub IsRest : Result Served SessionEnd → ℕ → ℕ → List ℕ → Type 0
+IsRest (Ok Over) count place rest = IsLast count rest
+IsRest (Err (BadMagic at)) count place rest = (at ≡ place) × (count < most_requests) × (4 ≤ length rest) × (magic_of rest ≢ request_magic)
+IsRest (Err (CutRequest at)) count place rest = (at ≡ place) × (count < most_requests) × (0 < length rest) × IsPart rest
+IsRest (Err TooManyRequests) count place rest = (count ≡ most_requests) × (0 < length rest)
+IsRest (Ok Next) count place rest = ⊥
+IsRest (Err ReadFault) count place rest = ⊥
+IsRest (Err WriteFault) count place rest = ⊥
+IsRest (Err NoMemory) count place rest = ⊥
+
+-- the input is that of a session that ends so, after so many requests of so many bytes
+pub record EndsSo (result : Result Served SessionEnd) (count place : ℕ) (input : List ℕ) : Type 0 where
   pub requests : List (List ℕ)
   pub rest : List ℕ
   pub whole : All IsRequest requests
-  pub told : left ≡ Some (concat requests ++ rest)
-  pub last : IsLast (count + length requests) rest
+  pub told : input ≡ concat requests ++ rest
+  pub last : IsRest result (count + length requests) (place + length (concat requests)) rest
+
+-- a session's end by the answer of the call that serves it
+abbrev pub end_as : Result Unit SessionEnd → Result Served SessionEnd
+end_as (Ok done) = Ok Over
+end_as (Err end) = Err end

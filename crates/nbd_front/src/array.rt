@@ -1,6 +1,7 @@
 //! Spans of a device's bytes, read and written block by block.
 ghost use Rattle.std.specs.Prelude.{◌≡◌, ◌+◌, ◌-◌, ◌*◌, ◌^◌, ◌<◌, ◌≤◌, ◌++◌, min, length, slice_range, IfOk, OnOk};
 ghost use Rattle.block_device.specs.Device.{merged};
+ghost use Rattle.block_device.specs.Ranges.{is_touched};
 ghost use Rattle.protocol.specs.Messages.{IsBytes};
 ghost use Rattle.protocol.specs.Setting.{IsBlock};
 ghost use Rattle.protocol.specs.Instance.{setting};
@@ -45,10 +46,10 @@ pub(crate) fn read_span(
 ) -> Result<(), NoMemory>
     requires order { IsInOrder device.old }
     requires within { IsWithin span device.old.config }
-    requires steps { device.old.started + 4096 < 2 ^ 32 - 1 }
+    requires steps { device.old.started + 65536 < 2 ^ 32 - 1 }
     ensures text { OnOk result (text.new.items ≡ text.old.items ++ slice_range
         (array_of device.old.held) span.start span.end) }
-    ensures read { OnOk result (HasRead 4096 device.old device.new) }
+    ensures read { OnOk result (HasRead 65536 device.old device.new) }
 {
     let size = device.config().size() as usize;
     let mut place = span.start;
@@ -61,7 +62,8 @@ pub(crate) fn read_span(
     Ok(())
 }
 
-/// Writes bytes from a place on. A block of which only a part is written is read first.
+/// Writes bytes from a place on, to each block that has one of these places. A block of which only a part is written is read
+/// first.
 pub(crate) fn write_span(
     alloc: Global,
     device: &mut NodeDevice,
@@ -70,11 +72,15 @@ pub(crate) fn write_span(
 ) -> Result<(), NoMemory>
     requires order { IsInOrder device.old }
     requires within { start + length bytes.now ≤ device.old.config.size * device.old.config.blocks }
-    requires steps { device.old.started + 8192 < 2 ^ 32 - 1 }
+    requires steps { device.old.started + 131072 < 2 ^ 32 - 1 }
     requires times { IsWrittenUpTo (2 ^ 63) device.old }
-    ensures { OnOk result (HasWritten 8192
-        (merged (array_of device.old.held) start bytes.now) device.old device.new) }
+    ensures { OnOk result (HasWritten 131072
+        (merged (array_of device.old.held) start bytes.now)
+        (is_touched device.old.config.size start (length bytes.now)) device.old device.new) }
 {
+    if bytes.is_empty() {
+        return Ok(());
+    }
     let size = device.config().size() as usize;
     let end = start + bytes.len();
     let mut place = start;

@@ -7,6 +7,7 @@ mod array;
 mod arrival;
 pub mod ending;
 mod filling;
+pub mod laws;
 mod reply;
 mod request;
 pub mod server;

@@ -1,11 +1,14 @@
-ghost use Rattle.std.specs.Prelude.{◌≡◌, ◌≢◌, ◌⊎◌, ◌≤◌, ◌+◌, ◌*◌, ◌<◌, Ok, Err, true, [], replicate, slice_range, OnOk, OnErr, IfOk, IfErr, IsErrOf};
+ghost use Rattle.std.specs.Prelude.{◌≡◌, ◌≢◌, ◌⊎◌, ◌≤◌, ◌+◌, ◌*◌, ◌<◌, ℕ, List, Some, Result, Ok, Err, true, [], replicate, OnOk, OnErr, IfOk, IfErr, IsErrOf};
 ghost use Rattle.outside_io.specs.Causes.{Rose};
 ghost use Rattle.outside_io.specs.Written.{Adds, AllFlushed, TakesPrefix};
 ghost use Rattle.quorum_rules.specs.Limits.{wait_of};
-ghost use Rattle.node_device.specs.Held.{Held, version_of};
+ghost use Rattle.protocol.specs.Setting.{zeros, Sound};
+ghost use Rattle.protocol.specs.Instance.{setting};
+ghost use Rattle.node_device.specs.Held.{version_of};
 ghost use Rattle.nbd_front.specs.Replies.{greeting};
-ghost use Rattle.nbd_front.specs.Sessions.{IsSession, IsWholeInput};
-ghost use Rattle.nbd_front.specs.Servers.{bytes_of, HasStepped};
+ghost use Rattle.nbd_front.specs.Arrays.{time_at};
+ghost use Rattle.nbd_front.specs.Sessions.{IsSession, EndsSo, end_as};
+ghost use Rattle.nbd_front.specs.Servers.{bytes_of, block_of, HasStepped};
 
 use crate::ending::{Served, SessionEnd};
 use crate::reply::greeting;
@@ -20,7 +23,7 @@ use wire_forms::Version;
 
 /// A block device that is served over a source and a sink. Its blocks are kept by nodes in the same process, and read and
 /// written by one client. Contracts see the device, how many requests were served, how many bytes of the input they had, and
-/// whether more can be served: none after a call that answered a `SessionEnd`.
+/// whether it is whole: it isn't after a call that answered `NoMemory`, and is of no use then.
 #[derive(Drop)]
 pub struct Server {
     device: NodeDevice,
@@ -51,6 +54,8 @@ impl Server {
         ensures config { IfOk result (λ s. s.device.config ≡ config.now) }
         ensures zeros { IfOk result (λ s. bytes_of s
             ≡ replicate (config.now.size * config.now.blocks) 0) }
+        ensures unwritten { IfOk result (λ s.
+            (k : ℕ) → k < config.now.blocks → time_at s.device k ≡ 0) }
     {
         Ok(Server {
             device: NodeDevice::new(alloc, config)?,
@@ -60,17 +65,20 @@ impl Server {
         })
     }
 
-    /// The version that a node which is asked finds of a block.
+    /// The version that a node which is asked finds of a block: that of its bytes, at the time that tells how often it was written;
+    /// the first version where it never was.
     pub fn held(&self, node: u8, block: u32) -> Result<Version, NoMemory>
         requires whole { self.now.whole ≡ true }
         requires node { node < wait_of self.now.device.config }
         requires block { block < self.now.device.config.blocks }
-        // it is the version of the block's bytes, at a time that is no more than the number of requests
-        ensures { IfOk result (λ v. (h : Held)
-            × (h.value ≡ slice_range (bytes_of self.now) (block * self.now.device.config.size)
-            ((block + 1) * self.now.device.config.size))
-            × (h.time ≤ self.now.served)
-            × (v ≡ version_of self.now.device.config node h)) }
+        ensures version { IfOk result (λ v. v
+            ≡ version_of self.now.device.config node (block_of self.now block)) }
+        ensures sound { IfOk result (λ v.
+            Sound (setting self.now.device.config) v.stamp (block_of self.now block).value) }
+        // a block that was never written is zeros, and none was written more often than there were requests
+        ensures unwritten { (block_of self.now block).time ≡ 0
+            → (block_of self.now block).value ≡ zeros (setting self.now.device.config) }
+        ensures time { (block_of self.now block).time ≤ self.now.served }
     {
         self.device.held(node, block)
     }
@@ -91,7 +99,8 @@ impl Server {
         write_or_end(sink, &greeting(size))
     }
 
-    /// Reads one request, does what it asks, and writes and flushes its whole reply before it returns.
+    /// Reads one request, does what it asks, and writes and flushes its whole reply before it returns. Where no request is answered,
+    /// the server is as it was, but for want of memory; so a write whose data are cut changes nothing.
     pub fn serve_one<S: Source, K: Sink>(
         &mut self,
         alloc: Global,
@@ -115,15 +124,14 @@ impl Server {
             → K.faults sink.new ≡ K.faults sink.old }
     {
         self.whole = false;
-        let turn = answer_next(alloc, &mut self.device, source, self.served, self.place)?;
-        let Some(turn) = turn else {
-            self.whole = true;
+        let turn = answer_next(alloc, &mut self.device, source, self.served, self.place);
+        self.whole = !matches!(turn, Err(SessionEnd::NoMemory));
+        let Some(turn) = turn? else {
             return Ok(Served::Over);
         };
         self.served += 1;
         self.place += turn.len;
         write_or_end(sink, &turn.reply)?;
-        self.whole = true;
         Ok(Served::Next)
     }
 
@@ -141,7 +149,7 @@ impl Server {
         ensures ended { IfErr result
             (λ end. IsSession [] (bytes_of self.old) self.old.served self.old.place (Err end)
             (S.left source.old) (S.left source.new) (K.taken sink.old) (K.taken sink.new)) }
-        ensures whole { OnOk result (self.new.whole ≡ true) }
+        ensures whole { result ≢ Err SessionEnd.NoMemory → self.new.whole ≡ true }
         ensures flushed { result ≢ Err SessionEnd.WriteFault
             → AllFlushed (K.taken sink.old) (K.flushed sink.old)
             → AllFlushed (K.taken sink.new) (K.flushed sink.new) }
@@ -154,11 +162,12 @@ impl Server {
             → S.faults source.new ≡ S.faults source.old }
         ensures calm_sink { result ≢ Err SessionEnd.WriteFault
             → K.faults sink.new ≡ K.faults sink.old }
-        // whole requests that meet no fault are served to their end, where there is memory
-        ensures complete { IsWholeInput self.old.served (S.left source.old)
+        // where there is memory, an input that meets no fault is served to its end, and that is how it says
+        ensures complete { (input : List ℕ) (end : Result Served SessionEnd)
+            → S.left source.old ≡ Some input → EndsSo end self.old.served self.old.place input
             → (Rose S.last (S.faults source.old) (S.faults source.new) → ⊥)
             → (Rose K.last (K.faults sink.old) (K.faults sink.new) → ⊥)
-            → (result ≡ Ok tt) ⊎ (result ≡ Err SessionEnd.NoMemory) }
+            → (end_as result ≡ end) ⊎ (result ≡ Err SessionEnd.NoMemory) }
     {
         loop {
             match self.serve_one(alloc, source, sink)? {

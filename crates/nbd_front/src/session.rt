@@ -1,9 +1,9 @@
 //! A whole session: the greeting, and then requests and replies.
-ghost use Rattle.std.specs.Prelude.{◌≡◌, ◌≢◌, ◌⊎◌, ◌*◌, Ok, Err, replicate, OnOk, IfErr, IsErrOf};
+ghost use Rattle.std.specs.Prelude.{◌≡◌, ◌≢◌, ◌⊎◌, ◌*◌, ℕ, List, Some, Result, Ok, Err, replicate, OnOk, IfErr, IsErrOf};
 ghost use Rattle.outside_io.specs.Causes.{Rose};
 ghost use Rattle.outside_io.specs.Written.{AllFlushed};
 ghost use Rattle.nbd_front.specs.Replies.{greeting};
-ghost use Rattle.nbd_front.specs.Sessions.{IsSession, IsWholeInput};
+ghost use Rattle.nbd_front.specs.Sessions.{IsSession, EndsSo, end_as};
 
 use crate::ending::{Served, SessionEnd};
 use crate::server::Server;
@@ -33,11 +33,12 @@ pub fn serve<S: Source, K: Sink>(
     ensures calm_source { result ≢ Err SessionEnd.ReadFault
         → S.faults source.new ≡ S.faults source.old }
     ensures calm_sink { result ≢ Err SessionEnd.WriteFault → K.faults sink.new ≡ K.faults sink.old }
-    // whole requests that meet no fault are served to their end, where there is memory
-    ensures complete { IsWholeInput 0 (S.left source.old)
+    // where there is memory, an input that meets no fault is served to its end, and that is how it says
+    ensures complete { (input : List ℕ) (end : Result Served SessionEnd)
+        → S.left source.old ≡ Some input → EndsSo end 0 0 input
         → (Rose S.last (S.faults source.old) (S.faults source.new) → ⊥)
         → (Rose K.last (K.faults sink.old) (K.faults sink.new) → ⊥)
-        → (result ≡ Ok tt) ⊎ (result ≡ Err SessionEnd.NoMemory) }
+        → (end_as result ≡ end) ⊎ (result ≡ Err SessionEnd.NoMemory) }
 {
     let mut server = Server::new(alloc, config)?;
     server.greet(sink)?;

@@ -1,11 +1,12 @@
 //! One turn of a session: a request is read, and answered.
-ghost use Rattle.std.specs.Prelude.{◌≡◌, ◌≢◌, ◌≤◌, ◌<◌, Ok, Err, None, [], OnOk, IfOk, IfErr, IfSome, IsErrOf};
+ghost use Rattle.std.specs.Prelude.{◌≡◌, ◌≢◌, ◌≤◌, ◌<◌, Ok, Err, None, [], length, OnOk, IfOk, IfErr, IfSome, IsErrOf};
 ghost use Rattle.std.specs.Io.KnownBytes.{Consumes, IsAtEnd};
 ghost use Rattle.outside_io.specs.Causes.{Rose};
+ghost use Rattle.nbd_front.specs.Arrays.{array_of, IsInOrder};
 ghost use Rattle.nbd_front.specs.Sessions.{most_requests};
 ghost use Rattle.nbd_front.specs.Servers.{HasCome, HasNotCome, HasRefreshed, HasTurned, IsInLife, IsPastTheLast, IsServer};
 
-use crate::answer::answer;
+use crate::answer::{answer, take_data};
 use crate::arrival::{Arrival, read_request};
 use crate::ending::SessionEnd;
 use crate::request::Request;
@@ -21,7 +22,7 @@ const LEAVE: u16 = 2;
 const MOST: u64 = 1 << 31;
 
 /// How many requests a client serves before another one takes its place.
-const LIFE: u64 = 1 << 18;
+const LIFE: u64 = 1 << 14;
 
 /// How many bytes a request has before its data.
 const HEAD: u64 = 28;
@@ -34,7 +35,7 @@ pub(crate) struct Turn {
 }
 
 /// Reads a request and answers it; none where the client leaves or the input has ended. The session has served so many requests
-/// before it, and it begins at `place`.
+/// before it, and it begins at `place`. Nothing is done before all of the request has been read.
 pub(crate) fn answer_next<S: Source>(
     alloc: Global,
     device: &mut NodeDevice,
@@ -55,12 +56,23 @@ pub(crate) fn answer_next<S: Source>(
     if request.kind == LEAVE {
         return Ok(None);
     }
+    let error = request.error(bytes_of(device));
+    let data = take_data(alloc, source, &request, error, place)?;
     refresh(alloc, device, served)?;
-    let reply = answer(alloc, device, source, &request, place)?;
+    let reply = answer(alloc, device, &request, error, &data)?;
     Ok(Some(Turn {
         reply,
         len: HEAD + u64::from(request.data_len()),
     }))
+}
+
+/// How many bytes a device has.
+fn bytes_of(device: &NodeDevice) -> u64
+    requires { IsInOrder device.now }
+    ensures { result ≡ length (array_of device.now.held) }
+{
+    let config = device.config();
+    u64::from(config.size()) * u64::from(config.blocks())
 }
 
 /// Reads a request, its data aside; none where the input has ended. The session has served so many requests before it, and it

@@ -52,7 +52,7 @@ not_first first v z l =
     elim (cases_Bool (same_stamp first v))
     [ inl e ↦ absurd (let t : first.time ≡ v.time = ap (λ (s : Stamp). s.time) (same_stamp-≡ first v e) in omega arith) | inr e ↦ e ]
 
-not_of_first : (v first : Stamp) → first.time ≡ 0 → 1 ≤ v.time → same_stamp v first ≡ false
+pub not_of_first : (v first : Stamp) → first.time ≡ 0 → 1 ≤ v.time → same_stamp v first ≡ false
 not_of_first v first z l =
     elim (cases_Bool (same_stamp v first))
     [ inl e ↦ absurd (let t : v.time ≡ first.time = ap (λ (s : Stamp). s.time) (same_stamp-≡ v first e) in omega arith) | inr e ↦ e ]

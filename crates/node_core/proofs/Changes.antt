@@ -1,8 +1,10 @@
 -- What a version more, and fewer, do to the list of versions.
-use Rattle.std.proofs.Common.{◌≡◌, ◌⊎◌, ◌≤◌, Bool, true, false, cond, ◌||◌, List, [], ◌∷◌, ◌++◌, filter, refl, sym, ◌∙◌, ap, inl, inr}
+use Rattle.std.proofs.Common.{◌≡◌, ◌⊎◌, ◌≤◌, Bool, true, false, cond, not, ◌||◌, List, [], ◌∷◌, ◌++◌, filter, refl, sym, ◌∙◌, ap, inl, inr}
 use Rattle.std.specs.declared.option.Option.TheVariants.{None, Some}
 use Rattle.std.specs.Option.{option_map}
-use Rattle.std.specs.Ordering.{is_eq}
+use Rattle.std.specs.Ordering.{is_eq, is_ne}
+use Rattle.std.specs.declared.cmp.Ordering.{Ordering}
+use Rattle.std.specs.declared.cmp.Ordering.TheVariants.{Less, Equal, Greater}
 use Rattle.std.specs.List.{Contains, filter_map}
 use Rattle.std.specs.BTreeMap.{BTreeMap}
 use Rattle.std.proofs.lemmas.Map.Entries.{lookup-filter-keys}
@@ -16,7 +18,8 @@ use Rattle.protocol.specs.Nodes.{carries, greatest_in}
 use Rattle.protocol.proofs.Order.{≼-refl, ≼-trans, ≼-antisym, before-≼, before_false, same_stamp-≡, same_stamp-refl}
 use Rattle.protocol.proofs.Keeping.{keeps-Contains, greatest_in_is, greatest_in_above}
 use Rattle.node_core.specs.declared.kept.Content.{Content}
-use Rattle.node_core.specs.Index.{compared, is_up_to, version_of, content_at, version_at, versions_of, IsIndex}
+use Rattle.node_core.specs.Index.{compared, is_up_to, is_other, version_of, content_at, version_at, versions_of, IsIndex}
+use Rattle.node_core.specs.Seen.{without}
 use Rattle.node_core.proofs.Listing.{listed-push, listed-same, listed-filter}
 use Rattle.node_core.proofs.Finding.{own}
 use Rattle.lists.proofs.Members.{Contains-head, Contains-rest, filter_is, filter_has}
@@ -92,40 +95,49 @@ module _ (order : List Stamp) (m n : BTreeMap Stamp Content) (h : IsIndex order 
         listed-same (version_at n) (version_at m) order (λ q k. let u = some_is (version_at m q) (h.there q k) in still q u.0 u.1 ∙ sym u.1) in
         listed-push (version_at n) order v.stamp v at_new ∙ ap (λ xs. xs ++ v ∷ []) same
 
-  -- the versions of lower stamps dropped
-  module _ (least : Stamp) (dropped : n.entries ≡ filter (λ e. is_up_to least e.0) m.entries) where
-    content_dropped : (q : Stamp) → content_at n q ≡ cond (is_up_to least q) (content_at m q) None
+  -- the versions dropped whose stamps don't pass a test
+  module _ (passes : Stamp → Bool) (dropped : n.entries ≡ filter (λ e. passes e.0) m.entries) where
+    content_dropped : (q : Stamp) → content_at n q ≡ cond (passes q) (content_at m q) None
     content_dropped q =
-        rw dropped (lookup-filter-keys (λ k. is_eq (compared q k)) (is_up_to least) (is_up_to least q) (λ k e. ap (is_up_to least) (sym (same_stamp-≡ q k (sym (same_by_fields q k) ∙ e)))) m.entries)
+        rw dropped (lookup-filter-keys (λ k. is_eq (compared q k)) passes (passes q) (λ k e. ap passes (sym (same_stamp-≡ q k (sym (same_by_fields q k) ∙ e)))) m.entries)
 
-    at_dropped : (q : Stamp) → version_at n q ≡ cond (is_up_to least q) (version_at m q) None
-    at_dropped q = ap (option_map (version_of q)) (content_dropped q) ∙ at (is_up_to least q)
+    at_dropped : (q : Stamp) → version_at n q ≡ cond (passes q) (version_at m q) None
+    at_dropped q = ap (option_map (version_of q)) (content_dropped q) ∙ at (passes q)
       where
         at : (b : Bool) → option_map (version_of q) (cond b (content_at m q) None) ≡ cond b (version_at m q) None
         at true = refl
         at false = refl
 
-    kept_then : (q : Stamp) (u : Version) → version_at n q ≡ Some u → (version_at m q ≡ Some u) × (is_up_to least q ≡ true)
-    kept_then q u e = at (is_up_to least q) refl (sym (at_dropped q) ∙ e)
+    kept_then : (q : Stamp) (u : Version) → version_at n q ≡ Some u → (version_at m q ≡ Some u) × (passes q ≡ true)
+    kept_then q u e = at (passes q) refl (sym (at_dropped q) ∙ e)
       where
-        at : (b : Bool) → is_up_to least q ≡ b → cond b (version_at m q) None ≡ Some u → (version_at m q ≡ Some u) × (is_up_to least q ≡ true)
+        at : (b : Bool) → passes q ≡ b → cond b (version_at m q) None ≡ Some u → (version_at m q ≡ Some u) × (passes q ≡ true)
         at true same f = (f, same)
         at false same f = absurd (cc)
 
-    stays : (q : Stamp) → is_up_to least q ≡ true → version_at n q ≡ version_at m q
+    stays : (q : Stamp) → passes q ≡ true → version_at n q ≡ version_at m q
     stays q e = at_dropped q ∙ ap (λ b. cond b (version_at m q) None) e
 
-    pub dropped_index : IsIndex (filter (is_up_to least) order) n
+    pub dropped_index : IsIndex (filter passes order) n
     dropped_index = record {
-      there = λ q k. let r = filter_is (is_up_to least) order q k in rw (stays q r.1) (h.there q r.0);
-      accepted = λ q u e. let r = kept_then q u e in filter_has (is_up_to least) order q (h.accepted q u r.0) r.1;
+      there = λ q k. let r = filter_is passes order q k in rw (stays q r.1) (h.there q r.0);
+      accepted = λ q u e. let r = kept_then q u e in filter_has passes order q (h.accepted q u r.0) r.1;
       later = λ q u e. h.later q u (kept_then q u e).0;
     }
 
-    pub dropped_list : versions_of (filter (is_up_to least) order) n ≡ filter (λ v. is_up_to least v.stamp) (versions_of order m)
+    pub dropped_list : versions_of (filter passes order) n ≡ filter (λ v. passes v.stamp) (versions_of order m)
     dropped_list =
-        listed-same (version_at n) (version_at m) (filter (is_up_to least) order) (λ q k. stays q (filter_is (is_up_to least) order q k).1)
-        ∙ listed-filter (version_at m) (is_up_to least) (λ v. is_up_to least v.stamp) order (λ q u k e. ap (is_up_to least) (own m q u e)) (λ q k. some_is (version_at m q) (h.there q k))
+        listed-same (version_at n) (version_at m) (filter passes order) (λ q k. stays q (filter_is passes order q k).1)
+        ∙ listed-filter (version_at m) passes (λ v. passes v.stamp) order (λ q u k e. ap passes (own m q u e)) (λ q k. some_is (version_at m q) (h.there q k))
+
+-- the versions of other stamps
+pub other_stamps : (stamp : Stamp) (vs : List Version) → filter (λ v. is_other stamp v.stamp) vs ≡ without stamp vs
+other_stamps stamp vs = filter-same (λ v. is_other stamp v.stamp) (λ v. not (same_stamp stamp v.stamp)) vs (λ v k. unequal (compared stamp v.stamp) ∙ ap not (same_by_fields stamp v.stamp))
+  where
+    unequal : (o : Ordering) → is_ne o ≡ not (is_eq o)
+    unequal Less = refl
+    unequal Equal = refl
+    unequal Greater = refl
 
 -- which versions a prune keeps after the first
 module _ (stamp : Stamp) (vs : List Version) where

@@ -1,8 +1,9 @@
 -- What the versions by stamp say of the list of them.
-use Rattle.std.proofs.Common.{◌≡◌, ◌≤◌, true, false, List, map, Option, IsSome, IfSome, IfNone, refl, sym, ◌∙◌, ap, inl, inr, arith}
+use Rattle.std.proofs.Common.{◌≡◌, ◌≤◌, ℕ, true, false, List, map, Option, IsSome, IfSome, IfNone, refl, sym, ◌∙◌, ap, subst, inl, inr, arith}
 use Rattle.std.specs.declared.option.Option.TheVariants.{None, Some}
 use Rattle.std.specs.Option.{is_some, option_map}
-use Rattle.std.specs.List.{Contains}
+use Rattle.std.specs.List.{Contains, slice_get}
+use Rattle.std.proofs.lemmas.Option.{slice_get-map}
 use Rattle.std.specs.BTreeMap.{BTreeMap}
 use Rattle.stamp_order.specs.declared.Stamp.{Stamp}
 use Rattle.stamp_order.specs.declared.Bound.{Bound}
@@ -14,6 +15,7 @@ use Rattle.protocol.proofs.Keeping.{keeps-Contains, keeps_is, greatest_in_is, gr
 use Rattle.node_core.specs.declared.kept.Content.{Content}
 use Rattle.node_core.specs.Index.{version_of, content_at, version_at, versions_of, IsIndex, IsLastIn, IsNoneIn}
 use Rattle.node_core.proofs.Listing.{listed_from, listed_to, read-listed}
+use Rattle.lists.proofs.Members.{Contains-slice_get}
 use Rattle.lists.proofs.Tests.{some_is}
 use Rattle.std.proofs.lemmas.Bool.{cases_Bool}
 
@@ -60,6 +62,27 @@ module _ (order : List Stamp) (m : BTreeMap Stamp Content) (h : IsIndex order m)
       let r = keeps_is (versions_of order m) stamp k in
       let e = listed_own r.0 r.1 in
       (r.0, rw r.2 at e)
+
+  -- by number the list has the version of the stamp of that number
+  numbered : (k : ℕ) → slice_get order k ≡ option_map (λ (v : Version). v.stamp) (slice_get (versions_of order m) k)
+  numbered k = sym (ap (λ (l : List Stamp). slice_get l k) listed_stamps) ∙ slice_get-map (λ (v : Version). v.stamp) (versions_of order m) k
+
+  pub none_there : (k : ℕ) → slice_get order k ≡ None → None ≡ slice_get (versions_of order m) k
+  none_there k e = at (slice_get (versions_of order m) k) (sym (numbered k) ∙ e)
+    where
+      at : (o : Option Version) → option_map (λ (v : Version). v.stamp) o ≡ None → None ≡ o
+      at None f = refl
+      at (Some v) f = absurd (cc)
+
+  pub content_there : (k : ℕ) (stamp : Stamp) → slice_get order k ≡ Some stamp → version_at m stamp ≡ slice_get (versions_of order m) k
+  content_there k stamp e = at (slice_get (versions_of order m) k) refl (sym (numbered k) ∙ e)
+    where
+      at : (o : Option Version) → slice_get (versions_of order m) k ≡ o → option_map (λ (v : Version). v.stamp) o ≡ Some stamp → version_at m stamp ≡ o
+      at None g f = absurd (cc)
+      at (Some v) g f =
+          let is : v.stamp ≡ stamp = cc in
+          let own_one = listed_own v (Contains-slice_get (versions_of order m) k v g) in
+          subst (λ (q : Stamp). version_at m q ≡ Some v) is own_one
 
   -- a stamp is kept where something is kept by it
   pub keeps-is_some : (stamp : Stamp) → keeps (versions_of order m) stamp ≡ is_some (content_at m stamp)

@@ -3,7 +3,7 @@ use Rattle.std.specs.Prelude.{◌≡◌, ◌≤◌, Bool, true, List, Option, Is
 use Rattle.std.specs.List.{Contains, filter_map}
 use Rattle.std.specs.Option.{option_map}
 use Rattle.std.specs.BTreeMap.{BTreeMap, get}
-use Rattle.std.specs.Ordering.{nat_cmp, ordering_then, is_le}
+use Rattle.std.specs.Ordering.{nat_cmp, ordering_then, is_le, is_ne}
 use Rattle.std.specs.Cmp.Lexicographic.{slice_cmp}
 use Rattle.std.specs.declared.cmp.Ordering.{Ordering}
 use Rattle.stamp_order.specs.declared.Stamp.{Stamp}
@@ -19,6 +19,10 @@ compared s t = ordering_then (nat_cmp s.time t.time) (ordering_then (nat_cmp s.c
 -- s is t or less
 abbrev pub is_up_to : Stamp → Stamp → Bool
 is_up_to s t = is_le (compared s t)
+
+-- s and t are two stamps
+abbrev pub is_other : Stamp → Stamp → Bool
+is_other s t = is_ne (compared s t)
 
 -- the version that has this stamp and content
 abbrev pub version_of : Stamp → Content → Version

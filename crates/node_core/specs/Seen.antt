@@ -1,6 +1,8 @@
 -- What contracts see of a node.
-use Rattle.std.specs.Prelude.{◌≡◌, ℕ, ◌<◌, Option, List, [], ◌∷◌, length, map, replicate, slice_index_or, slice_set}
+use Rattle.std.specs.Prelude.{◌≡◌, ℕ, ◌<◌, Option, not, List, [], ◌∷◌, length, map, filter, replicate, slice_index_or, slice_set}
 use Rattle.quorum_rules.specs.Limits.{Numbers, IsValid}
+use Rattle.stamp_order.specs.declared.Stamp.{Stamp}
+use Rattle.stamp_order.specs.Stamps.{same_stamp}
 use Rattle.protocol.specs.Messages.{Version, Ask, Reply}
 use Rattle.protocol.specs.Nodes.{first_version, reply, accepts, after}
 use Rattle.protocol.specs.Instance.{setting}
@@ -18,6 +20,10 @@ versions_in node block = slice_index_or node.blocks block []
 -- the node with these versions of a block, and all else as it was
 abbrev pub with_versions : SeenNode → ℕ → List Version → SeenNode
 with_versions node block vs = record { config = node.config; number = node.number; blocks = slice_set node.blocks block vs }
+
+-- the versions without that of a stamp
+abbrev pub without : Stamp → List Version → List Version
+without stamp vs = filter (λ v. not (same_stamp stamp v.stamp)) vs
 
 -- a node that keeps the first version of each block
 abbrev pub new_node : Numbers → ℕ → SeenNode

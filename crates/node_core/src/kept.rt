@@ -1,11 +1,14 @@
-ghost use Rattle.std.specs.Prelude.{◌≡◌, ◌≤◌, ◌↔◌, ◌||◌, true, false, IsTrue, [], ◌∷◌, ◌++◌, map, filter, OnOk, OnErr, IfOk, IfSome, IfNone, option_map};
+ghost use Rattle.std.specs.Prelude.{◌≡◌, ◌≤◌, ◌↔◌, ◌||◌, true, false, IsTrue, [], ◌∷◌, ◌++◌, length, map, filter, slice_get, OnOk, OnErr, IfOk, IfSome, IfNone, option_map};
 ghost use Rattle.stamp_order.specs.Stamps.{before};
 ghost use Rattle.protocol.specs.Nodes.{keeps, carries, greatest_in, greatest_time};
 ghost use Rattle.std.specs.List.{Contains};
 ghost use Rattle.wire_forms.specs.declared.message.Version.{Version};
-ghost use Rattle.node_core.specs.Index.{version_of, is_up_to, IsLastIn, IsNoneIn};
+ghost use Rattle.node_core.specs.Index.{version_of, is_up_to, is_other, IsLastIn, IsNoneIn};
+ghost use Rattle.node_core.specs.Lent.{lent};
+ghost use Rattle.node_core.specs.Seen.{without};
 ghost use Rattle.stamp_order.specs.declared.Bound.TheVariants.{AtMost};
 
+use crate::lent::LentVersion;
 use cross_sum::{Bytes, CrossSum};
 use lists::{Copied, ItemList, NoMemory};
 use stamp_order::{Bound, Stamp};
@@ -31,6 +34,17 @@ impl Drop for Content {
 }
 
 impl Content {
+    /// The version that has this stamp and content, lent.
+    pub(crate) fn lent<'a>(&'a self, stamp: &'a Stamp) -> LentVersion<'a>
+        ensures { lent result ≡ version_of stamp.now self.now }
+    {
+        LentVersion {
+            stamp,
+            sum: &self.sum,
+            fragment: &self.fragment,
+        }
+    }
+
     /// A copy of the version that has this stamp and content.
     pub(crate) fn version(&self, stamp: &Stamp) -> Result<Version, NoMemory>
         ensures { IfOk result (λ version. version ≡ version_of stamp.now self.now) }
@@ -129,6 +143,30 @@ impl Kept {
         Ok(stamps)
     }
 
+    /// How many versions there are.
+    pub(crate) fn len(&self) -> usize
+        ensures { result ≡ length self.now }
+    {
+        self.order.len()
+    }
+
+    /// The stamp and the content of the version that was accepted as number k, counted from 0.
+    pub(crate) fn get(&self, k: usize) -> Option<(&Stamp, &Content)>
+        ensures { option_map (λ e. version_of e.0.now e.1.now) result ≡ slice_get self.now k }
+    {
+        let stamp = self.order.get(k)?;
+        let content = self.by_stamp.get(stamp)?;
+        Some((stamp, content))
+    }
+
+    /// Drops the version of this stamp, if there is one.
+    pub(crate) fn take_back(&mut self, stamp: &Stamp)
+        ensures { self.new ≡ without stamp.now self.old }
+    {
+        drop_stamp(&mut self.order, *stamp);
+        drop_version(&mut self.by_stamp, *stamp);
+    }
+
     /// Drops the versions below the greatest one up to the stamp.
     pub(crate) fn prune(&mut self, stamp: &Stamp)
         ensures later { (v : Version) → Contains self.old v → 1 ≤ v.stamp.time }
@@ -181,5 +219,28 @@ fn drop_versions(by_stamp: &mut BTreeMap<Stamp, Content>, least: Stamp)
             ensures passes { result ≡ is_up_to least stamp.now }
             ensures same { _content.new ≡ _content.old }
         { least.cmp(stamp).is_le() },
+    );
+}
+
+// Drops one stamp.
+fn drop_stamp(order: &mut Vec<Stamp>, dropped: Stamp)
+    ensures { order.new.items ≡ filter (is_other dropped) order.old.items }
+{
+    order.retain(
+        |stamp: &Stamp| -> bool
+            ensures { result ≡ is_other dropped stamp.now }
+        { dropped.cmp(stamp).is_ne() },
+    );
+}
+
+// Drops what is kept by one stamp.
+fn drop_version(by_stamp: &mut BTreeMap<Stamp, Content>, dropped: Stamp)
+    ensures { by_stamp.new.entries ≡ filter (λ e. is_other dropped e.0) by_stamp.old.entries }
+{
+    by_stamp.retain(
+        |stamp: &Stamp, _content: &mut Content| -> bool
+            ensures passes { result ≡ is_other dropped stamp.now }
+            ensures same { _content.new ≡ _content.old }
+        { dropped.cmp(stamp).is_ne() },
     );
 }

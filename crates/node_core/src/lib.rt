@@ -2,8 +2,10 @@
 #![tactic(auto)]
 
 mod kept;
+pub mod lent;
 pub mod node;
 pub mod prepared;
 
+pub use lent::LentVersion;
 pub use node::{Node, Stamps};
 pub use prepared::Prepared;

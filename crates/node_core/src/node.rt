@@ -1,9 +1,11 @@
-ghost use Rattle.std.specs.Prelude.{◌≡◌, ◌<◌, map, OnOk, OnErr, IfOk, None, is_some};
+ghost use Rattle.std.specs.Prelude.{◌≡◌, ◌≤◌, ◌<◌, ◌+◌, length, map, slice_get, option_map, OnOk, OnErr, IfOk, None, is_some};
 ghost use Rattle.protocol.specs.Nodes.{refusal, acknowledged, found, greatest_in, greatest_time, pruned, added, keeps};
 ghost use Rattle.protocol.specs.Instance.{setting};
-ghost use Rattle.node_core.specs.Seen.{SeenNode, versions_in, with_versions, new_node, reply_of, after_of, accepts_of};
+ghost use Rattle.node_core.specs.Lent.{lent};
+ghost use Rattle.node_core.specs.Seen.{SeenNode, versions_in, with_versions, without, new_node, reply_of, after_of, accepts_of};
 
 use crate::kept::Kept;
+use crate::lent::LentVersion;
 use crate::prepared::Prepared;
 use lists::{Copied, ItemList, NoMemory};
 use quorum_rules::Config;
@@ -176,6 +178,34 @@ impl Node {
             (pruned (setting self.old.config) stamp.now (versions_in self.old block)) }
     {
         self.blocks[block as usize].prune(stamp);
+    }
+
+    /// How many versions of a block the node keeps beside the first one.
+    pub fn later_count(&self, block: u32) -> usize
+        requires { block < self.now.config.blocks }
+        ensures { result + 1 ≡ length (versions_in self.now block) }
+    {
+        self.blocks[block as usize].len()
+    }
+
+    /// The version of a block that was accepted as number k after the first one, counted from 0, lent.
+    pub fn later_version(&self, block: u32, k: usize) -> Option<LentVersion<'_>>
+        requires { block < self.now.config.blocks }
+        ensures { option_map (λ v. lent v) result ≡ slice_get (versions_in self.now block) (k + 1) }
+    {
+        let (stamp, content) = self.blocks[block as usize].get(k)?;
+        Some(content.lent(stamp))
+    }
+
+    /// Drops the version of this stamp of a block, as if it had not been accepted. It takes no memory. The first version, whose
+    /// time is 0, can't be dropped.
+    pub fn take_back(&mut self, block: u32, stamp: &Stamp)
+        requires there { block < self.old.config.blocks }
+        requires later { 1 ≤ stamp.now.time }
+        ensures { self.new ≡ with_versions self.old block
+            (without stamp.now (versions_in self.old block)) }
+    {
+        self.blocks[block as usize].take_back(stamp);
     }
 
     /// Why a version is refused: its lengths, its time, its verifier, or its fragment's digest.

@@ -1,11 +1,13 @@
 -- What an answer does to an operation, by whether its phase counts it and ends with it.
-use Rattle.std.proofs.Common.{◌≡◌, ℕ, Bool, true, false, cond, not, ◌&&◌, Option, refl}
+use Rattle.std.proofs.Common.{◌≡◌, ℕ, Bool, true, false, cond, not, ◌&&◌, List, Option, refl, ◌∙◌}
 use Rattle.std.specs.declared.option.Option.TheVariants.{None, Some}
-use Rattle.protocol.specs.Messages.{Reply, Tag}
+use Rattle.protocol.specs.Messages.{Message, Reply, Tag}
 use Rattle.protocol.specs.Instance.{setting}
 use Rattle.protocol.specs.Seen.{SeenTask, SeenOperation, Hearing, seen_counted, is_counted}
-use Rattle.protocol.specs.Seen.Hearing.{Ignored, Counted}
-use Rattle.operation_core.specs.Counting.{counts_in, ends_in, hears_in, end_in, counted_task, counted_in}
+use Rattle.protocol.specs.Seen.Hearing.{Ignored, Counted, Ended}
+use Rattle.protocol.specs.Operations.{Outcome}
+use Rattle.operation_core.specs.declared.stage.Stage.{Stage}
+use Rattle.operation_core.specs.Counting.{counts_in, ends_in, hears_in, end_in, counted_task, counted_in, AnswerDoes, GoesOn, IsAtEnd, IsBegun}
 
 by_count : (b f : Bool) (t : SeenTask) (h : Hearing) → b && not (f) ≡ true → cond b (cond f (Counted t) h) Ignored ≡ h
 by_count true false t h e = refl
@@ -37,3 +39,16 @@ module _ (o : SeenOperation) (node : ℕ) (tag : Tag) (reply : Reply) where
   -- it is counted, and the phase goes on
   pub hears_one : counts_in o node tag reply ≡ true → ends_in o node tag reply ≡ false → (t : SeenTask) × (hears_in o node tag reply ≡ Counted t) × (counted_task o.task node reply ≡ Some t)
   hears_one = one o.task
+
+-- what some answer does is that the operation goes on in this stage
+pub goes_on_by : (o : SeenOperation) (h : Hearing) (stage : Stage) (messages : List Message) → IsBegun o h stage messages → AnswerDoes o h → GoesOn o stage
+goes_on_by o h stage messages b a = record {
+  may = b.may;
+  task = b.task;
+  next = b.next;
+  answer = record { node = a.node; tag = a.tag; reply = a.reply; hears = a.hears ∙ b.begins };
+}
+
+-- or that it ends
+pub ends_by : (o : SeenOperation) (h : Hearing) (outcome : Outcome) → h ≡ Ended outcome → AnswerDoes o h → IsAtEnd o
+ends_by o h outcome e a = (outcome, record { node = a.node; tag = a.tag; reply = a.reply; hears = a.hears ∙ e })

@@ -4,7 +4,7 @@ use Rattle.std.specs.declared.option.Option.TheVariants.{None, Some}
 use Rattle.quorum_rules.specs.Limits.{Numbers, IsValid}
 use Rattle.wire_forms.specs.declared.op.Op.{Op}
 use Rattle.protocol.specs.Messages.{Reply, Tag}
-use Rattle.protocol.specs.Operations.{Work, Stage as ModelStage, decide, answered, mail}
+use Rattle.protocol.specs.Operations.{Work, Stage as ModelStage, Outcome, decide, answered, mail}
 use Rattle.protocol.specs.Operations.Work.{Reads, Writes}
 use Rattle.protocol.specs.Operations.Stage.{Times as AskTimes, Versions as AskVersions, Storing as Store}
 use Rattle.protocol.specs.Seen.{SeenTask, SeenOperation, Hearing, task_at, block_of, work_of, seen_begun, seen_counted, seen_goes_on, by_decision, counts_of, ends_phase, hears, outstanding_of, with_task}
@@ -94,10 +94,28 @@ FitsWork (AskVersions bound) Reads = Unit {0}
 FitsWork (AskVersions bound) (Writes value) = ⊥
 FitsWork (Store stamp value) work = Unit {0}
 
--- the operation may go on in this stage
+-- a next phase in this stage is one that the operation may have
 pub record MayBegin (o : SeenOperation) (stage : Stage) : Type 0 where
   pub fits : FitsStage o.config stage
   pub further : IsSomeAnd o.task (λ t. FitsWork (stage_of stage) t.work × (t.phase < 2 ^ 64 - 1))
+
+-- some answer does this to the operation
+pub record AnswerDoes (o : SeenOperation) (h : Hearing) : Type 0 where
+  pub node : ℕ
+  pub tag : Tag
+  pub reply : Reply
+  pub hears : hears_in o node tag reply ≡ h
+
+-- some answer ends the present phase, and by it the operation goes on in this stage
+pub record GoesOn (o : SeenOperation) (stage : Stage) : Type 0 where
+  pub may : MayBegin o stage
+  pub task : SeenTask
+  pub next : next_task o.config o.task (stage_of stage) ≡ Some task
+  pub answer : AnswerDoes o (BeginsOne task)
+
+-- some answer ends the present phase, and by it the operation
+abbrev pub IsAtEnd : SeenOperation → Type 0
+IsAtEnd o = (outcome : Outcome) × AnswerDoes o (EndedWith outcome)
 
 -- by the hearing of an answer the operation goes on in this stage, with these messages
 pub record IsBegun (o : SeenOperation) (h : Hearing) (stage : Stage) (messages : List Message) : Type 0 where
@@ -111,6 +129,11 @@ pub record IsBegun (o : SeenOperation) (h : Hearing) (stage : Stage) (messages :
 abbrev pub IsPhaseEnd : SeenOperation → Hearing → PhaseEnd → Type 0
 IsPhaseEnd o h (Begins stage messages) = IsBegun o h stage messages
 IsPhaseEnd o h (Ends outcome) = h ≡ EndedWith outcome
+
+-- how many rounds the operation under way has begun, 0 where none is
+abbrev pub rounds_of : Option SeenTask → ℕ
+rounds_of None = 0
+rounds_of (Some t) = t.rounds
 
 -- the stage is that of the operation under way; there is none where none is
 abbrev pub IsStage : Option SeenTask → Option Stage → Type 0

@@ -1,8 +1,8 @@
-ghost use Rattle.std.specs.Prelude.{◌≡◌, ◌<◌, ◌↔◌, true, length, option_copied, IsTrue, IfSome, IfOk, Some, None};
+ghost use Rattle.std.specs.Prelude.{◌≡◌, ◌<◌, ◌↔◌, true, false, length, option_copied, IsTrue, IfSome, IfOk, Some, None};
 ghost use Rattle.quorum_rules.specs.Limits.{IsValid};
 ghost use Rattle.protocol.specs.Seen.{work_of, with_task, has_answered, phase_of, chosen_of, seen_counted};
 ghost use Rattle.operation_core.specs.Stages.{stage_of};
-ghost use Rattle.operation_core.specs.Counting.{begun_in, first_mail, counts_in, ends_in, outstanding_in, counted_in, next_in, MayBegin, IsMail, IsStage};
+ghost use Rattle.operation_core.specs.Counting.{begun_in, first_mail, counts_in, ends_in, outstanding_in, counted_in, next_in, rounds_of, MayBegin, GoesOn, IsAtEnd, IsMail, IsStage};
 
 use crate::answers::{clear, copied, is_kept, no_answers};
 use crate::mailing::{Head, mail, message};
@@ -120,9 +120,10 @@ impl Operation {
         self.counts(node, tag, reply) && self.heard + 1 >= self.config.wait()
     }
 
-    /// Counts an answer. It takes no memory.
+    /// Counts an answer that doesn't end the present phase. It takes no memory.
     pub fn count(&mut self, node: u8, tag: Tag, reply: Reply)
-        requires { counts_in self.old node tag reply ≡ true }
+        requires counts { counts_in self.old node tag reply ≡ true }
+        requires goes_on { ends_in self.old node tag reply ≡ false }
         ensures { self.new ≡ counted_in self.old node reply }
     {
         self.answers[usize::from(node)] = Some(reply);
@@ -162,9 +163,9 @@ impl Operation {
         mail(*self.answers.allocator(), &self.config, head, stage)
     }
 
-    /// Begins the next phase. It takes no memory.
+    /// Begins the next phase, as an answer that ends the present one has it. It takes no memory.
     pub fn go_on(&mut self, stage: Stage)
-        requires { MayBegin self.old stage }
+        requires { GoesOn self.old stage }
         ensures { self.new ≡ next_in self.old (stage_of stage) }
     {
         self.phase += 1;
@@ -174,8 +175,9 @@ impl Operation {
         self.heard = 0;
     }
 
-    /// Ends the operation.
+    /// Ends the operation, as an answer that ends the present phase has it.
     pub fn end(&mut self)
+        requires { IsAtEnd self.old }
         ensures { self.new ≡ with_task self.old None }
     {
         self.stage = None;
@@ -226,11 +228,11 @@ impl Operation {
         if self.stage.is_some() { self.phase } else { 0 }
     }
 
-    /// How many rounds of asking for versions have begun.
+    /// How many rounds of asking for versions have begun, or 0 where the operation is over.
     pub fn rounds(&self) -> u64
-        ensures { IfSome self.now.task (λ t. result ≡ t.rounds) }
+        ensures { result ≡ rounds_of self.now.task }
     {
-        self.rounds
+        if self.stage.is_some() { self.rounds } else { 0 }
     }
 
     /// What the present phase asks for: none where the operation is over.

@@ -5,6 +5,10 @@ use Rattle.std.specs.Prelude.{◌≡◌, ◌⊎◌, ℕ, ◌+◌, ◌-◌, ◌^�
 abbrev pub Rose : Option ℕ → ℕ → ℕ → Type 0
 Rose last before now = (before < now) ⊎ (last ≡ Some now)
 
+-- the count rose by one, or stands at the last value that it can have
+abbrev pub RoseByOne : Option ℕ → ℕ → ℕ → Type 0
+RoseByOne last before now = (now ≡ before + 1) ⊎ (last ≡ Some now)
+
 -- the count has not fallen, stays at `Ok`, and an `Err` comes only where it rose
 pub record HasCause {T E : Type 0} (last : Option ℕ) (before now : ℕ) (result : Result T E) : Type 0 where
   pub later : before ≤ now

@@ -6,13 +6,14 @@ pub record Giving : Type 0 where
   pub left : List ℕ
   pub most : ℕ
 
--- a source that fails: also the numbers of the calls that fail, how many calls there were, and how many failed
+-- a source that fails: also the numbers of the calls that fail, how many calls there were, how many failed, and whether the last one did
 pub record FailingGiving : Type 0 where
   pub left : List ℕ
   pub most : ℕ
   pub fails : List ℕ
   pub calls : ℕ
   pub faults : ℕ
+  pub failed : Bool
 
 -- a sink: the bytes kept, how many more fit, whether all were kept, and how many were flushed
 pub record Keeping : Type 0 where

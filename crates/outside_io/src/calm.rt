@@ -1,4 +1,4 @@
-ghost use Rattle.std.specs.Prelude.{◌≡◌, ◌≤◌, ◌<◌, ◌-◌, ◌&&◌, nat_le, ◌++◌, [], Some, None, Ok, true, length, take, drop, min, IfOk, IsOk, OnOk, OnErr};
+ghost use Rattle.std.specs.Prelude.{◌≡◌, ◌≤◌, ◌<◌, ◌-◌, ◌&&◌, nat_le, ◌++◌, [], Some, None, Ok, true, false, length, take, drop, min, IfOk, IsOk, OnOk, OnErr};
 ghost use Rattle.std.specs.Io.{ReadsAtMost};
 ghost use Rattle.std.specs.Io.KnownBytes.{ReadConsumes};
 ghost use Rattle.outside_io.specs.Causes.{HasCause};
@@ -47,6 +47,8 @@ impl Source for CalmSource {
     ghost faults = { λ _. 0 };
 
     ghost last = { None };
+
+    ghost failed = { λ _. false };
 
     // it never fails
     fn read(&mut self, room: &mut [u8]) -> Result<usize, Failed>

@@ -1,4 +1,4 @@
-ghost use Rattle.std.specs.Prelude.{◌≡◌, ◌≤◌, ◌<◌, ◌↔◌, ◌^◌, ◌-◌, [], ◌++◌, Some, true, length, take, min, Contains, IsErr, IfOk, OnOk, OnErr};
+ghost use Rattle.std.specs.Prelude.{◌≡◌, ◌≤◌, ◌<◌, ◌↔◌, ◌^◌, ◌-◌, [], ◌++◌, Some, true, false, length, take, min, Contains, IsErr, is_err, IfOk, OnOk, OnErr};
 ghost use Rattle.std.specs.Io.{ReadsAtMost};
 ghost use Rattle.std.specs.Io.KnownBytes.{ReadConsumes};
 ghost use Rattle.outside_io.specs.Causes.{HasCause, one_more};
@@ -23,6 +23,7 @@ pub struct MemorySource {
     fails: Calls,
     calls: u64,
     faults: u64,
+    failed: bool,
 }
 
 impl Model for MemorySource {
@@ -37,6 +38,7 @@ impl Model for MemorySource {
       fails = s.fails;
       calls = s.calls;
       faults = s.faults;
+      failed = s.failed;
     } };
 
     ghost invariant = { λ s. (s.at ≤ length s.bytes) × (1 ≤ s.most) };
@@ -52,6 +54,7 @@ impl MemorySource {
           fails = fails;
           calls = 0;
           faults = 0;
+          failed = false;
         } }
     {
         MemorySource {
@@ -61,6 +64,7 @@ impl MemorySource {
             fails,
             calls: 0,
             faults: 0,
+            failed: false,
         }
     }
 }
@@ -72,10 +76,13 @@ impl Source for MemorySource {
 
     ghost last = { Some (2 ^ 64 - 1) };
 
+    ghost failed = { λ s. s.failed };
+
     fn read(&mut self, room: &mut [u8]) -> Result<usize, Failed>
         ensures bound { ReadsAtMost result room.new }
         ensures bytes { ReadConsumes (Some self.old.left) (Some self.new.left) result room.new }
         ensures cause { HasCause (Some (2 ^ 64 - 1)) self.old.faults self.new.faults result }
+        ensures failed { self.new.failed ≡ is_err result }
         ensures exact { IsErr result ↔ Contains self.old.fails self.old.calls }
         ensures count { IfOk result (λ k.
             k ≡ min (min (length self.old.left) (length room.new)) self.old.most) }
@@ -84,9 +91,9 @@ impl Source for MemorySource {
         ensures fails { self.new.fails ≡ self.old.fails }
         ensures same { self.new.most ≡ self.old.most }
     {
-        let fails = self.fails.as_slice().contains(&self.calls);
+        self.failed = self.fails.as_slice().contains(&self.calls);
         self.calls = self.calls.saturating_add(1);
-        if fails {
+        if self.failed {
             self.faults = self.faults.saturating_add(1);
             return Err(Failed);
         }

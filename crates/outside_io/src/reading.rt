@@ -1,6 +1,6 @@
-ghost use Rattle.std.specs.Prelude.{◌≡◌, ◌≢◌, ◌<◌, ◌≤◌, ◌+◌, Err, length, IfOk, OnOk, IsErrOf};
+ghost use Rattle.std.specs.Prelude.{◌≡◌, ◌≢◌, ◌<◌, ◌≤◌, ◌+◌, Err, length, true, IfOk, OnOk, IsErrOf};
 ghost use Rattle.std.specs.Io.KnownBytes.{Consumes, IsAtEnd};
-ghost use Rattle.outside_io.specs.Causes.{Rose};
+ghost use Rattle.outside_io.specs.Causes.{Rose, RoseByOne};
 ghost use Rattle.outside_io.specs.Given.{GaveAtMost, GaveExactly};
 
 use crate::source::Source;
@@ -60,7 +60,10 @@ pub fn read_all<S: Source>(alloc: Global, source: &mut S) -> Result<Bytes, ReadR
     ensures bytes { IfOk result (λ input. Consumes (S.left source.old) (S.left source.new) input) }
     ensures ended { OnOk result (IsAtEnd (S.left source.new)) }
     ensures short { IfOk result (λ input. length input ≤ LIMIT) }
-    // a fault comes only where the count rose, and before the limit was passed
+    // the last read is the one that failed, which came before the limit was passed
+    ensures stopped { IsErrOf result ReadRefusal.ReadFault → S.failed source.new ≡ true }
+    ensures counted { IsErrOf result ReadRefusal.ReadFault
+        → RoseByOne S.last (S.faults source.old) (S.faults source.new) }
     ensures fault { IsErrOf result ReadRefusal.ReadFault
         → Rose S.last (S.faults source.old) (S.faults source.new) }
     ensures first { IsErrOf result ReadRefusal.ReadFault

@@ -1,6 +1,6 @@
-ghost use Rattle.std.specs.Prelude.{◌≡◌, ◌≤◌, ◌<◌, ◌^◌, ◌-◌, Some, None, length, IfOk, IsErr};
+ghost use Rattle.std.specs.Prelude.{◌≡◌, ◌≤◌, ◌<◌, ◌^◌, ◌-◌, Some, None, true, false, length, IfOk, IsErr};
 ghost use Rattle.std.specs.Io.KnownBytes.{Keeps, WriteAppends};
-ghost use Rattle.outside_io.specs.Causes.{HasCause};
+ghost use Rattle.outside_io.specs.Causes.{HasCause, RoseByOne};
 
 use crate::sink::Sink;
 use crate::source::{Failed, Source};
@@ -12,6 +12,7 @@ use std::io::{ErrorKind, Read, Write};
 pub struct StdSource<R: Read> {
     inner: R,
     faults: u64,
+    failed: bool,
 }
 
 impl<R: Read> StdSource<R> {
@@ -20,16 +21,23 @@ impl<R: Read> StdSource<R> {
         ensures inner { result.inner ≡ inner }
         ensures faults { result.faults ≡ 0 }
     {
-        StdSource { inner, faults: 0 }
+        StdSource {
+            inner,
+            faults: 0,
+            failed: false,
+        }
     }
 
     // Counts a fault.
     fn fail(&mut self) -> Result<usize, Failed>
         ensures err { IsErr result }
         ensures cause { HasCause (Some (2 ^ 64 - 1)) self.old.faults self.new.faults result }
+        ensures counted { RoseByOne (Some (2 ^ 64 - 1)) self.old.faults self.new.faults }
+        ensures failed { self.new.failed ≡ true }
         ensures same { self.new.inner ≡ self.old.inner }
     {
         self.faults = self.faults.saturating_add(1);
+        self.failed = true;
         Err(Failed)
     }
 }
@@ -41,7 +49,10 @@ impl<R: Read> Source for StdSource<R> {
 
     ghost last = { Some (2 ^ 64 - 1) };
 
+    ghost failed = { λ s. s.failed };
+
     fn read(&mut self, room: &mut [u8]) -> Result<usize, Failed> {
+        self.failed = false;
         for _ in 0..u64::MAX {
             match self.inner.read(room) {
                 Ok(count) => return Ok(count),

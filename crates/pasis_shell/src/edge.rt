@@ -2,29 +2,38 @@
 //! error, and its number as exit status. No contract can say what the streams give and take: the programs of the gate that call
 //! this show it, and `tools/exit_statuses` for each status.
 
-ghost use Rattle.std.specs.Prelude.{◌≡◌, ◌⊎◌, IfErr};
+ghost use Rattle.std.specs.Prelude.{◌≡◌, ◌⊎◌, drop, IfOk, IfErr};
+ghost use Rattle.std.specs.Vec.Iter.{into_iter_items};
 ghost use Rattle.command_texts.specs.declared.status.Status.TheVariants as statuses;
 
 use crate::{OpenGate, Status};
 use outside_io::{StdSink, StdSource};
+use std::alloc::Global;
 use std::env;
-use std::env::Env;
+use std::env::{Args, Env};
 use std::io::{ErrorKind, Stderr, Stdin, Stdout};
 use std::process::ExitCode;
 use std::sync::Wait;
 use std::thread::Threads;
 
-// The arguments after the program's name. Words that are no text are bad words.
-fn words_of<R: Env + AllocGlobal>(rt: &R) -> Result<Vec<String>, Status>
+// The arguments, the program's name first. Those that are no text are bad words.
+fn arguments<R: Env + AllocGlobal>(rt: &R) -> Result<Args, Status>
     ensures { IfErr result (λ status. (status ≡ statuses.BadWords) ⊎ (status ≡ statuses.NoMemory)) }
 {
-    let mut words = match env::args(rt) {
-        Ok(words) => words,
-        Err(error) if error.kind() == ErrorKind::OutOfMemory => return Err(Status::NoMemory),
-        Err(_) => return Err(Status::BadWords),
-    };
-    let _name = words.next();
-    match words.collect(rt.alloc()) {
+    match env::args(rt) {
+        Ok(arguments) => Ok(arguments),
+        Err(error) if error.kind() == ErrorKind::OutOfMemory => Err(Status::NoMemory),
+        Err(_) => Err(Status::BadWords),
+    }
+}
+
+// The arguments after the program's name, all of them.
+fn words_of(alloc: Global, mut arguments: Args) -> Result<Vec<String>, Status>
+    ensures words { IfOk result (λ words. words.items ≡ drop 1 (into_iter_items arguments)) }
+    ensures err { IfErr result (λ status. status ≡ statuses.NoMemory) }
+{
+    let _name = arguments.next();
+    match arguments.collect(alloc) {
         Ok(words) => Ok(words),
         Err(_) => Err(Status::NoMemory),
     }
@@ -35,7 +44,11 @@ fn status_of<R: Env + AllocGlobal + Threads + Wait + Sync>(
     input: Stdin,
     output: Stdout,
 ) -> Status {
-    match words_of(rt) {
+    let words = match arguments(rt) {
+        Ok(arguments) => words_of(rt.alloc(), arguments),
+        Err(status) => Err(status),
+    };
+    match words {
         Ok(words) => {
             let mut source = StdSource::new(input);
             let mut sink = StdSink::new(output);

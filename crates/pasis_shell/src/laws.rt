@@ -14,6 +14,7 @@ ghost use Rattle.history_book.specs.declared.judging.Flaw.{Flaw};
 ghost use Rattle.protocol.specs.History.{NoClash};
 ghost use Rattle.command_texts.specs.Replays.{cluster_of, Replays};
 ghost use Rattle.command_texts.specs.Verdicts.{Judges};
+ghost use Rattle.line_forms.specs.Heads.{IsOfScripts};
 ghost use Rattle.line_forms.specs.declared.refusal.ScriptFault.{ScriptFault};
 ghost use Rattle.plan_words.specs.declared.plan.Plan.{Plan};
 ghost use Rattle.plan_words.specs.Plans.{Fits};
@@ -57,14 +58,20 @@ pub fn replays_are_legal()
         → flaw ≡ None }
 {}
 
-/// The script that a trace shows is one that `replay` takes, and it writes the trace's report, where there are no more lines than a
-/// script may have.
+/// The script that a trace shows is one that `replay` takes, and it writes the trace's report, where a script can describe the
+/// plan's cluster, as it can where the plan was read, and there are no more lines than a script may have. It can write nothing else.
 pub fn traces_replay()
-    ensures { (plan : Plan) (journals : Journals) (text : List ℕ)
-        → (t : TracesPlan plan journals text)
+    ensures replays { (plan : Plan) (journals : Journals) (text : List ℕ)
+        → (t : TracesPlan plan journals text) → IsOfScripts plan.config
         → length t.run.made.lines ≤ event_limit plan.config
         → Replays (replay_text plan.config plan.liars (map Plain t.run.made.lines)) t.report }
+    ensures only { (plan : Plan) (journals : Journals) (text written : List ℕ)
+        → (t : TracesPlan plan journals text) → IsOfScripts plan.config
+        → length t.run.made.lines ≤ event_limit plan.config
+        → Replays (replay_text plan.config plan.liars (map Plain t.run.made.lines)) written
+        → written ≡ t.report }
 {
     command_texts::laws::plans_declare();
+    command_texts::laws::scripts_have_one_report();
     script_text::laws::replays_are_spelled();
 }

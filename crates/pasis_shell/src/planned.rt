@@ -69,7 +69,8 @@ fn trace_of<R: Threads + Wait + Sync, G: Gate + Sync>(
 {
     let plan = read_plan(alloc, input.as_slice())?;
     let ran = run_served(rt, alloc, serving, &plan, gate)?;
-    let text = trace_text(alloc, &plan, ran.journals)?;
+    let drawn = ran.drawn.count();
+    let text = trace_text(alloc, &plan, ran.journals, drawn)?;
     Ok(Answer::of(text))
 }
 

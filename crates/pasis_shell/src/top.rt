@@ -1,4 +1,4 @@
-ghost use Rattle.std.specs.Prelude.{◌≡◌, ◌≢◌, ◌≤◌, ◌+◌, ◌⊎◌, ◌↔◌, ℕ, List, Option, Some, None, Err, length, IfOk, IfErr, IfSome, IsErrOf};
+ghost use Rattle.std.specs.Prelude.{◌≡◌, ◌≢◌, ◌≤◌, ◌+◌, ◌⊎◌, ◌↔◌, ℕ, List, Option, Some, None, Result, Err, length, IfOk, IfErr, IfSome, IsErrOf};
 ghost use Rattle.outside_io.specs.Causes.{Rose};
 ghost use Rattle.outside_io.specs.Given.{GaveAtMost};
 ghost use Rattle.history_book.specs.declared.judging.Flaw.{Flaw};
@@ -8,6 +8,10 @@ ghost use Rattle.plan_words.specs.declared.plan.Plan.{Plan};
 ghost use Rattle.plan_words.specs.Plans.{Fits};
 ghost use Rattle.plan_text.specs.Plans.{Spells as SpellsPlan};
 ghost use Rattle.command_texts.specs.Words.{texts, words_of, IsForm, IsNbd, IsNbdForm, RunsThreads, AskForThreads, AskForPlan, AskForLoad};
+ghost use Rattle.nbd_front.specs.declared.ending.Served.{Served};
+ghost use Rattle.nbd_front.specs.declared.ending.SessionEnd.{SessionEnd};
+ghost use Rattle.nbd_front.specs.Sessions.{EndsSo};
+ghost use Rattle.command_texts.specs.Statuses.{status_of_session};
 ghost use Rattle.command_texts.specs.Texts.{AnswersFor, IsAccepted, IsGiven};
 ghost use Rattle.pasis_shell.specs.Calls.{StopsFor, Ends};
 ghost use Rattle.pasis_shell.specs.Sessions.{Serves};
@@ -198,6 +202,13 @@ pub fn alone<S: Source, K: Sink>(
         → (Rose K.last (K.faults sink.old) (K.faults sink.new) → ⊥)
         → (result ≡ Some Status.Done) ⊎ ((flaw : Flaw) × (result ≡ Some (Status.Illegal flaw)))
         ⊎ (result ≡ Some Status.NoMemory) }
+    // and one of `nbd`, whose end the status tells
+    ensures complete_session { IsNbdForm (texts words.now)
+        → (input : List ℕ) (end : Result Served SessionEnd)
+        → S.left source.old ≡ Some input → EndsSo end 0 0 input
+        → (Rose S.last (S.faults source.old) (S.faults source.new) → ⊥)
+        → (Rose K.last (K.faults sink.old) (K.faults sink.new) → ⊥)
+        → (result ≡ Some (status_of_session end)) ⊎ (result ≡ Some Status.NoMemory) }
 {
     if let Some(config) = nbd_of(words) {
         return Some(serve_device(alloc, &config, source, sink));
@@ -265,6 +276,13 @@ pub fn pasis<R: Threads + Wait + Sync, S: Source, K: Sink, G: Gate + Sync>(
         → (Rose K.last (K.faults sink.old) (K.faults sink.new) → ⊥)
         → (result ≡ Status.Done) ⊎ (result ≡ Status.NoMemory)
         ⊎ ((drawn : Tally) × (result ≡ Status.ClockFull drawn)) }
+    // and an input of `nbd`, whose end the status tells
+    ensures complete_session { IsNbdForm (texts words.now)
+        → (input : List ℕ) (end : Result Served SessionEnd)
+        → S.left source.old ≡ Some input → EndsSo end 0 0 input
+        → (Rose S.last (S.faults source.old) (S.faults source.new) → ⊥)
+        → (Rose K.last (K.faults sink.old) (K.faults sink.new) → ⊥)
+        → (result ≡ status_of_session end) ⊎ (result ≡ Status.NoMemory) }
 {
     if let Some(status) = alone(alloc, words, source, sink) {
         return status;

@@ -1,8 +1,8 @@
 //! The command `soak`, whose line is that of a run in threads: all four clients are at work at once, each ends its 50 operations,
 //! and all nodes are asked.
 
-use crate::gates::AllAtOnce;
-use crate::runs::writes;
+use crate::all_at_once::AllAtOnce;
+use crate::runs::written;
 use std::alloc::Global;
 use std::io;
 use std::sync::Wait;
@@ -16,6 +16,6 @@ const LINE: &str =
 /// Whether a load's line is as it must be, and its clients ran.
 pub fn has_run<R: Threads + Wait + Sync>(rt: &R, alloc: Global) -> io::Result<bool> {
     let gate = AllAtOnce::new();
-    let is_told = writes(rt, alloc, "soak 7", "", LINE, &gate)?;
-    Ok(is_told && gate.has_held(50))
+    let sink = written(rt, alloc, "soak 7", &[], &gate)?;
+    Ok(sink.taken() == LINE.as_bytes() && gate.has_held(50))
 }

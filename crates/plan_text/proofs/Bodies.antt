@@ -10,7 +10,7 @@ use Rattle.quorum_rules.specs.Limits.{Numbers, IsValid}
 use Rattle.text_lines.specs.Lines.{fields_of, parts_of, line_of_fields}
 use Rattle.text_lines.proofs.Cuts.{rest_part}
 use Rattle.wire_forms.specs.Liars.{Liars}
-use Rattle.line_forms.specs.Heads.{header, head_lines, cluster_fields}
+use Rattle.line_forms.specs.Heads.{IsOfScripts, header, head_lines, cluster_fields}
 use Rattle.line_forms.specs.Tables.{first_of, or_then}
 use Rattle.line_forms.specs.Texts.{IsFault, IsFaultless, ReadsTo, end_causes}
 use Rattle.line_forms.specs.declared.cause.Cause.{Cause}
@@ -48,7 +48,7 @@ body_cause : (text : List ℕ) (plan : Plan) (seen : Seen) (rest line : List ℕ
 unfolding plan_cause
 body_cause text plan seen rest line number h =
     let c = plan.config in
-    ap (λ (k : Numbers). plan_cause k (map line_text h.lines) line) (numbers_back c h.valid)
+    ap (λ (k : Numbers). plan_cause k (map line_text h.lines) line) (numbers_back c h.valid h.of_scripts)
     ∙ ap (λ ms. or_then (line_cause c (fields_of line)) (later_cause c ms (marks_of c line))) (all_marks_back c h.lines (small c h.valid) h.each)
     ∙ ap (or_then (line_cause c (fields_of line))) (sym (seen_is c (map (line_marks c) h.lines) seen (marks_of c line) h.noted))
 
@@ -89,15 +89,16 @@ fine_none c = record {
   in_device = tt;
 }
 
-pub body_begins : (text : List ℕ) (plan : Plan) (seen : Seen) (at : ℕ) → IsValid plan.config → plan.rules ≡ [] → plan.work ≡ [] → plan.liars.nodes ≡ [] → plan.liars.clients ≡ [] → IsSeen [] seen → at ≤ length text
+pub body_begins : (text : List ℕ) (plan : Plan) (seen : Seen) (at : ℕ) → IsValid plan.config → IsOfScripts plan.config → plan.rules ≡ [] → plan.work ≡ [] → plan.liars.nodes ≡ [] → plan.liars.clients ≡ [] → IsSeen [] seen → at ≤ length text
     → ReadsTo plan_script text (head_lines plan.config) (drop at text) → BodyRead text plan seen (take (length text - at) (drop at text)) 3
-body_begins text plan seen at v rules work ns ks none low r =
+body_begins text plan seen at v known rules work ns ks none low r =
     let whole = rest_part text at in
     let len = length-drop at text in
     let liars : List ℕ → List ℕ → Liars = λ ns ks. record { nodes = ns; clients = ks } in
     record {
       lines = [];
       valid = v;
+      of_scripts = known;
       rules = sym rules;
       work = sym work;
       liars = ap (λ (x : List ℕ). liars x plan.liars.clients) ns ∙ ap (λ (x : List ℕ). liars [] x) ks ∙ ap liars_of (sym rules);
@@ -143,6 +144,7 @@ body_more text plan new seen later rest line after number next l h e shorter non
     record {
       lines = h.lines ++ l ∷ [];
       valid = subst IsValid (sym same) h.valid;
+      of_scripts = subst IsOfScripts (sym same) h.of_scripts;
       rules = filter_map-append rule_of h.lines (l ∷ []) ∙ ap (λ (rs : List Fault). rs ++ rules_in (l ∷ [])) h.rules ∙ sym rules;
       work = filter_map-append job_of h.lines (l ∷ []) ∙ ap (λ (js : List Job). js ++ work_in (l ∷ [])) h.work ∙ sym work;
       liars = liars ∙ ap (λ (x : Liars). with_liar x m) h.liars ∙ liars_more c plan.rules l ∙ ap liars_of (sym rules);
@@ -158,6 +160,7 @@ body_more text plan new seen later rest line after number next l h e shorter non
 
 pub body_spelled : (text : List ℕ) (plan : Plan) (seen : Seen) (rest : List ℕ) (number : ℕ) → BodyRead text plan seen rest number → rest ≡ [] → Spells text plan
 body_spelled text plan seen rest number h none = record {
+  of_scripts = h.of_scripts;
   lines = h.lines;
   rules = h.rules;
   work = h.work;

@@ -8,7 +8,7 @@ use Rattle.std.proofs.lemmas.List.Concat.{flat_map-append}
 use Rattle.quorum_rules.specs.Limits.{Numbers, IsValid}
 use Rattle.text_lines.specs.Lines.{fields_of, line_of_fields, text_of_lines}
 use Rattle.wire_forms.specs.Liars.{Liars}
-use Rattle.line_forms.specs.Heads.{head_lines, head_text, header, edition_of, cluster_fields, numbers_in}
+use Rattle.line_forms.specs.Heads.{IsOfScripts, head_lines, head_text, header, edition_of, cluster_fields, numbers_in}
 use Rattle.line_forms.specs.Tables.{or_then}
 use Rattle.line_forms.specs.Texts.{IsFaultless, ReadsTo}
 use Rattle.line_forms.proofs.Accepted.{head_accepted, numbers_back}
@@ -79,26 +79,26 @@ spelled_lines text p s f =
 
 -- ---- they are read one after the other
 
-no_cause : (c : Numbers) (before after : List PlanLine) (l : PlanLine) → IsValid c → AllByRecursion (IsPlanLine c) before → IsPlanLine c l → AreFine c (map (line_marks c) (before ++ l ∷ after)) → plan_script.cause (plan_lines c before) (line_text l) ≡ None
+no_cause : (c : Numbers) (before after : List PlanLine) (l : PlanLine) → IsValid c → IsOfScripts c → AllByRecursion (IsPlanLine c) before → IsPlanLine c l → AreFine c (map (line_marks c) (before ++ l ∷ after)) → plan_script.cause (plan_lines c before) (line_text l) ≡ None
 unfolding plan_cause
-no_cause c before after l v each h fine =
+no_cause c before after l v known each h fine =
     let s = small c v in
     let marks : map (line_marks c) (before ++ l ∷ after) ≡ map (line_marks c) before ++ line_marks c l ∷ map (line_marks c) after = map-append (line_marks c) before (l ∷ after) in
-    ap (λ (k : Numbers). plan_cause k (map line_text before) (line_text l)) (numbers_back c v)
+    ap (λ (k : Numbers). plan_cause k (map line_text before) (line_text l)) (numbers_back c v known)
     ∙ ap (λ o. or_then o (later_cause c (map (marks_of c) (map line_text before)) (marks_of c (line_text l)))) (ap (line_cause c) (fields_back c l s h) ∙ line_fine c l v h)
     ∙ ap (λ ms. later_cause c ms (marks_of c (line_text l))) (all_marks_back c before s each)
     ∙ ap (later_cause c (map (line_marks c) before)) (marks_back c l s h)
     ∙ none_standing c (map (line_marks c) before) (line_marks c l) (map (line_marks c) after) (subst (AreFine c) marks fine)
 
-lines_accepted : (text : List ℕ) (c : Numbers) (before more all : List PlanLine) (rest : List ℕ) → IsValid c → before ++ more ≡ all → AllByRecursion (IsPlanLine c) before → AllByRecursion (IsPlanLine c) more → AreFine c (map (line_marks c) all)
+lines_accepted : (text : List ℕ) (c : Numbers) (before more all : List PlanLine) (rest : List ℕ) → IsValid c → IsOfScripts c → before ++ more ≡ all → AllByRecursion (IsPlanLine c) before → AllByRecursion (IsPlanLine c) more → AreFine c (map (line_marks c) all)
     → ReadsTo plan_script text (plan_lines c before) (text_of_lines (map line_text more) ++ rest) → ReadsTo plan_script text (plan_lines c all) rest
-lines_accepted text c before [] all rest v e h k fine r = subst (λ (ls : List PlanLine). ReadsTo plan_script text (plan_lines c ls) rest) (sym (append-nil before) ∙ e) r
-lines_accepted text c before (l ∷ more) all rest v e h k fine r =
-    let none = no_cause c before more l v h k.0 (subst (λ (ls : List PlanLine). AreFine c (map (line_marks c) ls)) (sym e) fine) in
+lines_accepted text c before [] all rest v known e h k fine r = subst (λ (ls : List PlanLine). ReadsTo plan_script text (plan_lines c ls) rest) (sym (append-nil before) ∙ e) r
+lines_accepted text c before (l ∷ more) all rest v known e h k fine r =
+    let none = no_cause c before more l v known h k.0 (subst (λ (ls : List PlanLine). AreFine c (map (line_marks c) ls)) (sym e) fine) in
     let on = reads_on plan_script text (plan_lines c before) (line_text l) _ (text_of_lines (map line_text more) ++ rest) r (line_next (line_text l) (text_of_lines (map line_text more)) rest (one_line c l (small c v) k.0)) none in
     let lines : plan_lines c before ++ line_text l ∷ [] ≡ plan_lines c (before ++ l ∷ []) =
     append_assoc (head_lines c) (map line_text before) (line_text l ∷ []) ∙ ap (λ (ls : List (List ℕ)). head_lines c ++ ls) (sym (map_push line_text before l)) in
-    lines_accepted text c (before ++ l ∷ []) more all rest v (append_assoc before (l ∷ []) more ∙ e) (all_push (IsPlanLine c) before l h k.0) k.1 fine
+    lines_accepted text c (before ++ l ∷ []) more all rest v known (append_assoc before (l ∷ []) more ∙ e) (all_push (IsPlanLine c) before l h k.0) k.1 fine
     (subst (λ (ls : List (List ℕ)). ReadsTo plan_script text ls (text_of_lines (map line_text more) ++ rest)) lines on)
 
 spelled_reads : (text : List ℕ) (p : Plan) (s : Spells text p) → Fits p → ReadsTo plan_script text (plan_lines p.config s.lines) []
@@ -108,8 +108,8 @@ spelled_reads text p s f =
     let body = text_of_lines (map line_text s.lines) in
     let whole : head_text c ++ (body ++ []) ≡ text =
     ap (λ (t : List ℕ). head_text c ++ t) (append-nil body) ∙ sym (flat_map-append (λ l. l ++ 10 ∷ []) (head_lines c) (map line_text s.lines)) ∙ sym s.spelled in
-    let head = subst (λ (t : List ℕ). ReadsTo plan_script t (head_lines c) (body ++ [])) whole (head_accepted plan_body c (body ++ []) f.valid) in
-    lines_accepted text c [] s.lines s.lines [] f.valid refl tt are.each are.fine head
+    let head = subst (λ (t : List ℕ). ReadsTo plan_script t (head_lines c) (body ++ [])) whole (head_accepted plan_body c (body ++ []) f.valid s.of_scripts) in
+    lines_accepted text c [] s.lines s.lines [] f.valid s.of_scripts refl tt are.each are.fine head
 
 pub plan_accepted : (text : List ℕ) (p : Plan) → Fits p → Spells text p → IsFaultless plan_script text
 plan_accepted text p f s = read_all plan_script text (header p.config.edition) (line_of_fields (cluster_fields p.config) ∷ map line_text s.lines) [] (spelled_reads text p s f) refl refl
@@ -134,7 +134,7 @@ same_plan p q a b c d =
 pub one_plan : (text : List ℕ) (p q : Plan) → Fits p → Fits q → Spells text p → Spells text q → p ≡ q
 one_plan text p q f g s t =
     let lines : plan_lines p.config s.lines ≡ plan_lines q.config t.lines = push_same _ _ [] (sym (spelled_reads text p s f).parts ∙ (spelled_reads text q t g).parts) in
-    let config : p.config ≡ q.config = sym (numbers_back p.config f.valid) ∙ ap (λ (ls : List (List ℕ)). numbers_in (edition_of (get_or ls 0 [])) (fields_of (get_or ls 1 []))) lines ∙ numbers_back q.config g.valid in
+    let config : p.config ≡ q.config = sym (numbers_back p.config f.valid s.of_scripts) ∙ ap (λ (ls : List (List ℕ)). numbers_in (edition_of (get_or ls 0 [])) (fields_of (get_or ls 1 []))) lines ∙ numbers_back q.config g.valid t.of_scripts in
     let body : map line_text s.lines ≡ map line_text t.lines = ap (λ (ls : List (List ℕ)). drop 2 ls) lines in
     let each = subst (λ (k : Numbers). AllByRecursion (IsPlanLine k) t.lines) (sym config) (spelled_lines text q t g).each in
     let same = lines_one p.config s.lines t.lines (small p.config f.valid) (spelled_lines text p s f).each each body in
@@ -154,5 +154,5 @@ work_last [] [] = refl
 work_last [] (j ∷ js) = ap (λ (xs : List Job). j ∷ xs) (work_last [] js)
 work_last (r ∷ rs) js = work_last rs js
 
-pub text_spells : (p : Plan) → Spells (plan_text p) p
-text_spells p = record { lines = map Rule p.rules ++ map Work p.work; rules = rules_first p.rules p.work; work = work_last p.rules p.work; spelled = refl }
+pub text_spells : (p : Plan) → IsOfScripts p.config → Spells (plan_text p) p
+text_spells p known = record { of_scripts = known; lines = map Rule p.rules ++ map Work p.work; rules = rules_first p.rules p.work; work = work_last p.rules p.work; spelled = refl }

@@ -7,7 +7,7 @@ use Rattle.quorum_rules.specs.Limits.{Numbers}
 use Rattle.text_lines.specs.Lines.{fields_of, text_of_lines}
 use Rattle.line_forms.specs.Tables.{first_of, or_then}
 use Rattle.line_forms.specs.Texts.{Grammar}
-use Rattle.line_forms.specs.Heads.{Body, script, head_lines}
+use Rattle.line_forms.specs.Heads.{Body, IsOfScripts, script, head_lines}
 use Rattle.line_forms.specs.declared.cause.Cause.{Cause}
 use Rattle.line_forms.specs.declared.cause.Cause.TheVariants.{Twice, TooManyLiars, TooManyFaulty, LyingClient, TooManyLines, Device as DeviceCause}
 use Rattle.plan_words.specs.declared.fault.Fault.{Fault}
@@ -43,6 +43,7 @@ plan_lines c lines = head_lines c ++ map line_text lines
 
 -- the text is a plan's, whose rules and work stand in their order, in whichever order among each other
 pub record Spells (text : List ℕ) (plan : Plan) : Type 0 where
+  pub of_scripts : IsOfScripts plan.config
   pub lines : List PlanLine
   pub rules : rules_in lines ≡ plan.rules
   pub work : work_in lines ≡ plan.work

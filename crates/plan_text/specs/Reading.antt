@@ -8,6 +8,7 @@ use Rattle.std.specs.BTreeSet.{BTreeSet, contains, btree_set_len, IsOrdered, ins
 use Rattle.quorum_rules.specs.Limits.{Numbers, IsValid}
 use Rattle.text_lines.specs.Lines.{fields_of}
 use Rattle.wire_forms.specs.Liars.{Liars}
+use Rattle.line_forms.specs.Heads.{IsOfScripts}
 use Rattle.line_forms.specs.Tables.{first_of, or_then}
 use Rattle.line_forms.specs.Texts.{ReadsTo}
 use Rattle.line_forms.specs.declared.cause.Cause.{Cause}
@@ -111,6 +112,7 @@ with_liar liars m = record { nodes = with_number liars.nodes m.lying_node; clien
 pub record BodyRead (text : List ℕ) (plan : Plan) (seen : Seen) (rest : List ℕ) (number : ℕ) : Type 0 where
   pub lines : List PlanLine
   pub valid : IsValid plan.config
+  pub of_scripts : IsOfScripts plan.config
   pub rules : rules_in lines ≡ plan.rules
   pub work : work_in lines ≡ plan.work
   pub liars : plan.liars ≡ liars_of plan.rules

@@ -1,7 +1,7 @@
 //! Reading a plan.
 ghost use Rattle.std.specs.Prelude.{◌≡◌, ◌∷◌, ◌++◌, ◌≤◌, [], None, drop, length, IfOk, IfErr, OnOk};
 ghost use Rattle.quorum_rules.specs.Limits.{IsValid};
-ghost use Rattle.line_forms.specs.Heads.{head_lines};
+ghost use Rattle.line_forms.specs.Heads.{IsOfScripts, head_lines};
 ghost use Rattle.line_forms.specs.Tables.{Gives};
 ghost use Rattle.line_forms.specs.Texts.{IsFaultless, IsRefusal, ReadsTo};
 ghost use Rattle.plan_words.specs.Plans.{Fits};
@@ -44,6 +44,7 @@ pub fn read_plan(alloc: Global, text: &[u8]) -> Result<Plan, ScriptRefusal>
 
 fn read_body(alloc: Global, config: Config, text: &[u8], at: usize) -> Result<Plan, ScriptRefusal>
     requires valid { IsValid config }
+    requires of_scripts { IsOfScripts config }
     requires within { at ≤ length text.now }
     requires head { ReadsTo plan_script text.now (head_lines config) (drop at text.now) }
     ensures fits { IfOk result Fits }

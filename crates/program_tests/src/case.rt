@@ -16,7 +16,8 @@
 //! | `legal` | what stands after the line `report` is a report, and `check` finds it legal |
 //! | `ended LEAST MOST PENDING` | LEAST operations or more are done or spent, PENDING or less are pending, all in all MOST or less |
 //! | `times N` | the case is run so often |
-//! | `each call fails` | the case is also run with each call of the source failing in turn, and with each of the sink |
+//! | `each call fails` | the case is also run with each call of the source failing in turn, and with each of the sink; there are as many as the bytes need, and one more |
+//! | `tells NAME` | nothing is run: what is told is the status of that name, to which no case can come |
 //! | `! TEXT` | a line on standard error |
 //! | `status N` | the exit status, if it isn't 0 |
 
@@ -75,6 +76,8 @@ pub struct Case {
     pub times: u32,
     /// The calls fail in turn.
     pub fails_in_turn: bool,
+    /// The name of the status that is told, where nothing is run.
+    pub tells: Option<String>,
     /// Each line is one of those that cases have.
     pub is_readable: bool,
 }
@@ -103,6 +106,7 @@ impl Case {
             ended: None,
             times: 1,
             fails_in_turn: false,
+            tells: None,
             is_readable: true,
         })
     }
@@ -177,6 +181,7 @@ impl Case {
             "words" => self.add_words(alloc, text),
             "ends" => self.set_end(alloc, text),
             "has" => self.add_count(alloc, text),
+            "tells" => self.set_tells(alloc, text),
             "!" => add_line(&mut self.told, text),
             _ => self.add_lines(mark, text),
         }
@@ -184,6 +189,11 @@ impl Case {
 
     fn set_end(&mut self, alloc: Global, text: &str) -> io::Result<()> {
         self.end = Some(String::from_str(alloc, text)?);
+        Ok(())
+    }
+
+    fn set_tells(&mut self, alloc: Global, name: &str) -> io::Result<()> {
+        self.tells = Some(String::from_str(alloc, name)?);
         Ok(())
     }
 

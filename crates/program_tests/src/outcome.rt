@@ -71,12 +71,35 @@ enum Fault {
     Untold,
 }
 
-// A read fault, at which nothing is written, or a write fault, at which a beginning of the output is.
-fn fault_of(case: &Case, side: Side, status: &Status, written: &[u8]) -> Fault {
+// What a sink has taken before this call: at each call as much as it takes at most, until all is taken.
+fn taken_before(case: &Case, call: u64) -> &[u8] {
+    let output = case.output.as_slice();
+    let taken = call.saturating_mul(case.writes.most as u64);
+    match usize::try_from(taken) {
+        Ok(taken) => output.get(..taken).unwrap_or(output),
+        Err(_) => output,
+    }
+}
+
+// How many calls move so many bytes, and one more: a source tells its end, and a sink is flushed.
+fn calls_for(bytes: usize, pace: Pace) -> u64 {
+    (bytes.div_ceil(pace.most.max(1)) as u64).saturating_add(1)
+}
+
+// How many calls a case has on one side.
+fn calls_on(case: &Case, side: Side) -> u64 {
+    match side {
+        Side::Source => calls_for(case.input.len(), case.reads),
+        Side::Sink => calls_for(case.output.len(), case.writes),
+    }
+}
+
+// A read fault, at which nothing is written, or a write fault, at which just what the calls before took is.
+fn fault_of(case: &Case, side: Side, call: u64, status: &Status, written: &[u8]) -> Fault {
     match (side, status) {
         (Side::Source, Status::ReadFault) if written.is_empty() => Fault::Told,
-        (Side::Sink, Status::WriteFault) if case.output.starts_with(written) => Fault::Told,
-        (_, Status::Done) => Fault::None,
+        (Side::Sink, Status::WriteFault) if written == taken_before(case, call) => Fault::Told,
+        (_, Status::Done) if written == case.output.as_slice() => Fault::None,
         _ => Fault::Untold,
     }
 }
@@ -95,27 +118,23 @@ fn fault_at<R: Threads + Wait + Sync>(
     };
     let mut sink = sink_of(alloc, writes)?;
     let status = status_of(rt, alloc, case, reads, &mut sink)?;
-    Ok(fault_of(case, side, &status, sink.taken()))
+    Ok(fault_of(case, side, call, &status, sink.taken()))
 }
 
-// No case has so many calls.
-const CALLS: u64 = 10_000;
-
-// Whether each call of one side that fails is told. After the last call none fails.
+// Whether each call of one side that fails is told, and none is there after the last one.
 fn tells_faults_of<R: Threads + Wait + Sync>(
     rt: &R,
     alloc: Global,
     case: &Case,
     side: Side,
 ) -> io::Result<bool> {
-    for call in 0..CALLS {
-        match fault_at(rt, alloc, case, side, call)? {
-            Fault::Told => {}
-            Fault::None => return Ok(0 < call),
-            Fault::Untold => return Ok(false),
+    let calls = calls_on(case, side);
+    for call in 0..calls {
+        if !matches!(fault_at(rt, alloc, case, side, call)?, Fault::Told) {
+            return Ok(false);
         }
     }
-    Ok(false)
+    Ok(matches!(fault_at(rt, alloc, case, side, calls)?, Fault::None))
 }
 
 /// Whether each fault of a case whose calls fail in turn is told.
@@ -257,12 +276,32 @@ fn compared(
     }
 }
 
+// The status of a name, of those to which no case can come: memory is there, and no session has so many requests.
+fn status_named(name: &str) -> Option<Status> {
+    match name {
+        "NoMemory" => Some(Status::NoMemory),
+        "TooManyRequests" => Some(Status::TooManyRequests),
+        _ => None,
+    }
+}
+
+// What is otherwise of the status of a name, if anything is.
+fn named(alloc: Global, case: &Case, name: &str) -> io::Result<Option<&'static str>> {
+    match status_named(name) {
+        Some(status) => compared(alloc, case, &status, &[]),
+        None => Ok(Some("no status has the name")),
+    }
+}
+
 /// Runs a case. What is otherwise than it says, if anything is.
 pub fn difference<R: Threads + Wait + Sync>(
     rt: &R,
     alloc: Global,
     case: &Case,
 ) -> io::Result<Option<&'static str>> {
+    if let Some(name) = &case.tells {
+        return named(alloc, case, name.as_str());
+    }
     let mut sink = sink_of(alloc, case.writes)?;
     let status = status_of(rt, alloc, case, case.reads, &mut sink)?;
     compared(alloc, case, &status, sink.taken())

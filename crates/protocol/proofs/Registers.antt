@@ -123,7 +123,7 @@ legal_left : (es : List Entry) (values : ℕ → List ℕ) (last : ℕ → Stamp
 legal_left [] values last h = tt
 legal_left (e ∷ es) values last h = legal_next e es values last h (legal_left es) e.kind refl
 
-module _ (s : Setting) (good : IsValid s) (w : World) (safe : IsSafe s w) (apart : NoClash s w) (h : List Entry) (hist : IsHistory s w h) where
+module _ (s : Setting) (good : IsValid s) (w : World) (safe : IsSafe s w) (h : List Entry) (hist : IsHistory s w h) where
   is_entry : (e : Entry) → Contains h e → IsEntry w.records (first_stamp s) e
   is_entry e k = (hist.1 e).0 k
 
@@ -192,8 +192,15 @@ module _ (s : Setting) (good : IsValid s) (w : World) (safe : IsSafe s w) (apart
   set_by e k (inr (inl r)) = absurd (let q : e.kind ≡ Write = kind_made r.made in cc)
   set_by e k (inr (inr r)) = absurd (let q : e.kind ≡ Foreign = kind_made r.1.made in cc)
 
-  pub legal : Legal s h
-  legal = legal_left h (λ block. zeros s) (λ block. first_stamp s) (record {
+  -- so a read's stamp is the first, or that of an entry of its block that is no read
+  pub of_write : (e : Entry) → Contains h e → e.kind ≡ Read → (e.stamp ≡ first_stamp s) ⊎ ((f : Entry) × Contains h f × (f.kind ≢ Read) × (f.block ≡ e.block) × (f.stamp ≡ e.stamp))
+  of_write e there kind = elim (set_by e kind (is_entry e there)) [
+    | inl k ↦ inl k.0
+    | inr k ↦ inr (k.setter, k.there, (λ q. let x : Sets Read = (let y = k.sets in rw q at y) in x), k.of_block, k.stamped)
+  ]
+
+  pub legal : NoClash s w → Legal s h
+  legal apart = legal_left h (λ block. zeros s) (λ block. first_stamp s) (record {
     sorted = hist.0;
     agree = λ e f i j q. one_value s good w safe apart e.stamp e.value f.value (entry_stamped s good w safe e (is_entry e i))
         (let z = entry_stamped s good w safe f (is_entry f j) in rw q z);

@@ -1,5 +1,5 @@
 -- The safety of every run.
-use Rattle.std.proofs.Common.{◌≡◌, ◌≢◌, ◌↔◌, ◌<◌, ℕ, List, inl, inr}
+use Rattle.std.proofs.Common.{◌≡◌, ◌≢◌, ◌↔◌, ◌⊎◌, ◌<◌, ℕ, List, inl, inr}
 use Rattle.std.specs.declared.option.Option.TheVariants.{None, Some}
 use Rattle.std.specs.declared.cmp.Ordering.TheVariants.{Equal}
 use Rattle.std.specs.List.{Contains}
@@ -11,7 +11,7 @@ use Rattle.protocol.specs.History.{Entry, IsHistory, IsEntry, Legal, InTime, NoC
 use Rattle.protocol.specs.History.Kind.{Read, Write, Foreign}
 use Rattle.protocol.specs.Bounds.{IsBounded, IsLow}
 use Rattle.protocol.proofs.Entries.{kind_made}
-use Rattle.protocol.proofs.Histories.{outcome_at, not_outvoted, in_time, entry_stamped}
+use Rattle.protocol.proofs.Histories.{outcome_at, not_outvoted, in_time, entry_stamped, one_value}
 use Rattle.protocol.proofs.Registers as registers
 use Rattle.protocol.proofs.RunOrigins.{read_known}
 use Rattle.protocol.proofs.Origins.{IsKnown}
@@ -23,14 +23,20 @@ use Rattle.protocol.proofs.Existing.{has_history}
 use Rattle.protocol.proofs.Keys.{one_key, one_list}
 
 module _ (s : Setting) (lines : List (ℕ × Line)) (w : World) (good : IsValid s) (run : Run s (start_world s) lines w) where
-  right : IsRight s good w
+  pub right : IsRight s good w
   right = run_right s good lines (start_world s) w (start_right s good) run
 
   pub run_legal : (h : List Entry) → NoClash s w → IsHistory s w h → Legal s h
-  run_legal h apart hist = registers.legal s good w right.safe apart h hist
+  run_legal h apart hist = registers.legal s good w right.safe h hist apart
 
   pub run_in_time : (h : List Entry) → NoClash s w → IsHistory s w h → InTime h
   run_in_time h apart hist = in_time s good w right.safe apart h hist
+
+  pub run_values : (e f : Entry) → NoClash s w → IsEntry w.records (first_stamp s) e → IsEntry w.records (first_stamp s) f → e.stamp ≡ f.stamp → e.value ≡ f.value
+  run_values e f apart h k same = one_value s good w right.safe apart e.stamp e.value f.value (entry_stamped s good w right.safe e h) (let z = entry_stamped s good w right.safe f k in rw same z)
+
+  pub run_written : (h : List Entry) (e : Entry) → IsHistory s w h → Contains h e → e.kind ≡ Read → (e.stamp ≡ first_stamp s) ⊎ ((f : Entry) × Contains h f × (f.kind ≢ Read) × (f.block ≡ e.block) × (f.stamp ≡ e.stamp))
+  run_written h e hist = registers.of_write s good w right.safe h hist e
 
   pub run_sound : (h : List Entry) → IsHistory s w h → (e : Entry) → Contains h e → e.kind ≡ Read → Sound s e.stamp e.value
   run_sound h hist e k kind = (entry_stamped s good w right.safe e ((hist.1 e).0 k)).sound

@@ -1,5 +1,5 @@
 -- What the laws of every run say, each of a setting and the last world of a run in it.
-use Rattle.std.specs.Prelude.{◌≡◌, ◌≢◌, ◌↔◌, ◌⊎◌, ◌<◌, ◌+◌, ℕ, Bool, false, true, List, length, map, count_by, ◌++◌, slice_get}
+use Rattle.std.specs.Prelude.{◌≡◌, ◌≢◌, ◌↔◌, ◌⊎◌, ◌<◌, ◌≤◌, ◌+◌, ◌^◌, ℕ, Bool, false, true, List, length, map, count_by, ◌++◌, slice_get}
 use Rattle.std.specs.declared.option.Option.TheVariants.{Some, None}
 use Rattle.std.specs.declared.cmp.Ordering.TheVariants.{Equal}
 use Rattle.std.specs.List.{Contains}
@@ -7,12 +7,12 @@ use Rattle.quorum_rules.specs.Limits.{Numbers}
 use Rattle.stamp_order.specs.declared.Stamp.{Stamp}
 use Rattle.stamp_order.specs.declared.Bound.{Bound}
 use Rattle.stamp_order.specs.Stamps.{has, before, ◌≼◌}
-use Rattle.run_words.specs.declared.outcome.Outcome.TheVariants.{Outvoted}
+use Rattle.run_words.specs.declared.outcome.Outcome.TheVariants.{Spent, Gave, Outvoted}
 use Rattle.wire_forms.specs.declared.Request.TheVariants.{Write as WriteRequest}
 use Rattle.wire_forms.specs.declared.Body.TheVariants.{Ask as Asks, Answer as Answers}
 use Rattle.protocol.specs.Messages.{Message, Request, Reply, Ask, Tag, Version, IsFormedReply}
 use Rattle.protocol.specs.Setting.{Setting, IsBlock, Sound, first_stamp}
-use Rattle.protocol.specs.Operations.{Task, Work, begun}
+use Rattle.protocol.specs.Operations.{Task, Work, How, begun}
 use Rattle.protocol.specs.Operations.Work.{Reads, Writes}
 use Rattle.protocol.specs.Operations.Stage.{Versions}
 use Rattle.protocol.specs.World.{World, Record, under_way, heard_by, greatest_given, with_record}
@@ -21,6 +21,8 @@ use Rattle.protocol.specs.Instance.{setting_of, IsCluster}
 use Rattle.protocol.specs.History.{Entry, IsHistory, IsEntry, Legal, InTime, NoClash, HasRead, HasLie, entry_cmp}
 use Rattle.protocol.specs.History.Kind.{Read, Foreign}
 use Rattle.protocol.specs.Report.{Ascend, AreRivals, mark, line_cmp, counts_of, is_ended, SpentWrite, IsSpentWrite, spent_writes}
+use Rattle.protocol.specs.Bounds.{IsFewAt}
+use Rattle.protocol.specs.Moments.{IsLineAt}
 use Rattle.protocol.specs.Facts.{IsTold, IsHonest, HasAccepted, IsHosted, IsKnown, IsComplete, IsWorking, Extends, HasGave, IsGreatestGiven, IsSameOperation, HasOperation, HasEnded}
 use Rattle.protocol.specs.Seen.{SeenTask, task_at, seen_begun, hearing}
 use Rattle.protocol.specs.Views.{IsFull, task_after, after_hearing}
@@ -94,17 +96,81 @@ module _ (s : Setting) (w : World) where
       → IsEntry w.records (first_stamp s) e
       → IsBlock s e.value
 
-  -- what a read has given by now and stands as a foreign write in a later history was lied by now
+  -- where no two different strings that were seen share a digest, entries of one stamp have one value
+  abbrev pub StampsHaveOneValue : Type 0
+  StampsHaveOneValue =
+      (e f : Entry)
+      → NoClash s w
+      → IsEntry w.records (first_stamp s) e
+      → IsEntry w.records (first_stamp s) f
+      → e.stamp ≡ f.stamp
+      → e.value ≡ f.value
+
+  -- the stamp of a read is the first, or that of an entry of its block that is no read
+  abbrev pub ReadsAreOfWrites : Type 0
+  ReadsAreOfWrites =
+      (h : List Entry) (e : Entry)
+      → IsHistory s w h
+      → Contains h e
+      → e.kind ≡ Read
+      → (e.stamp ≡ first_stamp s) ⊎ ((f : Entry) × Contains h f × (f.kind ≢ Read) × (f.block ≡ e.block) × (f.stamp ≡ e.stamp))
+
+  -- a foreign write was lied before the line at which a read that gave it ended: each such read, so the first too
   abbrev pub ForeignWritesWereLied : Type 0
   ForeignWritesWereLied =
-      (more : List (ℕ × Line)) (last : World) (h : List Entry) (e : Entry)
-      → Run s w more last
-      → IsHistory s last h
+      (lines : List (ℕ × Line)) (before then : World) (h : List Entry) (e : Entry) (value : List ℕ) (end : ℕ)
+      → IsHistory s w h
       → Contains h e
       → e.kind ≡ Foreign
-      → (value : List ℕ) (place : ℕ)
-      → HasRead w.records e.block e.stamp value place
-      → HasLie s w e.block e.stamp
+      → HasRead w.records e.block e.stamp value end
+      → IsLineAt s lines w end before then
+      → HasLie s before e.block e.stamp
+
+  -- a read asked few rounds: twice the pairs of a node and a stamp that were accepted of its block by its end, and one, at most
+  abbrev pub ReadsAskedFew : Type 0
+  ReadsAskedFew =
+      (lines : List (ℕ × Line)) (before then : World) (r : Record) (end : ℕ) (stamp : Stamp) (value : List ℕ) (how : How) (rounds : ℕ)
+      → Contains w.records r
+      → r.outcome ≡ Some (Gave stamp value how rounds)
+      → r.end ≡ Some end
+      → IsLineAt s lines w end before then
+      → IsFewAt then r.block rounds
+
+  -- whatever follows, the operations that have begun by now are these
+  abbrev pub BegunStay : Type 0
+  BegunStay =
+      (more : List (ℕ × Line)) (last : World) (r : Record)
+      → Run s w more last
+      → r.start ≤ w.place
+      → HasOperation w.records r ↔ HasOperation last.records r
+
+  -- and those that have ended by now are these, as they ended
+  abbrev pub EndedStay : Type 0
+  EndedStay =
+      (more : List (ℕ × Line)) (last : World) (r : Record) (end : ℕ)
+      → Run s w more last
+      → r.end ≡ Some end
+      → end ≤ w.place
+      → Contains w.records r ↔ Contains last.records r
+
+  -- an operation that a crash of its client cut off never ends, whatever follows: its record stays, without end and outcome
+  abbrev pub CrashedNeverEnd : Type 0
+  CrashedNeverEnd =
+      (more : List (ℕ × Line)) (last : World) (r : Record)
+      → Run s w more last
+      → Contains w.records r
+      → r.end ≡ None
+      → w.client_crashed r.client ≡ true
+      → Contains last.records r × (r.outcome ≡ None)
+
+  -- an operation ends at a line, of these
+  abbrev pub EndsAreAtLines : Type 0
+  EndsAreAtLines =
+      (lines : List (ℕ × Line)) (r : Record) (end : ℕ)
+      → IsRun s lines w
+      → Contains w.records r
+      → r.end ≡ Some end
+      → (before : World) × (then : World) × IsLineAt s lines w end before then
 
   -- a line isn't refused exactly where its events are allowed one after the other
   abbrev pub RefusesExactly : Type 0
@@ -199,6 +265,16 @@ module _ (s : Setting) (w : World) where
       → x.stamp ≡ Some stamp
       → (stamp ≡ first_stamp s) ⊎ IsComplete s w x.block stamp
 
+  -- and so it was when the operation ended
+  abbrev pub CompletedWasHeld : Type 0
+  CompletedWasHeld =
+      (lines : List (ℕ × Line)) (before then : World) (x : Record) (end : ℕ) (stamp : Stamp)
+      → Contains w.records x
+      → x.end ≡ Some end
+      → x.stamp ≡ Some stamp
+      → IsLineAt s lines w end before then
+      → (stamp ≡ first_stamp s) ⊎ IsComplete s then x.block stamp
+
   -- an honest node's answer isn't behind what the node had accepted before the line at which it was sent
   abbrev pub AnswersAreFresh : Type 0
   AnswersAreFresh =
@@ -270,6 +346,10 @@ module _ (s : Setting) (w : World) where
   abbrev pub RecordsAreTold : Type 0
   RecordsAreTold = (r : Record) → Contains w.records r → IsTold w r
 
+  -- no two operations begin at one line, so there are no more than places
+  abbrev pub RecordsAreFew : Type 0
+  RecordsAreFew = length w.records ≤ w.place
+
   -- what is counted as done are the entries that have an end
   abbrev pub DoneHaveEnded : Type 0
   DoneHaveEnded =
@@ -290,6 +370,24 @@ module _ (s : Setting) (w : World) where
   -- the spent writes stand in order of start
   abbrev pub SpentAscend : Type 0
   SpentAscend = Ascend (map (λ x. x.start) (spent_writes w.records))
+
+  -- a write is spent only where a lying client sent, on its block, a time so high that the lines up to now could bring it to the greatest
+  abbrev pub SpentWereLied : Type 0
+  SpentWereLied =
+      (r : Record)
+      → w.place < 2 ^ 64
+      → Contains w.records r
+      → r.outcome ≡ Some Spent
+      → (stamp : Stamp) × HasLie s w r.block stamp × (2 ^ 64 ≤ stamp.time + w.place)
+
+  -- so where no client lies none is
+  abbrev pub NoneIsSpent : Type 0
+  NoneIsSpent =
+      (r : Record)
+      → ((client : ℕ) → s.lying_client client ≡ false)
+      → w.place < 2 ^ 64
+      → Contains w.records r
+      → r.outcome ≢ Some Spent
 
   -- an answer to a client's operation does to the world what it does to the operation as it is seen
   abbrev pub SeenHears : Type 0

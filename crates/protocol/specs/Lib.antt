@@ -13,5 +13,6 @@ pub mod Report
 pub mod Seen
 pub mod Views
 pub mod Freshness
+pub mod Moments
 pub mod Instance
 pub mod Laws

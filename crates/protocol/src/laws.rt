@@ -12,18 +12,22 @@ ghost use Rattle.protocol.specs.Bounds.{IsBounded, IsLow};
 ghost use Rattle.protocol.specs.Laws.{InEachCluster, HistoriesAreLegal, HistoriesAreInTime};
 ghost use Rattle.protocol.specs.Laws.{ReadsAreSound, NoneIsOutvoted};
 ghost use Rattle.protocol.specs.Laws.{HasHistory, HistoriesAreOne, KeysAreOne, ValuesAreBlocks};
-ghost use Rattle.protocol.specs.Laws.{ForeignWritesWereLied};
+ghost use Rattle.protocol.specs.Laws.{StampsHaveOneValue, ReadsAreOfWrites};
+ghost use Rattle.protocol.specs.Laws.{ReadsAskedFew, ForeignWritesWereLied};
+ghost use Rattle.protocol.specs.Laws.{BegunStay, EndedStay, CrashedNeverEnd, EndsAreAtLines};
 ghost use Rattle.protocol.specs.Laws.{RefusesExactly, TakesTheAllowed, RunsComeApart};
 ghost use Rattle.protocol.specs.Laws.{LinesExtendPool, RunsExtendPool};
 ghost use Rattle.protocol.specs.Laws.{TasksAreTold, SeenBegins, SeenHears, BeginsFull, StaysFull};
 ghost use Rattle.protocol.specs.Laws.{GivenIsGreatest, NoneIsGiven, OneIsReplaced, FalseIsFormed};
 ghost use Rattle.protocol.specs.Laws.{AnswersAreHosted, KeptWasAccepted, AcceptedIsReached};
 ghost use Rattle.protocol.specs.Laws.{AcceptedIsKnown, AskedIsKnown};
-ghost use Rattle.protocol.specs.Laws.{CompletedIsHeld, AnswersAreFresh, OperationsHearFresh};
+ghost use Rattle.protocol.specs.Laws.{CompletedIsHeld, CompletedWasHeld};
+ghost use Rattle.protocol.specs.Laws.{AnswersAreFresh, OperationsHearFresh};
 ghost use Rattle.protocol.specs.Laws.{ReadsAskUp, WritesDrawAbove, ReadsGiveUp};
-ghost use Rattle.protocol.specs.Laws.{StartsAscend, RecordsAreTold};
+ghost use Rattle.protocol.specs.Laws.{StartsAscend, RecordsAreTold, RecordsAreFew};
 ghost use Rattle.protocol.specs.Laws.{MarksAreOne, MarksAscend, MarksFollow, LinesStandAlike};
 ghost use Rattle.protocol.specs.Laws.{DoneHaveEnded, SpentAreWrites, AllAreCounted, SpentAreThese, SpentAscend};
+ghost use Rattle.protocol.specs.Laws.{SpentWereLied, NoneIsSpent};
 
 /// The code and the digest of a cluster keep what the proofs ask of them: lengths, bytes, digests, and that any `m` fragments
 /// of a block decode to it.
@@ -41,20 +45,35 @@ pub fn safety()
     ensures never_outvoted { InEachRun NoneIsOutvoted }
 {}
 
-/// A run has exactly one history. No two of its entries have one key, and each value is a block.
+/// A run has exactly one history. No two of its entries have one key, and each value is a block. A read's stamp is the first, or
+/// that of an entry of its block that is no read; and where no two different strings that were seen share a digest, entries of
+/// one stamp have one value.
 pub fn one_history()
     ensures some { InEachRun HasHistory }
     ensures one { InEachRun HistoriesAreOne }
     ensures keys { InEachRun KeysAreOne }
     ensures blocks { InEachRun ValuesAreBlocks }
+    ensures of_writes { InEachRun ReadsAreOfWrites }
+    ensures values { InEachRun StampsHaveOneValue }
 {}
 
-/// Reads ask few rounds, times rise by no more than one a write, and a write that no correct client made was lied before a
-/// read gave it.
+/// Reads ask few rounds, by what was accepted by now and, of a read that has ended, by its end. Times rise by no more than one a
+/// write. A write that no correct client made and a read gave was lied before the line at which that read ended.
 pub fn bounds()
     ensures rounds { InEachRun (λ s w. IsBounded w) }
+    ensures rounds_at_end { InEachRun ReadsAskedFew }
     ensures times { InEachRun IsLow }
     ensures foreign { InEachRun ForeignWritesWereLied }
+{}
+
+/// What the later worlds of a run keep of this one, whatever lines follow: its operations; what has ended stays as it ended; and
+/// what a crash of its client cut off never ends, not even where the client comes back. Each end is at a line: so what a law
+/// says of each world in which an operation has ended it says of the one that this line makes.
+pub fn later_worlds()
+    ensures begun { InEachRun BegunStay }
+    ensures ended { InEachRun EndedStay }
+    ensures cut_off { InEachRun CrashedNeverEnd }
+    ensures at_ends { InEachRun EndsAreAtLines }
 {}
 
 /// A line is refused exactly where its events aren't allowed one after the other. That it isn't refused where they are holds
@@ -124,9 +143,11 @@ pub fn origins()
     ensures asked { InEachRun AskedIsKnown }
 {}
 
-/// The stamp of a completed read or write is the first stamp, or at least `qc` honest nodes have accepted it.
+/// The stamp of a completed read or write is the first stamp, or at least `qc` honest nodes have accepted it, and had done so
+/// when the operation ended.
 pub fn completion()
-    ensures { InEachRun CompletedIsHeld }
+    ensures now { InEachRun CompletedIsHeld }
+    ensures at_end { InEachRun CompletedWasHeld }
 {}
 
 /// An honest node's answer, whoever asked, doesn't fall behind any stamp that the node had accepted on the block before: it
@@ -147,10 +168,11 @@ pub fn order()
 {}
 
 /// Records stand in order of start, and no two operations start at one place. Each tells its places in order, and an outcome
-/// of its kind exactly where it has ended.
+/// of its kind exactly where it has ended. So there are no more of them than the run has places.
 pub fn records()
     ensures starts { InEachRun StartsAscend }
     ensures told { InEachRun RecordsAreTold }
+    ensures few { InEachRun RecordsAreFew }
 {}
 
 /// Marks number the verifiers of one block, time and writer from 1 upward, in their order: one stamp has one mark, a greater
@@ -171,8 +193,12 @@ pub fn counts()
     ensures all { InEachRun AllAreCounted }
 {}
 
-/// The spent writes are those that ended as spent, by start.
+/// The spent writes are those that ended as spent, by start. A write is spent only where a lying client sent a Write on its block
+/// with a time so high that it is no more steps below the greatest there is than the run has places. So where no client lies,
+/// no write is spent.
 pub fn spent()
     ensures are { (records : List Record) → SpentAreThese records }
     ensures ascend { InEachRun SpentAscend }
+    ensures lied { InEachRun SpentWereLied }
+    ensures none { InEachRun NoneIsSpent }
 {}

@@ -1,9 +1,9 @@
 -- Numbers have no fault exactly where they are valid.
 use Rattle.std.proofs.Common.{◌≡◌, ◌↔◌, ℕ, ◌≤◌, Bool, true, false, not, ◌&&◌, nat_lt, nat_le, if◌then◌else◌, Option, refl, ◌∙◌, arith, lit≤}
 use Rattle.std.specs.declared.option.Option.TheVariants.{None, Some}
-use Rattle.quorum_rules.specs.Limits.{Numbers, IsValid, most_size}
+use Rattle.quorum_rules.specs.Limits.{Numbers, IsValid, most_size, most_blocks}
 use Rattle.quorum_rules.specs.declared.Edition.{Edition}
-use Rattle.quorum_rules.specs.declared.Edition.TheVariants.{One, Two}
+use Rattle.quorum_rules.specs.declared.Edition.TheVariants.{One, Two, Three}
 use Rattle.quorum_rules.specs.Faults.{fault, is_outside}
 use Rattle.quorum_rules.specs.declared.ConfigFault.{ConfigFault}
 
@@ -70,7 +70,17 @@ fault-valid c = (valid_of_none c, none_of_valid c)
 pub most_of_all : (edition : Edition) → most_size edition ≤ 16384
 most_of_all One = lit≤ tt
 most_of_all Two = lit≤ tt
+most_of_all Three = lit≤ tt
 
 -- in no edition has a block more bytes
 pub size_at_most : (c : Numbers) → IsValid c → c.size ≤ 16384
 size_at_most c v = omega (arith, v.size.1, most_of_all c.edition)
+
+pub most_blocks_of_all : (edition : Edition) → most_blocks edition ≤ 65536
+most_blocks_of_all One = lit≤ tt
+most_blocks_of_all Two = lit≤ tt
+most_blocks_of_all Three = lit≤ tt
+
+-- in no edition are there more blocks
+pub blocks_at_most : (c : Numbers) → IsValid c → c.blocks ≤ 65536
+blocks_at_most c v = omega (arith, v.blocks.1, most_blocks_of_all c.edition)

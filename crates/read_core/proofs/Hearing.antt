@@ -5,7 +5,7 @@ use Rattle.std.specs.Prelude.{IfSome}
 use Rattle.std.specs.Option.{ForSome}
 use Rattle.stamp_order.specs.declared.Stamp.{Stamp}
 use Rattle.run_words.specs.declared.outcome.How.{How}
-use Rattle.run_words.specs.declared.outcome.Outcome.TheVariants.{Gave}
+use Rattle.run_words.specs.declared.outcome.Outcome.TheVariants.{Gave, Outvoted as OutvotedBy}
 use Rattle.protocol.specs.Messages.{Reply, Tag, Message}
 use Rattle.protocol.specs.Setting.{Setting}
 use Rattle.protocol.specs.Instance.{setting}
@@ -16,12 +16,12 @@ use Rattle.protocol.specs.Seen.{SeenTask, SeenOperation, Hearing, task_at, by_de
 use Rattle.protocol.specs.Seen.Hearing.{Ended}
 use Rattle.operation_core.specs.declared.stage.Stage.{Stage}
 use Rattle.operation_core.specs.Stages.{stage_of}
-use Rattle.operation_core.specs.Counting.{ends_in, hears_in, ended_of, counted_task, counted_in, next_task, next_in, FitsWork, IsMail, IsBegun}
-use Rattle.operation_core.proofs.PhaseEnds.{hears_end}
+use Rattle.operation_core.specs.Counting.{ends_in, hears_in, ended_of, counted_task, counted_in, next_task, next_in, rounds_of, FitsWork, GoesOn as GoesOnIn, IsAtEnd, IsMail, IsBegun}
+use Rattle.operation_core.proofs.PhaseEnds.{hears_end, goes_on_by}
 use Rattle.read_core.specs.declared.read_end.ReadEnd.{ReadEnd}
-use Rattle.read_core.specs.declared.read_end.ReadEnd.TheVariants.{Gives, GoesOn}
+use Rattle.read_core.specs.declared.read_end.ReadEnd.TheVariants.{Outvoted, Gives, GoesOn}
 use Rattle.read_core.specs.Ends.{IsReadStage, IsEnd, IsNext, decision_of}
-use Rattle.read_core.specs.Readers.{IsReader, EndsPhase, rounds_of, after_hearing}
+use Rattle.read_core.specs.Readers.{SeenRead, IsReader, EndsPhase, read_with, next_read, after_hearing}
 
 some_task : (s : Setting) (node : ℕ) (tag : Tag) (reply : Reply) (task : Option SeenTask) → ends_phase s task node tag reply ≡ true → (t : SeenTask) × (task ≡ Some t)
 some_task s node tag reply None e = absurd (cc)
@@ -32,11 +32,11 @@ fits_work Times work reads h = h
 fits_work (Versions bound) work reads h = rw reads tt
 fits_work (Storing stamp value) work reads h = tt
 
--- the rounds that an operation under way tells
+-- the rounds that are known of an operation under way
 pub rounds_told : (task : Option SeenTask) (t : SeenTask) (k : ℕ) → task ≡ Some t → IfSome task (λ u. k ≡ u.rounds) → k ≡ t.rounds
 rounds_told task t k e h = rw e at h
 
-module _ (o : SeenOperation) (first : Stamp) (reader : IsReader first o) (node : ℕ) (tag : Tag) (reply : Reply) (ends : ends_in o node tag reply ≡ true) (end : ReadEnd)
+module _ (o : SeenOperation) (first : Stamp) (known : ℕ) (reader : IsReader first o known) (node : ℕ) (tag : Tag) (reply : Reply) (ends : ends_in o node tag reply ≡ true) (end : ReadEnd)
     (is : EndsPhase (counted_in o node reply) end) where
   pub under_way : (t : SeenTask) × (o.task ≡ Some t)
   under_way = some_task (setting o.config) node tag reply o.task ends
@@ -64,6 +64,13 @@ module _ (o : SeenOperation) (first : Stamp) (reader : IsReader first o) (node :
   pub gives : (stamp : Stamp) (value : List ℕ) (how : How) → end ≡ Gives stamp value how → hears_in o node tag reply ≡ Ended (Gave stamp value how task.rounds)
   gives stamp value how e = hears_by ∙ ap (λ x. by_decision (setting o.config) full (decision_of full.rounds x)) e
 
+  -- it ends in either way
+  pub given : (stamp : Stamp) (value : List ℕ) (how : How) → end ≡ Gives stamp value how → IsAtEnd o
+  given stamp value how e = (Gave stamp value how task.rounds, record { node = node; tag = tag; reply = reply; hears = gives stamp value how e })
+
+  pub outvoted : (nodes : List ℕ) → end ≡ Outvoted nodes → IsAtEnd o
+  outvoted nodes e = (OutvotedBy nodes, record { node = node; tag = tag; reply = reply; hears = hears_by ∙ ap (λ x. by_decision (setting o.config) full (decision_of full.rounds x)) e })
+
   pub rounds_are : rounds_of o.task ≡ task.rounds
   rounds_are = ap rounds_of under_way.1
 
@@ -84,5 +91,9 @@ module _ (o : SeenOperation) (first : Stamp) (reader : IsReader first o) (node :
         }
 
 -- the read is then as the answer leaves it
-pub begun_is : (o new : SeenOperation) (h : Hearing) (stage : Stage) (messages : List Message) → IsBegun o h stage messages → new ≡ next_in o (stage_of stage) → new ≡ after_hearing o h
-begun_is o new h stage messages b e = e ∙ ap (with_task o) b.next ∙ sym (ap (after_hearing o) b.begins)
+pub begun_is : (r new : SeenRead) (h : Hearing) (stage : Stage) (messages : List Message) → IsBegun r.operation h stage messages → new ≡ next_read r (stage_of stage) → new ≡ after_hearing r h
+begun_is r new h stage messages b e = e ∙ ap (read_with r) b.next ∙ sym (ap (after_hearing r) b.begins)
+
+-- an answer that ends the phase makes it go on so
+pub begun_goes : (o : SeenOperation) (node : ℕ) (tag : Tag) (reply : Reply) (stage : Stage) (messages : List Message) → IsBegun o (hears_in o node tag reply) stage messages → GoesOnIn o stage
+begun_goes o node tag reply stage messages b = goes_on_by o (hears_in o node tag reply) stage messages b (record { node = node; tag = tag; reply = reply; hears = refl })

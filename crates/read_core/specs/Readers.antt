@@ -14,6 +14,8 @@ use Rattle.protocol.specs.Operations.Stage.{Versions}
 use Rattle.protocol.specs.Operations.Work.{Reads}
 use Rattle.protocol.specs.Seen.{SeenTask, SeenOperation, Hearing, answers_of, task_at, seen_counted, ends_phase, with_task}
 use Rattle.protocol.specs.Seen.Hearing.{Ignored, Counted, Begins, Ended}
+use Rattle.wire_forms.specs.declared.op.Op.TheVariants.{Read as ReadOp}
+use Rattle.operation_core.specs.Counting.{begun_in, next_task, rounds_of}
 use Rattle.read_core.specs.Ends.{IsReadStage, IsEnd}
 use Rattle.read_core.specs.declared.read_end.ReadEnd.{ReadEnd}
 use Rattle.read_core.specs.declared.reading.Reading.{Reading}
@@ -24,11 +26,22 @@ pub record IsRead (t : SeenTask) : Type 0 where
   pub reads : t.work ≡ Reads
   pub stage : IsReadStage t.stage
 
--- the numbers are valid, the first stamp is theirs, and the operation reads, unless it is over
-pub record IsReader (first : Stamp) (o : SeenOperation) : Type 0 where
+-- a read as contracts see it: the operation that it is, and how many rounds of asking for versions it has begun, which it knows
+-- also when it is over
+pub record SeenRead : Type 0 where
+  pub operation : SeenOperation
+  pub rounds : ℕ
+
+-- the numbers are valid, the first stamp is theirs, and the operation reads in so many rounds, unless it is over
+pub record IsReader (first : Stamp) (o : SeenOperation) (rounds : ℕ) : Type 0 where
   pub valid : IsValid o.config
   pub begins : first ≡ first_stamp (setting o.config)
   pub read : IfSome o.task IsRead
+  pub counted : IfSome o.task (λ t. rounds ≡ t.rounds)
+
+-- a read that begins, in its first round
+abbrev pub begun_read : Numbers → ℕ → ℕ → ℕ → SeenRead
+begun_read c client op block = record { operation = begun_in c client op (ReadOp block); rounds = 1 }
 
 -- the read that is under way then
 abbrev pub task_after : Option SeenTask → Hearing → Option SeenTask
@@ -37,10 +50,13 @@ task_after task (Counted t) = Some t
 task_after task (Begins t) = Some t
 task_after task (Ended outcome) = None
 
--- the rounds of the read
-abbrev pub rounds_of : Option SeenTask → ℕ
-rounds_of None = 0
-rounds_of (Some t) = t.rounds
+-- the read with this operation under way, or none: it has begun the rounds of that one, or as many as before
+abbrev pub rounds_with : ℕ → Option SeenTask → ℕ
+rounds_with rounds None = rounds
+rounds_with rounds (Some t) = t.rounds
+
+abbrev pub read_with : SeenRead → Option SeenTask → SeenRead
+read_with r task = record { operation = with_task r.operation task; rounds = rounds_with r.rounds task }
 
 -- what is told of the answer, by what it does to a read of so many rounds
 abbrev pub IsReading : Setting → ℕ → ℕ → Hearing → Reading → Type 0
@@ -53,8 +69,12 @@ abbrev pub TellsIn : SeenOperation → Hearing → Reading → Type 0
 TellsIn o hearing reading = IsReading (setting o.config) o.client (rounds_of o.task) hearing reading
 
 -- the reader after what an answer does to it
-abbrev pub after_hearing : SeenOperation → Hearing → SeenOperation
-after_hearing o hearing = with_task o (task_after o.task hearing)
+abbrev pub after_hearing : SeenRead → Hearing → SeenRead
+after_hearing r hearing = read_with r (task_after r.operation.task hearing)
+
+-- the read in its next phase
+abbrev pub next_read : SeenRead → ModelStage → SeenRead
+next_read r stage = read_with r (next_task r.operation.config r.operation.task stage)
 
 -- the read is told to be outvoted
 abbrev pub IsOutvoted : Reading → Type 0

@@ -16,7 +16,7 @@ use command_texts::{Refusal, Status};
 use cross_sum::Bytes;
 use outside_io::{Sink, Source, read_all, write_all};
 use picture_svg::{Picture, svg_of};
-use script_run::{World, history_of, perform};
+use script_run::{World, fits_history, history_of, perform};
 use script_text::{Replay, read_replay};
 use std::alloc::Global;
 
@@ -55,6 +55,7 @@ pub fn picture_of(alloc: Global, input: &Bytes) -> Result<Picture, PictureRefusa
     if lines > MOST_LINES {
         return Err(PictureRefusal::TooManyLines(lines));
     }
+    fits_history(&world);
     let history = history_of(alloc, &world)?;
     let replay = replay_of(alloc, input)?;
     Ok(told(alloc, &replay, &world, &history, input.as_slice())?)

@@ -3,6 +3,7 @@ ghost use Rattle.protocol.specs.Seen.{phase_of};
 ghost use Rattle.quorum_rules.specs.Faults.{numbers};
 ghost use Rattle.quorum_rules.specs.declared.Edition.TheVariants.{One};
 
+use crate::nodes::cluster as five_nodes;
 use client_core::{Client, Heard, Step};
 use cross_sum::Bytes;
 use lists::Copied;
@@ -27,16 +28,19 @@ pub fn cluster(rt: &impl Abort) -> Config
     Config::new(3, 0, 0, 2, 1, 2, 1).expect(rt, "valid")
 }
 
-// A client in its first life that writes 1, 0.
-fn writing(rt: &impl Abort, alloc: Global) -> Client {
+// A client of a cluster in its first life that writes 1, 0.
+fn writing_in(rt: &impl Abort, alloc: Global, config: &Config) -> Client
+    requires size { config.now.size ≡ 2 }
+    requires block { 0 < config.now.blocks }
+{
     let value = Bytes::of(alloc, &[1, 0]).expect(rt, "memory");
     assert!(rt; value.len() == 2);
-    let mut client = Client::new(alloc, &cluster(rt), 7).expect(rt, "memory");
+    let mut client = Client::new(alloc, config, 7).expect(rt, "memory");
     let asks = client
         .start(&Op::Write { block: 0, value })
         .expect(rt, "memory")
         .len();
-    assert!(rt; asks == 3 && client.ops() == 1);
+    assert!(rt; asks == config.n() as usize && client.ops() == 1);
     client
 }
 
@@ -125,6 +129,24 @@ fn are_prepared(client: &mut Client) -> bool {
 // A copy of a client at work hears times: one that is another client's, one of a node that there isn't, and three that count.
 #[test]
 fn prepares_what_is_then_done(rt: HostRuntime) {
-    let mut client = writing(&rt, rt.alloc()).copy().expect(&rt, "memory");
+    let begun = writing_in(&rt, rt.alloc(), &cluster(&rt));
+    let mut client = begun.copy().expect(&rt, "memory");
     assert!(rt; are_prepared(&mut client));
+}
+
+// Whether a node's time, as an answer to this phase, does this.
+fn hears_time(client: &mut Client, node: u8, phase: u64, said: Said) -> bool {
+    if client.phase() == u64::MAX {
+        return false;
+    }
+    let message = answer(client, 7, node, phase, Reply::TimeIs(0));
+    hears(client, &message, said)
+}
+
+#[test]
+fn counts_one_answer_of_a_node(rt: HostRuntime) {
+    let mut client = writing_in(&rt, rt.alloc(), &five_nodes(&rt));
+    assert!(rt; hears_time(&mut client, 0, 1, Said::More));
+    assert!(rt; hears_time(&mut client, 0, 1, Said::Unchanged));
+    assert!(rt; hears_time(&mut client, 1, 9, Said::Unchanged));
 }

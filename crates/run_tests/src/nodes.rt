@@ -1,4 +1,6 @@
 ghost use Rattle.std.specs.Prelude.{◌≡◌, ◌<◌};
+ghost use Rattle.quorum_rules.specs.Faults.{numbers};
+ghost use Rattle.quorum_rules.specs.declared.Edition.TheVariants.{One};
 
 use cross_sum::{Bytes, CrossSum, sha};
 use lists::NoMemory;
@@ -40,7 +42,9 @@ fn sound(time: u64) -> Draft {
 }
 
 /// Five nodes, one of which may lie; blocks of two bytes in two fragments of one; two blocks.
-pub fn cluster(rt: &impl Abort) -> Config {
+pub fn cluster(rt: &impl Abort) -> Config
+    ensures { result ≡ numbers One 5 1 1 3 2 2 2 }
+{
     Config::new(5, 1, 1, 3, 2, 2, 2).expect(rt, "valid")
 }
 

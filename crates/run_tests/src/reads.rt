@@ -3,6 +3,7 @@ use read_core::{Reader, Reading};
 use std::alloc::Global;
 use std::process::Abort;
 use wire_forms::{First, Reply, Tag, Version};
+use world_steps::How;
 
 // What a reader says to an answer.
 #[derive(Clone, Copy, PartialEq, Eq)]
@@ -10,6 +11,10 @@ enum Said {
     More,
     // The answers of the nodes 0, 2 and 3 aren't valid.
     Outvoted,
+    // Those of the nodes 0 to 3 aren't.
+    AllOutvoted,
+    // It gives two zeros under time 0, and stored nothing.
+    Zeros,
     Other,
 }
 
@@ -27,6 +32,14 @@ fn said_by(reading: &Reading) -> Said {
     match reading {
         Reading::More => Said::More,
         Reading::Outvoted(nodes) if nodes.as_slice() == [0, 2, 3].as_slice() => Said::Outvoted,
+        Reading::Outvoted(nodes) if nodes.as_slice() == [0, 1, 2, 3].as_slice() => {
+            Said::AllOutvoted
+        }
+        Reading::Got {
+            stamp,
+            value,
+            how: How::Plain,
+        } if stamp.time == 0 && value.as_slice() == [0, 0].as_slice() => Said::Zeros,
         _ => Said::Other,
     }
 }
@@ -71,4 +84,23 @@ fn is_outvoted(rt: &impl Abort, alloc: Global, reader: &mut Reader) -> bool {
 fn too_few_valid_answers_outvote_a_read(rt: HostRuntime) {
     let mut reader = begun(&rt, rt.alloc());
     assert!(rt; is_outvoted(&rt, rt.alloc(), &mut reader));
+}
+
+// Nobody finds a version.
+#[test]
+fn no_valid_answer_outvotes_a_read(rt: HostRuntime) {
+    let mut reader = begun(&rt, rt.alloc());
+    for node in 0..3u8 {
+        assert!(rt; heard_nothing(&rt, &mut reader, node) == Said::More);
+    }
+    assert!(rt; heard_nothing(&rt, &mut reader, 3) == Said::AllOutvoted);
+}
+
+#[test]
+fn an_untouched_block_is_zeros(rt: HostRuntime) {
+    let mut reader = begun(&rt, rt.alloc());
+    for node in 0..3u8 {
+        assert!(rt; heard_first(&rt, rt.alloc(), &mut reader, node) == Said::More);
+    }
+    assert!(rt; heard_first(&rt, rt.alloc(), &mut reader, 3) == Said::Zeros);
 }

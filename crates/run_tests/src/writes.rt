@@ -91,3 +91,44 @@ fn is_stored_at_four_acknowledgements(rt: HostRuntime) {
     let mut copy = storing(&rt, rt.alloc()).copy().expect(&rt, "memory");
     assert!(rt; is_stored_at_four(&rt, &mut copy));
 }
+
+// Whether a write that hears these times of nodes says this to each.
+fn says(rt: &impl Abort, writer: &mut Writer, times: [(u8, u64, Said); 4]) -> bool {
+    for (node, time, said) in times {
+        if told(rt, writer, node, time) != said {
+            return false;
+        }
+    }
+    true
+}
+
+// Whether a value is being stored under this time.
+fn stores_under(writer: &Writer, time: u64) -> bool {
+    matches!(writer.chosen_stamp(), Some(stamp) if stamp.time == time)
+}
+
+// One node alone tells a time above 0.
+#[test]
+fn stores_under_the_first_time(rt: HostRuntime) {
+    let mut writer = begun(&rt, rt.alloc(), 0);
+    let times = [
+        (0, 1, Said::More),
+        (1, 0, Said::More),
+        (2, 0, Said::More),
+        (3, 0, Said::Stores(5)),
+    ];
+    assert!(rt; says(&rt, &mut writer, times) && stores_under(&writer, 1));
+}
+
+// Two nodes tell the greatest time.
+#[test]
+fn is_spent_after_the_last_time(rt: HostRuntime) {
+    let mut writer = begun(&rt, rt.alloc(), 0);
+    let times = [
+        (0, u64::MAX, Said::More),
+        (1, u64::MAX, Said::More),
+        (2, 0, Said::More),
+        (3, 0, Said::Spent),
+    ];
+    assert!(rt; says(&rt, &mut writer, times));
+}

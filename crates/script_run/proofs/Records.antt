@@ -15,12 +15,14 @@ use Rattle.protocol.specs.Bounds.{pairs, different, is_among}
 use Rattle.protocol.specs.Report.{Ascend, rounds_of}
 use Rattle.protocol.proofs.Theorem.{run_keys, run_bounded, run_legal, run_in_time, run_sound}
 use Rattle.protocol.proofs.Kept.{run_in_order, run_told}
+use Rattle.protocol.proofs.SpentLies.{records_few as at_most_places}
 use Rattle.history_making.specs.Tellings.{AreRecords, IsHistoryOf}
+use Rattle.linear_runs.specs.Laws.{IsLinearizable, IsDurablyLinearizable}
 use Rattle.script_run.specs.Registers.{AreRegisters}
+use Rattle.script_run.specs.Histories.{FitsHistory}
 use Rattle.protocol.specs.History.{Entry}
 use Rattle.script_run.proofs.Accepting.{accepted_few}
 use Rattle.lists.proofs.Members.{Contains-head, Contains-rest, Contains-map_cases}
-use Rattle.protocol.proofs.Starts.{starts_few}
 
 at_most_one : (b : Bool) (k n : ℕ) → k ≤ n → cond b 1 0 + k ≤ suc n
 at_most_one true k n h = omega (arith, h)
@@ -57,34 +59,36 @@ module _ (s : Setting) (lines : List (ℕ × Line)) (w : World) (good : IsValid 
           let all = all_accepted in
           omega (arith, bound, some, all)
 
-  pub records_few : length w.records ≤ w.place + 1
-  records_few =
-      let up : Ascend (map (λ (r : Record). r.start) w.records) = run_in_order s lines w good run in
-      let few = starts_few w.place (map (λ (r : Record). r.start) w.records) up
-      (λ y k. let c = Contains-map_cases (λ (r : Record). r.start) w.records y k in let told = (run_told s lines w good run c.0 c.1).start in let e = c.2 in omega (arith, told, e)) in
-      let e = length-map w.records (λ (r : Record). r.start) in
-      omega (arith, few, e)
+  records_few : length w.records ≤ w.place + 1
+  records_few = let few = at_most_places s lines w good run in omega (arith, few)
 
-  pub rounds_few : sum_by (λ (r : Record). rounds_of r.outcome) w.records < 2 ^ 64
+  rounds_few : sum_by (λ (r : Record). rounds_of r.outcome) w.records < 2 ^ 64
   rounds_few =
       let sum = sum_few (2 * w.place + 1) w.records read_few in
       let few = records_few in
       let most : length w.records * (2 * w.place + 1) ≤ 2147483648 * 4294967295 = mul-le (length w.records) (2 * w.place + 1) 2147483648 4294967295 (omega (arith, few, low)) (omega (arith, low)) in
       omega (arith, sum, most)
 
+  -- a run of not too many lines has few records
+  pub few_records : FitsHistory w
+  few_records = record { places = omega (arith, low); records = (let few = records_few in omega (arith, few, low)); rounds = rounds_few }
+
+module _ (s : Setting) (lines : List (ℕ × Line)) (w : World) (good : IsValid s) (run : IsRun s lines w) (few : FitsHistory w) where
   pub are_records : AreRecords w.records (first_stamp s)
   are_records = record {
     keys = run_keys s lines w good run;
     starts = run_in_order s lines w good run;
     ended = λ r k. (run_told s lines w good run r k).ended;
     outcome = λ r k. (run_told s lines w good run r k).outcome;
-    few = (let few = records_few in omega (arith, few, low));
-    rounds = rounds_few;
+    few = few.records;
+    rounds = few.rounds;
   }
 
   -- what holds of the history of every run
-  pub are_registers : (h : List Entry) → IsHistoryOf w.records (first_stamp s) h → AreRegisters s w h
-  are_registers h is = record {
+  pub are_registers : IsLinearizable s w → IsDurablyLinearizable s w → (h : List Entry) → IsHistoryOf w.records (first_stamp s) h → AreRegisters s w h
+  are_registers linear durable h is = record {
+    linearizable = linear;
+    durable = durable;
     legal = λ apart. run_legal s lines w good run h apart (is.sorted, is.entries);
     in_time = λ apart. run_in_time s lines w good run h apart (is.sorted, is.entries);
     sound = run_sound s lines w good run h (is.sorted, is.entries);

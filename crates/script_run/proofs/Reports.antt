@@ -24,16 +24,16 @@ use Rattle.history_book.specs.Judging.{IsLegal, IsInTime}
 use Rattle.history_making.specs.Tellings.{Tells, told_kind, told_spent}
 use Rattle.history_book.proofs.Reported.{IsWhole, told_entries, told_spent_writes, done_told}
 use Rattle.history_book.proofs.Judged.{is_legal, is_in_time}
-use Rattle.script_run.proofs.Records.{records_few, rounds_few}
+use Rattle.script_run.specs.Histories.{FitsHistory}
 
-module _ (s : Setting) (lines : List (ℕ × Line)) (w : World) (good : IsValid s) (run : IsRun s lines w) (low : w.place < 2 ^ 31 - 1) where
+module _ (s : Setting) (lines : List (ℕ × Line)) (w : World) (good : IsValid s) (run : IsRun s lines w) (small : FitsHistory w) where
   -- ---- places
 
   start_low : (r : Record) → Contains w.records r → r.start < 2 ^ 64
-  start_low r k = let told = (run_told s lines w good run r k).start in omega (arith, told, low)
+  start_low r k = let told = (run_told s lines w good run r k).start in let low = small.places in omega (arith, told, low)
 
   end_low : (r : Record) (end : ℕ) → Contains w.records r → r.end ≡ Some end → end < 2 ^ 64
-  end_low r end k q = let told = (run_told s lines w good run r k).end end q in omega (arith, told.1, low)
+  end_low r end k q = let told = (run_told s lines w good run r k).end end q in let low = small.places in omega (arith, told.1, low)
 
   place_or_none : (r : Record) → Contains w.records r → (end : Option ℕ) → r.end ≡ end → IsPlaceOrNone end
   place_or_none r k None q = tt
@@ -82,7 +82,7 @@ module _ (s : Setting) (lines : List (ℕ × Line)) (w : World) (good : IsValid 
     are_counts : AreCounts book.entries book.spent book.counts
     are_counts =
         let rs = w.records in
-        let few = records_few s lines w good run low in
+        let few = small.records in
         let done : book.counts.done ≡ count_by is_ended h = ap (λ (c : Counts). c.done) tells.counts ∙ run_done s lines w good run h (tells.history.sorted, tells.history.entries) in
         let spent : book.counts.spent ≡ length (spent_writes rs) = ap (λ (c : Counts). c.spent) tells.counts ∙ run_spent s lines w good run in
         let all_done = done_told s.size h h each_whole in
@@ -92,7 +92,7 @@ module _ (s : Setting) (lines : List (ℕ × Line)) (w : World) (good : IsValid 
           spent_fits = (let e = ap (λ (c : Counts). c.spent) tells.counts in omega (arith, e, few, count_by-le-length (λ (r : Record). is_spent r.outcome) rs));
           pending = (let e = ap (λ (c : Counts). c.pending) tells.counts in omega (arith, e, few, count_by-le-length (λ (r : Record). is_pending r.end) rs));
           repaired = (let e = ap (λ (c : Counts). c.repaired) tells.counts in omega (arith, e, few, count_by-le-length (λ (r : Record). is_repaired r.outcome) rs));
-          rounds = (let e = ap (λ (c : Counts). c.rounds) tells.counts in let most = rounds_few s lines w good run low in omega (arith, e, most));
+          rounds = (let e = ap (λ (c : Counts). c.rounds) tells.counts in let most = small.rounds in omega (arith, e, most));
           done = rw tells.entries (done ∙ sym all_done);
           spent = rw tells.spent (spent ∙ sym all_spent);
         }

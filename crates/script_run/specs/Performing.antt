@@ -5,7 +5,7 @@ use Rattle.quorum_rules.specs.Limits.{Numbers}
 use Rattle.wire_forms.specs.declared.device.DeviceOp.{DeviceOp}
 use Rattle.wire_forms.specs.declared.device.DeviceOp.TheVariants.{Put as Puts, Get as Gets}
 use Rattle.run_words.specs.declared.line.Line.{Line}
-use Rattle.run_words.specs.declared.line.Line.TheVariants.{Write, Read, Back}
+use Rattle.run_words.specs.declared.line.Line.TheVariants.{Write, Read, Lost, Back}
 use Rattle.run_words.specs.declared.outcome.Outcome.TheVariants.{Gave}
 use Rattle.line_forms.specs.declared.cause.Cause.{Cause}
 use Rattle.line_forms.specs.declared.cause.Cause.TheVariants.{Device, QueueBusy, NoCommand, Step}
@@ -70,6 +70,18 @@ module _ (s : Setting) where
   started_by w client (Whole k value) = Write client k value
   started_by w client (Merge k at bytes) = Write client k (merged (unwrap_or (latest_read client k w.records) (zeros s)) at bytes)
 
+  -- the line of the run at which the first step that is left starts
+  abbrev pub next_line : World → ℕ → List BlockStep → Line
+  next_line w client [] = Lost client 0
+  next_line w client (step ∷ more) = started_by w client step
+
+  -- the line of the run that a line of a replay is: a plain line as it stands, and for the beginning of a command one at which nothing takes place
+  abbrev pub run_line : CommandQueues → ReplayLine → Line
+  run_line d (Plain line) = line
+  run_line d (Put client offset bytes) = Lost client 0
+  run_line d (Get client offset len) = Lost client 0
+  run_line d (Next client) = next_line d.world client (d.left client)
+
   -- why the next step can't start
   abbrev pub next_cause : World → ℕ → List BlockStep → Option Cause
   next_cause w client [] = Some NoCommand
@@ -107,6 +119,15 @@ module _ (s : Setting) (c : Numbers) where
   abbrev pub LeadsTo : CommandQueues → ℕ → List ReplayLine → CommandQueues → Type 0
   LeadsTo d place [] last = last ≡ d
   LeadsTo d place (line ∷ lines) last = (cause_of d line ≡ None) × LeadsTo (after_line d place line) (place + 1) lines last
+
+  -- the lines of the run, each at its place, the first at this one
+  abbrev pub run_lines_from : CommandQueues → ℕ → List ReplayLine → List (ℕ × Line)
+  run_lines_from d place [] = []
+  run_lines_from d place (line ∷ lines) = (place, run_line s d line) ∷ run_lines_from (after_line d place line) (place + 1) lines
+
+  -- the lines of the run of a replay's lines
+  abbrev pub run_lines : List ReplayLine → List (ℕ × Line)
+  run_lines lines = run_lines_from (start_queues s) 1 lines
 
   -- the run of a replay's lines: places count its lines from 1
   abbrev pub Performs : List ReplayLine → CommandQueues → Type 0

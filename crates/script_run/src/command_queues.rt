@@ -14,11 +14,11 @@ ghost use Rattle.line_forms.specs.declared.cause.Cause.TheVariants.{Step};
 ghost use Rattle.line_forms.specs.declared.cause.Cause.{Cause as Causes};
 ghost use Rattle.event_lines.specs.Lines.{IsEventLine};
 ghost use Rattle.world_state.specs.Worlds.{setting_in, world_in};
-ghost use Rattle.script_run.specs.Performing.{returning, start_queues, cause_of, after_line, started_by, command_cause, next_cause, begun, stepped, latest_read};
+ghost use Rattle.script_run.specs.Performing.{returning, start_queues, cause_of, after_line, started_by, run_line, next_line, command_cause, next_cause, begun, stepped, latest_read};
 ghost use Rattle.script_run.specs.CommandQueues.{queues_in};
 
 use crate::latest::latest_read;
-use block_device::{BlockStep, Command, DeviceOp, commands, merge, range_fault};
+use block_device::{BlockStep, Command, DeviceOp, DeviceRefusal, commands, merge, range_fault};
 use cross_sum::Bytes;
 use event_lines::ReplayLine;
 use line_forms::{Cause, LineRefusal};
@@ -79,6 +79,9 @@ impl CommandQueues {
         requires line { IsEventLine self.now.world.config line }
         ensures allowed { OnOk result (cause_of (setting_in self.old.world) self.old.world.config
             (queues_in self.old) line ≡ None) }
+        // The line of the run that it is, is one of this configuration.
+        ensures fits { OnOk result (FitsLine (setting_in self.old.world)
+            (run_line (setting_in self.old.world) (queues_in self.old) line)) }
         ensures ok { OnOk result (queues_in self.new ≡ after_line
             (setting_in self.old.world) self.old.world.config (queues_in self.old) place line) }
         ensures cluster { OnOk result (self.new.world.config ≡ self.old.world.config) }
@@ -165,7 +168,8 @@ impl CommandQueues {
         }
         match commands(self.alloc, &self.config, op) {
             Ok(steps) => Ok(Command::of(steps)),
-            Err(_) => Err(LineRefusal::NoMemory),
+            Err(DeviceRefusal::NoMemory) => Err(LineRefusal::NoMemory),
+            Err(DeviceRefusal::PastEnd | DeviceRefusal::EmptyRange) => unreachable!(),
         }
     }
 
@@ -175,6 +179,9 @@ impl CommandQueues {
         requires client { client ≤ 1000 }
         ensures allowed { OnOk result (next_cause (setting_in self.old.world)
             (queues_in self.old).world client ((queues_in self.old).left client) ≡ None) }
+        ensures fits { OnOk result (FitsLine (setting_in self.old.world) (next_line
+            (setting_in self.old.world) (queues_in self.old).world client
+            ((queues_in self.old).left client))) }
         ensures ok { OnOk result (queues_in self.new ≡ stepped (setting_in self.old.world)
             (queues_in self.old) place client ((queues_in self.old).left client)) }
         ensures cluster { OnOk result (self.new.world.config ≡ self.old.world.config) }

@@ -8,7 +8,7 @@ mod latest;
 mod lines_left;
 mod run;
 
-pub use history::{history_of, history_of_records, last_history};
+pub use history::{fits_history, history_of, history_of_records, last_history};
 pub use run::perform;
 pub use script_text::{Replay, ReplayLine};
 pub use world_steps::World;

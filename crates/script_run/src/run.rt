@@ -5,7 +5,8 @@ ghost use Rattle.protocol.specs.Instance.{setting_of};
 ghost use Rattle.line_forms.specs.declared.cause.Cause.{Cause as Causes};
 ghost use Rattle.script_text.specs.Replays.{IsReplay};
 ghost use Rattle.world_state.specs.Worlds.{setting_in, world_in};
-ghost use Rattle.script_run.specs.Performing.{CommandQueues as TheQueues, Performs, StopsAt};
+ghost use Rattle.protocol.specs.Lines.{IsRun};
+ghost use Rattle.script_run.specs.Performing.{CommandQueues as TheQueues, Performs, run_lines, StopsAt};
 
 use crate::command_queues::CommandQueues;
 use crate::lines_left::LinesLeft;
@@ -15,7 +16,7 @@ use std::alloc::Global;
 use wire_forms::Liars;
 use world_steps::World;
 
-/// The world to which the lines of a replay lead. The first line that can't take place is refused with its number in the
+/// The world to which the lines of a replay lead: the last of the run that they are. The first line that can't take place is refused with its number in the
 /// script and its first cause: that of a device command, or the fault of a step.
 ///
 /// The lines' memory is given back as they are done, while the world grows.
@@ -26,6 +27,8 @@ pub fn perform(alloc: Global, replay: Replay) -> Result<World, ScriptRefusal>
         (has_number replay.liars.nodes) (has_number replay.liars.clients)) }
     ensures run { IfOk result (λ w. (d : TheQueues)
         × Performs (setting_in w) w.config replay.lines d × (d.world ≡ world_in w)) }
+    ensures is_run { IfOk result (λ w.
+        IsRun (setting_in w) (run_lines (setting_in w) w.config replay.lines) (world_in w)) }
     ensures placed { IfOk result (λ w. w.seen.place ≡ length replay.lines) }
     // The lines of a script are two head lines, one for each liar, and the event lines.
     ensures stop { (line : ℕ) (cause : Causes)

@@ -15,6 +15,7 @@ use Rattle.quorum_rules.specs.Limits.{Numbers, IsValid}
 use Rattle.text_lines.specs.Lines.{fields_of, Lacks}
 use Rattle.text_lines.proofs.Joined.{parts-joined, Lacks-append, Lacks-decimal}
 use Rattle.wire_forms.specs.Liars.{Liars, has_number, IsClientNumber}
+use Rattle.line_forms.specs.Heads.{IsOfScripts}
 use Rattle.script_text.specs.declared.liars.Declared.{Declared}
 use Rattle.script_text.specs.declared.liars.Declared.TheVariants.{Node, Client}
 use Rattle.script_text.specs.Replays.{liar_fields, liar_line, IsDeclarable, is_same, with_declared, with_all, liars_of, is_liar_line, is_liar_node, is_event}
@@ -230,9 +231,9 @@ room_left : (b : Bool) (n most : ℕ) → n ≤ most → (b ≡ true → n < mos
 room_left true n most h room = let lt = room refl in omega arith
 room_left false n most h room = omega arith
 
-pub none_declared : (c : Numbers) → IsValid c → AreDeclared c [] (record { nodes = []; clients = [] })
+pub none_declared : (c : Numbers) → IsValid c → IsOfScripts c → AreDeclared c [] (record { nodes = []; clients = [] })
 unfolding IsDistinct
-none_declared c v = record { valid = v; declarable = tt; once = tt; all = refl; counted = refl; few = omega arith }
+none_declared c v known = record { valid = v; of_scripts = known; declarable = tt; once = tt; all = refl; counted = refl; few = omega arith }
 
 pub one_declared : (c : Numbers) (ds : List Declared) (l : Liars) (d : Declared) → AreDeclared c ds l → IsDeclarable c d → IsFree c l d → AreDeclared c (ds ++ d ∷ []) (with_declared l d)
 one_declared c ds l d a i f =
@@ -240,6 +241,7 @@ one_declared c ds l d a i f =
     let longer = declared_length l d f.new in
     record {
       valid = a.valid;
+      of_scripts = a.of_scripts;
       declarable = all_push (IsDeclarable c) ds d a.declarable i;
       once = push_once ds d a.once new;
       all = pushed_all _ ds d ∙ ap (λ (m : Liars). with_declared m d) a.all;

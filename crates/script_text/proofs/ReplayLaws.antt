@@ -16,7 +16,7 @@ use Rattle.quorum_rules.specs.Limits.{Numbers, IsValid}
 use Rattle.text_lines.specs.Lines.{fields_of, line_of_fields, text_of_lines}
 use Rattle.text_lines.proofs.Numbers.{number_of-decimal}
 use Rattle.wire_forms.specs.Liars.{Liars, has_number, IsClientNumber}
-use Rattle.line_forms.specs.Heads.{head_lines, head_text, header, cluster_fields}
+use Rattle.line_forms.specs.Heads.{IsOfScripts, head_lines, head_text, header, cluster_fields}
 use Rattle.line_forms.specs.Texts.{IsFaultless, ReadsTo}
 use Rattle.line_forms.proofs.Accepted.{head_accepted, one_head}
 use Rattle.line_forms.proofs.Tables.{or_none}
@@ -86,7 +86,7 @@ liars_accepted text c ds (d ∷ more) all rest e once few i a r =
     let is_low = low c d a.valid i.0 in
     let free = free_here c ds more d (subst (IsDistinct is_same) (sym e) once) (subst (λ (xs : List Declared). length (liars_of xs).nodes ≤ c.b) (sym e) few) in
     let form : fields_cause (liar_forms c) (drop 1 (fields_of (liar_line d))) ≡ None = ap (λ (fs : List (List ℕ)). fields_cause (liar_forms c) (drop 1 fs)) (fields_back d is_low) ∙ no_form_cause c d a.valid i.0 in
-    let none = body_here c (map liar_line ds) (liar_line d) a.valid ∙ liar_again c ds (liars_of ds) d (liar_line d) a (line_is_liar d is_low) form i.0 refl ∙ none_from_free c (liars_of ds) d free in
+    let none = body_here c (map liar_line ds) (liar_line d) a.valid a.of_scripts ∙ liar_again c ds (liars_of ds) d (liar_line d) a (line_is_liar d is_low) form i.0 refl ∙ none_from_free c (liars_of ds) d free in
     let on = reads_on replay_script text (head_lines c ++ map liar_line ds) (liar_line d) _ (text_of_lines (map liar_line more) ++ rest) r (line_next (liar_line d) (text_of_lines (map liar_line more)) rest (liar_lacks d is_low)) none in
     let more_declared = subst (AreDeclared c (ds ++ d ∷ [])) (sym (pushed_all _ ds d)) (one_declared c ds (liars_of ds) d a i.0 free) in
     liars_accepted text c (ds ++ d ∷ []) more all rest (append_assoc ds (d ∷ []) more ∙ e) once few i.1 more_declared
@@ -101,15 +101,15 @@ push_event : (first liars : List (List ℕ)) (es : List ReplayLine) (e : ReplayL
 push_event first liars es e =
     append_assoc first (liars ++ map event_text es) (event_text e ∷ []) ∙ ap (λ (ls : List (List ℕ)). first ++ ls) (append_assoc liars (map event_text es) (event_text e ∷ []) ∙ ap (λ (ls : List (List ℕ)). liars ++ ls) (sym (map_push event_text es e)))
 
-events_accepted : (text : List ℕ) (c : Numbers) (ds : List Declared) (es more all : List ReplayLine) (rest : List ℕ) → IsValid c → AllByRecursion (IsDeclarable c) ds → es ++ more ≡ all → length all ≤ event_limit c → AllByRecursion (IsEventLine c) es → AllByRecursion (IsEventLine c) more
+events_accepted : (text : List ℕ) (c : Numbers) (ds : List Declared) (es more all : List ReplayLine) (rest : List ℕ) → IsValid c → IsOfScripts c → AllByRecursion (IsDeclarable c) ds → es ++ more ≡ all → length all ≤ event_limit c → AllByRecursion (IsEventLine c) es → AllByRecursion (IsEventLine c) more
     → ReadsTo replay_script text (replay_lines c ds es) (text_of_lines (map event_text more) ++ rest) → ReadsTo replay_script text (replay_lines c ds all) rest
-events_accepted text c ds es [] all rest v i e few h k r = subst (λ (xs : List ReplayLine). ReadsTo replay_script text (replay_lines c ds xs) rest) (sym (append-nil es) ∙ e) r
-events_accepted text c ds es (x ∷ more) all rest v i e few h k r =
+events_accepted text c ds es [] all rest v known i e few h k r = subst (λ (xs : List ReplayLine). ReadsTo replay_script text (replay_lines c ds xs) rest) (sym (append-nil es) ∙ e) r
+events_accepted text c ds es (x ∷ more) all rest v known i e few h k r =
     let len = length-append es (x ∷ more) in
     let lt : length es < event_limit c = omega (arith, ap length e) in
-    let none = body_here c (body_lines ds es) (event_text x) v ∙ later_here c ds es (event_text x) v i h (λ none. event_no_liar c x k.0) ∙ no_later_cause c (length es) x k.0 lt in
+    let none = body_here c (body_lines ds es) (event_text x) v known ∙ later_here c ds es (event_text x) v i h (λ none. event_no_liar c x k.0) ∙ no_later_cause c (length es) x k.0 lt in
     let on = reads_on replay_script text (replay_lines c ds es) (event_text x) _ (text_of_lines (map event_text more) ++ rest) r (line_next (event_text x) (text_of_lines (map event_text more)) rest (one_line c x k.0)) none in
-    events_accepted text c ds (es ++ x ∷ []) more all rest v i (append_assoc es (x ∷ []) more ∙ e) few (all_push (IsEventLine c) es x h k.0) k.1
+    events_accepted text c ds (es ++ x ∷ []) more all rest v known i (append_assoc es (x ∷ []) more ∙ e) few (all_push (IsEventLine c) es x h k.0) k.1
     (subst (λ (ls : List (List ℕ)). ReadsTo replay_script text ls (text_of_lines (map event_text more) ++ rest)) (push_event (head_lines c) (map liar_line ds) es x) on)
 
 -- ---- the whole text
@@ -140,12 +140,12 @@ spelled_reads text c l es s r =
     let whole : head_text c ++ (liars ++ (events ++ [])) ≡ text =
     ap (λ (t : List ℕ). head_text c ++ (liars ++ t)) (append-nil events) ∙ ap (λ (t : List ℕ). head_text c ++ t) (sym (flat_map-append (λ l. l ++ 10 ∷ []) (map liar_line s.declared) (map event_text es)))
     ∙ sym (flat_map-append (λ l. l ++ 10 ∷ []) (head_lines c) (body_lines s.declared es)) ∙ sym s.spelled in
-    let head = subst (λ (t : List ℕ). ReadsTo replay_script t (head_lines c) (liars ++ (events ++ []))) whole (head_accepted replay_body c (liars ++ (events ++ [])) r.valid) in
+    let head = subst (λ (t : List ℕ). ReadsTo replay_script t (head_lines c) (liars ++ (events ++ []))) whole (head_accepted replay_body c (liars ++ (events ++ [])) r.valid r.of_scripts) in
     let declarable = spelled_declarable text c l es s r in
     let few : length (liars_of s.declared).nodes ≤ c.b = subst (λ (k : Liars). length k.nodes ≤ c.b) (sym s.all) r.lying.may_lie.few in
-    let declared = liars_accepted text c [] s.declared s.declared (events ++ []) refl s.once few declarable (none_declared c r.valid) head in
+    let declared = liars_accepted text c [] s.declared s.declared (events ++ []) refl s.once few declarable (none_declared c r.valid r.of_scripts) head in
     let lines : head_lines c ++ map liar_line s.declared ≡ replay_lines c s.declared [] = ap (λ (ls : List (List ℕ)). head_lines c ++ ls) (sym (append-nil (map liar_line s.declared))) in
-    events_accepted text c s.declared [] es es [] r.valid declarable refl r.limited tt r.events (subst (λ (ls : List (List ℕ)). ReadsTo replay_script text ls (events ++ [])) lines declared)
+    events_accepted text c s.declared [] es es [] r.valid r.of_scripts declarable refl r.limited tt r.events (subst (λ (ls : List (List ℕ)). ReadsTo replay_script text ls (events ++ [])) lines declared)
 
 pub replay_accepted : (text : List ℕ) (c : Numbers) (l : Liars) (es : List ReplayLine) → IsReplay c l es → Spells text c l es → IsFaultless replay_script text
 replay_accepted text c l es r s = read_all replay_script text (header c.edition) (line_of_fields (cluster_fields c) ∷ body_lines s.declared es) [] (spelled_reads text c l es s r) refl refl
@@ -179,7 +179,7 @@ body_one c (d ∷ ds) (g ∷ gs) es fs p q h k e =
 pub one_replay : (text : List ℕ) (c d : Numbers) (l m : Liars) (es fs : List ReplayLine) → IsReplay c l es → IsReplay d m fs → Spells text c l es → Spells text d m fs → (c ≡ d) × (l ≡ m) × (es ≡ fs)
 one_replay text c d l m es fs r q s t =
     let lines : replay_lines c s.declared es ≡ replay_lines d t.declared fs = push_same _ _ [] (sym (spelled_reads text c l es s r).parts ∙ (spelled_reads text d m fs t q).parts) in
-    let config : c ≡ d = one_head c d _ _ r.valid q.valid lines in
+    let config : c ≡ d = one_head c d _ _ r.valid r.of_scripts q.valid q.of_scripts lines in
     let body : body_lines s.declared es ≡ body_lines t.declared fs = ap (λ (ls : List (List ℕ)). drop 2 ls) lines in
     let there = subst (λ (k : Numbers). AllByRecursion (IsEventLine k) fs) (sym config) q.events in
     let both = body_one c s.declared t.declared es fs (all_low c s.declared r.valid (spelled_declarable text c l es s r)) (all_low d t.declared q.valid (spelled_declarable text d m fs t q)) r.events there body in

@@ -10,7 +10,7 @@ use Rattle.text_lines.specs.Lines.{parts_of, text_of_lines, line_of_fields}
 use Rattle.text_lines.proofs.Cuts.{rest_part}
 use Rattle.text_lines.proofs.Joined.{some_part}
 use Rattle.wire_forms.specs.Liars.{Liars}
-use Rattle.line_forms.specs.Heads.{header, head_lines, cluster_fields}
+use Rattle.line_forms.specs.Heads.{IsOfScripts, header, head_lines, cluster_fields}
 use Rattle.line_forms.specs.Texts.{IsFault, IsFaultless, ReadsTo, end_causes}
 use Rattle.line_forms.specs.declared.cause.Cause.{Cause}
 use Rattle.line_forms.specs.declared.cause.Cause.TheVariants.{Cut}
@@ -32,8 +32,8 @@ abbrev pub body_lines : List Declared → List ReplayLine → List (List ℕ)
 body_lines ds es = map liar_line ds ++ map event_text es
 
 -- what is wrong with a line of the body
-pub body_here : (c : Numbers) (body : List (List ℕ)) (line : List ℕ) → IsValid c → replay_script.cause (head_lines c ++ body) line ≡ replay_cause c body line
-body_here c body line v = ap (λ (k : Numbers). replay_cause k body line) (numbers_back c v)
+pub body_here : (c : Numbers) (body : List (List ℕ)) (line : List ℕ) → IsValid c → IsOfScripts c → replay_script.cause (head_lines c ++ body) line ≡ replay_cause c body line
+body_here c body line v known = ap (λ (k : Numbers). replay_cause k body line) (numbers_back c v known)
 
 body_length : (c : Numbers) (ds : List Declared) (es : List ReplayLine) → length (replay_lines c ds es) ≡ length ds + length es + 2
 body_length c ds es =
@@ -74,15 +74,15 @@ unfolding IsStrictlySortedBy
 none_ascend l n k = (subst (IsStrictlySortedBy nat_cmp) (sym n) tt, subst (IsStrictlySortedBy nat_cmp) (sym k) tt)
 
 -- the head was read, and nobody is declared yet
-pub liars_begin : (text : List ℕ) (c : Numbers) (l : Liars) (at : ℕ) → IsValid c → l.nodes ≡ [] → l.clients ≡ [] → at ≤ length text → ReadsTo replay_script text (head_lines c) (drop at text) → LiarsRead text c l (take (length text - at) (drop at text)) 3
-liars_begin text c l at v n k low r =
+pub liars_begin : (text : List ℕ) (c : Numbers) (l : Liars) (at : ℕ) → IsValid c → IsOfScripts c → l.nodes ≡ [] → l.clients ≡ [] → at ≤ length text → ReadsTo replay_script text (head_lines c) (drop at text) → LiarsRead text c l (take (length text - at) (drop at text)) 3
+liars_begin text c l at v known n k low r =
     let whole = rest_part text at in
     let len = length-drop at text in
     let seen : List ℕ → List ℕ → Liars = λ ns ks. record { nodes = ns; clients = ks } in
     let none : record { nodes = []; clients = [] } ≡ l = ap (λ (ns : List ℕ). seen ns []) (sym n) ∙ ap (λ (ks : List ℕ). seen l.nodes ks) (sym k) in
     record {
       declared = [];
-      are = subst (AreDeclared c []) none (none_declared c v);
+      are = subst (AreDeclared c []) none (none_declared c v known);
       ascending = none_ascend l n k;
       reads = subst (ReadsTo replay_script text (head_lines c)) (sym whole) r;
       number_is = refl;
@@ -100,13 +100,13 @@ liars_end text front rest at h none =
       events = subst (λ (r : List ℕ). (line after : List ℕ) → parts_of r ≡ line ∷ parts_of after → is_liar_line line ≡ false) here none;
     }
 
-liars_cause : (c : Numbers) (ds : List Declared) (line : List ℕ) → IsValid c → replay_script.cause (replay_lines c ds []) line ≡ replay_cause c (map liar_line ds) line
-liars_cause c ds line v = ap (λ (ls : List (List ℕ)). replay_script.cause ls line) (liars_alone c ds) ∙ body_here c (map liar_line ds) line v
+liars_cause : (c : Numbers) (ds : List Declared) (line : List ℕ) → IsValid c → IsOfScripts c → replay_script.cause (replay_lines c ds []) line ≡ replay_cause c (map liar_line ds) line
+liars_cause c ds line v known = ap (λ (ls : List (List ℕ)). replay_script.cause ls line) (liars_alone c ds) ∙ body_here c (map liar_line ds) line v known
 
 -- the next liar line has a cause
 pub liar_fault : (text : List ℕ) (c : Numbers) (l : Liars) (rest line after : List ℕ) (number : ℕ) (cause : Cause) (h : LiarsRead text c l rest number) → parts_of rest ≡ line ∷ parts_of after → replay_cause c (map liar_line h.declared) line ≡ Some cause → IsFault replay_script text number cause
 liar_fault text c l rest line after number cause h e wrong =
-    let here = line_fault replay_script text (replay_lines c h.declared []) line rest after cause h.reads e (liars_cause c h.declared line h.are.valid ∙ wrong) in
+    let here = line_fault replay_script text (replay_lines c h.declared []) line rest after cause h.reads e (liars_cause c h.declared line h.are.valid h.are.of_scripts ∙ wrong) in
     let len = body_length c h.declared [] in
     let at : length (replay_lines c h.declared []) + 1 ≡ number = let is = h.number_is in omega arith in
     subst (λ (n : ℕ). IsFault replay_script text n cause) at here
@@ -115,7 +115,7 @@ liar_fault text c l rest line after number cause h e wrong =
 pub liar_read : (text : List ℕ) (c : Numbers) (l m : Liars) (rest line after : List ℕ) (number next : ℕ) (d : Declared) (h : LiarsRead text c l rest number) → parts_of rest ≡ line ∷ parts_of after → length after < length rest
     → replay_cause c (map liar_line h.declared) line ≡ None → (liar_line d ≡ line) × IsDeclarable c d × (again_cause c l d ≡ None) → m ≡ with_declared l d → AreAscending m → next ≡ number + 1 → LiarsRead text c m after next
 liar_read text c l m rest line after number next d h e shorter none says is up count =
-    let on = reads_on replay_script text (replay_lines c h.declared []) line rest after h.reads e (liars_cause c h.declared line h.are.valid ∙ none) in
+    let on = reads_on replay_script text (replay_lines c h.declared []) line rest after h.reads e (liars_cause c h.declared line h.are.valid h.are.of_scripts ∙ none) in
     let lines : replay_lines c h.declared [] ++ line ∷ [] ≡ replay_lines c (h.declared ++ d ∷ []) [] =
     ap (λ (ls : List (List ℕ)). ls ++ line ∷ []) (liars_alone c h.declared) ∙ ap (λ (x : List ℕ). head_lines c ++ (map liar_line h.declared ++ x ∷ [])) (sym says.0)
     ∙ ap (λ (ls : List (List ℕ)). head_lines c ++ ls) (sym (map_push liar_line h.declared d)) ∙ sym (liars_alone c (h.declared ++ d ∷ [])) in
@@ -152,7 +152,7 @@ events_begin text front f =
 -- what is wrong with the next line
 events_cause : (text : List ℕ) (c : Numbers) (l : Liars) (es : List ReplayLine) (rest line after : List ℕ) (number : ℕ) (h : EventsRead text c l es rest number) → parts_of rest ≡ line ∷ parts_of after → replay_script.cause (replay_lines c h.declared es) line ≡ later_cause c (length es) line
 events_cause text c l es rest line after number h e =
-    body_here c (body_lines h.declared es) line h.are.valid ∙ later_here c h.declared es line h.are.valid h.are.declarable h.events (λ none. h.events_begin none line after e)
+    body_here c (body_lines h.declared es) line h.are.valid h.are.of_scripts ∙ later_here c h.declared es line h.are.valid h.are.declarable h.events (λ none. h.events_begin none line after e)
 
 number_at : (text : List ℕ) (c : Numbers) (l : Liars) (es : List ReplayLine) (rest : List ℕ) (number : ℕ) (h : EventsRead text c l es rest number) → length (replay_lines c h.declared es) + 1 ≡ number
 number_at text c l es rest number h = let len = body_length c h.declared es in let is = h.number_is in omega arith
@@ -205,6 +205,7 @@ replay_read text c l es rest number h =
     let inside = declared_inside c h.declared h.are.declarable in
     record {
       valid = h.are.valid;
+      of_scripts = h.are.of_scripts;
       lying = subst (AreAscendingLiars c) h.are.all (record {
         may_lie = record {
           nodes = inside.0;

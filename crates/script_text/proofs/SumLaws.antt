@@ -32,7 +32,7 @@ sum_reads c v s =
     let line = line_of_fields (value_fields v) in
     let rest = (line ++ 10 ∷ []) ++ [] in
     let lack : AllLack 10 (value_fields v) = (refl, (Lacks-value_text 10 v (omega arith) (omega arith), tt)) in
-    let head : HeadRead (sum_text c v) c 0 rest = record { valid = s.valid; reads = rw (text_apart c v) (head_accepted sum_body c rest s.valid) } in
+    let head : HeadRead (sum_text c v) c 0 rest = record { valid = s.valid; of_scripts = s.of_scripts; reads = rw (text_apart c v) (head_accepted sum_body c rest s.valid s.of_scripts) } in
     let parts : parts_of rest ≡ line ∷ parts_of [] = line_apart (codes "value") (value_text v ∷ []) [] lack in
     (value_line_read (sum_text c v) c 0 rest line [] v c.size head parts refl (value_accepted c v s, (sym (value_apart v), s.size, s.bytes))).reads
 
@@ -47,6 +47,6 @@ one_sum c d v w s t e =
     let lines : sum_lines c v ++ [] ∷ [] ≡ sum_lines d w ++ [] ∷ [] = sym (sum_reads c v s).parts ∙ ap parts_of e ∙ (sum_reads d w t).parts in
     let third : line_of_fields (value_fields v) ≡ line_of_fields (value_fields w) = ap (λ (ls : List (List ℕ)). get_or ls 2 []) lines in
     let text : value_text v ≡ value_text w = ap (λ (l : List ℕ). drop 6 l) third in (
-      one_head c d _ _ s.valid t.valid lines,
+      one_head c d _ _ s.valid s.of_scripts t.valid t.of_scripts lines,
       some_same v w (sym (value_of-text v s.bytes) ∙ ap value_of text ∙ value_of-text w t.bytes),
     )

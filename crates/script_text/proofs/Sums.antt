@@ -11,7 +11,7 @@ use Rattle.text_lines.proofs.Joined.{line_from_fields}
 use Rattle.line_forms.specs.Kinds.{form_cause, has_other_length}
 use Rattle.line_forms.specs.Tables.{first_of}
 use Rattle.line_forms.specs.Texts.{ended, IsFault, IsFaultless, ReadsTo}
-use Rattle.line_forms.specs.Heads.{header, head_lines, cluster_fields}
+use Rattle.line_forms.specs.Heads.{IsOfScripts, header, head_lines, cluster_fields}
 use Rattle.line_forms.specs.declared.cause.Cause.{Cause}
 use Rattle.line_forms.specs.declared.cause.Cause.TheVariants.{BadValue, UnknownWord, MissingLine}
 use Rattle.line_forms.proofs.Accepted.{numbers_back}
@@ -33,13 +33,14 @@ one_text _ d e = absurd (omega arith)
 -- the head was read, and this is left
 pub record HeadRead (text : List ℕ) (c : Numbers) (at : ℕ) (rest : List ℕ) : Type 0 where
   pub valid : IsValid c
+  pub of_scripts : IsOfScripts c
   pub reads : ReadsTo sum_script text (head_lines c) rest
 
-pub head_at : (text : List ℕ) (c : Numbers) (at : ℕ) → IsValid c → ReadsTo sum_script text (head_lines c) (drop at text) → HeadRead text c at (take (length text - at) (drop at text))
-head_at text c at v r = record { valid = v; reads = rw (rest_part text at) r }
+pub head_at : (text : List ℕ) (c : Numbers) (at : ℕ) → IsValid c → IsOfScripts c → ReadsTo sum_script text (head_lines c) (drop at text) → HeadRead text c at (take (length text - at) (drop at text))
+head_at text c at v known r = record { valid = v; of_scripts = known; reads = rw (rest_part text at) r }
 
-value_here : (c : Numbers) (line : List ℕ) → IsValid c → sum_script.cause (head_lines c) line ≡ form_cause (value_form c.size) (fields_of line)
-value_here c line v = ap (λ (k : Numbers). form_cause (value_form k.size) (fields_of line)) (numbers_back c v)
+value_here : (c : Numbers) (line : List ℕ) → IsValid c → IsOfScripts c → sum_script.cause (head_lines c) line ≡ form_cause (value_form c.size) (fields_of line)
+value_here c line v known = ap (λ (k : Numbers). form_cause (value_form k.size) (fields_of line)) (numbers_back c v known)
 
 -- there is no value line
 pub no_value_line : (text : List ℕ) (c : Numbers) (at : ℕ) (rest : List ℕ) → HeadRead text c at rest → parts_of rest ≡ rest ∷ [] → IsFault sum_script text 3 (ended MissingLine rest)
@@ -50,7 +51,7 @@ no_value_line text c at rest h e =
 pub value_fault : (text : List ℕ) (c : Numbers) (at : ℕ) (rest line after : List ℕ) (len : ℕ) (cause : Cause) → HeadRead text c at rest → parts_of rest ≡ line ∷ parts_of after → len ≡ c.size → form_cause (value_form len) (fields_of line) ≡ Some cause → IsFault sum_script text 3 cause
 value_fault text c at rest line after len cause h e size wrong =
     let bad : form_cause (value_form c.size) (fields_of line) ≡ Some cause = ap (λ (n : ℕ). form_cause (value_form n) (fields_of line)) (sym size) ∙ wrong in
-    line_fault sum_script text (head_lines c) line rest after cause h.reads e (value_here c line h.valid ∙ bad)
+    line_fault sum_script text (head_lines c) line rest after cause h.reads e (value_here c line h.valid h.of_scripts ∙ bad)
 
 -- the value line was read
 pub record ValueRead (text : List ℕ) (c : Numbers) (v after : List ℕ) : Type 0 where
@@ -61,10 +62,10 @@ pub value_line_read : (text : List ℕ) (c : Numbers) (at : ℕ) (rest line afte
     → (form_cause (value_form len) (fields_of line) ≡ None) × ((value_fields v ≡ fields_of line) × (length v ≡ len) × IsBytes v) → ValueRead text c v after
 value_line_read text c at rest line after v len h e size read =
     let none : form_cause (value_form c.size) (fields_of line) ≡ None = ap (λ (n : ℕ). form_cause (value_form n) (fields_of line)) (sym size) ∙ read.0 in
-    let both = reads_on sum_script text (head_lines c) line rest after h.reads e (value_here c line h.valid ∙ none) in
+    let both = reads_on sum_script text (head_lines c) line rest after h.reads e (value_here c line h.valid h.of_scripts ∙ none) in
     let same : line ≡ line_of_fields (value_fields v) = line_from_fields line (value_fields v) (sym read.1.0) in
     record {
-      is = record { valid = h.valid; size = read.1.1 ∙ size; bytes = read.1.2 };
+      is = record { valid = h.valid; of_scripts = h.of_scripts; size = read.1.1 ∙ size; bytes = read.1.2 };
       reads = subst (λ (l : List ℕ). ReadsTo sum_script text (head_lines c ++ l ∷ []) after) same both;
     }
 

@@ -5,6 +5,7 @@ use Rattle.quorum_rules.specs.Limits.{Numbers, IsValid}
 use Rattle.text_lines.specs.Lines.{parts_of}
 use Rattle.wire_forms.specs.Liars.{Liars, IsAscending, has_number}
 use Rattle.line_forms.specs.Tables.{first_of}
+use Rattle.line_forms.specs.Heads.{IsOfScripts}
 use Rattle.line_forms.specs.Texts.{ReadsTo}
 use Rattle.line_forms.specs.declared.cause.Cause.{Cause}
 use Rattle.line_forms.specs.declared.cause.Cause.TheVariants.{UnknownWord, Twice, TooManyLiars}
@@ -31,9 +32,10 @@ again_cause c liars d = first_of ((has_declared liars d, Twice) ∷ (is_node d &
 abbrev pub AreAscending : Liars → Type 0
 AreAscending liars = IsAscending liars.nodes × IsAscending liars.clients
 
--- these are declared, each once, and the liars are they
+-- these are declared in a script, each once, and the liars are they
 pub record AreDeclared (c : Numbers) (declared : List Declared) (liars : Liars) : Type 0 where
   pub valid : IsValid c
+  pub of_scripts : IsOfScripts c
   pub declarable : AllByRecursion (IsDeclarable c) declared
   pub once : IsDistinct is_same declared
   pub all : liars_of declared ≡ liars

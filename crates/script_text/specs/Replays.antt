@@ -11,7 +11,7 @@ use Rattle.line_forms.specs.Tables.{first_of, or_then}
 use Rattle.line_forms.specs.Kinds.{Kind, client, node}
 use Rattle.line_forms.specs.Kinds.Kind.{word}
 use Rattle.line_forms.specs.Texts.{Grammar}
-use Rattle.line_forms.specs.Heads.{Body, script, head_lines}
+use Rattle.line_forms.specs.Heads.{Body, IsOfScripts, script, head_lines}
 use Rattle.line_forms.specs.declared.cause.Cause.{Cause}
 use Rattle.line_forms.specs.declared.cause.Cause.TheVariants.{UnknownWord, Twice, TooManyLiars, TooManyLines}
 use Rattle.event_lines.specs.Forms.{fields_cause, event_cause}
@@ -70,6 +70,7 @@ pub record AreAscendingLiars (c : Numbers) (liars : Liars) : Type 0 where
 
 pub record IsReplay (c : Numbers) (liars : Liars) (lines : List ReplayLine) : Type 0 where
   pub valid : IsValid c
+  pub of_scripts : IsOfScripts c
   pub lying : AreAscendingLiars c liars
   pub events : AllByRecursion (IsEventLine c) lines
   pub limited : length lines ≤ event_limit c

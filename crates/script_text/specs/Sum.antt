@@ -6,7 +6,7 @@ use Rattle.text_lines.specs.Fields.{value_text, IsBytes}
 use Rattle.line_forms.specs.Kinds.{Kind, form_cause}
 use Rattle.line_forms.specs.Kinds.Kind.{word, value}
 use Rattle.line_forms.specs.Texts.{Grammar}
-use Rattle.line_forms.specs.Heads.{Body, script, head_lines}
+use Rattle.line_forms.specs.Heads.{Body, IsOfScripts, script, head_lines}
 use Rattle.line_forms.specs.declared.cause.Cause.{Cause}
 use Rattle.line_forms.specs.declared.cause.Cause.TheVariants.{UnknownWord}
 
@@ -22,9 +22,10 @@ sum_lines c v = head_lines c ++ line_of_fields (value_fields v) ∷ []
 abbrev pub sum_text : Numbers → List ℕ → List ℕ
 sum_text c v = text_of_lines (sum_lines c v)
 
--- a valid configuration, and a value of the length of its blocks
+-- a valid configuration that a script can describe, and a value of the length of its blocks
 pub record IsSum (c : Numbers) (v : List ℕ) : Type 0 where
   pub valid : IsValid c
+  pub of_scripts : IsOfScripts c
   pub size : length v ≡ c.size
   pub bytes : IsBytes v
 

@@ -7,8 +7,8 @@ ghost use Rattle.line_forms.specs.Texts.{IsFaultless};
 ghost use Rattle.script_text.specs.Replays.{IsReplay, Spells, replay_script, replay_text};
 ghost use Rattle.script_text.specs.Sum.{IsSum, sum_text, sum_script};
 
-/// The text of a valid configuration and a value of its blocks' length has no fault, and is the text
-/// of no other two.
+/// The text of a valid configuration that a script can describe, and of a value of its blocks' length, has no fault, and is the
+/// text of no other two.
 pub fn sums_have_one_text()
     ensures accepted { (c : Numbers) (v : List ℕ) → IsSum c v
         → IsFaultless sum_script (sum_text c v) }

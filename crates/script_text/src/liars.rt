@@ -4,7 +4,7 @@
 ghost use Rattle.std.specs.Prelude.{◌≡◌, ◌∷◌, ◌++◌, ◌≤◌, ◌<◌, [], ℕ, List, true, false, codes, drop, length, map, IfNone, IfOk, IfErr, IfSome, OnErr, OnOk, Some, None};
 ghost use Rattle.quorum_rules.specs.Limits.{Numbers, IsValid};
 ghost use Rattle.text_lines.specs.Lines.{fields_of, parts_of, text_of_lines, texts};
-ghost use Rattle.line_forms.specs.Heads.{head_lines};
+ghost use Rattle.line_forms.specs.Heads.{IsOfScripts, head_lines};
 ghost use Rattle.line_forms.specs.Kinds.{form_cause, client as client_kind, node as node_kind};
 ghost use Rattle.line_forms.specs.Kinds.Kind.{word};
 ghost use Rattle.line_forms.specs.Tables.{Gives};
@@ -46,6 +46,7 @@ pub fn read_liars(
     at: usize,
 ) -> Result<Front, ScriptRefusal>
     requires valid { IsValid config }
+    requires of_scripts { IsOfScripts config }
     requires within { at ≤ length text.now }
     requires head { ReadsTo replay_script text.now (head_lines config) (drop at text.now) }
     ensures front { IfOk result (FrontRead text.now) }

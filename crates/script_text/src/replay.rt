@@ -118,7 +118,8 @@ fn limit_of(config: &Config) -> u64
 
 /// The text of a replay, whose liar lines ascend, nodes first. `NoMemory` is its only refusal.
 ///
-/// A replay of any number of lines has one, though none beyond the limit is read back.
+/// A replay of any number of lines has one, and so has one of a cluster of edition 3, though none beyond the limit and
+/// none of that edition is read back.
 pub fn print_replay(alloc: Global, replay: &Replay) -> Result<Bytes, NoMemory>
     requires liars { AreAscendingLiars replay.now.config replay.now.liars }
     requires lines { AllByRecursion (IsEventLine replay.now.config) replay.now.lines }

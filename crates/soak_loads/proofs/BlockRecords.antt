@@ -131,7 +131,7 @@ module _ (plan : Plan) (j : Journals) (w : World) (history : List Entry) (owners
     blocks = ap (λ (c : Numbers). c.blocks) config
 
     pub honest : (client : ℕ) → (setting_for j).lying_client client ≡ false
-    honest client = ap (λ (l : Liars). has_number l.clients client) liars ∙ (owners.steady client).0
+    honest client = ap (λ (l : Liars). has_number l.clients client) liars ∙ (owners.reliable client).0
 
     -- whose an operation is
     owned : (c : ℕ) (x : Ended) → Contains (ended_by j c) x → (c ≡ owners.owner x.block) × (x.block < plan.config.blocks)

@@ -24,9 +24,9 @@ use Rattle.soak_loads.specs.Loads.{IsByOwner, HasOwners, OwnersAreDone, OwnersAr
 abbrev rules_by : Bool → List Fault
 rules_by b = LiarNode 4 Bad ∷ Drop 1 1 2 ∷ (if b then Hold 2 2 3 ∷ [] else [])
 
-steady_by : (b : Bool) (c : ℕ) → (has_number (liars_of (rules_by b)).clients c ≡ false) × (client_crash (rules_by b) c ≡ None)
-steady_by true c = (refl, refl)
-steady_by false c = (refl, refl)
+reliable_by : (b : Bool) (c : ℕ) → (has_number (liars_of (rules_by b)).clients c ≡ false) × (client_crash (rules_by b) c ≡ None)
+reliable_by true c = (refl, refl)
+reliable_by false c = (refl, refl)
 
 -- whose a block is
 abbrev owner_of : ℕ → ℕ → ℕ
@@ -47,7 +47,7 @@ all_by_owner clients (job ∷ work) h = (by_owner clients job h.0, all_by_owner 
 
 load_owners : BlocksHaveOneClient → (number clients ops : ℕ) → 1 ≤ clients → HasOwners (plan_of number clients ops)
 load_owners one number clients ops some = record {
-  steady = λ c. steady_by (nat_le 2 clients) c;
+  reliable = λ c. reliable_by (nat_le 2 clients) c;
   owner = owner_of clients;
   owned = all_by_owner clients (work_of number clients ops) (one number clients ops some);
 }

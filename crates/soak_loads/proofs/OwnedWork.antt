@@ -26,7 +26,7 @@ use Rattle.plan_words.specs.Plans.{IsOp, IsJob, step_count}
 use Rattle.journals.specs.declared.whole.Journals.{Journals}
 use Rattle.journals.specs.Desks.{Ended}
 use Rattle.plan_followed.specs.Asked.{step_of, steps_in, steps_for}
-use Rattle.journal_records.specs.Shown.{ended_by, IsOf, IsComplete}
+use Rattle.journal_records.specs.Shown.{ended_by, IsOf, IsSteady, IsComplete}
 use Rattle.soak_loads.specs.Serial.{op_by}
 use Rattle.soak_loads.specs.Loads.{IsByOwner, HasOwners}
 use Rattle.lists.proofs.Members.{Contains-none, Contains-one}
@@ -158,6 +158,12 @@ made_of f (x ∷ xs) (y ∷ ys) l h =
     let tail : map f xs ≡ ys = made_of f xs ys (omega (arith, l)) (λ k a b p q. h (suc k) a b p q) in
     λ i. head i ∷ tail i
 
+-- a client that isn't to crash doesn't
+pub steady_client : (plan : Plan) (j : Journals) (w : World) (history : List Entry) → HasOwners plan → IsComplete plan j w history → (c : ℕ) → IsSteady plan j c
+steady_client plan j w history owners complete c =
+    let right = (owners.reliable c).0 in
+    (right, λ crashed. let some = complete.crashes c right crashed in let none = (owners.reliable c).1 in cc)
+
 -- are its operations, in order
 pub ops_ended : (plan : Plan) (j : Journals) (w : World) (history : List Entry) (owners : HasOwners plan) → IsComplete plan j w history
     → (c : ℕ) → map ended_op (ended_by j c) ≡ ops_for c plan.work
@@ -167,10 +173,10 @@ ops_ended plan j w history owners complete c = made_of ended_op (ended_by j c) (
     steps = steps_are owners.owner plan.config c plan.work owners.owned
 
     long : length (ended_by j c) ≡ length (ops_for c plan.work)
-    long = complete.all c (owners.steady c) ∙ ap length steps ∙ length-map (ops_for c plan.work) step_of
+    long = complete.all c (steady_client plan j w history owners complete c) ∙ ap length steps ∙ length-map (ops_for c plan.work) step_of
 
     each : (k : ℕ) (x : Ended) (op : Op) → slice_get (ended_by j c) k ≡ Some x → slice_get (ops_for c plan.work) k ≡ Some op → ended_op x ≡ op
     each k x op at is =
         let step : slice_get (steps_for plan.config c plan.work) k ≡ Some (step_of op) =
         ap (λ (l : List BlockStep). slice_get l k) steps ∙ slice_get-map step_of (ops_for c plan.work) k ∙ ap (option_map step_of) is in
-        is_op op x (complete.each c k (step_of op) x (owners.steady c) step at)
+        is_op op x (complete.each c k (step_of op) x (steady_client plan j w history owners complete c) step at)

@@ -34,7 +34,7 @@ use Rattle.journal_records.specs.Steady.{AreSteady, RecordsAreSteady}
 use Rattle.soak_loads.specs.Serial.{IsDone, SerialRunsArePlain, record_deed}
 use Rattle.soak_loads.specs.Loads.{HasOwners, OwnersAreDone, OwnersArePlain}
 use Rattle.soak_loads.proofs.Parts.{same_length}
-use Rattle.soak_loads.proofs.OwnedWork.{deeds_below}
+use Rattle.soak_loads.proofs.OwnedWork.{deeds_below, steady_client}
 use Rattle.soak_loads.proofs.BlockRecords as of_block
 use Rattle.lists.proofs.Members.{Contains-head, Contains-rest, all_of}
 
@@ -117,8 +117,8 @@ owners_done runs complete steady told starts plan owners j drawn lines w h book 
     let cluster = (runs plan j drawn of_plan).cluster in
     let lying_node = has_number j.liars.nodes in
     let lying_client = has_number j.liars.clients in
-    let are_steady = steady plan j drawn lines w of_plan merged run owners.steady in
     let is_complete = complete plan j drawn lines w h of_plan merged run (tells.history.sorted, tells.history.entries) in
+    let are_steady = steady plan j drawn lines w of_plan merged run (steady_client plan j w h owners is_complete) in
     let are_told = told j.config lying_node lying_client cluster lines w run in
     let ascend = starts j.config lying_node lying_client cluster lines w run in (
       all_done plan j drawn w h book owners of_plan are_steady is_complete are_told ascend tells,
@@ -130,8 +130,8 @@ owners_plain runs complete steady told starts serial number plan owners j drawn 
     let cluster = (runs plan j drawn of_plan).cluster in
     let lying_node = has_number j.liars.nodes in
     let lying_client = has_number j.liars.clients in
-    let are_steady = steady plan j drawn lines w of_plan merged run owners.steady in
     let is_complete = complete plan j drawn lines w h of_plan merged run (tells.history.sorted, tells.history.entries) in
+    let are_steady = steady plan j drawn lines w of_plan merged run (steady_client plan j w h owners is_complete) in
     let are_told = told j.config lying_node lying_client cluster lines w run in
     let ascend = starts j.config lying_node lying_client cluster lines w run in
     let config = of_plan.follows.are_for.config in

@@ -1,5 +1,7 @@
 -- Runs of plans in which each block has one client, first of all of those that numbers make.
-use Rattle.std.specs.Prelude.{◌≡◌, ℕ, ◌≤◌, List, length}
+use Rattle.std.specs.Prelude.{◌≡◌, ℕ, ◌≤◌, false, List, length}
+use Rattle.std.specs.declared.option.Option.TheVariants.{None}
+use Rattle.wire_forms.specs.Liars.{has_number}
 use Rattle.std.specs.List.{AllByRecursion}
 use Rattle.protocol.specs.Setting.{Setting, first_stamp}
 use Rattle.protocol.specs.World.{World}
@@ -16,8 +18,8 @@ use Rattle.plan_words.specs.declared.plan.Plan.{Plan}
 use Rattle.soak_loads.specs.MadePlans.{plan_of}
 use Rattle.journals.specs.declared.whole.Journals.{Journals}
 use Rattle.journals.specs.Journals.{setting_for, IsMerge}
+use Rattle.plan_followed.specs.Asked.{client_crash}
 use Rattle.plan_followed.specs.Followed.{AreOfPlan}
-use Rattle.journal_records.specs.Steady.{AllSteady}
 
 -- an operation by the client that its block has, or the end of a phase
 abbrev pub IsByOwner : (ℕ → ℕ) → Job → Type 0
@@ -25,9 +27,13 @@ IsByOwner owner (Block client op) = client ≡ owner (block_of op)
 IsByOwner owner (Device client op) = ⊥
 IsByOwner owner Phase = Unit {0}
 
+-- the client neither lies nor is to crash
+abbrev pub IsReliable : Plan → ℕ → Type 0
+IsReliable plan c = (has_number plan.liars.clients c ≡ false) × (client_crash plan.rules c ≡ None)
+
 -- no client lies or is to crash, and each block has one client, who does all operations on it
 pub record HasOwners (plan : Plan) : Type 0 where
-  pub steady : AllSteady plan
+  pub reliable : (c : ℕ) → IsReliable plan c
   pub owner : ℕ → ℕ
   pub owned : AllByRecursion (IsByOwner owner) plan.work
 

@@ -1,4 +1,4 @@
-ghost use Rattle.std.specs.Prelude.{◌≡◌, ◌+◌, ◌≤◌, [], ◌∷◌, length, map, IfOk};
+ghost use Rattle.std.specs.Prelude.{◌≡◌, ◌+◌, ◌≤◌, [], ◌∷◌, length, map, IfOk, IfSome};
 ghost use Rattle.event_clock.specs.Views.{IsDrawnOnce};
 ghost use Rattle.event_clock.specs.Passes.{left_of};
 
@@ -18,6 +18,34 @@ pub fn clock_of_two(alloc: Global) -> Result<(Clock, Pass, Pass), NoMemory>
     let (clock, passes) = Clock::start(alloc, 2)?;
     let (first, second) = pair_of(passes);
     Ok((clock, first, second))
+}
+
+// One thread draws twice for each pass, in turn. Where it got other numbers than 0, 1, 2 and 3 there is none.
+fn draw_in_turn(alloc: Global) -> Result<Option<Drawn>, NoMemory>
+    ensures { IfOk result (λ drawn. IfSome drawn (λ d. map (λ s. s.drawn) d.shares
+        ≡ (0 ∷ 2 ∷ []) ∷ (1 ∷ 3 ∷ []) ∷ [])) }
+{
+    let (clock, mut first, mut second) = clock_of_two(alloc)?;
+    let one = clock.draw(&mut first);
+    let two = clock.draw(&mut second);
+    let three = clock.draw(&mut first);
+    let four = clock.draw(&mut second);
+    if one != 0 || two != 1 || three != 2 || four != 3 {
+        return Ok(None);
+    }
+    Ok(Some(clock.close(list_of(alloc, first, second)?)))
+}
+
+fn count_in_turn(alloc: Global) -> Result<Option<u64>, NoMemory> {
+    match draw_in_turn(alloc)? {
+        Some(drawn) => Ok(Some(drawn.count())),
+        None => Ok(None),
+    }
+}
+
+#[test]
+fn one_thread_draws_in_turn(rt: HostRuntime) {
+    assert!(rt; count_in_turn(rt.alloc()) == Ok(Some(4)));
 }
 
 fn draw_many(clock: &Clock, mut pass: Pass, times: u32) -> Pass

@@ -12,7 +12,7 @@ use Rattle.wire_forms.specs.declared.Request.TheVariants.{Time, Read, Write}
 use Rattle.wire_forms.specs.declared.Reply.TheVariants.{Refused}
 use Rattle.wire_forms.specs.declared.Reason.TheVariants.{BadBlock, BadLength}
 use Rattle.stamp_order.specs.declared.Stamp.{Stamp}
-use Rattle.version_disk.specs.Slots.{version_slot, prune_slot, Fits}
+use Rattle.slot_disk.specs.Slots.{version_slot, prune_slot, Fits}
 use Rattle.version_disk.specs.Held.{after_slot, is_bad, is_refusal}
 use Rattle.version_disk.specs.Kept.{IsGoodIn}
 use Rattle.version_disk.specs.Deeds.{Answers, after_deed, slots_by, added_slots}
@@ -27,6 +27,12 @@ lengths_of true true rest none = (refl, refl)
 lengths_of true false rest none = absurd cc
 lengths_of false b rest none = absurd cc
 
+-- a version that isn't refused has its lengths
+pub refusal_lengths : (c : Numbers) (number : ℕ) (v : Version) → refusal (setting c) number v ≡ None → (length v.sum ≡ c.n) × (length v.fragment ≡ share_of c)
+refusal_lengths c number v fine =
+    let h = lengths_of (eqb (length v.sum) c.n) (eqb (length v.fragment) (share_of c)) _ fine in
+    (eqb-true (length v.sum) c.n h.0, eqb-true (length v.fragment) (share_of c) h.1)
+
 module _ (c : Numbers) (number : ℕ) (vs : List Version) (block : ℕ) (v : Version) (some : is_some (accepts (setting c) number vs (record { block = block; request = Write v })) ≡ true) where
   both : (is_refusal (reply (setting c) number [] (record { block = block; request = Write v })) ≡ false) × (refusal (setting c) number v ≡ None)
   both = not_refused (ltb block c.blocks) (refusal (setting c) number v) vs v some
@@ -34,14 +40,11 @@ module _ (c : Numbers) (number : ℕ) (vs : List Version) (block : ℕ) (v : Ver
   isn_t_bad : is_bad c number (version_slot block v) ≡ false
   isn_t_bad = both.0
 
-  lengths : (eqb (length v.sum) c.n ≡ true) × (eqb (length v.fragment) (share_of c) ≡ true)
-  lengths = lengths_of (eqb (length v.sum) c.n) (eqb (length v.fragment) (share_of c)) _ both.1
-
   sums : length v.sum ≡ c.n
-  sums = eqb-true (length v.sum) c.n lengths.0
+  sums = (refusal_lengths c number v both.1).0
 
   shares : length v.fragment ≡ share_of c
-  shares = eqb-true (length v.fragment) (share_of c) lengths.1
+  shares = (refusal_lengths c number v both.1).1
 
 added_is : (why : Option Reason) (vs : List Version) (u v : Version) → Some v ≡ added why vs u → u ≡ v
 added_is (Some r) vs u v is = absurd cc

@@ -3,7 +3,7 @@ use Rattle.std.proofs.Common.{◌≡◌, ℕ, List, [], ◌∷◌, ◌++◌, sym
 use Rattle.quorum_rules.specs.Limits.{Numbers}
 use Rattle.node_core.specs.Seen.{SeenNode}
 use Rattle.disk_model.specs.Crash.{Pending, LeavesOnly}
-use Rattle.version_disk.specs.Slots.{Slot}
+use Rattle.slot_disk.specs.Slots.{Slot}
 use Rattle.version_disk.specs.Held.{after_slot, held, slots_of}
 use Rattle.version_disk.specs.Kept.{IsKept, IsGoodIn, HoldsOneOf}
 use Rattle.version_disk.specs.Deeds.{Deed, after_deed, slots_by, IsDone, IsDoneOrNot}

@@ -1,13 +1,10 @@
 pub mod Accepting
-pub mod Adding
-pub mod Bodies
-pub mod Closing
-pub mod Codec
+pub mod Answering
+pub mod Asking
+pub mod Compacting
 pub mod Deeds
+pub mod Journals
 pub mod Keeping
 pub mod Lives
-pub mod Moments
 pub mod Opening
-pub mod Order
 pub mod Playing
-pub mod Torn

@@ -1,12 +1,12 @@
 -- The calls by which a disk is read, and what a crash leaves at each moment of them.
-use Rattle.std.proofs.Common.{◌≡◌, inl, inr, ⊎_elim, ℕ, List, map, ◌∙◌, ap, subst}
+use Rattle.std.proofs.Common.{◌≡◌, inl, inr, ℕ, List, map, ◌∙◌, ap, subst}
 use Rattle.disk_model.specs.Crash.{Pending, MayLeave, Elapses, LeavesOnly, settled, IsWithin}
 use Rattle.disk_model.proofs.Crash.{only_settled}
 use Rattle.quorum_rules.specs.Limits.{Numbers}
-use Rattle.version_disk.specs.Bodies.{bodies}
-use Rattle.version_disk.specs.Slots.{body_len, slot_of}
+use Rattle.slot_disk.specs.Bodies.{bodies}
+use Rattle.slot_disk.specs.Slots.{body_len, slot_of}
 use Rattle.version_disk.specs.Reopened.{IsStillThere}
-use Rattle.version_disk.proofs.Moments.{started, goes_on, joined}
+use Rattle.slot_disk.proofs.Moments.{started, goes_on, joined, weaker}
 
 module _ {D : Type 0} (moment : D → ℕ) (left_since : D → ℕ → List ℕ → Type 0) (pending : D → Pending) (seen : D → List ℕ) (old : D)
     (only_now : (bytes : List ℕ) → left_since old (moment old) bytes → MayLeave (pending old) bytes) where
@@ -30,14 +30,6 @@ module _ {D : Type 0} (moment : D → ℕ) (left_since : D → ℕ → List ℕ 
   -- where all is safe, nothing can be lost
   pub unread : pending old ≡ settled (seen old) → LeavesOnly moment left_since old old (λ c. c ≡ seen old)
   unread settles = started moment left_since pending old (λ c. c ≡ seen old) (λ c left. only_settled (seen old) c (subst (λ (p : Pending). MayLeave p c) settles (only_now c left)))
-
--- what holds of each crash, held of each of them before
-pub weaker : {D : Type 0} (moment : D → ℕ) (left_since : D → ℕ → List ℕ → Type 0) (old new : D) (P Q : List ℕ → Type 0) → ((c : List ℕ) → P c → Q c) → LeavesOnly moment left_since old new P → LeavesOnly moment left_since old new Q
-weaker moment left_since old new P Q so l = record {
-  later = l.later;
-  each = λ c left. so c (l.each c left);
-  before = λ t c le left. ⊎_elim (λ past. inl past) (λ p. inr (so c p)) (l.before t c le left);
-}
 
 -- a disk that was read, and whose gate was then closed, still has its slots
 pub then_closed : {D : Type 0} (moment : D → ℕ) (left_since : D → ℕ → List ℕ → Type 0) (pending : D → Pending) (seen : D → List ℕ) (c : Numbers) (body : ℕ) (old mid new : D) → body ≡ body_len c → seen mid ≡ seen old

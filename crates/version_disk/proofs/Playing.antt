@@ -4,7 +4,8 @@ use Rattle.quorum_rules.specs.Limits.{Numbers}
 use Rattle.protocol.specs.Nodes.{pruned}
 use Rattle.protocol.specs.Instance.{setting}
 use Rattle.node_core.specs.Seen.{SeenNode, versions_in, with_versions, new_node, after_of}
-use Rattle.version_disk.specs.Slots.{Slot, slot_of}
+use Rattle.slot_disk.specs.Slots.{Slot, slot_of}
+use Rattle.version_disk.specs.Kept.{AreGoodIn}
 use Rattle.version_disk.specs.Held.{after_slot, played, held, slots_of, written, is_bad, first_bad_from}
 
 -- one slot more is played
@@ -30,21 +31,25 @@ good_more c d number other slot good count first all rest end split is same same
     ∙ sym (ap (λ (b : Bool). cond b (Some count) (first_bad_from c number (suc count) (map (slot_of c.n) rest))) fine)
     ∙ sym (ap (λ (bs : List (List ℕ)). first_bad_from c number count (map (slot_of c.n) bs)) split) ∙ so_far
 
--- a slot at the end is played last
-pub played_push : (node : SeenNode) (slots : List Slot) (s : Slot) → played node (slots ++ s ∷ []) ≡ after_slot (played node slots) s
-played_push node [] s = refl
-played_push node (t ∷ slots) s = played_push (after_slot node t) slots s
-
 head_good : (bad : Bool) (i : ℕ) (rest : Option ℕ) → cond bad (Some i) rest ≡ None → (bad ≡ false) × (rest ≡ None)
 head_good true i rest none = absurd cc
 head_good false i rest none = (refl, none)
 
--- a good slot at the end leaves no bad one
-pub good_push : (c : Numbers) (number i : ℕ) (slots : List Slot) (s : Slot) → is_bad c number s ≡ false → first_bad_from c number i slots ≡ None → first_bad_from c number i (slots ++ s ∷ []) ≡ None
-good_push c number i [] s fine none = ap (λ (b : Bool). cond b (Some i) None) fine
-good_push c number i (t ∷ slots) s fine none =
+-- slots behind others are played after them
+pub played_append : (node : SeenNode) (slots new : List Slot) → played node (slots ++ new) ≡ played (played node slots) new
+played_append node [] new = refl
+played_append node (t ∷ slots) new = played_append (after_slot node t) slots new
+
+-- good slots at the end leave no bad one
+pub all_good : (c : Numbers) (number i : ℕ) (new : List Slot) → AreGoodIn c number new → first_bad_from c number i new ≡ None
+all_good c number i [] good = refl
+all_good c number i (t ∷ new) good = ap (λ (b : Bool). cond b (Some i) (first_bad_from c number (suc i) new)) good.0.fine ∙ all_good c number (suc i) new good.1
+
+pub good_append : (c : Numbers) (number i : ℕ) (slots new : List Slot) → AreGoodIn c number new → first_bad_from c number i slots ≡ None → first_bad_from c number i (slots ++ new) ≡ None
+good_append c number i [] new good none = all_good c number i new good
+good_append c number i (t ∷ slots) new good none =
     let h = head_good (is_bad c number t) i (first_bad_from c number (suc i) slots) none in
-    ap (λ (b : Bool). cond b (Some i) (first_bad_from c number (suc i) (slots ++ s ∷ []))) h.0 ∙ good_push c number (suc i) slots s fine h.1
+    ap (λ (b : Bool). cond b (Some i) (first_bad_from c number (suc i) (slots ++ new))) h.0 ∙ good_append c number (suc i) slots new good h.1
 
 slot_config : (node : SeenNode) (s : Slot) → ((after_slot node s).config ≡ node.config) × ((after_slot node s).number ≡ node.number)
 slot_config node s = either (eqb s.kind 0)

@@ -7,8 +7,8 @@ use Rattle.protocol.specs.Instance.{setting}
 use Rattle.wire_forms.specs.declared.Request.TheVariants.{Write}
 use Rattle.wire_forms.specs.declared.Reply.TheVariants.{Refused}
 use Rattle.node_core.specs.Seen.{SeenNode, versions_in, with_versions, new_node, after_of}
-use Rattle.version_disk.specs.Bodies.{bodies}
-use Rattle.version_disk.specs.Slots.{Slot, slot_of, body_len}
+use Rattle.slot_disk.specs.Bodies.{bodies}
+use Rattle.slot_disk.specs.Slots.{Slot, slot_of, body_len}
 
 -- the ask that a slot of an accepted version stands for
 abbrev pub written : Slot → Ask

@@ -1,4 +1,6 @@
-pub mod Bodies
+pub mod Batches
+pub mod CompactFaults
+pub mod Compacted
 pub mod Deeds
 pub mod Faults
 pub mod Held
@@ -7,5 +9,5 @@ pub mod Lives
 pub mod Opened
 pub mod Refusals
 pub mod Reopened
-pub mod Slots
 pub mod Stored
+pub mod Undone

@@ -4,19 +4,19 @@ ghost use Rattle.disk_model.specs.Crash.{LeavesOnly};
 ghost use Rattle.protocol.specs.Nodes.{pruned};
 ghost use Rattle.protocol.specs.Instance.{setting};
 ghost use Rattle.node_core.specs.Seen.{versions_in, with_versions, after_of, accepts_of};
-ghost use Rattle.version_disk.specs.Slots.{body_len};
+ghost use Rattle.slot_disk.specs.Slots.{body_len};
 ghost use Rattle.version_disk.specs.Kept.{IsKept};
 ghost use Rattle.version_disk.specs.Deeds.{IsDone, IsDoneOrNot};
 ghost use Rattle.version_disk.specs.Deeds.Deed.{Answers, Prunes};
-ghost use Rattle.version_disk.specs.Stored.{fits};
+ghost use Rattle.version_disk.specs.Stored.{fits, all_fit};
 ghost use Rattle.version_disk.specs.Refusals.{IfFailed, IfCalm, IsMemoryOrFault};
 
-use crate::body::body_size;
 use crate::keep::keep_slot;
-use crate::piece::{prune_piece, version_piece};
 use crate::refusal::StoreRefusal;
 use disk_model::Disk;
 use node_core::Node;
+use slot_disk::body::body_size;
+use slot_disk::piece::{prune_piece, version_piece};
 use stamp_order::Stamp;
 use std::alloc::Global;
 use wire_forms::{Ask, Version};
@@ -26,11 +26,20 @@ pub(crate) fn has_place<D: Disk>(node: &Node, disk: &D, count: u64) -> bool
     ensures place { result ≡ fits (body_len node.now.config) count (D.most disk.now) }
     ensures small { D.most disk.now < 2 ^ 63 }
 {
-    count
-        .saturating_add(1)
+    have_places(node, disk, count, 1)
+}
+
+// Whether so many slots behind so many, if any, and the byte after them, fit the disk's room.
+pub(crate) fn have_places<D: Disk>(node: &Node, disk: &D, count: u64, more: u64) -> bool
+    ensures places { result ≡ all_fit (body_len node.now.config) count more (D.most disk.now) }
+    ensures small { D.most disk.now < 2 ^ 63 }
+{
+    let end = count
+        .saturating_add(more)
         .saturating_mul(body_size(node.config()) + 1)
-        .saturating_add(1)
-        <= disk.room()
+        .saturating_add(1);
+    let room = disk.room();
+    more == 0 || end <= room
 }
 
 // Adds the version that a node prepared for an ask, and its slot to the disk. The memory is taken before the disk is written.

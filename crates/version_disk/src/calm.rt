@@ -7,11 +7,11 @@ ghost use Rattle.node_core.specs.Seen.{versions_in, with_versions, new_node, aft
 ghost use Rattle.version_disk.specs.Held.{held};
 ghost use Rattle.version_disk.specs.Stored.{has_place};
 
-use crate::body::body_size;
 use crate::stored::StoredNode;
 use disk_model::CalmDisk;
 use lists::{Copied, NoMemory};
 use quorum_rules::Config;
+use slot_disk::body::body_size;
 use stamp_order::Stamp;
 use std::alloc::Global;
 use wire_forms::{Ask, Version};

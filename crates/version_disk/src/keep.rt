@@ -1,16 +1,49 @@
-ghost use Rattle.std.specs.Prelude.{◌≡◌, ◌≤◌, ◌+◌, ◌*◌, ◌∷◌, [], ◌++◌, length, OnOk, slice_index};
+ghost use Rattle.std.specs.Prelude.{◌≡◌, ◌≤◌, ◌+◌, ◌-◌, ◌*◌, ◌∷◌, [], ◌++◌, List, length, OnOk, slice_index};
 ghost use Rattle.outside_io.specs.Causes.{HasCause};
 ghost use Rattle.disk_model.specs.Crash.{LeavesOnly};
-ghost use Rattle.version_disk.specs.Slots.{Slot, body_len, IsPieceOf};
-ghost use Rattle.version_disk.specs.Held.{after_slot, held, slots_of};
-ghost use Rattle.version_disk.specs.Kept.{IsKept, IsGoodIn, HoldsOneOf};
+ghost use Rattle.slot_disk.specs.Slots.{Slot, body_len, IsPieceOf, pieces_of};
+ghost use Rattle.version_disk.specs.Held.{after_slot, played, held, slots_of};
+ghost use Rattle.version_disk.specs.Kept.{IsKept, IsGoodIn, AreGoodIn, HoldsOneOf, HoldsFirstOf};
 
-use crate::body::body_size;
-use crate::slots::add_slot;
 use disk_model::{Disk, DiskFault};
 use quorum_rules::Config;
+use slot_disk::body::body_size;
+use slot_disk::slots::add_slots;
 
-// Writes the piece of a good slot behind the others. The disk then holds the state of the node after that slot.
+// Writes the pieces of so many good slots behind the others. The disk then holds the state of the node after those slots.
+pub(crate) fn keep_slots<D: Disk>(
+    disk: &mut D,
+    config: &Config,
+    number: u8,
+    count: u64,
+    more: u64,
+    piece: &[u8],
+) -> Result<(), DiskFault>
+    requires kept { IsKept D.pending D.seen config.now number
+        (held config.now number (D.seen disk.old)) count disk.old }
+    requires some { 1 ≤ more }
+    requires whole { length piece.now ≡ more * (body_len config.now + 1) }
+    requires zero { slice_index piece.now (length piece.now - 1) ≡ 0 }
+    requires room { (count + more) * (body_len config.now + 1) + 1 ≤ D.most disk.old }
+    ensures kept { (slots : List Slot) → AreGoodIn config.now number slots → length slots ≡ more
+        → piece.now ≡ pieces_of slots → OnOk result (IsKept D.pending D.seen config.now number
+        (played (held config.now number (D.seen disk.old)) slots) (count + more) disk.new) }
+    ensures slots { (slots : List Slot) → AreGoodIn config.now number slots → length slots ≡ more
+        → piece.now ≡ pieces_of slots → OnOk result
+        (slots_of config.now (D.seen disk.new) ≡ slots_of config.now (D.seen disk.old) ++ slots) }
+    ensures room { D.most disk.new ≡ D.most disk.old }
+    // what a crash at any moment of the call leaves holds the state after the first few of the slots
+    ensures any_moment { (slots : List Slot) → AreGoodIn config.now number slots
+        → length slots ≡ more → piece.now ≡ pieces_of slots
+        → LeavesOnly D.moment D.left_since disk.old disk.new
+        (HoldsFirstOf config.now number (slots_of config.now (D.seen disk.old))
+        (held config.now number (D.seen disk.old)) slots) }
+    ensures cause { HasCause D.last (D.faults disk.old) (D.faults disk.new) result }
+{
+    add_slots(disk, body_size(config), count, more, piece)
+}
+
+// Writes the piece of one good slot.
 pub(crate) fn keep_slot<D: Disk>(
     disk: &mut D,
     config: &Config,
@@ -37,5 +70,5 @@ pub(crate) fn keep_slot<D: Disk>(
         (after_slot (held config.now number (D.seen disk.old)) s)) }
     ensures cause { HasCause D.last (D.faults disk.old) (D.faults disk.new) result }
 {
-    add_slot(disk, body_size(config), count, piece)
+    keep_slots(disk, config, number, count, 1, piece)
 }

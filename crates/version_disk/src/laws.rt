@@ -2,12 +2,12 @@
 
 ghost use Rattle.std.specs.Prelude.{ℕ, List};
 ghost use Rattle.quorum_rules.specs.Limits.{Numbers};
-ghost use Rattle.version_disk.specs.Bodies.{AreInOrder};
+ghost use Rattle.version_disk.specs.Compacted.{AnswersAlike};
 ghost use Rattle.version_disk.specs.Lives.{Moment, IsThere, IsNeverDamaged, OnlyGrows};
 
-/// After any list of calls and crashes, what was acknowledged is there: an empty disk that `open`, `handle` and `prune` alone have
-/// written, with one configuration and number, holds a node that has done each acknowledged deed, and each deed in which it was
-/// stopped or not, in their order. None of its slots is ever bad, so `open` never answers `Damaged`; and the slots that were there
+/// After any list of calls and crashes, what was acknowledged is there: an empty disk that `open`, `handle`, `handle_all` and `prune`
+/// alone have written, with one configuration and number, holds a node that has done each acknowledged deed, each deed in which it
+/// was stopped or not, and of many asks in which it was stopped the first few, in their order. None of its slots is ever bad, so `open` never answers `Damaged`; and the slots that were there
 /// at some moment stay the first ones.
 pub fn acknowledged_is_there()
     ensures there { (c : Numbers) (number : ℕ) (life : List Moment) → IsThere c number life }
@@ -17,7 +17,9 @@ pub fn acknowledged_is_there()
         → OnlyGrows c number bytes life }
 {}
 
-/// Slot k begins at k slots' length, and the slots that count are those from slot 0 to before the first that isn't open.
-pub fn slots_in_order()
-    ensures { (body : ℕ) (bytes : List ℕ) → AreInOrder body bytes }
+/// Compaction changes no answer: bytes whose slots are the versions that a disk's node keeps, block by block in their order, hold
+/// that node, so a node that is opened on either disk answers any asks alike. A prune needs no slot then, since a node remembers
+/// nothing of what it dropped.
+pub fn compacted_answers_alike()
+    ensures { (c : Numbers) (number : ℕ) (old new : List ℕ) → AnswersAlike c number old new }
 {}

@@ -3,18 +3,18 @@
 #![tactic(auto)]
 
 mod add;
-mod body;
+mod batch;
 mod calm;
-mod close;
+mod compact;
+pub mod compact_fault;
 mod fault;
 mod keep;
 pub mod laws;
-mod piece;
 pub mod refusal;
 mod replay;
-mod slots;
 mod start;
 pub mod stored;
 
+pub use compact_fault::{CompactFault, CompactRefusal};
 pub use refusal::StoreRefusal;
-pub use stored::{OpenRefusal, StoredNode};
+pub use stored::{JournalLen, OpenRefusal, Replies, StoredNode};

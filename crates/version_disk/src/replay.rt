@@ -1,14 +1,14 @@
 ghost use Rattle.std.specs.Prelude.{◌≡◌, ◌<◌, ◌+◌, ◌*◌, true, [], ◌∷◌, not, length, Some, None, IfOk, IfErr, OnOk, IfSome, IfNone};
-ghost use Rattle.version_disk.specs.Bodies.{bodies};
-ghost use Rattle.version_disk.specs.Slots.{body_len, slot_of};
+ghost use Rattle.slot_disk.specs.Bodies.{bodies};
+ghost use Rattle.slot_disk.specs.Slots.{body_len, slot_of};
 ghost use Rattle.version_disk.specs.Held.{after_slot, held, is_bad, first_bad};
 ghost use Rattle.version_disk.specs.Faults.{IfSlot, IfFault};
 
-use crate::body::{block_in, body_size, read_stamp, read_version};
 use crate::fault::OpenFault;
 use lists::NoMemory;
 use node_core::Node;
 use quorum_rules::Config;
+use slot_disk::body::{block_in, body_size, read_stamp, read_version};
 use std::alloc::Global;
 use wire_forms::{Ask, Reply, Request};
 

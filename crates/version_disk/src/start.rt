@@ -6,13 +6,13 @@ ghost use Rattle.version_disk.specs.Kept.{IsKept};
 ghost use Rattle.version_disk.specs.Faults.{IfSlot, IfFault};
 ghost use Rattle.version_disk.specs.Reopened.{IsStillThere};
 
-use crate::body::body_size;
-use crate::close::close_gate;
 use crate::fault::OpenFault;
 use crate::replay::replay;
 use disk_model::Disk;
 use node_core::Node;
 use quorum_rules::Config;
+use slot_disk::body::body_size;
+use slot_disk::close::close_gate;
 use std::alloc::Global;
 
 // Syncs a disk, and reads all its bytes.

@@ -1,4 +1,4 @@
-ghost use Rattle.std.specs.Prelude.{◌≡◌, ◌≤◌, ◌<◌, ◌+◌, ◌↔◌, true, false, is_some, map, Some, None, IfOk, IfErr, OnOk, IsErrOf};
+ghost use Rattle.std.specs.Prelude.{◌≡◌, ◌≤◌, ◌<◌, ◌+◌, ◌-◌, ◌*◌, ◌^◌, ◌↔◌, true, false, is_some, nat_lt, min, length, map, [], Some, None, IfOk, IfErr, OnOk, IsErrOf};
 ghost use Rattle.outside_io.specs.Causes.{Rose};
 ghost use Rattle.disk_model.specs.Crash.{settled, LeavesOnly};
 ghost use Rattle.protocol.specs.Nodes.{greatest_time, pruned};
@@ -6,21 +6,28 @@ ghost use Rattle.protocol.specs.Instance.{setting};
 ghost use Rattle.node_core.specs.Seen.{versions_in, with_versions, reply_of, after_of, accepts_of};
 ghost use Rattle.version_disk.specs.Held.{held, slots_of, first_bad};
 ghost use Rattle.version_disk.specs.Reopened.{IsStillThere};
-ghost use Rattle.version_disk.specs.Deeds.{IsDone, IsDoneOrNot};
+ghost use Rattle.version_disk.specs.Deeds.{IsDone, IsDoneOrNot, after_asks, replies_of, slots_by_all, AreDone, AreDoneInPart};
 ghost use Rattle.version_disk.specs.Deeds.Deed.{Answers, Prunes};
 
 use crate::add::{add_prune, add_version, has_place};
+use crate::batch::add_all;
+use crate::compact::{compacted_size, write_journal};
+use crate::compact_fault::{CompactFault, CompactRefusal};
 use crate::fault::OpenFault;
 use crate::refusal::StoreRefusal;
 use crate::start::start;
 use disk_model::Disk;
-use lists::NoMemory;
+use lists::{ItemList, NoMemory};
 use node_core::{Node, Prepared, Stamps};
 use quorum_rules::Config;
+use slot_disk::body::body_size;
 use stamp_order::Stamp;
 use std::alloc::Global;
 use std::marker::Model;
 use wire_forms::{Ask, Reply, Version};
+
+/// Answers, in the order of the asks.
+pub type Replies = ItemList<Reply>;
 
 /// A node that keeps its versions and its prunes on a disk. Contracts see the node, its disk, and whether a fault of the disk
 /// has broken it.
@@ -51,6 +58,14 @@ impl<D: Disk> Model for StoredNode<D> {
         × (s.node.number < s.node.config.n) };
 }
 
+/// How many bytes a node's journal has, that is its slots and the closed gate behind them, and how many the shortest one of the node
+/// would have. Where they are more than a word has, it is the greatest word.
+#[derive(Clone, Copy, Debug, PartialEq, Eq)]
+pub struct JournalLen {
+    pub now: u64,
+    pub compacted: u64,
+}
+
 /// Why a disk was not opened. The disk is given back.
 #[derive(Drop)]
 pub enum OpenRefusal<D> {
@@ -64,8 +79,10 @@ pub enum OpenRefusal<D> {
 
 impl<D: Disk> StoredNode<D> {
     ghost use Rattle.version_disk.specs.Opened.{IfSlotOf, IfFaultOf, disk_of};
-    ghost use Rattle.version_disk.specs.Stored.{adds, has_place};
+    ghost use Rattle.version_disk.specs.Stored.{adds, has_place, has_places};
     ghost use Rattle.version_disk.specs.Refusals.{IfCalm, IfFailed};
+    ghost use Rattle.version_disk.specs.Compacted.{kept_slots, compacted_len, slots_len};
+    ghost use Rattle.version_disk.specs.CompactFaults.{IfDiskFailed, given_back};
 
     /// Opens a disk that may be empty, or that a crash may have left. It begins with a sync, and closes the gate behind the
     /// slots where a crash left it open.
@@ -149,6 +166,54 @@ impl<D: Disk> StoredNode<D> {
         let Prepared { reply, added } = self.node.prepare(ask)?;
         self.commit(ask, added)?;
         Ok(reply)
+    }
+
+    /// Answers many asks, one after the other. The versions that are added are written as slots, all of them for two syncs, and
+    /// safe at the return; where none is added, the disk is not touched. Memory is taken before the disk is written.
+    pub fn handle_all(&mut self, asks: &[Ask]) -> Result<Replies, StoreRefusal>
+        ensures replies { IfOk result (λ replies. replies ≡ replies_of self.old.node asks.now) }
+        ensures state { OnOk result (self.new.node ≡ after_asks self.old.node asks.now) }
+        ensures done { OnOk result (AreDone self.old.node.config self.old.node.number self.old.node
+            asks.now (D.seen self.old.disk) (D.seen self.new.disk)) }
+        ensures untouched { OnOk result
+            (slots_by_all self.old.node asks.now ≡ [] → self.new.disk ≡ self.old.disk) }
+        ensures durable { OnOk result (D.pending self.new.disk ≡ settled (D.seen self.new.disk)) }
+        ensures broken { IsErrOf result StoreRefusal.Broken ↔ (self.old.broken ≡ true) }
+        // Full comes only where the slots don't fit, and where they don't, nothing but want of memory comes in its place
+        ensures full { IsErrOf result StoreRefusal.Full → (self.old.broken ≡ false)
+            × (has_places self.old.node asks.now (D.seen self.old.disk) (D.most self.old.disk)
+            ≡ false) }
+        ensures fits { OnOk result (has_places self.old.node asks.now (D.seen self.old.disk)
+            (D.most self.old.disk) ≡ true) }
+        ensures fits_failed { IfErr result (IfFailed (has_places self.old.node asks.now
+            (D.seen self.old.disk) (D.most self.old.disk) ≡ true)) }
+        ensures calm { IfErr result (IfCalm (self.new ≡ self.old)) }
+        ensures breaks { IfErr result (IfFailed (self.new.broken ≡ true)) }
+        ensures whole { OnOk result (self.new.broken ≡ false) }
+        ensures config { self.new.node.config ≡ self.old.node.config }
+        ensures room { D.most self.new.disk ≡ D.most self.old.disk }
+        // what a crash at any moment of the call leaves holds the state after the first few of the asks
+        ensures any_moment { self.old.broken ≡ false
+            → LeavesOnly D.moment D.left_since self.old.disk self.new.disk
+            (AreDoneInPart self.old.node.config self.old.node.number self.old.node asks.now
+            (D.seen self.old.disk)) }
+        ensures later { D.faults self.old.disk ≤ D.faults self.new.disk }
+        ensures cause { IfErr result
+            (IfFailed (Rose D.last (D.faults self.old.disk) (D.faults self.new.disk))) }
+    {
+        if self.broken {
+            return Err(StoreRefusal::Broken);
+        }
+        match add_all(self.alloc, &mut self.node, &mut self.disk, self.count, asks) {
+            Ok((replies, more)) => {
+                self.count += more;
+                Ok(replies)
+            }
+            Err(refusal) => {
+                self.broken = matches!(refusal, StoreRefusal::DiskFault);
+                Err(refusal)
+            }
+        }
     }
 
     /// What the node would answer and add. Nothing changes, and `commit` needs no digest any more.
@@ -254,6 +319,74 @@ impl<D: Disk> StoredNode<D> {
         }
         self.broken = matches!(kept, Err(StoreRefusal::DiskFault));
         kept
+    }
+
+    /// Writes the shortest journal of the node to an empty disk, and syncs it: a slot for each version that is kept beside the first
+    /// ones, block by block, in order of acceptance. The node and its own disk stay as they are. Until the call returns the disk has
+    /// nothing that counts.
+    pub fn compact<E: Disk>(&self, disk: E) -> Result<E, CompactRefusal<E>>
+        // the disk holds the same node, safe from a crash, in no more slots than it takes
+        ensures state { IfOk result (λ disk. held self.now.node.config self.now.node.number
+            (E.seen disk) ≡ self.now.node) }
+        ensures slots { IfOk result (λ disk. slots_of self.now.node.config (E.seen disk)
+            ≡ kept_slots self.now.node) }
+        ensures good { IfOk result (λ disk. first_bad self.now.node.config self.now.node.number
+            (E.seen disk) ≡ None) }
+        ensures durable { IfOk result (λ disk. E.pending disk ≡ settled (E.seen disk)) }
+        ensures len { IfOk result (λ disk.
+            length (E.seen disk) ≡ compacted_len self.now.node) }
+        // where the disk doesn't fail and memory is found, each of the others comes exactly where it has to
+        ensures whole { OnOk result (self.now.broken ≡ false) }
+        ensures broken { IfErr result
+            (λ r. (r.why ≡ CompactFault.Broken) ↔ (self.now.broken ≡ true)) }
+        ensures empty { OnOk result (E.seen disk ≡ []) }
+        ensures not_empty { IfErr result
+            (λ r. r.why ≡ CompactFault.NotEmpty → 1 ≤ length (E.seen disk)) }
+        ensures fits { OnOk result (compacted_len self.now.node ≤ E.most disk) }
+        ensures full { IfErr result
+            (λ r. r.why ≡ CompactFault.Full → E.most disk < compacted_len self.now.node) }
+        ensures room { E.most (given_back result) ≡ E.most disk }
+        ensures later { E.faults disk ≤ E.faults (given_back result) }
+        ensures cause { IfErr result (λ r. IfDiskFailed
+            (Rose E.last (E.faults disk) (E.faults r.disk)) r.why) }
+    {
+        let mut disk = disk;
+        if self.broken {
+            return Err(CompactRefusal {
+                why: CompactFault::Broken,
+                disk,
+            });
+        }
+        match write_journal(self.alloc, &self.node, &mut disk) {
+            Ok(()) => Ok(disk),
+            Err(why) => Err(CompactRefusal { why, disk }),
+        }
+    }
+
+    /// How long the journal is, and how long the shortest one of the node would be. Nothing is read, and the time is that of a step
+    /// for each block.
+    pub fn journal_len(&self) -> JournalLen
+        ensures now { self.now.broken ≡ false → result.now ≡ min (slots_len self.now.node
+            (D.seen self.now.disk)) (2 ^ 64 - 1) }
+        ensures compacted { self.now.broken ≡ false → result.compacted
+            ≡ min (compacted_len self.now.node) (2 ^ 64 - 1) }
+    {
+        let slot = body_size(self.node.config()) + 1;
+        JournalLen {
+            now: self.count.saturating_mul(slot).saturating_add(1),
+            compacted: compacted_size(&self.node),
+        }
+    }
+
+    /// Whether the journal is due to be compacted: it is longer than twice what it would be and this many bytes.
+    pub fn is_due(&self, least: u64) -> bool
+        ensures { self.now.broken ≡ false
+            → slots_len self.now.node (D.seen self.now.disk) < 2 ^ 64
+            → result ≡ nat_lt (2 * compacted_len self.now.node + least)
+            (slots_len self.now.node (D.seen self.now.disk)) }
+    {
+        let JournalLen { now, compacted } = self.journal_len();
+        compacted.saturating_mul(2).saturating_add(least) < now
     }
 
     /// What the node would answer. Nothing changes.

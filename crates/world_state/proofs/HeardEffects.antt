@@ -14,7 +14,7 @@ use Rattle.protocol.specs.World.{World, heard, heard_by, with_record, chosen_sta
 use Rattle.protocol.specs.Seen.{SeenTask, record_of, phase_of, Hearing, new_client, client_at, task_at, started_task, seen_goes_on, seen_counted, is_counted, answers_of, by_decision, after_counting, hearing}
 use Rattle.protocol.specs.Seen.Hearing.{Ignored, Counted, Begins, Ended}
 use Rattle.protocol.proofs.Seeing.{length-goes_on, length-counted, after_hearing, heard_by-seen}
-use Rattle.operation_core.specs.Counting.{MayBegin}
+use Rattle.operation_core.specs.Counting.{GoesOn as GoesOnIn, IsAtEnd}
 use Rattle.client_core.specs.Clients.{ClientView, operation_of, hears, goes_to, is_only_counted, next_of}
 use Rattle.world_state.specs.declared.answer_effect.AnswerEffect.{AnswerEffect}
 use Rattle.world_state.specs.declared.answer_effect.AnswerEffect.TheVariants.{Same, Counts, Goes, Ends}
@@ -123,8 +123,9 @@ module _ (v : WorldView) (k place : ℕ) (m : Message) (answer : IsAnswer k m) (
             (ap is_only_counted counted, rw (task, counted) (goes-on (client_at v.seen k).task fit h.0 (ap goes_to h.1) (slice_index_or v.seen.starts k 0)))
         at (Goes stage) h =
             let next : next_of (client_in now k) stage ≡ Some h.0 = ap (λ (x : ClientView). next_of x stage) client-kept ∙ h.2 in
-            (subst (λ (x : ClientView). MayBegin (operation_of x) stage) (sym client-kept) h.3, rw (task, next) (goes-on (client_at v.seen k).task fit h.0 (ap goes_to h.1) (slice_index_or v.seen.starts k 0)))
-        at (Ends outcome) h = rw task (ends (client_at v.seen k).task outcome h (slice_index_or v.seen.starts k 0))
+            (subst (λ (x : ClientView). GoesOnIn (operation_of x) stage) (sym client-kept) h.3, rw (task, next) (goes-on (client_at v.seen k).task fit h.0 (ap goes_to h.1) (slice_index_or v.seen.starts k 0)))
+        at (Ends outcome) h =
+            (subst (λ (x : ClientView). IsAtEnd (operation_of x)) (sym client-kept) h.1, rw task (ends (client_at v.seen k).task outcome h.0 (slice_index_or v.seen.starts k 0)))
 
   -- ---- and then it heard the message
   module _ (w : World) (start : ℕ) where
@@ -180,7 +181,7 @@ module _ (v : WorldView) (k place : ℕ) (m : Message) (answer : IsAnswer k m) (
     takes t (Begins u) (Goes stage) next is =
         let q : u ≡ is.0 = (let e = is.1 in cc) in
         ap (λ (o : Option SeenTask). goes_on (mailed (Begins u)) k (task_at start t) o) (is.2 ∙ ap Some (sym q)) ∙ begins t u (next u refl)
-    takes t h (Ends outcome) next is = rw is refl
+    takes t h (Ends outcome) next is = rw is.0 refl
 
   pub heard-applied : (w : World) → w.task k ≡ (world_in v).task k → Fits v.config.n v.seen.place (client_at v.seen k).task → IsEffect (client_in v k) (hearing_of v k m) effect
       → (c : ClientView) → c ≡ client_in v k → (now : World) → now ≡ record w { pool = w.pool ++ next_mail (client_in v k) (hearing_of v k m); place = place } → applied now c (now.task k) effect ≡ heard (setting_in v) w place k m m.body

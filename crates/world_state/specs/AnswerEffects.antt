@@ -9,7 +9,7 @@ use Rattle.protocol.specs.Operations.{Task, Outcome}
 use Rattle.protocol.specs.World.{World, stamp_of_outcome, with_record}
 use Rattle.protocol.specs.Seen.{SeenTask, Hearing, client_at, started_task, chosen_of, hears as hears_answer}
 use Rattle.protocol.specs.Seen.Hearing.{Ignored, Counted, Begins, Ended}
-use Rattle.operation_core.specs.Counting.{MayBegin}
+use Rattle.operation_core.specs.Counting.{GoesOn, IsAtEnd}
 use Rattle.client_core.specs.Clients.{ClientView, operation_of, mail_of, goes_to, is_only_counted, next_of}
 use Rattle.world_state.specs.declared.answer_effect.AnswerEffect.{AnswerEffect}
 use Rattle.world_state.specs.declared.answer_effect.AnswerEffect.TheVariants.{Same, Counts, Goes, Ends}
@@ -29,8 +29,8 @@ answer_does c node tag reply = hears_answer (setting c.config) c.id c.seen.task 
 abbrev pub IsEffect : ClientView → Hearing → AnswerEffect → Type 0
 IsEffect c h Same = h ≡ Ignored
 IsEffect c h (Counts node tag reply) = (u : SeenTask) × (h ≡ Counted u) × (answer_does c node tag reply ≡ Counted u)
-IsEffect c h (Goes stage) = (u : SeenTask) × (h ≡ Begins u) × (next_of c stage ≡ Some u) × MayBegin (operation_of c) stage
-IsEffect c h (Ends outcome) = h ≡ Ended outcome
+IsEffect c h (Goes stage) = (u : SeenTask) × (h ≡ Begins u) × (next_of c stage ≡ Some u) × GoesOn (operation_of c) stage
+IsEffect c h (Ends outcome) = (h ≡ Ended outcome) × IsAtEnd (operation_of c)
 
 -- the client of this number, with its life and its count of operations
 pub record IsSame (v : WorldView) (k : ℕ) (new : ClientView) : Type 0 where
@@ -56,8 +56,8 @@ Becomes c place (Some t) (Some u) = MayGoOn c place t u
 abbrev pub MayApply : WorldView → ℕ → AnswerEffect → Type 0
 MayApply v k Same = Unit {0}
 MayApply v k (Counts node tag reply) = (is_only_counted (answer_does (client_in v k) node tag reply) ≡ true) × Becomes v.config v.seen.place ((world_in v).task k) (goes_to (answer_does (client_in v k) node tag reply))
-MayApply v k (Goes stage) = MayBegin (operation_of (client_in v k)) stage × Becomes v.config v.seen.place ((world_in v).task k) (next_of (client_in v k) stage)
-MayApply v k (Ends outcome) = Becomes v.config v.seen.place ((world_in v).task k) None
+MayApply v k (Goes stage) = GoesOn (operation_of (client_in v k)) stage × Becomes v.config v.seen.place ((world_in v).task k) (next_of (client_in v k) stage)
+MayApply v k (Ends outcome) = IsAtEnd (operation_of (client_in v k)) × Becomes v.config v.seen.place ((world_in v).task k) None
 
 -- the world when the client's operation has become this one, and this is told of it
 abbrev pub settled : World → ℕ → Task → Option SeenTask → Option ℕ → Option Stamp → Option Outcome → World

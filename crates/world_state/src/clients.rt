@@ -10,7 +10,7 @@ ghost use Rattle.protocol.specs.Count.{collect};
 ghost use Rattle.protocol.specs.Instance.{setting};
 ghost use Rattle.world_state.specs.Worlds.{setting_in, world_in};
 ghost use Rattle.run_words.specs.declared.record.Record.{Record as Told};
-ghost use Rattle.operation_core.specs.Counting.{MayBegin};
+ghost use Rattle.operation_core.specs.Counting.{GoesOn, IsAtEnd};
 ghost use Rattle.client_core.specs.Clients.{operation_of, hears, goes_to, is_only_counted, next_of};
 ghost use Rattle.world_state.specs.Changes.{HasBecome, accepts_in, handles, client_in, IsAnswer};
 ghost use Rattle.world_state.specs.AnswerEffects.{IsEffect, next_mail, answer_does, Becomes, goes_on, settled};
@@ -120,10 +120,10 @@ impl State {
         slot.client.count(node, tag, reply);
     }
 
-    /// A client's operation goes on with a next phase.
+    /// A client's operation goes on with a next phase, as an answer that ends the present one has it.
     pub(crate) fn go_on(&mut self, client: u32, stage: Stage)
         requires client { client ≤ 1000 }
-        requires stage { MayBegin (operation_of (client_in self.now client)) stage }
+        requires stage { GoesOn (operation_of (client_in self.now client)) stage }
         requires task { Becomes self.now.config self.now.seen.place
             ((world_in self.now).task client) (next_of (client_in self.now client) stage) }
         ensures { IfSome ((world_in self.old).task client) (λ t. HasBecome self.old self.new
@@ -136,9 +136,10 @@ impl State {
         tell(&mut self.records, index, None, stamp, None);
     }
 
-    /// A client's operation ends.
+    /// A client's operation ends, as an answer that ends the present phase has it.
     pub(crate) fn end(&mut self, client: u32, outcome: Outcome)
         requires client { client ≤ 1000 }
+        requires over { IsAtEnd (operation_of (client_in self.now client)) }
         requires awake { (world_in self.now).client_crashed client ≡ false }
         requires task { Becomes self.now.config self.now.seen.place
             ((world_in self.now).task client) None }

@@ -3,7 +3,7 @@ ghost use Rattle.wire_forms.specs.declared.op.Op.TheVariants.{Write as WriteOp};
 ghost use Rattle.protocol.specs.Operations.Stage.{Times};
 ghost use Rattle.protocol.specs.Seen.{Hearing, with_task, has_answered, phase_of, chosen_of};
 ghost use Rattle.operation_core.specs.Stages.{stage_of, IsEncoded};
-ghost use Rattle.operation_core.specs.Counting.{begun_in, first_mail, counts_in, ends_in, hears_in, next_in, outstanding_in, MayBegin, IsPhaseEnd};
+ghost use Rattle.operation_core.specs.Counting.{begun_in, first_mail, counts_in, ends_in, hears_in, next_in, outstanding_in, AnswerDoes, GoesOn, IsAtEnd, IsPhaseEnd};
 ghost use Rattle.write_core.specs.declared.writer.Writing.TheVariants.{More, Spent};
 ghost use Rattle.write_core.specs.Writers.{after_hearing, said_of, ended_as, FindsLastTime, IsUnder};
 
@@ -140,16 +140,17 @@ impl Writer {
         }
     }
 
-    /// Begins the next phase.
+    /// Begins the next phase, as an answer that ends the present one has it. It takes no memory.
     pub fn go_on(&mut self, stage: Stage)
-        requires { MayBegin self.old stage }
+        requires { GoesOn self.old stage }
         ensures { self.new ≡ next_in self.old (stage_of stage) }
     {
         self.operation.go_on(stage);
     }
 
-    /// Ends the write.
+    /// Ends the write, as an answer that ends the present phase has it. It takes no memory.
     pub fn end(&mut self)
+        requires { IsAtEnd self.old }
         ensures { self.new ≡ with_task self.old None }
     {
         self.operation.end();
@@ -204,9 +205,9 @@ impl Writer {
         self.operation.block()
     }
 
-    /// Does what the phase comes to, and says it.
+    /// Does what the phase comes to with an answer that ends it, and says it.
     fn enter(&mut self, end: PhaseEnd) -> Writing
-        requires { (h : Hearing) × IsPhaseEnd self.old h end }
+        requires { (h : Hearing) × AnswerDoes self.old h × IsPhaseEnd self.old h end }
         ensures said { (h : Hearing) → IsPhaseEnd self.old h end → result ≡ said_of self.old h }
         ensures new { (h : Hearing) → IsPhaseEnd self.old h end
             → self.new ≡ after_hearing self.old h }

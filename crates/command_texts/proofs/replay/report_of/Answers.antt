@@ -18,7 +18,7 @@ returns-in_ok-told-in-Ok-clause-text c =
       faultless = subst (λ t. IsFaultless replay_script t) e c.in_ok-replay.ensures.faultless;
     } in (
       subst (λ (t : List ℕ). Replays c.args.input.now t) (sym c.of.ensures.text)
-          (replays c.args.input.now r.config r.liars r.lines script c.in_ok-told-in-Ok.field-0 c.in-Ok.world c.in-Ok.ensures.cluster c.in-Ok.ensures.liars c.in-Ok.ensures.run c.in_ok-told-in-Ok.ensures),
+          (replays c.args.input.now r.config r.liars r.lines script c.in_ok-told-in-Ok.field-0 c.in-Ok.world c.in-Ok.ensures.cluster c.in-Ok.ensures.liars c.in-Ok.ensures.run c.in-Ok.ensures.is_run c.in_ok-told-in-Ok.ensures),
       c.of.ensures.flaw,
     )
 

@@ -6,10 +6,14 @@ use Rattle.protocol.specs.Seen.{record_of}
 use Rattle.journal_records.specs.Records.{AreAllRecords}
 use Rattle.std.specs.List.Sorted.{IsPermutation}
 use Rattle.journal_records.proofs.Together.{kept_desks, are_all}
+use Rattle.journal_records.proofs.Places.{have_places}
 use Rattle.journal_records.proofs.telling.records_of.Goals as goal
 
 pub records_by_client-requires : goal.records_by_client-requires
-records_by_client-requires c = record { kept = kept_desks c.requires.run.0 c.args.journals.now c.requires.run.1 c.requires.desks }
+records_by_client-requires c = record {
+  kept = kept_desks c.requires.run.0 c.args.journals.now c.requires.run.1 c.requires.desks;
+  places = have_places c.args.journals.now c.requires.run.1.pairs c.requires.desks c.requires.numbers.0 c.requires.numbers.1 c.requires.numbers.2;
+}
 
 pub returns : goal.returns
 returns c =

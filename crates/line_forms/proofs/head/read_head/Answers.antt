@@ -2,7 +2,7 @@ use Rattle.std.proofs.Common.{◌≡◌, Some, sym, ◌∙◌}
 use Rattle.quorum_rules.specs.Limits.{Numbers}
 use Rattle.text_lines.specs.Lines.{fields_of}
 use Rattle.line_forms.specs.Heads.{script, IsSpelled, edition_in}
-use Rattle.line_forms.proofs.Heads.{bad_header, header_read, cluster_fault, head_read}
+use Rattle.line_forms.proofs.Heads.{bad_header, header_read, never_third, cluster_fault, head_read}
 use Rattle.line_forms.proofs.Tables.{refusal_here}
 use Rattle.line_forms.proofs.Texts.{rest_of_two}
 use Rattle.line_forms.proofs.head.read_head.Goals as goal
@@ -24,6 +24,11 @@ returns-in-Ok-clause-head c =
     let read = header_read body c.args.text.now first rest edition c.in_ok-first.ensures.parts named in
     rw (rest_of_two c.args.text.now first rest line after c.in_ok-first.ensures.parts next)
     (head_read body c.args.text.now first line rest after edition c.in-Ok.config read named next c.in-Ok.ensures.0 c.in-Ok.ensures.1)
+
+pub returns-in-Ok-clause-of_scripts : goal.returns-in-Ok-clause-of_scripts
+returns-in-Ok-clause-of_scripts c =
+    let named : edition_in c.in_ok-first.first.now ≡ Some c.in-Some.edition = sym c.edition_in.ensures ∙ c.in-Some.is in
+    λ third. never_third c.in_ok-first.first.now c.in-Some.edition named (sym c.in-Ok.ensures.1.0 ∙ third)
 
 pub returns-in-Err-clause-fault : goal.returns-in-Err-clause-fault
 returns-in-Err-clause-fault c =

@@ -1,8 +1,8 @@
-use Rattle.std.proofs.Common.{◌≡◌, ℕ, ◌+◌, ◌-◌, ◌≤◌, min, take}
+use Rattle.std.proofs.Common.{◌≡◌, ◌+◌, ◌-◌, ◌*◌, ◌/◌, ◌<◌, ◌≤◌, min, take}
 use Rattle.block_device.specs.Device.{merged}
-use Rattle.node_device.specs.Held.{held_at}
 use Rattle.nbd_front.specs.Arrays.{array_of, IsInOrder}
 use Rattle.nbd_front.proofs.Progress.{reached}
+use Rattle.nbd_front.proofs.Steps.{HaveWalked}
 use Rattle.nbd_front.proofs.array.write_span.Given as goal
 
 abbrev pub invariant-loop-block : goal.invariant-loop-block
@@ -10,9 +10,9 @@ invariant-loop-block l = record {
   order : IsInOrder l.device;
   config : l.device.config ≡ l.initial.device.config;
   life : l.device.life ≡ l.initial.device.life;
-  steps : l.device.started ≤ l.initial.device.started + (min l.block 4096 + min l.block 4096);
+  steps : l.device.started ≤ l.initial.device.started + (min l.block 65536 + min l.block 65536);
   place : l.place ≡ reached l.size l.start l.end l.block;
   array : array_of l.device.held ≡ merged (array_of l.initial.device.held) l.start (take (l.place - l.start) l.bytes);
-  early : (j : ℕ) → (held_at l.device.config l.device.held j).time ≤ (held_at l.device.config l.initial.device.held j).time + 1;
-  rest : (j : ℕ) → l.block ≤ j → (held_at l.device.config l.device.held j).time ≡ (held_at l.device.config l.initial.device.held j).time;
+  near : l.block * l.size < l.end + l.size;
+  times : HaveWalked (l.start / l.size) l.block l.initial.device l.device;
 }

@@ -8,7 +8,7 @@ use Rattle.quorum_rules.specs.Limits.{Numbers}
 use Rattle.nbd_front.specs.Replies.{greeting}
 use Rattle.nbd_front.specs.declared.ending.Served.TheVariants.{Over}
 use Rattle.nbd_front.specs.declared.ending.SessionEnd.TheVariants.{NoMemory, WriteFault}
-use Rattle.nbd_front.specs.Sessions.{IsWholeInput}
+use Rattle.nbd_front.specs.Sessions.{EndsSo}
 use Rattle.nbd_front.proofs.Runs.{not_greeted, not_made}
 use Rattle.nbd_front.proofs.Stepping.{greeted, on_ok, if_err}
 use Rattle.nbd_front.proofs.session.serve.Goals as goal
@@ -43,7 +43,8 @@ returns-clause-ended g c =
     if_err _ _ (λ e i. greeted (greeting size) (replicate size 0) s (Err e) _ _ _ _ _ made.zeros made.fresh.0 made.fresh.1 adds i) c.serve.result c.serve.ensures.ended
 
 pub returns-clause-complete : goal.returns-clause-complete
-returns-clause-complete g c input no_read no_write =
-    let s = c.in_ok-server.server in
+returns-clause-complete g c input end told so no_read no_write =
     let made = c.in_ok-server.ensures in
-    c.serve.ensures.complete (subst (λ n. IsWholeInput n (g.S.Source.left c.args.source.now)) (sym made.fresh.0) input) no_read (λ rose. no_write (subst (λ n. Rose g.K.Sink.last n (g.K.Sink.faults c.serve.new.sink)) c.in_ok-greet.ensures.calm rose))
+    let served = subst (λ n. EndsSo end n 0 input) (sym made.fresh.0) so in
+    let placed = subst (λ n. EndsSo end c.in_ok-server.server.served n input) (sym made.fresh.1) served in
+    c.serve.ensures.complete input end told placed no_read (λ rose. no_write (subst (λ n. Rose g.K.Sink.last n (g.K.Sink.faults c.serve.new.sink)) c.in_ok-greet.ensures.calm rose))

@@ -3,8 +3,8 @@ use Rattle.command_texts.specs.PlanRuns.{Runs}
 use Rattle.pasis_shell.proofs.RunsOfPlans.{is_plan}
 use Rattle.pasis_shell.proofs.planned.run_of.Goals as goal
 
-pub run_text-requires : goal.run_text-requires
-run_text-requires g c = rw c.count.ensures.count c.in_ok-ran.ensures.followed
+pub run_text-requires-clause-run : goal.run_text-requires-clause-run
+run_text-requires-clause-run g c = rw c.count.ensures.count c.in_ok-ran.ensures.followed
 
 pub returns-clause-text : goal.returns-clause-text
 returns-clause-text g c =

@@ -3,8 +3,8 @@ use Rattle.command_texts.specs.PlanRuns.{Traces}
 use Rattle.pasis_shell.proofs.RunsOfPlans.{is_plan}
 use Rattle.pasis_shell.proofs.planned.trace_of.Goals as goal
 
-pub trace_text-requires : goal.trace_text-requires
-trace_text-requires g c = (c.in_ok-ran.ran.drawn.count, c.in_ok-ran.ensures.followed)
+pub trace_text-requires-clause-run : goal.trace_text-requires-clause-run
+trace_text-requires-clause-run g c = rw c.count-drawn.ensures.count c.in_ok-ran.ensures.followed
 
 pub returns-clause-text : goal.returns-clause-text
 returns-clause-text g c =

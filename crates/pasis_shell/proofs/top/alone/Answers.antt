@@ -4,6 +4,7 @@ use Rattle.command_texts.specs.Words.{texts, words_of}
 use Rattle.command_texts.specs.Texts.{IsAccepted}
 use Rattle.pasis_shell.specs.Sessions.{Serves}
 use Rattle.pasis_shell.proofs.Accepted.{complete, some_answered}
+use Rattle.pasis_shell.proofs.Sessions.{told_some}
 use Rattle.command_texts.proofs.Commands.{runs_none}
 use Rattle.command_texts.proofs.NbdForms.{one_nbd}
 use Rattle.pasis_shell.proofs.top.alone.Goals as goal
@@ -12,6 +13,14 @@ pub returns-in-Some-clause-session : goal.returns-in-Some-clause-session
 returns-in-Some-clause-session g c d nbd =
     let same = one_nbd (texts c.args.words.now) c.in-Some.config d c.in-Some.ensures.some nbd in
     subst (λ (z : Numbers). Serves z c.serve_device.result (g.S.Source.left c.args.source.now) (g.S.Source.left c.serve_device.new.source) (g.K.Sink.taken c.args.sink.now) (g.K.Sink.taken c.serve_device.new.sink) (g.K.Sink.flushed c.serve_device.new.sink)) same c.serve_device.ensures.session
+
+pub returns-in-Some-clause-complete_session : goal.returns-in-Some-clause-complete_session
+returns-in-Some-clause-complete_session g c form input end told so no_read no_write =
+    told_some c.serve_device.result end (c.serve_device.ensures.complete input end told so no_read no_write)
+
+pub returns-clause-complete_session : goal.returns-clause-complete_session
+returns-clause-complete_session g c form input end told so no_read no_write =
+    absurd (c.in_default.ensures.none form)
 
 pub returns-clause-complete : goal.returns-clause-complete
 returns-clause-complete g c form quiet input before small accepted calm_source calm_sink =

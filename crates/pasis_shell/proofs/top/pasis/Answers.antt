@@ -3,6 +3,7 @@ use Rattle.outside_io.specs.Causes.{Rose}
 use Rattle.command_texts.specs.Words.{texts, words_of, AskForPlan, AskForLoad}
 use Rattle.command_texts.specs.Texts.{IsAccepted}
 use Rattle.pasis_shell.proofs.Accepted.{complete, plan_runs, load_runs}
+use Rattle.pasis_shell.proofs.Sessions.{told_alone}
 use Rattle.command_texts.proofs.Commands.{asks_threads, plan_form, load_threads, load_form}
 use Rattle.command_texts.proofs.NbdForms.{no_command}
 use Rattle.pasis_shell.proofs.top.pasis.Goals as goal
@@ -66,3 +67,7 @@ returns-in-Some-clause-complete_load g c ask calm_sink =
 
 pub returns-in-None-clause-complete_load : goal.returns-in-None-clause-complete_load
 returns-in-None-clause-complete_load g c ask calm_sink = absurd (c.in-None.ensures.none (load_form (texts c.args.words.now) ask))
+
+pub returns-in-Some-clause-complete_session : goal.returns-in-Some-clause-complete_session
+returns-in-Some-clause-complete_session g c form input end told so no_read no_write =
+    told_alone c.in-Some.status end (c.in-Some.ensures.complete_session form input end told so no_read no_write)

@@ -15,7 +15,7 @@ use Rattle.plan_text.proofs.plan.read_body.Goals as goal
 pub loop-rest-init : goal.loop-rest-init
 loop-rest-init c =
     let plan : Plan = record { config = c.args.config; liars = c.none.result; rules = c.new.result; work = c.new-2.result } in
-    body_begins c.args.text.now plan c.nothing-seen.result c.args.at c.requires.valid c.new.ensures c.new-2.ensures c.none.ensures.nodes c.none.ensures.clients c.nothing-seen.ensures c.requires.within c.requires.head
+    body_begins c.args.text.now plan c.nothing-seen.result c.args.at c.requires.valid c.requires.of_scripts c.new.ensures c.new-2.ensures c.none.ensures.nodes c.none.ensures.clients c.nothing-seen.ensures c.requires.within c.requires.head
 
 pub note-requires-clause-steps : goal.note-requires-clause-steps
 note-requires-clause-steps c =

@@ -1,5 +1,5 @@
 -- The law's clauses are lemmas of `Theorem` and `Kept`, at the setting of a cluster.
-use Rattle.protocol.proofs.Theorem.{run_has, run_keys, run_one}
+use Rattle.protocol.proofs.Theorem.{run_has, run_keys, run_one, run_values, run_written}
 use Rattle.protocol.proofs.Kept.{run_blocks}
 use Rattle.protocol.proofs.Cluster.{cluster_valid}
 use Rattle.protocol.specs.Instance.{setting_of}
@@ -11,4 +11,6 @@ returns a = record {
   one = λ c nodes clients good lines w run. run_one (setting_of c nodes clients) lines w (cluster_valid c nodes clients good) run;
   blocks = λ c nodes clients good lines w run. run_blocks (setting_of c nodes clients) lines w (cluster_valid c nodes clients good) run;
   keys = λ c nodes clients good lines w run. run_keys (setting_of c nodes clients) lines w (cluster_valid c nodes clients good) run;
+  of_writes = λ c nodes clients good lines w run. run_written (setting_of c nodes clients) lines w (cluster_valid c nodes clients good) run;
+  values = λ c nodes clients good lines w run. run_values (setting_of c nodes clients) lines w (cluster_valid c nodes clients good) run;
 }

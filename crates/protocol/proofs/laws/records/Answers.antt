@@ -2,7 +2,12 @@
 use Rattle.protocol.proofs.Cluster.{cluster_valid}
 use Rattle.protocol.specs.Instance.{setting_of}
 use Rattle.protocol.proofs.Kept.{run_in_order, run_told}
+use Rattle.protocol.proofs.SpentLies.{records_few}
 use Rattle.protocol.proofs.laws.records.Goals as goal
 
 pub returns : goal.returns
-returns a = record { starts = λ c nodes clients good lines w run. run_in_order (setting_of c nodes clients) lines w (cluster_valid c nodes clients good) run; told = λ c nodes clients good lines w run. run_told (setting_of c nodes clients) lines w (cluster_valid c nodes clients good) run }
+returns a = record {
+  starts = λ c nodes clients good lines w run. run_in_order (setting_of c nodes clients) lines w (cluster_valid c nodes clients good) run;
+  told = λ c nodes clients good lines w run. run_told (setting_of c nodes clients) lines w (cluster_valid c nodes clients good) run;
+  few = λ c nodes clients good lines w run. records_few (setting_of c nodes clients) lines w (cluster_valid c nodes clients good) run;
+}

@@ -7,4 +7,4 @@ pub history_of-requires : goal.history_of-requires
 history_of-requires c = can_tell c.requires.0 c.requires.1 (map record_of c.args.records.now) c.args.first.now c.requires.2
 
 pub returns : goal.returns
-returns c s w are = all_told s w (map record_of c.args.records.now) c.args.first.now are c.history_of.result c.history_of.ensures.tells c.history_of.ensures.numbers
+returns c s w are = all_told s w (map record_of c.args.records.now) c.args.first.now are c.linearizable.ensures.by_block c.durable.ensures.durable c.history_of.result c.history_of.ensures.tells c.history_of.ensures.numbers

@@ -8,10 +8,11 @@ use Rattle.protocol.specs.Setting.{Setting}
 use Rattle.protocol.specs.Instance.{setting_of}
 use Rattle.event_lines.specs.declared.line.ReplayLine.{ReplayLine}
 use Rattle.world_state.specs.Worlds.{WorldView, setting_in, world_in}
-use Rattle.script_run.specs.Performing.{cause_of, after_line, start_queues, LeadsTo, Performs}
+use Rattle.protocol.specs.Lines.{IsRun, FitsLine}
+use Rattle.script_run.specs.Performing.{cause_of, after_line, start_queues, run_line, run_lines, LeadsTo, Performs}
 use Rattle.script_run.specs.Performing.{CommandQueues as TheQueues}
 use Rattle.script_run.specs.CommandQueues.{queues_in}
-use Rattle.script_run.proofs.Leading.{leads_next, stops_here, after-place, told_at}
+use Rattle.script_run.proofs.Leading.{leads_next, stops_here, after-place, run_next, told_at}
 use Rattle.script_run.proofs.Taking.{next_within, next_is, rest_is, all_counted, all_taken}
 use Rattle.script_run.proofs.run.perform.Goals as goal
 
@@ -56,6 +57,9 @@ loop-line-preserved c =
       placed = ap (λ (z : TheQueues). z.world.place) is ∙ after-place s config d (i + 1) x why;
       cluster = c.in_default-perform.ensures.cluster ∙ inv.cluster;
       setting = c.in_default-perform.ensures.setting ∙ inv.setting;
+      is_run =
+          let fits : FitsLine s (run_line s d x) = subst (λ (z : Setting). FitsLine z (run_line z d x)) inv.setting c.in_default-perform.ensures.fits in
+          run_next s config d new (i + 1) lines i x lt (next_is lines i x c.next.new.self next) inv.leads (omega arith) inv.placed why is fits inv.is_run;
       leads = leads_next s config (start_queues s) d new (i + 1) lines i x lt (next_is lines i x c.next.new.self next) inv.leads (omega arith) why is;
     }
 
@@ -74,6 +78,20 @@ returns-clause-run c =
     let there : Performs (setting_in w) w.config lines d =
     subst (λ (z : Setting). Performs z w.config lines d) (sym inv.setting) (subst (λ (n : Numbers). Performs s n lines d) (sym inv.cluster) leads) in
     (d, subst (λ (v : WorldView). Performs (setting_in v) v.config lines d) (sym c.into_world.ensures) there, ap world_in (sym c.into_world.ensures))
+
+pub returns-clause-is_run : goal.returns-clause-is_run
+returns-clause-is_run c =
+    let config = c.args.replay.config in
+    let s = setting_of config (has_number c.args.replay.liars.nodes) (has_number c.args.replay.liars.clients) in
+    let lines = c.args.replay.lines in
+    let i = c.loop-line.place in
+    let inv = c.loop-line.invariant in
+    let w = c.loop-line.queues.world in
+    let over : drop i lines ≡ [] = sym inv.rest ∙ c.in_default.ensures.none in
+    let run : IsRun s (run_lines s config lines) (world_in w) = subst (λ (ls : List ReplayLine). IsRun s (run_lines s config ls) (world_in w)) (all_taken lines i inv.within over) inv.is_run in
+    let there : IsRun (setting_in w) (run_lines (setting_in w) w.config lines) (world_in w) =
+    subst (λ (z : Setting). IsRun z (run_lines z w.config lines) (world_in w)) (sym inv.setting) (subst (λ (n : Numbers). IsRun s (run_lines s n lines) (world_in w)) (sym inv.cluster) run) in
+    subst (λ (v : WorldView). IsRun (setting_in v) (run_lines (setting_in v) v.config lines) (world_in v)) (sym c.into_world.ensures) there
 
 pub returns-clause-placed : goal.returns-clause-placed
 returns-clause-placed c =

@@ -8,7 +8,7 @@ use Rattle.script_text.proofs.liars.read_liars.Goals as goal
 
 pub loop-line-init : goal.loop-line-init
 loop-line-init c =
-    liars_begin c.args.text.now c.args.config c.none-liars.result c.args.at c.requires.valid c.none-liars.ensures.nodes c.none-liars.ensures.clients c.requires.within c.requires.head
+    liars_begin c.args.text.now c.args.config c.none-liars.result c.args.at c.requires.valid c.requires.of_scripts c.none-liars.ensures.nodes c.none-liars.ensures.clients c.requires.within c.requires.head
 
 pub returns-in-Err-clause-fault : goal.returns-in-Err-clause-fault
 returns-in-Err-clause-fault c =

@@ -1,7 +1,7 @@
 use Rattle.std.proofs.Common.{◌≡◌, ℕ, ◌+◌, List, length, get_or, sym, ◌∙◌, ap, subst}
 use Rattle.quorum_rules.specs.Limits.{Numbers}
 use Rattle.node_core.specs.Seen.{SeenNode}
-use Rattle.version_disk.specs.Slots.{version_slot, body_len, Fits, IsPieceOf}
+use Rattle.slot_disk.specs.Slots.{version_slot, body_len, Fits, IsPieceOf}
 use Rattle.version_disk.specs.Kept.{IsKept}
 use Rattle.version_disk.specs.Deeds.{after_deed, Answers}
 use Rattle.version_disk.proofs.Keeping.{unmoved, piece_long, piece_zero}

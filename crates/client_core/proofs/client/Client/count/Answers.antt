@@ -12,4 +12,4 @@ pub count-requires-in-Reading-clause-goes_on : goal.count-requires-in-Reading-cl
 count-requires-in-Reading-clause-goes_on c =
     let r = c.in-Reading.reader in
     let own = rw c.in-Reading.is at c.self.invariant.own in
-    goes_on (setting r.config) r.client c.args.node c.args.tag c.args.reply r.task (rw (← c.self.view_is, c.in-Reading.is, ← own.cluster, ← own.client) at c.requires)
+    goes_on (setting r.operation.config) r.operation.client c.args.node c.args.tag c.args.reply r.operation.task (rw (← c.self.view_is, c.in-Reading.is, ← own.cluster, ← own.client) at c.requires)

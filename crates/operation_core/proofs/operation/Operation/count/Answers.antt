@@ -12,5 +12,5 @@ overflow_add-self c =
 pub invariant_of-self : goal.invariant_of-self
 invariant_of-self c =
     let i = c.self.inside in
-    let new = counts_inside i.config i.number i.op i.phase i.rounds i.answers.items i.heard c.args.node c.args.tag c.args.reply i.stage (rw (← c.self.view_is) at c.requires) in
+    let new = counts_inside i.config i.number i.op i.phase i.rounds i.answers.items i.heard c.args.node c.args.tag c.args.reply i.stage (rw (← c.self.view_is) at c.requires.counts) in
     rw c.from.ensures (counted_is i.config i.phase i.rounds i.stage i.answers.items i.heard c.self.invariant c.args.node new.0 new.1 c.args.reply)

@@ -7,4 +7,4 @@ invariant_of-reader c =
     let config = c.args.config.now in
     let valid = c.in_ok-operation.ensures.valid in
     let first = c.requires.first ∙ first_stamp_is config valid in
-    rw c.in_ok-operation.ensures.operation (record { valid = valid; begins = first; read = record { reads = refl; stage = tt } })
+    rw c.in_ok-operation.ensures.operation (record { valid = valid; begins = first; read = record { reads = refl; stage = tt }; counted = refl })

@@ -5,14 +5,21 @@ use Rattle.std.specs.declared.option.Option.TheVariants.{None, Some}
 use Rattle.protocol.specs.World.{stamp_of_outcome}
 use Rattle.world_state.specs.Worlds.{world_in}
 use Rattle.world_state.specs.contracts.state.State.{the_view}
-use Rattle.world_state.specs.Changes.{HasBecome}
+use Rattle.operation_core.specs.Counting.{IsAtEnd}
+use Rattle.client_core.specs.Clients.{operation_of}
+use Rattle.world_state.specs.Changes.{HasBecome, client_in}
 use Rattle.world_state.specs.AnswerEffects.{settled}
 use Rattle.world_state.proofs.KeptWorlds.{client-within}
-use Rattle.world_state.proofs.ChangedClients.{same-client, becomes}
+use Rattle.world_state.proofs.ChangedClients.{slot-is, same-client, becomes}
 use Rattle.world_state.proofs.ClientSlots.{slot-crashed}
 use Rattle.world_state.proofs.SettledRecords.{settle-within, settle-kept, settle-world}
 use Rattle.world_state.proofs.SettledUses.{ended, end-there, end-some, end-uses}
 use Rattle.world_state.proofs.state.State.end.Goals as goal
+
+pub end-requires : goal.end-requires
+end-requires c =
+    let is = slot-is c.self.inside c.self.invariant.0 c.args.client c.requires.client c.index_mut-slot.result.now c.index_mut-slot.ensures.value in
+    subst (λ x. IsAtEnd (operation_of x)) (sym (is ∙ ap (λ v. client_in v c.args.client) c.self.view_is)) c.requires.over
 
 pub index_mut-block_use-requires : goal.index_mut-block_use-requires
 index_mut-block_use-requires c =

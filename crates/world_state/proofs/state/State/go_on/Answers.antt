@@ -5,7 +5,7 @@ use Rattle.std.specs.declared.option.Option.TheVariants.{None}
 use Rattle.protocol.specs.Instance.{setting}
 use Rattle.protocol.specs.Seen.{seen_goes_on}
 use Rattle.operation_core.specs.Stages.{stage_of}
-use Rattle.operation_core.specs.Counting.{next_task, MayBegin}
+use Rattle.operation_core.specs.Counting.{next_task, GoesOn}
 use Rattle.client_core.specs.Clients.{operation_of, next_of}
 use Rattle.world_state.specs.Worlds.{world_in}
 use Rattle.world_state.specs.contracts.state.State.{the_view}
@@ -20,7 +20,7 @@ use Rattle.world_state.proofs.state.State.go_on.Goals as goal
 pub go_on-requires : goal.go_on-requires
 go_on-requires c =
     let is = slot-is c.self.inside c.self.invariant.0 c.args.client c.requires.client c.index_mut-slot.result.now c.index_mut-slot.ensures.value in
-    subst (λ x. MayBegin (operation_of x) c.args.stage) (sym (is ∙ ap (λ v. client_in v c.args.client) c.self.view_is)) c.requires.stage
+    subst (λ x. GoesOn (operation_of x) c.args.stage) (sym (is ∙ ap (λ v. client_in v c.args.client) c.self.view_is)) c.requires.stage
 
 pub tell-requires : goal.tell-requires
 tell-requires c =

@@ -1,6 +1,0 @@
-use Rattle.std.proofs.Common.{◌≡◌}
-use Rattle.version_disk.specs.Slots.{digests}
-use Rattle.version_disk.proofs.body.read_digests.Given as goal
-
-abbrev pub invariant-loop-i : goal.invariant-loop-i
-invariant-loop-i l = l.list.items ≡ digests l.i l.bytes

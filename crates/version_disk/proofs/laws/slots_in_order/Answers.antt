@@ -1,6 +1,0 @@
--- The lemma of `Order`.
-use Rattle.version_disk.proofs.Order.{in_order}
-use Rattle.version_disk.proofs.laws.slots_in_order.Goals as goal
-
-pub returns : goal.returns
-returns a = in_order
