@@ -1,0 +1,19 @@
+pub mod Steps
+mod Updates
+mod Records
+mod Hearing
+mod PhaseParts
+mod Phases
+mod GoingOn
+mod Agreeing
+mod ReadyClients
+mod Starting
+mod HearingAgrees
+mod Answering
+mod StepsAsRuns
+mod OneBlock
+mod NewVersions
+mod TurnsAsSteps
+mod TurnNumbers
+mod ToldOperations
+mod Lives
