@@ -14,6 +14,6 @@ mod StepsAsRuns
 mod OneBlock
 mod NewVersions
 mod TurnsAsSteps
-mod TurnNumbers
+pub mod TurnNumbers
 mod ToldOperations
 mod Lives

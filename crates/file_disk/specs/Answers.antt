@@ -19,6 +19,8 @@ pub data FileAnswer : Type 0 where
 -- to a call on a path
 pub data SystemAnswer (F : Type 0) : Type 0 where
   Stands : List ℕ → Standing → SystemAnswer F
+  -- the file that was there was opened at the path, or none was there; none was made
+  Finds : List ℕ → Option F → SystemAnswer F
   -- the file was opened at the path, and made if nothing stood there
   Opens : List ℕ → F → SystemAnswer F
   -- the path leads to the file, or doesn't

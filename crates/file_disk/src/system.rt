@@ -1,5 +1,5 @@
 ghost use Rattle.std.specs.Prelude.{ℕ, List, ⊤, IfOk, OnOk, OnErr};
-ghost use Rattle.file_disk.specs.Answers.{SystemAnswer, Stands, Opens, Leads, SyncsFolder, Renames, PathFails};
+ghost use Rattle.file_disk.specs.Answers.{SystemAnswer, Stands, Finds, Opens, Leads, SyncsFolder, Renames, PathFails};
 
 use crate::file::DiskFile;
 use crate::standing::Standing;
@@ -21,8 +21,13 @@ pub trait FileSystem<F: DiskFile> {
         ensures ok { IfOk result (λ standing. told self.now (Stands path.now standing)) }
         ensures err { OnErr result (told self.now PathFails) };
 
-    /// Opens the file at a path for reading and writing, and makes it where none is there. Its number is none of those of the
+    /// Opens the file at a path for reading and writing, if one is there, and makes none. Its number is none of those of the
     /// standard streams.
+    fn open_existing(&self, path: &str) -> io::Result<Option<F>>
+        ensures ok { IfOk result (λ found. told self.now (Finds path.now found)) }
+        ensures err { OnErr result (told self.now PathFails) };
+
+    /// Opens the file at a path so, and makes it where none is there.
     fn open_or_make(&self, path: &str) -> io::Result<F>
         ensures ok { IfOk result (λ file. told self.now (Opens path.now file)) }
         ensures err { OnErr result (told self.now PathFails) };
@@ -56,17 +61,16 @@ impl<R: Files<File = File>> FileSystem<File> for R {
         }
     }
 
-    fn open_or_make(&self, path: &str) -> io::Result<File> {
-        let file = OpenOptions::new()
-            .read(true)
-            .write(true)
-            .create(true)
-            .open(self, path)?;
-        if file.as_raw_fd() <= 2 {
-            file.try_clone()
-        } else {
-            Ok(file)
+    fn open_existing(&self, path: &str) -> io::Result<Option<File>> {
+        match open_above_streams(self, path, false) {
+            Ok(file) => Ok(Some(file)),
+            Err(error) if error.kind() == ErrorKind::NotFound => Ok(None),
+            Err(error) => Err(error),
         }
+    }
+
+    fn open_or_make(&self, path: &str) -> io::Result<File> {
+        open_above_streams(self, path, true)
     }
 
     fn leads_to(&self, path: &str, file: &File) -> io::Result<bool> {
@@ -85,5 +89,24 @@ impl<R: Files<File = File>> FileSystem<File> for R {
 
     fn rename_file(&self, _file: &File, from: &str, to: &str) -> io::Result<()> {
         fs::rename(self, from, to)
+    }
+}
+
+// Opens a file for reading and writing, with a number above those of the standard streams. Where none is there it is made, if one
+// may be.
+fn open_above_streams<R: Files<File = File>>(
+    files: &R,
+    path: &str,
+    make: bool,
+) -> io::Result<File> {
+    let file = OpenOptions::new()
+        .read(true)
+        .write(true)
+        .create(make)
+        .open(files, path)?;
+    if file.as_raw_fd() <= 2 {
+        file.try_clone()
+    } else {
+        Ok(file)
     }
 }

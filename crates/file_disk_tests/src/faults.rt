@@ -1,7 +1,7 @@
 //! Each call of the system failed in turn.
 use crate::faulty::{Count, Faulty, FaultyFile};
 use disk_model::Disk;
-use file_disk::{FileDisk, FileRefusal, Opening};
+use file_disk::{DiskFile, FileDisk, FileRefusal, Opening};
 use std::cell::Cell;
 use std::fs;
 use std::fs::{File, Files};
@@ -104,7 +104,7 @@ fn write_and_replace<R: Files<File = File> + AllocGlobal + Abort>(
 }
 
 // Writes behind the last byte, where there is room.
-fn append(disk: &mut FileDisk<FaultyFile<'_>>, piece: &[u8]) -> bool {
+pub(crate) fn append<F: DiskFile + Drop>(disk: &mut FileDisk<F>, piece: &[u8]) -> bool {
     let end = disk.bytes().len() as u64;
     let room = disk.room();
     if room < end || room - end < piece.len() as u64 {

@@ -97,6 +97,17 @@ impl<'a, R: Files<File = File>> FileSystem<FaultyFile<'a>> for Faulty<'a, R> {
         FileSystem::<File>::what_stands(self.rt, path)
     }
 
+    fn open_existing(&self, path: &str) -> io::Result<Option<FaultyFile<'a>>> {
+        self.count.next()?;
+        match self.rt.open_existing(path)? {
+            Some(file) => Ok(Some(FaultyFile {
+                file,
+                count: self.count,
+            })),
+            None => Ok(None),
+        }
+    }
+
     fn open_or_make(&self, path: &str) -> io::Result<FaultyFile<'a>> {
         self.count.next()?;
         let file = self.rt.open_or_make(path)?;

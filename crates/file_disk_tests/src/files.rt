@@ -1,7 +1,9 @@
 //! Real files.
 use disk_model::{Disk, DiskFault};
 use file_disk::{FileDisk, FileRefusal, Opening};
-use std::fs::File;
+use std::fs::{File, OpenOptions, Permissions};
+use std::io::ErrorKind;
+use std::os::unix::fs::PermissionsExt;
 use std::test::Fail;
 use std::{fs, thread};
 
@@ -101,6 +103,27 @@ fn what_is_no_free_plain_file_is_refused(rt: HostRuntime) -> Result<(), Fail> {
     drop(held);
     assert!(rt; fs::read(&rt, HELD)?.as_slice() == b"12345".as_slice());
     fs::remove_dir_all(&rt, FOLDER)?;
+    Ok(())
+}
+
+// What is refused is what the system doesn't let one write, as a file that may only be read (but for root) or a program that runs.
+#[test]
+fn a_file_that_may_not_be_written_is_refused(rt: HostRuntime) -> Result<(), Fail> {
+    const PATH: &str = "file_disk_read_only";
+    let _ = fs::remove_file(&rt, PATH);
+    fs::write(&rt, PATH, b"12345".as_slice())?;
+    fs::set_permissions(&rt, PATH, Permissions::from_mode(0o444))?;
+    for path in [PATH, "/proc/self/exe"] {
+        let want = match OpenOptions::new().write(true).open(&rt, path) {
+            Ok(_) => None,
+            Err(error) if error.kind() == ErrorKind::NotFound => Some(FileRefusal::Missing),
+            Err(_) => Some(FileRefusal::Fault),
+        };
+        let got = FileDisk::<File>::open(&rt, rt.alloc(), path, Opening::Existing, 9).err();
+        assert_eq!(rt; got, want, "{path}");
+    }
+    assert!(rt; fs::read(&rt, PATH)?.as_slice() == b"12345".as_slice());
+    fs::remove_file(&rt, PATH)?;
     Ok(())
 }
 

@@ -3,8 +3,12 @@
 #![tactic(auto)]
 
 #[cfg(test)]
+mod far;
+#[cfg(test)]
 mod faults;
 #[cfg(test)]
 mod faulty;
 #[cfg(test)]
 mod files;
+#[cfg(test)]
+mod hasty;

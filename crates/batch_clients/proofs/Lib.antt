@@ -1,0 +1,5 @@
+mod Hearing
+mod Dealing
+mod Taking
+mod Adding
+pub mod Batches

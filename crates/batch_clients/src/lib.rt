@@ -1,0 +1,9 @@
+//! Block operations that go on in step: each by a client of its own, on a block of its own.
+#![tactic(auto)]
+
+mod answers;
+mod asking;
+pub mod batch;
+mod run;
+
+pub use batch::{Answers, Asks, Batch};

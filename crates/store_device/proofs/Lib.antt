@@ -1,0 +1,15 @@
+pub mod Asked
+pub mod Batches
+pub mod Carrying
+pub mod Handing
+pub mod Hearing
+pub mod Listing
+pub mod Performing
+pub mod Seats
+pub mod Turns
+pub mod LifeOnBlocks
+pub mod LifeOperations
+pub mod LifeTelling
+pub mod LifeLaws
+pub mod LifeReads
+pub mod LifeCalls

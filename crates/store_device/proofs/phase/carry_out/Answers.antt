@@ -1,0 +1,61 @@
+use Rattle.std.proofs.Common.{◌≡◌, List, map, subst}
+use Rattle.std.specs.Prelude.{IfOk}
+use Rattle.protocol.specs.Instance.{setting}
+use Rattle.batch_clients.specs.Batches.{Running, begun, end_of}
+use Rattle.store_device.specs.declared.seat.Seat.{Seat}
+use Rattle.store_device.specs.Going.{store_of}
+use Rattle.store_device.proofs.Carrying.{laws_of, starts, from_batch, to_store, if_err}
+use Rattle.store_device.proofs.phase.carry_out.Goals as goal
+
+pub returns-in_err-batch-clause-going : goal.returns-in_err-batch-clause-going
+returns-in_err-batch-clause-going g c =
+    let D = g.D.Disk in
+    let disk = g.met.D.Disk g.world.𝓛 g.world.𝓜 g.world.𝓡 ((λ s x. x), (λ x. x), (λ x. x), λ x. x) in
+    let start = store_of c.args.config.now (map (λ (seat : Seat g.row.D.Denot). seat.node) c.args.seats.now) in
+    let laws = laws_of c.operations.ensures.begin c.operations.ensures.go_on c.operations.ensures.cut_off in (
+      begun (setting c.args.config.now) 1 c.args.ops.now,
+      starts D.pending D.seen D.moment D.left_since disk.only_now laws start c.requires.store c.args.ops.now c.requires.few
+          c.form_ops.ensures,
+      if_err _ c.from_residual.result c.from_residual.ensures.0,
+    )
+
+pub returns-in_err-go_on-clause-going : goal.returns-in_err-go_on-clause-going
+returns-in_err-go_on-clause-going g c =
+    let D = g.D.Disk in
+    let disk = g.met.D.Disk g.world.𝓛 g.world.𝓜 g.world.𝓡 ((λ s x. x), (λ x. x), (λ x. x), λ x. x) in
+    let seats = map (λ (seat : Seat g.row.D.Denot). seat.node) c.args.seats.now in
+    let last = map (λ (seat : Seat g.row.D.Denot). seat.node) c.go_on.new.seats in
+    let config = c.args.config.now in
+    let start = store_of config seats in
+    let laws = laws_of c.operations.ensures.begin c.operations.ensures.go_on c.operations.ensures.cut_off in
+    let first = from_batch D.pending D.seen D.moment D.left_since config c.in_ok-batch.batch.config seats c.args.ops.now
+    c.in_ok-batch.batch.runs c.in_ok-batch.ensures.config c.in_ok-batch.ensures.runs
+    (starts D.pending D.seen D.moment D.left_since disk.only_now laws start c.requires.store c.args.ops.now c.requires.few
+    c.form_ops.ensures) in
+    let h = c.go_on.ensures.going start c.args.ops.now c.requires.apart first in (
+      h.0,
+      to_store D.pending D.seen D.moment D.left_since config c.in_ok-batch.batch.config start last c.args.ops.now h.0
+          c.in_ok-batch.ensures.config h.1,
+      if_err _ c.from_residual-in_err-go_on.result c.from_residual-in_err-go_on.ensures.0,
+    )
+
+pub returns-clause-going : goal.returns-clause-going
+returns-clause-going g c =
+    let D = g.D.Disk in
+    let disk = g.met.D.Disk g.world.𝓛 g.world.𝓜 g.world.𝓡 ((λ s x. x), (λ x. x), (λ x. x), λ x. x) in
+    let seats = map (λ (seat : Seat g.row.D.Denot). seat.node) c.args.seats.now in
+    let last = map (λ (seat : Seat g.row.D.Denot). seat.node) c.go_on.new.seats in
+    let config = c.args.config.now in
+    let start = store_of config seats in
+    let laws = laws_of c.operations.ensures.begin c.operations.ensures.go_on c.operations.ensures.cut_off in
+    let first = from_batch D.pending D.seen D.moment D.left_since config c.in_ok-batch.batch.config seats c.args.ops.now
+    c.in_ok-batch.batch.runs c.in_ok-batch.ensures.config c.in_ok-batch.ensures.runs
+    (starts D.pending D.seen D.moment D.left_since disk.only_now laws start c.requires.store c.args.ops.now c.requires.few
+    c.form_ops.ensures) in
+    let h = c.in_ok-go_on.ensures.going start c.args.ops.now c.requires.apart first in (
+      h.0,
+      to_store D.pending D.seen D.moment D.left_since config c.in_ok-batch.batch.config start last c.args.ops.now h.0
+          c.in_ok-batch.ensures.config h.1,
+      subst (λ (rs : List Running). IfOk c.into_ends.result (λ ends. ends.items ≡ map (λ (r : Running). end_of r.stand) rs)) h.2
+          c.into_ends.ensures,
+    )

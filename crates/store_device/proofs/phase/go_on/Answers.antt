@@ -1,0 +1,74 @@
+use Rattle.std.proofs.Common.{◌≡◌, List, map, refl, sym, ◌∙◌, ap, subst, arith}
+use Rattle.quorum_rules.specs.Limits.{Numbers}
+use Rattle.protocol.specs.Instance.{setting}
+use Rattle.batch_clients.specs.Batches.{Running, AreAsksOf, asks_to, after_answers}
+use Rattle.store_device.specs.declared.seat.Seat.{Seat}
+use Rattle.store_device.specs.Working.{AreHanded}
+use Rattle.store_device.specs.Going.{store_of}
+use Rattle.store_device.proofs.Carrying.{GoFrom, go_more, laws_of, on_err}
+use Rattle.store_device.proofs.phase.go_on.Goals as goal
+
+pub loop-batch-init : goal.loop-batch-init
+loop-batch-init g c = (refl, refl, c.requires.asks, λ start ops apart going. going)
+
+pub go_through-requires-clause-count : goal.go_through-requires-clause-count
+go_through-requires-clause-count g c κs within = c.loop-batch.invariant.0 ∙ c.requires.count
+    ∙ sym (ap (λ (d : Numbers). d.n) c.loop-batch.invariant.1)
+
+pub go_through-requires-clause-asks : goal.go_through-requires-clause-asks
+go_through-requires-clause-asks g c κs within =
+    subst (λ (d : Numbers). AreAsksOf (setting d) c.loop-batch.batch.runs (map (λ a. a.items) c.loop-batch.asks.items))
+    (sym c.loop-batch.invariant.1) c.loop-batch.invariant.2
+
+pub returns-in_err-asks-clause-going : goal.returns-in_err-asks-clause-going
+returns-in_err-asks-clause-going g c =
+    let D = g.D.Disk in
+    let disk = g.met.D.Disk g.world.𝓛 g.world.𝓜 g.world.𝓡 ((λ s x. x), (λ x. x), (λ x. x), λ x. x) in
+    let node = λ (seat : Seat g.row.D.Denot). seat.node in
+    let inv = c.loop-batch.invariant in
+    let h = c.go_through.ensures.handed in
+    let laws = laws_of c.operations.ensures.begin c.operations.ensures.go_on c.operations.ensures.cut_off in
+    let config = c.args.batch.now.config in
+    let runs = c.loop-batch.batch.runs in
+    let handed : AreHanded D.pending D.seen D.moment D.left_since (λ i. asks_to (setting config) i runs) h.0
+    (store_of config (map node c.loop-batch.seats)) (store_of config (map node c.go_through.new.seats)) =
+    subst (λ (d : Numbers). AreHanded D.pending D.seen D.moment D.left_since (λ i. asks_to (setting d) i runs) h.0
+    (store_of d (map node c.loop-batch.seats)) (store_of d (map node c.go_through.new.seats))) inv.1 h.1 in
+    λ start ops apart going. (
+      after_answers (setting config) 0 h.0 runs,
+      go_more D.pending D.seen D.moment D.left_since disk.counts_now laws config (map node c.args.seats.now) (map node c.loop-batch.seats)
+          (map node c.go_through.new.seats) c.args.batch.now.runs runs h.0 inv.3 handed start ops apart going,
+      on_err (c.go_through.new.batch.runs ≡ after_answers (setting config) 0 h.0 runs) c.from_residual.result c.from_residual.ensures.0,
+    )
+
+pub loop-batch-smaller : goal.loop-batch-smaller
+loop-batch-smaller g c = omega (arith, c.in_ok-asks.ensures.phases, c.if-phases-lt-MOST_PHASES.true, c.phases.ensures)
+
+pub loop-batch-preserved : goal.loop-batch-preserved
+loop-batch-preserved g c =
+    let D = g.D.Disk in
+    let disk = g.met.D.Disk g.world.𝓛 g.world.𝓜 g.world.𝓡 ((λ s x. x), (λ x. x), (λ x. x), λ x. x) in
+    let node = λ (seat : Seat g.row.D.Denot). seat.node in
+    let inv = c.loop-batch.invariant in
+    let h = c.in_ok-asks.ensures.handed in
+    let laws = laws_of c.operations.ensures.begin c.operations.ensures.go_on c.operations.ensures.cut_off in
+    let config = c.args.batch.now.config in
+    let runs = c.loop-batch.batch.runs in
+    let handed : AreHanded D.pending D.seen D.moment D.left_since (λ i. asks_to (setting config) i runs) h.0
+    (store_of config (map node c.loop-batch.seats)) (store_of config (map node c.go_through.new.seats)) =
+    subst (λ (d : Numbers). AreHanded D.pending D.seen D.moment D.left_since (λ i. asks_to (setting d) i runs) h.0
+    (store_of d (map node c.loop-batch.seats)) (store_of d (map node c.go_through.new.seats))) inv.1 h.1 in
+    let then : c.go_through.new.batch.runs ≡ after_answers (setting config) 0 h.0 runs =
+    subst (λ (d : Numbers). c.go_through.new.batch.runs ≡ after_answers (setting d) 0 h.0 runs) inv.1 h.2 in (
+      c.go_through.ensures.count ∙ inv.0,
+      c.go_through.ensures.config ∙ inv.1,
+      subst (λ (d : Numbers). AreAsksOf (setting d) c.go_through.new.batch.runs (map (λ a. a.items) c.in_ok-asks.asks.items)) inv.1
+          c.in_ok-asks.ensures.asks,
+      subst (λ (rs : List Running). GoFrom D.pending D.seen D.moment D.left_since config (map node c.args.seats.now) c.args.batch.now.runs
+          (map node c.go_through.new.seats) rs) (sym then)
+          (go_more D.pending D.seen D.moment D.left_since disk.counts_now laws config (map node c.args.seats.now)
+          (map node c.loop-batch.seats) (map node c.go_through.new.seats) c.args.batch.now.runs runs h.0 inv.3 handed),
+    )
+
+pub returns-clause-going : goal.returns-clause-going
+returns-clause-going g c = λ start ops apart going. (c.loop-batch.batch.runs, c.loop-batch.invariant.3 start ops apart going, refl)

@@ -1,0 +1,83 @@
+-- How the operations of a call stand between two phases, and what nodes keep then.
+use Rattle.std.specs.Prelude.{◌≡◌, ◌≢◌, ℕ, suc, ◌<◌, ⊤, Bool, List, [], ◌∷◌, Option}
+use Rattle.std.specs.declared.option.Option.TheVariants.{None, Some}
+use Rattle.std.specs.List.{AllByRecursion}
+use Rattle.quorum_rules.specs.Limits.{Numbers}
+use Rattle.wire_forms.specs.declared.op.Op.{Op}
+use Rattle.protocol.specs.Instance.{setting, IsCluster}
+use Rattle.protocol.specs.World.{Fits}
+use Rattle.protocol.specs.Operations.{Outcome}
+use Rattle.protocol.specs.Seen.{SeenTask, block_of, work_of}
+use Rattle.disk_model.specs.Crash.{Pending}
+use Rattle.node_core.specs.Seen.{SeenNode, versions_in}
+use Rattle.version_disk.specs.Stored.{Stored}
+use Rattle.block_lives.specs.Operating.{Goes, Does}
+use Rattle.batch_clients.specs.Batches.{Stand, Running}
+use Rattle.batch_clients.specs.Batches.Stand.{Asks, Ended, Lost}
+use Rattle.store_device.specs.Stores.{SeenStore, Nodes, IsFound, IsLeft, IsLeftAt, kept_at, kept_in, seat_at}
+use Rattle.store_device.specs.Told.{cluster, kept_of}
+use Rattle.store_device.specs.Working.{HasGoneOn}
+
+-- the block is there, and a value that is written is a block
+pub record MayBegin (c : Numbers) (op : Op) : Type 0 where
+  pub there : block_of op < c.blocks
+  pub fits : Fits (setting c) (work_of op)
+
+-- what contracts see of seats
+abbrev pub store_of : {D : Type 0} → Numbers → List (Option (Stored D)) → SeenStore D
+store_of c seats = record { config = c; seats = seats }
+
+module _ {D : Type 0} (pending : D → Pending) (seen : D → List ℕ) (moment : D → ℕ) (left_since : D → ℕ → List ℕ → Type 0)
+    (start now : SeenStore D) where
+  -- of the block each node keeps what it kept when the call began, at whichever moment since then a crash comes
+  abbrev pub IsUntouched : ℕ → Type 0
+  IsUntouched block =
+      (i : ℕ) (gone kept : SeenNode)
+      → i < start.config.n
+      → IsLeftAt moment left_since start.config i (seat_at start i) (seat_at now i) gone kept
+      → versions_in kept block ≡ versions_in (kept_at (seat_at start i) gone) block
+
+  module _ (op : Op) (client : ℕ) where
+    -- the client's operation may have come to this, or have been given up, since the call began, when nodes keep this
+    abbrev pub HasCome : (ℕ → Bool) → Option Outcome → Nodes → Nodes → Type 0
+    HasCome lying outcome gone kept =
+        Does (cluster start.config lying) (block_of op) client (work_of op) outcome (kept_of (kept_in start gone) (block_of op))
+        (kept_of kept (block_of op))
+
+    -- a crash at any moment since then leaves it given up
+    abbrev pub MayBeCutOff : Type 0
+    MayBeCutOff = (lying : ℕ → Bool) (gone kept : Nodes) → IsCluster start.config lying → IsLeft moment left_since start now gone kept
+        → HasCome lying None gone kept
+
+    -- it is under way, and has changed nothing yet
+    pub record IsAsking (task : SeenTask) : Type 0 where
+      pub block : task.block ≡ block_of op
+      pub there : block_of op < start.config.blocks
+      pub goes : (lying : ℕ → Bool) (gone : Nodes) → IsCluster start.config lying
+          → Goes (cluster start.config lying) (block_of op) client (work_of op) task (kept_of (kept_in start gone) (block_of op))
+          (kept_of (kept_in start gone) (block_of op))
+      pub untouched : IsUntouched (block_of op)
+
+    -- it has ended so
+    pub record HasEnded (outcome : Outcome) : Type 0 where
+      pub found : (lying : ℕ → Bool) (gone kept : Nodes) → IsCluster start.config lying → IsFound pending start now gone kept
+          → HasCome lying (Some outcome) gone kept
+      pub left : MayBeCutOff
+
+    abbrev pub StandsAt : Stand → Type 0
+    StandsAt (Asks task) = IsAsking task
+    StandsAt (Ended outcome) = HasEnded outcome
+    StandsAt Lost = MayBeCutOff
+
+  -- each operation stands there, the first as that of this client
+  abbrev pub AreGoing : ℕ → List Op → List Running → Type 0
+  AreGoing client [] [] = ⊤
+  AreGoing client (op ∷ ops) (r ∷ runs) = (r.client ≡ client) × StandsAt op client r.stand × AreGoing (suc client) ops runs
+  AreGoing client _ _ = ⊥
+
+  -- each operation stands there, nothing else was changed, and each seat has gone on
+  pub record IsGoing (ops : List Op) (runs : List Running) : Type 0 where
+    pub config : now.config ≡ start.config
+    pub seats : (i : ℕ) → i < start.config.n → HasGoneOn pending seen moment left_since start.config i (seat_at start i) (seat_at now i)
+    pub operations : AreGoing 1 ops runs
+    pub others : (block : ℕ) → AllByRecursion (λ op. block_of op ≢ block) ops → IsUntouched block

@@ -1,0 +1,5 @@
+pub mod Going
+pub mod Stores
+pub mod Told
+pub mod Working
+pub mod Lives

@@ -1,0 +1,114 @@
+ghost use Rattle.std.specs.Prelude.{◌≡◌, ◌≤◌, ◌<◌, ◌+◌, ◌-◌, ◌^◌, List, Option, length, map, All, IfOk, OnOk};
+ghost use Rattle.protocol.specs.Instance.{setting};
+ghost use Rattle.protocol.specs.Messages.{Reply as AnyReply};
+ghost use Rattle.wire_forms.specs.declared.op.Op.{Op as AnyOp};
+ghost use Rattle.batch_clients.specs.Batches.{Running, AreAsksOf, asks_to, after_answers, end_of};
+ghost use Rattle.wire_forms.specs.Ops.{Fits};
+ghost use Rattle.store_device.specs.Stores.{SeenStore, IsStore};
+ghost use Rattle.store_device.specs.Told.{AreApart};
+ghost use Rattle.store_device.specs.Working.{AreHanded};
+ghost use Rattle.store_device.specs.Going.{IsGoing, store_of};
+
+use crate::forms::form_ops;
+use crate::seat::{Seat, gather, hand_out, work};
+use batch_clients::{Asks, Batch};
+use block_lives::operations;
+use client_core::{Client, Outcome};
+use disk_model::Disk;
+use lists::NoMemory;
+use quorum_rules::Config;
+use std::alloc::Global;
+use std::thread::Threads;
+use wire_forms::Op;
+
+/// How many phases the operations of a batch go on for at most. A read has two for each version that it steps back over.
+const MOST_PHASES: u64 = 1_000_000;
+
+/// Goes on phase by phase, until no operation asks any more.
+pub(crate) fn go_on<D: Disk + Send, R: Threads + Sync>(
+    rt: &R,
+    alloc: Global,
+    seats: &mut [Seat<D>],
+    batch: &mut Batch,
+    asks: Asks,
+) -> Result<(), NoMemory>
+    requires count { length seats.old ≡ batch.old.config.n }
+    requires asks { AreAsksOf (setting batch.old.config) batch.old.runs
+        (map (λ a. a.items) asks.items) }
+    ensures count { length seats.new ≡ length seats.old }
+    // the operations of a call that stand there before stand somewhere then, and the batch knows where
+    ensures going { (start : SeenStore D) (ops : List AnyOp) → AreApart ops
+        → IsGoing D.pending D.seen D.moment D.left_since start
+        (store_of batch.old.config (map (λ seat. seat.node) seats.old)) ops batch.old.runs
+        → (runs : List Running)
+        × IsGoing D.pending D.seen D.moment D.left_since start
+        (store_of batch.old.config (map (λ seat. seat.node) seats.new)) ops runs
+        × OnOk result (batch.new.runs ≡ runs) }
+{
+    operations();
+    let mut asks = asks;
+    while batch.asking() > 0 && batch.phases() < MOST_PHASES {
+        asks = go_through(rt, alloc, seats, batch, asks)?;
+    }
+    Ok(())
+}
+
+/// One phase: each node is handed what the operations ask of it, and they hear the answers.
+fn go_through<D: Disk + Send, R: Threads + Sync>(
+    rt: &R,
+    alloc: Global,
+    seats: &mut [Seat<D>],
+    batch: &mut Batch,
+    asks: Asks,
+) -> Result<Asks, NoMemory>
+    requires early { batch.old.phases < 2 ^ 64 - 1 }
+    requires count { length seats.old ≡ batch.old.config.n }
+    requires asks { AreAsksOf (setting batch.old.config) batch.old.runs
+        (map (λ a. a.items) asks.items) }
+    ensures count { length seats.new ≡ length seats.old }
+    ensures config { batch.new.config ≡ batch.old.config }
+    ensures handed { (answers : List (Option (List AnyReply)))
+        × AreHanded D.pending D.seen D.moment D.left_since
+        (λ i. asks_to (setting batch.old.config) i batch.old.runs) answers
+        (store_of batch.old.config (map (λ seat. seat.node) seats.old))
+        (store_of batch.old.config (map (λ seat. seat.node) seats.new))
+        × OnOk result (batch.new.runs
+        ≡ after_answers (setting batch.old.config) 0 answers batch.old.runs) }
+    ensures phases { OnOk result (batch.new.phases ≡ batch.old.phases + 1) }
+    ensures asks { IfOk result (λ asks. AreAsksOf (setting batch.old.config) batch.new.runs
+        (map (λ a. a.items) asks.items)) }
+{
+    hand_out(seats, asks);
+    work(rt, seats);
+    let answers = gather(alloc, seats)?;
+    batch.hear(answers)
+}
+
+/// Carries out operations, each by a client of its own, in step. Gives how each of them ended.
+pub(crate) fn carry_out<D: Disk + Send, R: Threads + Sync>(
+    rt: &R,
+    alloc: Global,
+    config: &Config,
+    idle: &Client,
+    seats: &mut [Seat<D>],
+    ops: &[Op],
+) -> Result<Vec<Option<Outcome>>, NoMemory>
+    requires store { IsStore D.pending D.seen
+        (store_of config.now (map (λ seat. seat.node) seats.old)) }
+    requires idle { idle.now.config ≡ config.now }
+    requires few { length ops.now ≤ 64 }
+    requires fits { All (Fits config.now) ops.now }
+    requires apart { AreApart ops.now }
+    ensures count { length seats.new ≡ length seats.old }
+    ensures going { (runs : List Running)
+        × IsGoing D.pending D.seen D.moment D.left_since
+        (store_of config.now (map (λ seat. seat.node) seats.old))
+        (store_of config.now (map (λ seat. seat.node) seats.new)) ops.now runs
+        × IfOk result (λ ends. ends.items ≡ map (λ r. end_of r.stand) runs) }
+{
+    operations();
+    form_ops(config, ops);
+    let (mut batch, asks) = Batch::begin(alloc, config, idle, ops)?;
+    go_on(rt, alloc, seats, &mut batch, asks)?;
+    batch.into_ends()
+}

@@ -1,0 +1,108 @@
+ghost use Rattle.std.specs.Prelude.{◌≡◌, ◌≤◌, ◌<◌, ℕ, false, Bool, All, length, map, IfOk, OnOk};
+ghost use Rattle.protocol.specs.Instance.{IsCluster};
+ghost use Rattle.wire_forms.specs.Ops.{Fits};
+ghost use Rattle.store_device.specs.Stores.{Nodes, IsStore, IsFound, IsLeft, kept_in, seat_at, is_up};
+ghost use Rattle.store_device.specs.Told.{AreApart, IsTold, untold};
+ghost use Rattle.store_device.specs.Going.{store_of};
+
+use crate::phase::carry_out;
+use crate::seat::{Seat, seat_all};
+use block_lives::operations;
+use client_core::{Client, Outcome};
+use disk_model::Disk;
+use lists::NoMemory;
+use quorum_rules::Config;
+use std::alloc::Global;
+use std::marker::Model;
+use std::thread::Threads;
+use version_disk::StoredNode;
+use wire_forms::Op;
+
+/// How many operations a batch has at most.
+pub const MOST_OPERATIONS: usize = 64;
+
+/// A device over nodes on disks. Contracts see the cluster's numbers, and for each number of a node that node, where one sits there.
+#[derive(Drop)]
+pub struct Store<D: Disk> {
+    alloc: Global,
+    config: Config,
+    /// An idle client, from which each operation's own client is made.
+    idle: Client,
+    seats: Vec<Seat<D>>,
+}
+
+impl<D: Disk> Model for Store<D> {
+    ghost use Rattle.std.specs.Prelude.{◌≡◌, map};
+    ghost use Rattle.store_device.specs.Stores.{SeenStore, IsStore};
+
+    ghost Value = { SeenStore D };
+
+    ghost view = { λ s. record { config = s.config; seats = map (λ seat. seat.node) s.seats.items } };
+
+    ghost invariant = { λ s. IsStore D.pending D.seen (record { config = s.config; seats = map (λ seat. seat.node) s.seats.items })
+        × (s.idle.config ≡ s.config) };
+}
+
+impl<D: Disk> Store<D> {
+    /// A store over these nodes: for each number of a node the node, or None where it is gone. A node that isn't broken is one of the
+    /// cluster, of the number of its place, on a disk that has it safe from a crash, as `StoredNode::open` gives one.
+    pub fn new(
+        alloc: Global,
+        config: &Config,
+        nodes: Vec<Option<StoredNode<D>>>,
+    ) -> Result<Store<D>, NoMemory>
+    where
+        D: Drop,
+        requires { IsStore D.pending D.seen (store_of config.now nodes.items) }
+        ensures { IfOk result (λ store. store ≡ store_of config.now nodes.items) }
+    {
+        let idle = Client::new(alloc, config, 0)?;
+        let seats = seat_all(alloc, nodes)?;
+        Ok(Store {
+            alloc,
+            config: *config,
+            idle,
+            seats,
+        })
+    }
+
+    /// Reads and writes blocks, each by a client of its own, in step: in each phase the nodes work at once, each in a thread of its own.
+    /// Gives how each operation ended, in order; None where too few nodes answered, or where it had not ended after a million phases:
+    /// then a write may have taken place or not. So it may where no memory was found, and then nothing is told of any of them.
+    pub fn perform<R: Threads + Sync>(
+        &mut self,
+        rt: &R,
+        ops: &[Op],
+    ) -> Result<Vec<Option<Outcome>>, NoMemory>
+    where
+        D: Send,
+        requires few { length ops.now ≤ 64 }
+        requires fits { All (Fits self.old.config) ops.now }
+        requires apart { AreApart ops.now }
+        // Each operation is one of the protocol, whatever was done before, between what the nodes kept and what they are found to keep, and
+        // ends as it is told; which nodes others may have changed doesn't matter.
+        ensures told { IfOk result (λ outcomes. (lying : ℕ → Bool) (gone kept : Nodes)
+            → IsCluster self.old.config lying → IsFound D.pending self.old self.new gone kept
+            → IsTold self.old.config lying ops.now outcomes.items (kept_in self.old gone) kept) }
+        // a crash at any moment of the call, and want of memory, leave operations that weren't told of
+        ensures any_moment { (lying : ℕ → Bool) (gone kept : Nodes)
+            → IsCluster self.old.config lying
+            → IsLeft D.moment D.left_since self.old self.new gone kept
+            → IsTold self.old.config lying ops.now (untold ops.now) (kept_in self.old gone) kept }
+        // each node that is up is still one of the cluster, and its disk has it, safe from a crash
+        ensures store { IsStore D.pending D.seen self.new }
+        ensures config { self.new.config ≡ self.old.config }
+        // a node that isn't up stays so
+        ensures down { (i : ℕ) → is_up (seat_at self.old i) ≡ false
+            → seat_at self.new i ≡ seat_at self.old i }
+    {
+        let Store {
+            alloc,
+            config,
+            idle,
+            seats,
+        } = self;
+        operations();
+        carry_out(rt, *alloc, config, idle, seats, ops)
+    }
+}
