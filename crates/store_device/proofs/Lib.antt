@@ -5,6 +5,7 @@ pub mod Handing
 pub mod Hearing
 pub mod Listing
 pub mod Performing
+pub mod Reseated
 pub mod Seats
 pub mod Turns
 pub mod LifeOnBlocks

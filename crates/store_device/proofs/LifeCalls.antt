@@ -1,19 +1,18 @@
 -- Calls, one after the other: what one leaves is where the next begins.
-use Rattle.std.proofs.Common.{◌≡◌, ◌≢◌, ◌⊎◌, ℕ, suc, ◌<◌, Bool, true, false, not, cond, List, [], ◌∷◌, Option, Some, None, refl, sym, ◌∙◌, ap, subst, inl, inr}
+use Rattle.std.proofs.Common.{◌≡◌, ℕ, suc, ◌<◌, Bool, true, false, not, cond, List, [], ◌∷◌, Option, Some, None, refl, sym, ◌∙◌, ap, subst}
 use Rattle.quorum_rules.specs.Limits.{Numbers}
 use Rattle.wire_forms.specs.declared.op.Op.{Op}
 use Rattle.protocol.specs.Setting.{Setting}
 use Rattle.protocol.specs.Operations.{Work, Outcome}
 use Rattle.protocol.specs.Seen.{block_of}
-use Rattle.disk_model.specs.Crash.{Pending, MayLeave, settled}
+use Rattle.disk_model.specs.Crash.{Pending, MayLeave}
 use Rattle.disk_model.proofs.Crash.{only_settled}
 use Rattle.node_core.specs.Seen.{SeenNode, versions_in}
 use Rattle.version_disk.specs.Held.{held}
 use Rattle.version_disk.specs.Stored.{Stored}
-use Rattle.block_lives.specs.Operating.{Keeps, Does, IsAt, IsOver}
-use Rattle.block_lives.specs.Steps.{State}
-use Rattle.store_device.specs.Stores.{SeenStore, Nodes, IsStore, IsSound, IsFound, IsFoundAt, kept_at, kept_in, seat_at, is_up}
-use Rattle.store_device.specs.Told.{AreDone, IsTold}
+use Rattle.block_lives.specs.Operating.{Keeps, Does}
+use Rattle.store_device.specs.Stores.{Nodes, IsSound, IsFoundAt, kept_at, seat_at, is_up}
+use Rattle.store_device.specs.Told.{AreDone}
 use Rattle.store_device.specs.Lives.{KeepAlike, TellsAlike, FoundIsKept}
 
 -- an operation on a block on which the same is kept
@@ -39,9 +38,10 @@ module _ (c : Numbers) (lying : ℕ → Bool) where
   all_alike client [] [] old new old' new' before after done = done
   all_alike client [] (outcome ∷ outcomes) old new old' new' before after done = done
   all_alike client (op ∷ ops) [] old new old' new' before after done = done
-  all_alike client (op ∷ ops) (outcome ∷ outcomes) old new old' new' before after done =
-      (does_alike _ _ _ _ outcome _ _ _ _ (λ i below. before i (block_of op) below) (λ i below. after i (block_of op) below) done.0,
-      all_alike (suc client) ops outcomes old new old' new' before after done.1)
+  all_alike client (op ∷ ops) (outcome ∷ outcomes) old new old' new' before after done = (
+    does_alike _ _ _ _ outcome _ _ _ _ (λ i below. before i (block_of op) below) (λ i below. after i (block_of op) below) done.0,
+    all_alike (suc client) ops outcomes old new old' new' before after done.1,
+  )
 
   pub tells_alike : TellsAlike c lying
   tells_alike ops outcomes old new old' new' before after told = record {
@@ -67,6 +67,7 @@ module _ {D : Type 0} (pending : D → Pending) (seen : D → List ℕ) where
               let is_sound = sound node refl up in
               let only = only_settled (seen node.disk) left.0 (subst (λ (p : Pending). MayLeave p left.0) is_sound.durable left.1) in
               sym (left.2 ∙ ap (held c i) only ∙ is_sound.state)
+
       by_fault : (b : Bool) → node.broken ≡ b → kept_at (Some node) kept ≡ kept
       by_fault true e = rw e refl
       by_fault false e = rw e (at_seat was down found e)

@@ -59,11 +59,11 @@ pub at_false : (P Q : Type 0) (b : Bool) → b ≡ false → Q → cond b P Q
 at_false P Q true e p = absurd cc
 at_false P Q false e p = p
 
-not_false : (b : Bool) → not b ≡ false → b ≡ true
+pub not_false : (b : Bool) → not b ≡ false → b ≡ true
 not_false true e = refl
 not_false false e = absurd cc
 
-not_true : (b : Bool) → not b ≡ true → b ≡ false
+pub not_true : (b : Bool) → not b ≡ true → b ≡ false
 not_true true e = absurd cc
 not_true false e = refl
 

@@ -3,3 +3,4 @@ pub mod Stores
 pub mod Told
 pub mod Working
 pub mod Lives
+pub mod Seating

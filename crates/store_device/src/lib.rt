@@ -8,6 +8,7 @@ mod forms;
 pub mod laws;
 mod phase;
 mod seat;
+pub mod seating;
 pub mod store;
 
 pub use store::{MOST_OPERATIONS, Store};

@@ -24,11 +24,11 @@ pub const MOST_OPERATIONS: usize = 64;
 /// A device over nodes on disks. Contracts see the cluster's numbers, and for each number of a node that node, where one sits there.
 #[derive(Drop)]
 pub struct Store<D: Disk> {
-    alloc: Global,
-    config: Config,
+    pub(crate) alloc: Global,
+    pub(crate) config: Config,
     /// An idle client, from which each operation's own client is made.
     idle: Client,
-    seats: Vec<Seat<D>>,
+    pub(crate) seats: Vec<Seat<D>>,
 }
 
 impl<D: Disk> Model for Store<D> {

@@ -1,0 +1,66 @@
+//! What is done for a store between the rounds of a session.
+use crate::compacting::compact_due;
+use crate::folder::FileStore;
+use crate::groups::{Group, group_count, group_of};
+use lists::NoMemory;
+use std::thread::Threads;
+use store_care::prune_due;
+
+/// How many bytes of requests are served, at least, before the store is looked after again.
+const LEAST_BYTES: u64 = 1 << 20;
+
+/// How many versions a node keeps of a block before that is pruned.
+const MOST_VERSIONS: usize = 5;
+
+/// What is known of a store that is served: who was up, and how many bytes of requests were served since it was looked after.
+#[derive(Drop)]
+pub struct Upkeep {
+    was_up: Vec<bool>,
+    since: u64,
+}
+
+impl Upkeep {
+    /// Of a store that was just opened.
+    pub fn new(rt: &HostRuntime, store: &mut FileStore) -> Result<Upkeep, NoMemory> {
+        let mut was_up = Vec::new(rt.alloc());
+        for seat in 0..store.config().n() as usize {
+            was_up.push(store.is_up(seat))?;
+        }
+        Ok(Upkeep { was_up, since: 0 })
+    }
+
+    /// So many bytes of requests were served. Tells of each node whose disk failed meanwhile.
+    pub fn served(&mut self, rt: &HostRuntime, store: &mut FileStore, len: usize) {
+        self.since = self.since.saturating_add(len as u64);
+        for (seat, was_up) in self.was_up.iter_mut().enumerate() {
+            if *was_up && !store.is_up(seat) {
+                *was_up = false;
+                let _ = eprintln!(rt; "pasis_store: node {seat} is down: its disk failed");
+            }
+        }
+    }
+
+    /// Whether enough was served that the store is to be looked after.
+    pub fn is_due(&self, store: &FileStore) -> bool {
+        let config = store.config();
+        let device = u64::from(config.size()).saturating_mul(u64::from(config.blocks()));
+        self.since >= LEAST_BYTES.max(device / 4)
+    }
+
+    /// Prunes the blocks of which nodes keep many versions, and writes the journals anew that are due.
+    pub fn tend<T: Threads + Sync>(
+        &mut self,
+        rt: &HostRuntime,
+        threads: &T,
+        folders: &[String],
+        store: &mut FileStore,
+    ) -> Result<(), NoMemory> {
+        self.since = 0;
+        for number in 0..group_count(store.config()) {
+            let Group { first, count } = group_of(store.config(), number);
+            prune_due(threads, rt.alloc(), store, first, count, MOST_VERSIONS)?;
+        }
+        compact_due(rt, folders, store);
+        Ok(())
+    }
+}

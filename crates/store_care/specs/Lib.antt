@@ -1,0 +1,3 @@
+pub mod Batches
+pub mod Holdings
+pub mod Tallies

@@ -1,0 +1,17 @@
+//! What keeps a store sound: its blocks are read, what each node holds of them is looked at, nodes are restored, and old versions are
+//! pruned.
+#![tactic(auto)]
+
+mod blocks;
+pub mod care;
+pub mod filling;
+pub mod holding;
+pub mod pruning;
+pub mod tally;
+
+pub use blocks::MOST_BLOCKS;
+pub use care::Care;
+pub use filling::{Filled, fill_disk};
+pub use holding::Holding;
+pub use pruning::{later_versions, prune_due};
+pub use tally::NodeTally;

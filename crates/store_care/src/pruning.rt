@@ -1,0 +1,107 @@
+ghost use Rattle.std.specs.Prelude.{◌≡◌, ◌+◌, ◌-◌, ◌≤◌, ◌<◌, length, IfOk, OnOk};
+ghost use Rattle.wire_forms.specs.Ops.{Fits};
+ghost use Rattle.store_care.specs.Batches.{AreBelow};
+
+use crate::blocks::{add, block_of};
+use client_core::Outcome;
+use disk_model::Disk;
+use lists::NoMemory;
+use std::alloc::Global;
+use std::thread::Threads;
+use store_device::Store;
+use wire_forms::Op;
+
+/// Of `count` blocks from this one on reads those of which some node that is up keeps more than so many versions, and has each node that is
+/// up prune them by the stamps that the reads gave.
+pub fn prune_due<D: Disk + Send, R: Threads + Sync>(
+    rt: &R,
+    alloc: Global,
+    store: &mut Store<D>,
+    first: u32,
+    count: u32,
+    most: usize,
+) -> Result<(), NoMemory>
+    requires few { count ≤ 64 }
+    requires there { first + count ≤ store.old.config.blocks }
+    ensures config { store.new.config ≡ store.old.config }
+{
+    let due = due_reads(alloc, store, first, count, most)?;
+    let outcomes = store.perform(rt, &due)?;
+    for (k, outcome) in outcomes.into_iter().enumerate() {
+        if let Some(op) = due.get(k) {
+            prune_by(store, op, outcome);
+        }
+    }
+    Ok(())
+}
+
+// Prunes the block of a read by the stamp that the read gave, if it gave one.
+fn prune_by<D: Disk>(store: &mut Store<D>, op: &Op, outcome: Option<Outcome>)
+    requires { Fits store.old.config op.now }
+    ensures { store.new.config ≡ store.old.config }
+{
+    if let Some(Outcome::Gave { stamp, .. }) = outcome {
+        store.prune(block_of(op), &stamp);
+    }
+}
+
+// Reads of those of the blocks of which some node that is up keeps more than so many versions.
+fn due_reads<D: Disk>(
+    alloc: Global,
+    store: &mut Store<D>,
+    first: u32,
+    count: u32,
+    most: usize,
+) -> Result<Vec<Op>, NoMemory>
+    requires { first + count ≤ store.old.config.blocks }
+    ensures same { store.new ≡ store.old }
+    ensures batch { IfOk result (λ ops. AreBelow store.old.config (first + count) ops.items) }
+    ensures few { IfOk result (λ ops. length ops.items ≤ count) }
+{
+    let end = store.config().blocks().min(first + count);
+    let mut due = Vec::new(alloc);
+    for block in first..end {
+        if most_versions(store, block)? > most {
+            add(&mut due, Op::Read { block })?;
+        }
+    }
+    Ok(due)
+}
+
+// The most versions that a node that is up keeps of a block.
+fn most_versions<D: Disk>(store: &mut Store<D>, block: u32) -> Result<usize, NoMemory>
+    requires { block < store.old.config.blocks }
+    ensures same { store.new ≡ store.old }
+{
+    let mut most = 0;
+    for seat in 0..store.config().n() as usize {
+        most = most.max(versions_at(store, seat, block)?);
+    }
+    Ok(most)
+}
+
+// How many versions the node of a seat keeps of a block; 0 where it isn't up.
+fn versions_at<D: Disk>(store: &mut Store<D>, seat: usize, block: u32) -> Result<usize, NoMemory>
+    requires { block < store.old.config.blocks }
+    ensures same { store.new ≡ store.old }
+{
+    if !store.is_up(seat) {
+        return Ok(0);
+    }
+    match store.node(seat) {
+        Some(node) => Ok(node.versions(block)?.len()),
+        None => Ok(0),
+    }
+}
+
+/// How many versions the node of a seat keeps beside the first ones, of all blocks; 0 where it isn't up.
+pub fn later_versions<D: Disk>(store: &mut Store<D>, seat: usize) -> Result<u64, NoMemory>
+    ensures same { store.new ≡ store.old }
+{
+    let mut count: u64 = 0;
+    for block in 0..store.config().blocks() {
+        let versions = versions_at(store, seat, block)?;
+        count = count.saturating_add(versions.saturating_sub(1) as u64);
+    }
+    Ok(count)
+}

@@ -1,0 +1,180 @@
+//! Who sits on a store's seats, and prunes of blocks.
+ghost use Rattle.std.specs.Prelude.{◌≡◌, ◌<◌, ℕ, true, false, not, replicate, length, slice_index_or, MatchOption, IfSome, IfOk, OnOk, OnErr, Some, None};
+ghost use Rattle.quorum_rules.specs.Limits.{IsValid};
+ghost use Rattle.version_disk.specs.Held.{held};
+ghost use Rattle.version_disk.specs.Stored.{Stored};
+ghost use Rattle.store_device.specs.Stores.{Nodes, IsSound, IsLeft, kept_in, seat_at, is_up};
+ghost use Rattle.store_device.specs.Lives.{IsPruned};
+ghost use Rattle.store_device.specs.Seating.{with_seat, HasBlock, PrunesIn, HasTried, TriesIn};
+
+use crate::seat::Seat;
+use crate::store::Store;
+use disk_model::{Disk, MemoryDisk};
+use lists::NoMemory;
+use outside_io::Calls;
+use quorum_rules::Config;
+use stamp_order::Stamp;
+use std::alloc::Global;
+use version_disk::{CompactFault, CompactRefusal, OpenRefusal, StoredNode};
+
+impl<D: Disk> Store<D> {
+    /// The cluster's numbers.
+    pub fn config(&self) -> &Config
+        ensures { result.now ≡ self.now.config }
+    {
+        &self.config
+    }
+
+    /// The node that sits at a seat, if one does.
+    pub fn node(&self, seat: usize) -> Option<&StoredNode<D>>
+        ensures node { MatchOption result (seat_at self.now seat ≡ None)
+            (λ node. seat_at self.now seat ≡ Some node.now) }
+        // one that is up is a node of the cluster
+        ensures config { IfSome result (λ node. is_up (seat_at self.now seat) ≡ true
+            → node.now.node.config ≡ self.now.config) }
+    {
+        self.seats.get(seat)?.node.as_ref()
+    }
+
+    /// Whether a node sits there whose disk hasn't failed. Nothing changes.
+    pub fn is_up(&mut self, seat: usize) -> bool
+        ensures is { result ≡ is_up (seat_at self.old seat) }
+        ensures same { self.new ≡ self.old }
+    {
+        match self.node(seat) {
+            Some(node) => is_whole(self.alloc, node),
+            None => false,
+        }
+    }
+
+    /// Takes the node from a seat, if one sits there. Nobody sits there then.
+    pub fn take_node(&mut self, seat: usize) -> Option<StoredNode<D>>
+        ensures node { result ≡ seat_at self.old seat }
+        ensures gone { self.new ≡ with_seat self.old seat None }
+    {
+        self.seats.get_mut(seat)?.node.take()
+    }
+
+    /// Has each node that is up prune a block by a stamp that a read of it gave, while nothing is under way. One that finds no memory or no
+    /// room for that stays as it is.
+    pub fn prune(&mut self, block: u32, stamp: &Stamp)
+        requires { block < self.old.config.blocks }
+        ensures config { self.new.config ≡ self.old.config }
+        ensures seats { (i : ℕ) → PrunesIn D.pending D.seen block stamp.now (seat_at self.old i) (seat_at self.new i) }
+        // a node that isn't up stays as it is
+        ensures down { (i : ℕ) → is_up (seat_at self.old i) ≡ false
+            → seat_at self.new i ≡ seat_at self.old i }
+        // a crash at any moment of the call leaves of each node what it kept, or what the prune leaves of that
+        ensures any_moment { (gone kept : Nodes)
+            → IsLeft D.moment D.left_since self.old self.new gone kept
+            → IsPruned self.old.config block stamp.now (kept_in self.old gone) kept }
+    {
+        let Store { alloc, seats, .. } = self;
+        prune_each(*alloc, seats, block, stamp);
+    }
+}
+
+impl<D: Disk + Drop> Store<D> {
+    /// A store of a cluster of whose nodes none sits there yet.
+    pub fn empty(alloc: Global, config: &Config) -> Result<Store<D>, NoMemory>
+        ensures config { IfOk result (λ store. store.config ≡ config.now) }
+        ensures nobody { IfOk result (λ store. store.seats ≡ replicate config.now.n None) }
+    {
+        let nodes = nobody(alloc, config)?;
+        Store::new(alloc, config, nodes)
+    }
+
+    /// Opens a disk as the node of a seat, and seats it.
+    pub fn seat_disk(&mut self, alloc: Global, seat: u8, disk: D) -> Result<(), OpenRefusal<D>>
+        requires there { seat < self.old.config.n }
+        ensures config { self.new.config ≡ self.old.config }
+        ensures seated { OnOk result ((node : Stored D) × (self.new ≡ with_seat self.old seat (Some node))
+            × (node.node ≡ held self.old.config seat (D.seen disk))) }
+        ensures up { OnOk result (is_up (seat_at self.new seat) ≡ true) }
+        ensures err { OnErr result (self.new ≡ self.old) }
+    {
+        if disk.room() == 0 {
+            return Err(OpenRefusal::DiskFault(disk));
+        }
+        let node = StoredNode::open(alloc, &self.config, seat, disk)?;
+        self.seat_node(usize::from(seat), node);
+        Ok(())
+    }
+
+    /// Seats a node, in the place of the one that sits there, if one does.
+    pub fn seat_node(&mut self, seat: usize, node: StoredNode<D>)
+        requires there { seat < self.old.config.n }
+        requires sound { node.broken ≡ false → IsSound D.pending D.seen self.old.config seat node }
+        ensures { self.new ≡ with_seat self.old seat (Some node) }
+    {
+        self.seats[seat].node = Some(node);
+    }
+}
+
+/// Nobody, for each node of a cluster.
+fn nobody<D: Disk + Drop>(
+    alloc: Global,
+    config: &Config,
+) -> Result<Vec<Option<StoredNode<D>>>, NoMemory>
+    ensures nodes { IfOk result (λ nodes. nodes.items ≡ replicate config.now.n None) }
+    ensures valid { IsValid config.now }
+{
+    let mut nodes = Vec::new(alloc);
+    for _ in 0..config.n() {
+        nodes.push(None)?;
+    }
+    Ok(nodes)
+}
+
+/// Whether the node's disk hasn't failed. Where it has, the node refuses for that to be compacted; where it hasn't, it asks the disk that
+/// it is given, which fails at once.
+fn is_whole<D: Disk>(alloc: Global, node: &StoredNode<D>) -> bool
+    ensures { result ≡ not node.now.broken }
+{
+    let mut fails = Calls::new(alloc);
+    let _ = fails.push(0);
+    let refused = node.compact(MemoryDisk::new(alloc, fails));
+    !matches!(
+        refused,
+        Err(CompactRefusal {
+            why: CompactFault::Broken,
+            ..
+        })
+    )
+}
+
+/// Has each node that is up prune the block.
+fn prune_each<D: Disk>(alloc: Global, seats: &mut [Seat<D>], block: u32, stamp: &Stamp)
+    requires { (i : ℕ) (d : _) → i < length seats.old
+        → HasBlock block (slice_index_or seats.old i d).node }
+    ensures count { length seats.new ≡ length seats.old }
+    ensures each { (i : ℕ) (d : _) → i < length seats.old
+        → TriesIn D.pending D.seen block stamp.now D.moment D.left_since
+        (slice_index_or seats.old i d).node (slice_index_or seats.new i d).node }
+{
+    for seat in seats.iter_mut() {
+        prune_in(alloc, &mut seat.node, block, stamp);
+    }
+}
+
+/// Has the node that sits there prune the block, if it is up.
+fn prune_in<D: Disk>(alloc: Global, seat: &mut Option<StoredNode<D>>, block: u32, stamp: &Stamp)
+    requires { HasBlock block seat.old }
+    ensures { TriesIn D.pending D.seen block stamp.now D.moment D.left_since seat.old seat.new }
+{
+    if let Some(node) = seat {
+        prune_up(alloc, node, block, stamp);
+    }
+}
+
+/// Has the node prune the block, if it is up. Where no memory or no room is found for that, it stays as it is.
+fn prune_up<D: Disk>(alloc: Global, node: &mut StoredNode<D>, block: u32, stamp: &Stamp)
+    requires { node.old.broken ≡ false → block < node.old.node.config.blocks }
+    ensures down { node.old.broken ≡ true → node.new ≡ node.old }
+    ensures up { node.old.broken ≡ false
+        → HasTried D.pending D.seen block stamp.now D.moment D.left_since node.old node.new }
+{
+    if is_whole(alloc, node) {
+        let _refusal = node.prune(block, stamp);
+    }
+}

@@ -1,0 +1,4 @@
+pub mod Reaching
+pub mod Replying
+pub mod Rounding
+pub mod Valuing

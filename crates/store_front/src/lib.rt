@@ -1,0 +1,16 @@
+//! A session of a block device over a store: requests are taken in rounds, whose block operations are done in batches, and are
+//! answered in their order.
+#![tactic(auto)]
+
+mod answer;
+mod blocks;
+mod input;
+mod operations;
+mod replies;
+mod round;
+pub mod session;
+mod standing;
+mod values;
+
+pub use nbd_front::SessionEnd;
+pub use session::{Session, serve};

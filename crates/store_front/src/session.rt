@@ -1,0 +1,196 @@
+//! A whole session: the greeting, and then rounds of requests and replies.
+ghost use Rattle.std.specs.Prelude.{◌≡◌, ◌≢◌, ◌≤◌, ◌<◌, ◌*◌, [], Ok, Err, true, false, length, drop, OnOk, OnErr, IfOk, IfErr, IsErrOf};
+ghost use Rattle.outside_io.specs.Causes.{Rose};
+ghost use Rattle.outside_io.specs.Written.{Adds, AllFlushed, TakesPrefix};
+ghost use Rattle.nbd_front.specs.Replies.{greeting};
+ghost use Rattle.store_front.specs.Replies.{HasReplied, HasBegun};
+
+use crate::answer::answer;
+use crate::blocks::device_len;
+use crate::input::Input;
+use crate::round::take_round;
+use crate::standing::{Standing, at_front};
+use disk_model::Disk;
+use nbd_front::SessionEnd;
+use nbd_front::reply::greeting;
+use outside_io::{Sink, Source, write_all};
+use std::alloc::Global;
+use std::thread::Threads;
+use store_device::Store;
+
+/// A session that has begun. Its rounds are served one by one, so that a caller may look after the store between two.
+#[derive(Drop)]
+pub struct Session {
+    input: Input,
+    /// How many bytes of requests were served.
+    place: u64,
+}
+
+impl Session {
+    /// Begins a session: greets the client.
+    pub fn begin<D: Disk, K: Sink>(
+        alloc: Global,
+        store: &Store<D>,
+        sink: &mut K,
+    ) -> Result<Session, SessionEnd>
+        ensures greeted { OnOk result (Adds (K.taken sink.old) (K.taken sink.new)
+            (greeting (store.now.config.size * store.now.config.blocks))) }
+        ensures flushed { OnOk result (AllFlushed (K.taken sink.new) (K.flushed sink.new)) }
+        ensures write_fault { IsErrOf result SessionEnd.WriteFault
+            → Rose K.last (K.faults sink.old) (K.faults sink.new) }
+        ensures calm { result ≢ Err SessionEnd.WriteFault → K.faults sink.new ≡ K.faults sink.old }
+        ensures unread { result ≢ Err SessionEnd.ReadFault }
+    {
+        write_or_end(sink, &greeting(device_len(store.config())))?;
+        Ok(Session {
+            input: Input::new(alloc)?,
+            place: 0,
+        })
+    }
+
+    /// Whether something is at hand that ends the wait, so that nothing is to be read first.
+    pub fn is_ready(&self) -> bool {
+        at_front(self.input.at_hand()) != Standing::Part
+    }
+
+    /// Reads until a whole request is at hand. False where the client leaves, or the input has ended.
+    pub fn wait<S: Source>(&mut self, source: &mut S) -> Result<bool, SessionEnd>
+        ensures fault { IsErrOf result SessionEnd.ReadFault
+            → Rose S.last (S.faults source.old) (S.faults source.new) }
+        ensures calm { result ≢ Err SessionEnd.ReadFault
+            → S.faults source.new ≡ S.faults source.old }
+        ensures unwritten { result ≢ Err SessionEnd.WriteFault }
+    {
+        has_next(&mut self.input, source, self.place)
+    }
+
+    /// Serves the requests at hand that are done together: the replies are written in one piece, and flushed. Gives how many bytes the
+    /// requests have.
+    pub fn serve_round<D: Disk + Send, K: Sink, R: Threads + Sync>(
+        &mut self,
+        rt: &R,
+        alloc: Global,
+        store: &mut Store<D>,
+        sink: &mut K,
+    ) -> Result<usize, SessionEnd>
+        ensures config { store.new.config ≡ store.old.config }
+        // the sink takes the replies to these requests, or a beginning of them
+        ensures replied { IfOk result (HasReplied store.old.config self.old.input
+            (K.taken sink.old) (K.taken sink.new)) }
+        ensures begun { IsErrOf result SessionEnd.WriteFault
+            → HasBegun store.old.config self.old.input (K.taken sink.old) (K.taken sink.new) }
+        // they are served
+        ensures served { IfOk result (λ len. self.new.input ≡ drop len self.old.input) }
+        ensures flushed { OnOk result (AllFlushed (K.taken sink.new) (K.flushed sink.new)) }
+        ensures write_fault { IsErrOf result SessionEnd.WriteFault
+            → Rose K.last (K.faults sink.old) (K.faults sink.new) }
+        ensures calm { result ≢ Err SessionEnd.WriteFault → K.faults sink.new ≡ K.faults sink.old }
+        ensures unread { result ≢ Err SessionEnd.ReadFault }
+    {
+        let len = serve_round(rt, alloc, store, self.input.at_hand(), sink)?;
+        self.input.drop_front(len);
+        self.place = self.place.saturating_add(len as u64);
+        Ok(len)
+    }
+}
+
+/// Serves a store's bytes from the greeting on until the session ends. `TooManyRequests` comes only after 2^64 - 1 rounds.
+pub fn serve<D: Disk + Send, S: Source, K: Sink, R: Threads + Sync>(
+    rt: &R,
+    alloc: Global,
+    store: &mut Store<D>,
+    source: &mut S,
+    sink: &mut K,
+) -> Result<(), SessionEnd>
+    ensures config { store.new.config ≡ store.old.config }
+    // faults
+    ensures read_fault { IsErrOf result SessionEnd.ReadFault
+        → Rose S.last (S.faults source.old) (S.faults source.new) }
+    ensures write_fault { IsErrOf result SessionEnd.WriteFault
+        → Rose K.last (K.faults sink.old) (K.faults sink.new) }
+    ensures calm_source { result ≢ Err SessionEnd.ReadFault
+        → S.faults source.new ≡ S.faults source.old }
+    ensures calm_sink { result ≢ Err SessionEnd.WriteFault → K.faults sink.new ≡ K.faults sink.old }
+{
+    let mut session = Session::begin(alloc, store, sink)?;
+    for _ in 0..u64::MAX {
+        if !session.wait(source)? {
+            return Ok(());
+        }
+        session.serve_round(rt, alloc, store, sink)?;
+    }
+    Err(SessionEnd::TooManyRequests)
+}
+
+/// Reads until a whole request is at hand. False where the client leaves, or the input has ended. The input at hand begins at `place`.
+fn has_next<S: Source>(input: &mut Input, source: &mut S, place: u64) -> Result<bool, SessionEnd>
+    ensures fault { IsErrOf result SessionEnd.ReadFault
+        → Rose S.last (S.faults source.old) (S.faults source.new) }
+    ensures calm { result ≢ Err SessionEnd.ReadFault → S.faults source.new ≡ S.faults source.old }
+    ensures unwritten { result ≢ Err SessionEnd.WriteFault }
+{
+    loop {
+        match at_front(input.at_hand()) {
+            Standing::Whole(_) => return Ok(true),
+            Standing::Leave => return Ok(false),
+            Standing::Wrong => return Err(SessionEnd::BadMagic { at: place }),
+            Standing::Part => {}
+        }
+        if !input.read_more(source)? {
+            return at_end(input.at_hand(), place);
+        }
+    }
+}
+
+/// How the session ends where the input ends with these bytes at hand, which begin at `place`.
+fn at_end(at_hand: &[u8], place: u64) -> Result<bool, SessionEnd>
+    ensures none { result ≡ Ok false → at_hand.now ≡ [] }
+    ensures some { result ≢ Ok true }
+    ensures cut { IfErr result (λ end. end ≡ SessionEnd.CutRequest place) }
+{
+    if at_hand.is_empty() {
+        return Ok(false);
+    }
+    Err(SessionEnd::CutRequest { at: place })
+}
+
+/// Serves the requests at the front of the input at hand that are done together, and answers how many bytes they have.
+fn serve_round<D: Disk + Send, K: Sink, R: Threads + Sync>(
+    rt: &R,
+    alloc: Global,
+    store: &mut Store<D>,
+    at_hand: &[u8],
+    sink: &mut K,
+) -> Result<usize, SessionEnd>
+    ensures len { IfOk result (λ len. len ≤ length at_hand.now) }
+    ensures config { store.new.config ≡ store.old.config }
+    ensures replied { IfOk result (HasReplied store.old.config at_hand.now
+        (K.taken sink.old) (K.taken sink.new)) }
+    ensures begun { IsErrOf result SessionEnd.WriteFault
+        → HasBegun store.old.config at_hand.now (K.taken sink.old) (K.taken sink.new) }
+    ensures flushed { OnOk result (AllFlushed (K.taken sink.new) (K.flushed sink.new)) }
+    ensures unread { result ≢ Err SessionEnd.ReadFault }
+    ensures fault { IsErrOf result SessionEnd.WriteFault
+        → Rose K.last (K.faults sink.old) (K.faults sink.new) }
+    ensures calm { result ≢ Err SessionEnd.WriteFault → K.faults sink.new ≡ K.faults sink.old }
+{
+    let round = take_round(alloc, store.config(), at_hand)?;
+    let replies = answer(rt, alloc, store, &round)?;
+    write_or_end(sink, &replies)?;
+    Ok(round.len)
+}
+
+/// Writes and flushes a text.
+fn write_or_end<K: Sink>(sink: &mut K, text: &[u8]) -> Result<(), SessionEnd>
+    ensures whole { OnOk result (Adds (K.taken sink.old) (K.taken sink.new) text.now) }
+    ensures flushed { OnOk result (AllFlushed (K.taken sink.new) (K.flushed sink.new)) }
+    ensures prefix { TakesPrefix (K.taken sink.old) (K.taken sink.new) text.now }
+    ensures end { IfErr result (λ end. end ≡ SessionEnd.WriteFault) }
+    ensures cause { OnErr result (Rose K.last (K.faults sink.old) (K.faults sink.new)) }
+    ensures calm { OnOk result (K.faults sink.new ≡ K.faults sink.old) }
+{
+    match write_all(sink, text) {
+        Ok(()) => Ok(()),
+        Err(_) => Err(SessionEnd::WriteFault),
+    }
+}

@@ -1,0 +1,120 @@
+//! The values that blocks are left with by writes.
+ghost use Rattle.std.specs.Prelude.{◌≡◌, ◌+◌, ◌≤◌, length, IfOk, OnOk, IfSome, All};
+ghost use Rattle.block_device.specs.Device.{merged};
+ghost use Rattle.store_front.specs.Blocks.{Reaches};
+ghost use Rattle.nbd_front.specs.Requests.{write_kind};
+ghost use Rattle.store_front.specs.Rounds.{IsAsked};
+ghost use Rattle.store_front.specs.Values.{AreBlocks};
+
+use crate::blocks::{WRITE, blocks_of, piece_of};
+use crate::operations::{Values, put_value, value_in};
+use crate::round::Asked;
+use crate::standing::HEAD;
+use cross_sum::Bytes;
+use lists::NoMemory;
+use quorum_rules::Config;
+use std::alloc::Global;
+use std::collections::BTreeMap;
+
+/// The values to be written to blocks for the requests of a round. A block of which only a part is written has none where it wasn't
+/// read.
+pub(crate) fn values_of(
+    alloc: Global,
+    config: &Config,
+    asked: &[Asked<'_>],
+    found: &Values,
+) -> Result<Values, NoMemory>
+    requires found { AreBlocks config.now found.now }
+    requires asked { All IsAsked asked.now }
+    ensures { IfOk result (λ values. AreBlocks config.now values) }
+{
+    let mut values = BTreeMap::new(alloc);
+    for one in asked {
+        if one.request.kind == WRITE {
+            put_values(alloc, config, one, found, &mut values)?;
+        }
+    }
+    Ok(values)
+}
+
+/// Adds the values to be written for a request.
+fn put_values(
+    alloc: Global,
+    config: &Config,
+    asked: &Asked<'_>,
+    found: &Values,
+    values: &mut Values,
+) -> Result<(), NoMemory>
+    requires found { AreBlocks config.now found.now }
+    requires values { AreBlocks config.now values.old }
+    requires asked { IsAsked asked.now }
+    requires writes { asked.now.request.kind ≡ write_kind }
+    ensures { OnOk result (AreBlocks config.now values.new) }
+{
+    let blocks = blocks_of(config, &asked.request);
+    for block in blocks.first..blocks.end {
+        put_block(alloc, config, asked, block, found, values)?;
+    }
+    Ok(())
+}
+
+/// Adds the value to be written to a block for a request.
+fn put_block(
+    alloc: Global,
+    config: &Config,
+    asked: &Asked<'_>,
+    block: u32,
+    found: &Values,
+    values: &mut Values,
+) -> Result<(), NoMemory>
+    requires reaches { Reaches config.now asked.now.request block }
+    requires found { AreBlocks config.now found.now }
+    requires values { AreBlocks config.now values.old }
+    requires asked { IsAsked asked.now }
+    requires writes { asked.now.request.kind ≡ write_kind }
+    ensures { OnOk result (AreBlocks config.now values.new) }
+{
+    let Some(value) = value_of(alloc, config, asked, block, value_in(found, block))? else {
+        return Ok(());
+    };
+    put_value(values, config, block, value)
+}
+
+/// The value with which a request leaves a block that held this one; none where it writes a part of it, and that isn't known.
+fn value_of(
+    alloc: Global,
+    config: &Config,
+    asked: &Asked<'_>,
+    block: u32,
+    old: Option<&Bytes>,
+) -> Result<Option<Bytes>, NoMemory>
+    requires reaches { Reaches config.now asked.now.request block }
+    requires asked { IsAsked asked.now }
+    requires writes { asked.now.request.kind ≡ write_kind }
+    requires old { IfSome old (λ value. length value.now ≡ config.now.size) }
+    ensures { IfOk result (λ value. IfSome value (λ bytes. length bytes ≡ config.now.size)) }
+{
+    let piece = piece_of(config, &asked.request, block);
+    let bytes = &asked.bytes[HEAD + piece.from..HEAD + piece.to];
+    if bytes.len() == config.size() as usize {
+        return Ok(Some(Bytes::of(alloc, bytes)?));
+    }
+    match old {
+        None => Ok(None),
+        Some(old) => Ok(Some(merged(alloc, old, piece.at, bytes)?)),
+    }
+}
+
+/// A block's value with other bytes from a place on, which end within it.
+#[tactic(auto, unfolding(block_device::specs::Device::merged))]
+fn merged(alloc: Global, old: &Bytes, at: usize, bytes: &[u8]) -> Result<Bytes, NoMemory>
+    requires { at + length bytes.now ≤ length old.now }
+    ensures value { IfOk result (λ value. value ≡ merged old.now at bytes.now) }
+    ensures len { IfOk result (λ value. length value ≡ length old.now) }
+{
+    let mut value = Vec::with_capacity(alloc, old.len())?;
+    value.extend_from_slice(&old.as_slice()[..at])?;
+    value.extend_from_slice(bytes)?;
+    value.extend_from_slice(old.tail(at + bytes.len()))?;
+    Bytes::shared(value)
+}

@@ -1,0 +1,91 @@
+//! Cases as they are written down, a line for each, with one space between two words. Lines that begin with `#` are comments.
+//!
+//! | Word | Meaning |
+//! |---|---|
+//! | 1 | the case's name |
+//! | 2 to 8 | the cluster's numbers: n, t, b, qc, m, size, blocks |
+//! | 9 | the seed |
+//! | 10, 11 | sessions, and the batches of each |
+//! | 12, 13 | disks of which a call fails in a session, at most, and how many calls it is one of |
+//! | 14 | nodes that are gone for a session, at most |
+//! | 15 | nodes whose journals others change before sessions |
+//! | 16 | 1 where nodes prune after batches |
+//! | 17 | where it isn't 0, the case is played for each node and each of so many calls of its disk, which fails in the first session |
+
+/// What is done in a session.
+#[derive(Clone, Copy)]
+pub struct Session {
+    pub batches: u32,
+    /// So many disks fail at most.
+    pub faults: u32,
+    /// One of so many calls of each of them.
+    pub calls: u32,
+    /// So many nodes are gone at most.
+    pub gone: u32,
+    pub prunes: bool,
+}
+
+/// A case.
+#[derive(Clone, Copy)]
+pub struct Case<'a> {
+    pub name: &'a str,
+    /// n, t, b, qc, m, size, blocks
+    pub cluster: [u32; 7],
+    pub seed: u32,
+    pub sessions: u32,
+    pub session: Session,
+    /// Others change so many nodes' journals.
+    pub changed: u32,
+    /// So many calls of each disk fail in turn.
+    pub turns: u32,
+}
+
+/// The case of a line, if it is one.
+pub fn case_of(line: &str) -> Option<Case<'_>> {
+    let mut words = line.split(' ');
+    let name = words.next()?;
+    let mut numbers = [0u32; 16];
+    for number in &mut numbers {
+        *number = words.next()?.parse().ok()?;
+    }
+    if words.next().is_some() {
+        return None;
+    }
+    Some(with_numbers(name, numbers))
+}
+
+fn with_numbers(name: &str, numbers: [u32; 16]) -> Case<'_> {
+    let [
+        n,
+        t,
+        b,
+        qc,
+        m,
+        size,
+        blocks,
+        seed,
+        sessions,
+        batches,
+        faults,
+        calls,
+        gone,
+        changed,
+        prunes,
+        turns,
+    ] = numbers;
+    Case {
+        name,
+        cluster: [n, t, b, qc, m, size, blocks],
+        seed,
+        sessions,
+        session: Session {
+            batches,
+            faults,
+            calls,
+            gone,
+            prunes: prunes == 1,
+        },
+        changed,
+        turns,
+    }
+}
