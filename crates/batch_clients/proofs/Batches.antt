@@ -6,7 +6,7 @@ use Rattle.std.specs.declared.option.Option.TheVariants.{None, Some}
 use Rattle.std.proofs.lemmas.List.Sums.{sum_by-cons}
 use Rattle.std.proofs.lemmas.List.Kept.{AllPairs-cons}
 use Rattle.std.proofs.lemmas.List.Elements.{All-from_recursion, recursion_from_All}
-use Rattle.lists.proofs.Members.{Contains-none, Contains-cons_cases, Contains-head, Contains-rest}
+use Rattle.lists.proofs.lemmas.Members.{Contains-none, Contains-cons_cases, Contains-head, Contains-rest}
 use Rattle.wire_forms.specs.declared.op.Op.{Op}
 use Rattle.protocol.specs.Messages.{Ask, Reply, Tag}
 use Rattle.protocol.specs.Setting.{Setting}

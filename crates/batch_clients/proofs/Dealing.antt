@@ -2,7 +2,7 @@
 use Rattle.std.proofs.Common.{◌≡◌, ◌⊎◌, ℕ, zero, suc, ◌+◌, ◌<◌, ◌≤◌, List, [], ◌∷◌, ◌++◌, length, refl, sym, ap, subst, ◌∙◌, arith, inl, inr, length-append}
 use Rattle.std.specs.Prelude.{slice_get, slice_set}
 use Rattle.std.specs.declared.option.Option.TheVariants.{Some}
-use Rattle.lists.proofs.Members.{get_new, slice_get-push, set_at, within}
+use Rattle.lists.proofs.lemmas.Members.{get_new, slice_get-push, set_at, within}
 use Rattle.protocol.specs.Count.{collect}
 use Rattle.protocol.specs.Messages.{Ask, Message, IsAsk}
 use Rattle.wire_forms.specs.declared.Body.TheVariants.{Ask as Asks}

@@ -12,7 +12,7 @@ use Rattle.protocol.specs.Seen.Hearing.{Ignored, Counted, Begins, Ended}
 use Rattle.client_core.specs.Clients.{ClientView, with_task, hears, IsHeard}
 use Rattle.client_core.specs.declared.heard.Heard.{Heard}
 use Rattle.client_core.specs.declared.heard.Heard.TheVariants.{Unchanged, More, Send, Ended as EndedWith}
-use Rattle.client_core.proofs.AnswersHeard.{told_is}
+use Rattle.client_core.proofs.lemmas.AnswersHeard.{told_is}
 use Rattle.block_lives.specs.Phases.{tag_of, heard_from, progress, after_phase}
 use Rattle.block_lives.specs.Phases.Progress.{UnderWay, Over}
 use Rattle.batch_clients.specs.Parts.{answer_from, IsHeardFrom, HasCome}

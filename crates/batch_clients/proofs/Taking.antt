@@ -4,7 +4,7 @@ use Rattle.std.specs.Prelude.{slice_get, slice_set}
 use Rattle.std.specs.declared.option.Option.TheVariants.{None, Some}
 use Rattle.std.proofs.lemmas.List.{length-map, reverse-reverse, map-append}
 use Rattle.protocol.specs.Messages.{Reply}
-use Rattle.lists.proofs.Members.{slice_get-seam}
+use Rattle.lists.proofs.lemmas.Members.{slice_get-seam}
 use Rattle.batch_clients.specs.Batches.{reply_at, column}
 use Rattle.batch_clients.specs.Parts.{turned, rest_of}
 

@@ -9,8 +9,8 @@ use Rattle.block_device.specs.Ranges.{fault_of, touched, bytes_in}
 use Rattle.block_device.specs.Steps.{put_steps, steps_of}
 use Rattle.block_device.specs.Device.{Device, but_at, merged, after_step, after, byte_at, AreBlocks, IsWritten}
 use Rattle.block_device.specs.declared.steps.BlockStep.{BlockStep}
-use Rattle.block_device.proofs.Touching.{IsWithin, within_if, reaches, touched_range, first_before_last, first_place, last_block}
-use Rattle.block_device.proofs.Merges.{whole_or_partly, put_whole, put_partly, length-bytes_in, bytes_in-at, merged_whole, length-merged, merged-inside, merged-outside}
+use Rattle.block_device.proofs.lemmas.Touching.{IsWithin, within_if, reaches, touched_range, first_before_last, first_place, last_block}
+use Rattle.block_device.proofs.lemmas.Merges.{whole_or_partly, put_whole, put_partly, length-bytes_in, bytes_in-at, merged_whole, length-merged, merged-inside, merged-outside}
 
 -- ---- steps one after the other
 but_at-same : (f : ℕ → List ℕ) (k : ℕ) (value : List ℕ) → but_at f k value k ≡ value

@@ -9,8 +9,8 @@ use Rattle.wire_forms.specs.declared.device.DeviceOp.TheVariants.{Get, Put}
 use Rattle.block_device.specs.Ranges.{start_of, len_of, is_touched, touched, bytes_in}
 use Rattle.block_device.specs.Steps.{put_steps, steps_in, steps_of, Fits}
 use Rattle.block_device.specs.declared.steps.BlockStep.TheVariants.{Read, Whole, Merge}
-use Rattle.block_device.proofs.Touching.{touched_then}
-use Rattle.block_device.proofs.Merges.{whole_or_partly, put_whole, put_partly, length-bytes_in}
+use Rattle.block_device.proofs.lemmas.Touching.{touched_then}
+use Rattle.block_device.proofs.lemmas.Merges.{whole_or_partly, put_whole, put_partly, length-bytes_in}
 
 All-flat_map : {X A : Type 0} (P : A → Type 0) (Q : X → Type 0) (f : X → List A) → ((x : X) → Q x → All P (f x)) → (xs : List X) → All Q xs → All P (flat_map f xs)
 All-flat_map P Q f each [] h = All-nil P

@@ -1,5 +1,3 @@
-pub mod Touching
-pub mod Merges
+pub mod lemmas
 mod Fitting
 mod Doing
-pub mod Reading

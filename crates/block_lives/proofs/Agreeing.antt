@@ -3,7 +3,7 @@ use Rattle.std.proofs.Common.{◌≡◌, ◌⊎◌, ℕ, ◌+◌, ◌-◌, ◌*�
 use Rattle.std.specs.declared.option.Option.TheVariants.{None, Some}
 use Rattle.std.specs.List.{Contains}
 use Rattle.std.proofs.lemmas.List.Elements.{Contains-append_left, Contains-append_right, Contains-append_cases}
-use Rattle.lists.proofs.Members.{Contains-one, Contains-none}
+use Rattle.lists.proofs.lemmas.Members.{Contains-one, Contains-none}
 use Rattle.protocol.specs.Messages.{Ask, Message}
 use Rattle.wire_forms.specs.declared.Body.TheVariants.{Ask as Asks}
 use Rattle.protocol.specs.Setting.{Setting}
@@ -14,7 +14,7 @@ use Rattle.protocol.specs.Instance.{InEachRun, setting_of}
 use Rattle.protocol.specs.Laws.{InEachCluster, TakesTheAllowed, RunsComeApart, TasksAreTold, SeenBegins, SeenHears, BeginsFull, StaysFull}
 use Rattle.protocol.specs.Seen.{task_at}
 use Rattle.protocol.specs.Views.{IsFull}
-use Rattle.protocol.proofs.Lists.{Contains-collected}
+use Rattle.protocol.proofs.lemmas.Lists.{Contains-collected}
 use Rattle.block_lives.specs.Steps.{State, Doing, untouched}
 use Rattle.block_lives.proofs.Hearing.{numbered}
 

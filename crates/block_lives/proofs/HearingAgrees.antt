@@ -11,7 +11,7 @@ use Rattle.protocol.specs.World.{World, Record, open_record, closed_record, with
 use Rattle.protocol.specs.Seen.{SeenTask, Hearing, task_at, hearing}
 use Rattle.protocol.specs.Seen.Hearing.{Ignored, Counted, Begins, Ended}
 use Rattle.protocol.specs.Views.{IsFull, task_after, after_hearing}
-use Rattle.protocol.proofs.Counting.{update-cases, update-same}
+use Rattle.protocol.proofs.lemmas.Counting.{update-cases, update-same}
 use Rattle.block_lives.specs.Steps.{State, Doing, heard_as}
 use Rattle.block_lives.specs.Phases.{tag_of}
 use Rattle.block_lives.proofs.Records.{record_same, record_on}

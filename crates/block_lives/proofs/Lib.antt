@@ -1,3 +1,4 @@
+pub mod lemmas
 pub mod Steps
 mod Updates
 mod Records
@@ -14,6 +15,5 @@ mod StepsAsRuns
 mod OneBlock
 mod NewVersions
 mod TurnsAsSteps
-pub mod TurnNumbers
 mod ToldOperations
 mod Lives

@@ -16,16 +16,16 @@ use Rattle.protocol.specs.Lines.{Line, IsRun}
 use Rattle.protocol.specs.Facts.{IsOutcomeOf, HasGave}
 use Rattle.protocol.specs.History.{NoClash}
 use Rattle.protocol.specs.Laws.{ReadsGiveUp, RecordsAreTold}
-use Rattle.protocol.proofs.Order.{≼-refl, ≼-antisym}
-use Rattle.protocol.proofs.Given.{greatest_is, greatest_iff, none_iff}
-use Rattle.lists.proofs.Members.{Contains-head, Contains-cons_cases}
+use Rattle.protocol.proofs.lemmas.Order.{≼-refl, ≼-antisym}
+use Rattle.protocol.proofs.lemmas.Given.{greatest_is, greatest_iff, none_iff}
+use Rattle.lists.proofs.lemmas.Members.{Contains-head, Contains-cons_cases}
 use Rattle.linear_runs.specs.Linear.{IsLinear}
 use Rattle.linear_runs.specs.Of.{known}
 use Rattle.block_lives.specs.Steps.{State, untouched, left_by}
 use Rattle.block_lives.specs.Runs.{AreSteps, IsRunOf, StepsAreARun, StepsAreLinearizable}
 use Rattle.block_lives.specs.Lives.{Moment, IsLife, IsToldBy, told, turns_of}
 use Rattle.block_lives.specs.Laws.{LivesAreLinearizable}
-use Rattle.block_lives.proofs.TurnNumbers.{linear_renumbered, renumbered, turn_at, turns_rise}
+use Rattle.block_lives.proofs.lemmas.TurnNumbers.{linear_renumbered, renumbered, turn_at, turns_rise}
 use Rattle.block_lives.proofs.ToldOperations.{IsToldAs, told_as}
 use Rattle.block_lives.proofs.TurnsAsSteps.{HasGiven, GaveLast, IsStuck, IsWalked, walked}
 

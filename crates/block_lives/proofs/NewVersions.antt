@@ -7,7 +7,7 @@ use Rattle.protocol.specs.Count.{update}
 use Rattle.protocol.specs.Messages.{Version}
 use Rattle.protocol.specs.Setting.{Setting}
 use Rattle.protocol.specs.World.{Record}
-use Rattle.protocol.proofs.Counting.{update-same, update-cases}
+use Rattle.protocol.proofs.lemmas.Counting.{update-same, update-cases}
 use Rattle.block_lives.specs.Steps.{Step, State, place_of, step_after, steps_after, May, MayAll}
 use Rattle.block_lives.specs.Runs.{begins, gives_up}
 use Rattle.block_lives.specs.Operating.{Keeps}

@@ -3,11 +3,11 @@ use Rattle.std.proofs.Common.{◌≡◌, ℕ, cond, List, [], ◌∷◌, Option,
 use Rattle.std.specs.declared.option.Option.TheVariants.{None, Some}
 use Rattle.std.specs.List.{Contains, cons_option}
 use Rattle.std.proofs.lemmas.Bool.{eq-eqb}
-use Rattle.lists.proofs.Members.{Contains-head, Contains-rest}
+use Rattle.lists.proofs.lemmas.Members.{Contains-head, Contains-rest}
 use Rattle.protocol.specs.World.{Record}
 use Rattle.linear_runs.specs.Linear.{Operation, on_block}
 use Rattle.linear_runs.specs.Of.{done_by, known}
-use Rattle.linear_runs.proofs.Runs.{done_is}
+use Rattle.linear_runs.proofs.lemmas.Runs.{done_is}
 
 pub known_on : (block : ℕ) (rs : List Record) → ((r : Record) → Contains rs r → r.block ≡ block) → on_block block (known rs) ≡ known rs
 known_on block [] on = refl

@@ -11,7 +11,7 @@ use Rattle.protocol.specs.Operations.{Work, Outcome}
 use Rattle.protocol.specs.World.{Record, open_record, closed_record, with_record}
 use Rattle.protocol.specs.Seen.{SeenTask, Hearing, task_at, hearing}
 use Rattle.protocol.specs.Seen.Hearing.{Ignored, Counted, Begins, Ended}
-use Rattle.protocol.proofs.Counting.{update-cases}
+use Rattle.protocol.proofs.lemmas.Counting.{update-cases}
 use Rattle.block_lives.specs.Steps.{Step, State, Doing, place_of, ask_at, done_by, heard_as, answer_at, answered_by, step_after, steps_after, May, MayAll}
 use Rattle.block_lives.specs.Steps.Step.{Answers, Does}
 use Rattle.block_lives.specs.Runs.{begins, gives_up}

@@ -6,7 +6,7 @@ use Rattle.protocol.specs.Setting.{Setting}
 use Rattle.protocol.specs.World.{World, IsClient, start_world}
 use Rattle.protocol.specs.Lines.{Line, FitsLine, IsPlayable, plays}
 use Rattle.run_words.specs.declared.line.Line.TheVariants.{CrashClient, Back}
-use Rattle.protocol.proofs.Counting.{update-cases, update-same}
+use Rattle.protocol.proofs.lemmas.Counting.{update-cases, update-same}
 use Rattle.block_lives.specs.Steps.{State, Doing}
 use Rattle.block_lives.proofs.Updates.{update-other, update-by}
 use Rattle.block_lives.proofs.Agreeing.{Laws, room, IsAtRest, AreSpent, Matches, Agree, Reached}

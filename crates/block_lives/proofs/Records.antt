@@ -2,10 +2,10 @@
 use Rattle.std.proofs.Common.{◌≡◌, ◌<◌, ℕ, Bool, true, false, cond, ◌&&◌, eqb, List, [], ◌∷◌, ◌++◌, refl, sym, ◌∙◌, ap, ap₂, inl, inr, arith}
 use Rattle.std.specs.List.{All, Contains}
 use Rattle.std.proofs.lemmas.List.Elements.{All-head, All-tail}
-use Rattle.lists.proofs.Members.{Contains-head, Contains-rest}
+use Rattle.lists.proofs.lemmas.Members.{Contains-head, Contains-rest}
 use Rattle.protocol.specs.World.{Record, with_record}
-use Rattle.protocol.proofs.Tests.{are_same, same_are, same_not}
-use Rattle.protocol.proofs.Replacing.{with_cases}
+use Rattle.protocol.proofs.lemmas.Tests.{are_same, same_are, same_not}
+use Rattle.protocol.proofs.lemmas.Replacing.{with_cases}
 
 -- the last record is replaced, where all others are of operations that began earlier
 pub last_replaced : (rs : List Record) (old r : Record)

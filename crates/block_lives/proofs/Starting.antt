@@ -2,14 +2,14 @@
 use Rattle.std.proofs.Common.{◌≡◌, ℕ, ◌+◌, ◌*◌, ◌<◌, ◌≤◌, false, List, [], ◌∷◌, ◌++◌, refl, sym, ◌∙◌, ap, subst, inl, inr, arith}
 use Rattle.std.specs.declared.option.Option.TheVariants.{None, Some}
 use Rattle.std.proofs.lemmas.List.Elements.{Contains-append_cases}
-use Rattle.lists.proofs.Members.{Contains-one}
+use Rattle.lists.proofs.lemmas.Members.{Contains-one}
 use Rattle.protocol.specs.Setting.{Setting}
 use Rattle.protocol.specs.Operations.{Task, Work, begun}
 use Rattle.protocol.specs.Operations.Work.{Reads, Writes}
 use Rattle.protocol.specs.World.{World, Record, IsClient, Fits, last_op, open_record, only_place, started_by}
 use Rattle.run_words.specs.declared.line.Line.TheVariants.{Write, Read}
 use Rattle.protocol.specs.Seen.{seen_begun}
-use Rattle.protocol.proofs.Counting.{update-same}
+use Rattle.protocol.proofs.lemmas.Counting.{update-same}
 use Rattle.block_lives.specs.Steps.{State, Doing, place_of, begun_as}
 use Rattle.block_lives.proofs.Updates.{update-other, update-by}
 use Rattle.block_lives.proofs.Agreeing.{Laws, room, AreSpent, IsBusy, IsDoing, Matches, Agree, Reached, Stands, mail_asked}

@@ -10,7 +10,7 @@ use Rattle.protocol.specs.Nodes.{after, pruned}
 use Rattle.protocol.specs.World.{IsQuiet, greatest_given, only_place, pruned_at}
 use Rattle.protocol.specs.Lines.{plays}
 use Rattle.run_words.specs.declared.line.Line.TheVariants.{CrashClient, Prune}
-use Rattle.protocol.proofs.Sending.{working}
+use Rattle.protocol.proofs.lemmas.Sending.{working}
 use Rattle.block_lives.specs.Steps.{Step, State, Doing, place_of, answered_by, done_by, pruned_by, step_after, May, steps_after, MayAll, untouched, left_by}
 use Rattle.block_lives.specs.Steps.Step.{Begins, Answers, Does, GivesUp, Prunes, Changes}
 use Rattle.block_lives.specs.Runs.{begins, gives_up, AreSteps}

@@ -9,17 +9,17 @@ use Rattle.protocol.specs.Operations.{Work, Outcome}
 use Rattle.protocol.specs.Operations.Work.{Reads, Writes}
 use Rattle.run_words.specs.declared.outcome.Outcome.TheVariants.{Wrote, Spent, Gave, Outvoted}
 use Rattle.protocol.specs.World.{Record}
-use Rattle.lists.proofs.Members.{Contains-head, Contains-none, Contains-one}
+use Rattle.lists.proofs.lemmas.Members.{Contains-head, Contains-none, Contains-one}
 use Rattle.linear_runs.specs.Linear.{Act, Operation}
 use Rattle.linear_runs.specs.Linear.Act.{Read, Write}
 use Rattle.linear_runs.specs.Of.{op_of, done_by, known}
-use Rattle.linear_runs.proofs.Matching.{made, map_same}
-use Rattle.linear_runs.proofs.Runs.{done_is}
+use Rattle.linear_runs.proofs.lemmas.Matching.{made, map_same}
+use Rattle.linear_runs.proofs.lemmas.Runs.{done_is}
 use Rattle.block_lives.specs.Steps.{Step, State, place_of, steps_after}
 use Rattle.block_lives.specs.Operating.{IsRecordOf}
 use Rattle.block_lives.specs.Lives.{Turn, Moment, act_of, act_left, operation, told_by, told, turns_of, Adds, IsTurn, AreStepsOf}
 use Rattle.block_lives.specs.Lives.Turn.{Did, Left, Pruned, Changed}
-use Rattle.block_lives.proofs.TurnNumbers.{read_as, renumbered, turn_at, turn_first, turn_later}
+use Rattle.block_lives.proofs.lemmas.TurnNumbers.{read_as, renumbered, turn_at, turn_first, turn_later}
 use Rattle.block_lives.proofs.Steps.{steps_after-append}
 
 -- it has an end where it has an outcome

@@ -16,8 +16,8 @@ use Rattle.protocol.specs.Operations.{Work, Outcome, How}
 use Rattle.protocol.specs.Operations.Work.{Reads, Writes}
 use Rattle.run_words.specs.declared.outcome.Outcome.TheVariants.{Wrote, Spent, Gave, Outvoted}
 use Rattle.protocol.specs.World.{Record, greatest_given}
-use Rattle.protocol.proofs.Order.{same_stamp-≡, same_stamp-refl}
-use Rattle.lists.proofs.Members.{Contains-one, Contains-none}
+use Rattle.protocol.proofs.lemmas.Order.{same_stamp-≡, same_stamp-refl}
+use Rattle.lists.proofs.lemmas.Members.{Contains-one, Contains-none}
 use Rattle.block_lives.specs.Steps.{Step, State, place_of, untouched, pruned_by, steps_after, MayAll}
 use Rattle.block_lives.specs.Steps.Step.{Prunes, Changes}
 use Rattle.block_lives.specs.Runs.{begins, gives_up}

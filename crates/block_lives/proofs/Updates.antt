@@ -1,7 +1,7 @@
 -- Functions of numbers that have a new value at one of them.
 use Rattle.std.proofs.Common.{◌≡◌, ℕ, ◌∙◌, ap, sym, subst, inl, inr}
 use Rattle.protocol.specs.Count.{update}
-use Rattle.protocol.proofs.Counting.{update-cases, update-same}
+use Rattle.protocol.proofs.lemmas.Counting.{update-cases, update-same}
 
 pub update-other : {A : Type 0} (f : ℕ → A) (k : ℕ) (v : A) (j : ℕ) → (j ≡ k → ⊥) → update f k v j ≡ f j
 update-other f k v j h = elim (update-cases f k v j) [ inl e ↦ absurd (h e.0) | inr e ↦ e.1 ]

@@ -5,7 +5,7 @@ use Rattle.journals.specs.declared.desk.DeskEntry.{DeskEntry}
 use Rattle.locked_nodes.specs.Cells.{Rises}
 use Rattle.client_desks.specs.Desks.{DeskView, numbers_of, desk_entry}
 use Rattle.client_desks.specs.Later.{IsLater, GoesOn, OwnIsLater, CallIsLater, KeptIsLater}
-use Rattle.locked_nodes.proofs.Growing.{rises_append}
+use Rattle.locked_nodes.proofs.lemmas.Growing.{rises_append}
 
 -- numbers that rise from a higher bound rise from a lower one
 rises_from : (low high : ℕ) (xs : List ℕ) (top : ℕ) → low ≤ high → Rises high xs top → Rises low xs top

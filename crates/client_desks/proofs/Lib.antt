@@ -1,2 +1,2 @@
-pub mod Desking
+pub mod lemmas
 mod Lasting

@@ -10,7 +10,7 @@ use Rattle.journals.specs.declared.node.NodeEntry.{NodeEntry}
 use Rattle.locked_nodes.specs.Cells.{CellView}
 use Rattle.locked_nodes.specs.Joined.{join}
 use Rattle.phase_threads.specs.Standing.{add_cell, node_journal}
-use Rattle.phase_threads.proofs.Nodes.{journal_more}
+use Rattle.phase_threads.proofs.lemmas.Nodes.{journal_more}
 use Rattle.client_threads.specs.Running.{node_journals}
 
 module _ (cells : List CellView) (c : CellView) where

@@ -18,17 +18,17 @@ use Rattle.plan_followed.specs.Closed.{AreBelow, AreEmpty, Begins}
 use Rattle.locked_nodes.specs.Slots.{slot_of, slots_of, Cover}
 use Rattle.phase_threads.specs.Standing.{IsCellOf, IsPlanned, node_journal, is_whole, HasSideIn, HasSideOn, PairsStand, ArePlanned, journals_of}
 use Rattle.phase_threads.specs.Ended.{AreClients}
-use Rattle.phase_threads.proofs.Nodes.{journal_cases}
-use Rattle.phase_threads.proofs.Cells.{journal_is, desk_at}
+use Rattle.phase_threads.proofs.lemmas.Nodes.{journal_cases}
+use Rattle.phase_threads.proofs.lemmas.Cells.{journal_is, desk_at}
 use Rattle.phase_threads.specs.declared.duty.Seat.{Seat}
-use Rattle.crews.proofs.Places.{all_from, get_map}
+use Rattle.crews.proofs.lemmas.Places.{all_from, get_map}
 use Rattle.client_work.specs.declared.work.Work.{Work}
 use Rattle.client_work.specs.declared.work.Work.TheVariants.{Client, Lying, Courier}
 use Rattle.client_threads.specs.Opened.{IsNewCell, AreNewCells, IsNewSeat, shards_of}
 use Rattle.client_threads.specs.Reads.{IsPartedAs, IsParted}
 use Rattle.client_threads.specs.Running.{desks_of, clients_of, plan_of, journals_in, StandsAt, LiarsNamed, IsOpen, IsBetween}
 use Rattle.client_threads.specs.declared.state.Run.{Run}
-use Rattle.lists.proofs.Members.{Contains-head, Contains-none, Contains-map_cases, place_of}
+use Rattle.lists.proofs.lemmas.Members.{Contains-head, Contains-none, Contains-map_cases, place_of}
 
 -- a node has one cell or so many
 pub shards_cases : (plan : Plan) (shards i : ℕ) → (shards_of plan shards i ≡ 1) ⊎ (shards_of plan shards i ≡ shards)

@@ -37,12 +37,12 @@ use Rattle.client_threads.specs.Running.{StandsAt, desks_of}
 use Rattle.locked_nodes.specs.Cells.{CellView}
 use Rattle.journals.specs.declared.whole.Journals.{Journals}
 use Rattle.plan_followed.specs.Closed.{AreBelow}
-use Rattle.plan_followed.proofs.Later.{below_all}
+use Rattle.plan_followed.proofs.lemmas.Later.{below_all}
 use Rattle.phase_threads.specs.Standing.{journals_of}
 use Rattle.phase_threads.specs.Ended.{AreClients}
-use Rattle.phase_threads.proofs.Cells.{desk_at}
-use Rattle.phase_threads.proofs.Ending.{entries_are}
-use Rattle.lists.proofs.Members.{Contains-head, Contains-none, Contains-rest, Contains-cons_cases, Contains-map_cases, Contains-map}
+use Rattle.phase_threads.proofs.lemmas.Cells.{desk_at}
+use Rattle.phase_threads.proofs.lemmas.Ending.{entries_are}
+use Rattle.lists.proofs.lemmas.Members.{Contains-head, Contains-none, Contains-rest, Contains-cons_cases, Contains-map_cases, Contains-map}
 
 -- ---- one client's reads
 

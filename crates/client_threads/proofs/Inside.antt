@@ -26,7 +26,7 @@ use Rattle.client_threads.specs.declared.state.Run.{Run}
 use Rattle.client_threads.proofs.Gathering.{FromSeat, from_early, from_late, reads_are}
 use Rattle.client_threads.proofs.Phasing.{zip_left, works_met, parted_on, pruned_fixed}
 use Rattle.client_threads.proofs.Working.{IsFixedAs, fixed_same, cells_fixed, inside_fixed, planned_fixed, zip_map, zip_long}
-use Rattle.lists.proofs.Members.{Contains-head, Contains-rest}
+use Rattle.lists.proofs.lemmas.Members.{Contains-head, Contains-rest}
 
 -- ---- reads
 

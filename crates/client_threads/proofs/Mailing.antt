@@ -6,9 +6,9 @@ use Rattle.journals.specs.declared.node.NodeAct.TheVariants.{Answered, Lied, Sil
 use Rattle.journals.specs.Acts.{NodeState, after}
 use Rattle.journals.specs.Steps.{side}
 use Rattle.locked_nodes.specs.Cells.{CellView, HasNoLateMail, state_of, first_state, entry, with_entry, with_seen, HasMoreAside}
-use Rattle.locked_nodes.proofs.Aside.{aside_none, aside_one}
+use Rattle.locked_nodes.proofs.lemmas.Aside.{aside_none, aside_one}
 use Rattle.client_desks.specs.Desks.{DeskView, KeepsDesk, Delivers}
-use Rattle.locked_nodes.proofs.Growing.{after_all_snoc}
+use Rattle.locked_nodes.proofs.lemmas.Growing.{after_all_snoc}
 
 -- ---- desks
 

@@ -19,14 +19,14 @@ use Rattle.client_desks.specs.Desks.{DeskView, first_desk}
 use Rattle.plan_words.specs.declared.plan.Plan.{Plan}
 use Rattle.plan_words.specs.Named.{clients, ascending, lying_client, lying_clients, troubled_client, job_client, asking_clients}
 use Rattle.plan_words.specs.Plans.{IsFault, IsJob, Fits}
-use Rattle.plan_followed.proofs.Plans.{liar_there}
+use Rattle.plan_followed.proofs.lemmas.Plans.{liar_there}
 use Rattle.plan_followed.specs.Closed.{Begins}
 use Rattle.client_work.specs.declared.task.Task.{Task}
 use Rattle.client_work.specs.Tasks.{client_of}
 use Rattle.phase_threads.specs.Standing.{IsDeskAt}
 use Rattle.phase_threads.specs.Ended.{AreClients}
 use Rattle.phase_threads.specs.declared.duty.Seat.{Seat}
-use Rattle.crews.proofs.Places.{get_snoc}
+use Rattle.crews.proofs.lemmas.Places.{get_snoc}
 use Rattle.client_work.specs.declared.work.Work.{Work}
 use Rattle.client_work.specs.declared.work.Work.TheVariants.{Client, Lying}
 use Rattle.client_work.specs.declared.worker.ClientWorker.{ClientWorker}
@@ -36,9 +36,9 @@ use Rattle.client_threads.specs.Opened.{IsUnusedPass, IsNewCell, AreNewCells, Is
 use Rattle.client_threads.specs.declared.state.Run.{Run}
 use Rattle.client_threads.specs.Running.{desks_of, plan_of, LiarsNamed, IsBetween}
 use Rattle.client_threads.proofs.Beginning.{shards_cases, cells_planned, is_first}
-use Rattle.lists.proofs.Members.{Contains-head, Contains-none, Contains-rest, Contains-cons_cases, Contains-map_cases, Contains-map, place_of, get_left, slice_get-seam, Contains-slice_get}
-use Rattle.protocol.proofs.Starts.{starts_few}
-use Rattle.plan_followed.proofs.Phases.{troubled_there, worker_there}
+use Rattle.lists.proofs.lemmas.Members.{Contains-head, Contains-none, Contains-rest, Contains-cons_cases, Contains-map_cases, Contains-map, place_of, get_left, slice_get-seam, Contains-slice_get}
+use Rattle.protocol.proofs.lemmas.Starts.{starts_few}
+use Rattle.plan_followed.proofs.lemmas.Phases.{troubled_there, worker_there}
 
 -- ---- cells
 

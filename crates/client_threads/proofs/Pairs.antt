@@ -10,7 +10,7 @@ use Rattle.journals.specs.Steps.{side, IsOwn}
 use Rattle.locked_nodes.specs.Cells.{CellView}
 use Rattle.client_desks.specs.Desks.{DeskView, desk_entry}
 use Rattle.phase_threads.specs.Standing.{HasSideIn, HasSideOn, PairsStand}
-use Rattle.lists.proofs.Members.{Contains-head, Contains-none, Contains-rest, Contains-cons_cases}
+use Rattle.lists.proofs.lemmas.Members.{Contains-head, Contains-none, Contains-rest, Contains-cons_cases}
 
 -- who stands in one list has somebody at its place in the other
 pub record Beside {X Y : Type 0} (R : X → Y → Type 0) (ys : List Y) (x : X) : Type 0 where

@@ -8,7 +8,7 @@ use Rattle.quorum_rules.specs.Limits.{Numbers}
 use Rattle.protocol.specs.Count.{one_more}
 use Rattle.protocol.specs.Seen.{SeenTask, Hearing}
 use Rattle.protocol.specs.Seen.Hearing.{Ignored, Counted, Begins, Ended as Ends}
-use Rattle.protocol.proofs.Lists.{append_nil}
+use Rattle.protocol.proofs.lemmas.Lists.{append_nil}
 use Rattle.client_core.specs.Clients.{hears}
 use Rattle.journals.specs.declared.desk.DeskAct.{DeskAct}
 use Rattle.journals.specs.declared.desk.DeskAct.TheVariants.{Start, Crash, Call}
@@ -16,10 +16,10 @@ use Rattle.journals.specs.declared.desk.DeskEntry.{DeskEntry}
 use Rattle.journals.specs.Desks.{Ended, DeskState, new_desk, ended_by, desk_after, desk_after_all}
 use Rattle.client_desks.specs.Desks.{DeskView, state_at}
 use Rattle.client_desks.specs.Later.{IsLater}
-use Rattle.phase_threads.proofs.Cells.{desk_rises}
+use Rattle.phase_threads.proofs.lemmas.Cells.{desk_rises}
 use Rattle.client_work.specs.Work.{all_given}
 use Rattle.client_threads.specs.Reads.{AreParted}
-use Rattle.lists.proofs.Members.{Contains-head, Contains-none, Contains-rest, Contains-one}
+use Rattle.lists.proofs.lemmas.Members.{Contains-head, Contains-none, Contains-rest, Contains-one}
 
 -- the operations that some entries ended
 pub record Ended_in (es : List DeskEntry) (xs : List Ended) : Type 0 where

@@ -5,7 +5,7 @@ use Rattle.std.specs.Prelude.{fold, ◌==◌}
 use Rattle.std.specs.List.{Contains, AllZip, All, range_with_len}
 use Rattle.std.proofs.lemmas.List.Elements.{Contains-append_cases, All-nil, All-cons, All-head, All-tail, All-contains}
 use Rattle.protocol.specs.Count.{update}
-use Rattle.protocol.proofs.Lists.{append_nil}
+use Rattle.protocol.proofs.lemmas.Lists.{append_nil}
 use Rattle.wire_forms.specs.Liars.{has_number}
 use Rattle.protocol.specs.Report.{Ascend}
 use Rattle.plan_words.specs.Named.{clients}
@@ -15,7 +15,7 @@ use Rattle.journals.specs.declared.node.NodeAct.TheVariants.{Answered, Lied, Sil
 use Rattle.journals.specs.declared.node.NodeEntry.{NodeEntry}
 use Rattle.journals.specs.declared.desk.DeskEntry.{DeskEntry}
 use Rattle.journals.specs.declared.whole.Journals.{Journals}
-use Rattle.phase_threads.proofs.Cells.{desk_rises}
+use Rattle.phase_threads.proofs.lemmas.Cells.{desk_rises}
 use Rattle.journals.specs.Phases.{Phase}
 use Rattle.journals.specs.Steps.{side}
 use Rattle.locked_nodes.specs.Cells.{CellView, KeptCell, IsPrune}
@@ -42,7 +42,7 @@ use Rattle.client_threads.proofs.Parting.{parted_all}
 use Rattle.client_threads.proofs.Gathering.{prunes_are, reads_are}
 use Rattle.client_threads.proofs.Places.{reopened_fixed}
 use Rattle.client_threads.proofs.Working.{zip_map, zip_then, zip_all, IsFixedAs, fixed_same, planned_fixed}
-use Rattle.lists.proofs.Members.{Contains-none}
+use Rattle.lists.proofs.lemmas.Members.{Contains-none}
 
 -- ---- desks that met a pass
 

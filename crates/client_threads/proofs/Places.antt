@@ -8,7 +8,7 @@ use Rattle.std.proofs.Math.Nat.{mod-eq_of_lt}
 use Rattle.std.proofs.lemmas.Nat.{mod_below}
 use Rattle.std.proofs.lemmas.Option.{slice_get_read, slice_get_within, get_or_from_slice_get}
 use Rattle.std.proofs.lemmas.List.Elements.{All-head, All-tail, All-map, Contains-get_or}
-use Rattle.locked_nodes.proofs.Joins.{below_tells}
+use Rattle.locked_nodes.proofs.lemmas.Joins.{below_tells}
 use Rattle.event_clock.specs.Passes.{ClockId, Holder}
 use Rattle.journals.specs.declared.node.NodeEntry.{NodeEntry}
 use Rattle.journals.specs.Acts.{can_prune}
@@ -21,13 +21,13 @@ use Rattle.plan_followed.specs.Asked.{nature}
 use Rattle.plan_followed.specs.Nodes.{Pruning, act_of, node_after}
 use Rattle.plan_followed.specs.declared.prunes.BlockStamp.{BlockStamp}
 use Rattle.phase_threads.specs.Standing.{ArePlanned, HasDonePrunes, NodesPrune, add_cell, node_journal, prunes_at}
-use Rattle.phase_threads.proofs.Working.{cell_below}
+use Rattle.phase_threads.proofs.lemmas.Working.{cell_below}
 use Rattle.client_threads.specs.Met.{IsKeeper}
 use Rattle.client_threads.specs.Pruned.{IsOpenCell, HasMorePrunes, IsServed, ArePlaces, AllPrune, NodePruned, OthersStay, reopened, prunings_of}
 use Rattle.client_threads.proofs.Keepers.{keeper_then, same_keeper}
 use Rattle.client_threads.proofs.Prunes.{none_more, more_then, same_may, slots_same}
 use Rattle.client_threads.proofs.Working.{zip_then, zip_all, IsFixedAs, planned_fixed}
-use Rattle.lists.proofs.Members.{Contains-none, get_new, slice_get-push, all_at, Contains-slice_get}
+use Rattle.lists.proofs.lemmas.Members.{Contains-none, get_new, slice_get-push, all_at, Contains-slice_get}
 
 -- ---- places
 

@@ -5,7 +5,7 @@ use Rattle.std.specs.declared.option.Option.TheVariants.{Some}
 use Rattle.std.specs.List.{AllZip, All, AllByRecursion}
 use Rattle.std.proofs.lemmas.List.{map-append}
 use Rattle.std.proofs.lemmas.List.Elements.{Contains-append_cases, All-nil, All-cons, All-head, All-tail, All-append, recursion_from_All}
-use Rattle.protocol.proofs.Lists.{append_nil}
+use Rattle.protocol.proofs.lemmas.Lists.{append_nil}
 use Rattle.event_clock.specs.Passes.{ClockId, Holder}
 use Rattle.journals.specs.declared.node.Nature.{Nature}
 use Rattle.journals.specs.declared.node.Nature.TheVariants.{Honest, Lying as Lies}
@@ -20,12 +20,12 @@ use Rattle.locked_nodes.specs.Slots.{slot_of, slots_of}
 use Rattle.plan_followed.specs.Nodes.{act_of}
 use Rattle.plan_followed.specs.declared.prunes.BlockStamp.{BlockStamp}
 use Rattle.phase_threads.specs.Standing.{node_journal}
-use Rattle.phase_threads.proofs.Nodes.{journal_snoc, journal_other}
+use Rattle.phase_threads.proofs.lemmas.Nodes.{journal_snoc, journal_other}
 use Rattle.client_threads.specs.Met.{IsKeeper}
 use Rattle.client_threads.specs.Pruned.{IsOpenCell, HasMorePrunes, AllPrune, NodePruned, OthersStay, prunings_of, pruning_of}
 use Rattle.client_threads.proofs.Keepers.{same_keeper, set_all}
 use Rattle.client_threads.proofs.Working.{beside_at}
-use Rattle.lists.proofs.Members.{Contains-none, Contains-one, all_at}
+use Rattle.lists.proofs.lemmas.Members.{Contains-none, Contains-one, all_at}
 
 -- ---- a cell with prunes more
 

@@ -19,17 +19,17 @@ use Rattle.plan_words.specs.declared.plan.Plan.{Plan}
 use Rattle.plan_followed.specs.Asked.{holds}
 use Rattle.phase_threads.specs.Standing.{IsDeskAt, AreCells, AreInside, IsPlanned, HasSideOn, PairsStand, HasWorked, ArePlanned}
 use Rattle.phase_threads.specs.Ended.{AreClients}
-use Rattle.phase_threads.proofs.Sharded.{holds_whole}
+use Rattle.phase_threads.proofs.lemmas.Sharded.{holds_whole}
 use Rattle.phase_threads.specs.declared.duty.Seat.{Seat}
 use Rattle.phase_threads.specs.Phases.{MayPhase}
-use Rattle.crews.proofs.Places.{map_get}
+use Rattle.crews.proofs.lemmas.Places.{map_get}
 use Rattle.client_work.specs.declared.work.Work.{Work}
 use Rattle.client_work.specs.declared.work.Work.TheVariants.{Client, Lying, Courier}
 use Rattle.client_work.specs.Work.{Ready, Done}
 use Rattle.client_threads.specs.Running.{desks_of, clients_of, plan_of, StandsAt, cuts, LiarsNamed, IsOpen, IsStanding, HasDonePhase}
 use Rattle.client_threads.specs.declared.state.Run.{Run}
 use Rattle.client_threads.proofs.Working.{IsFixedAs, zip_all, zip_long, cells_fixed, inside_fixed, planned_fixed}
-use Rattle.lists.proofs.Members.{Contains-none, Contains-one, Contains-slice_get}
+use Rattle.lists.proofs.lemmas.Members.{Contains-none, Contains-one, Contains-slice_get}
 
 -- ---- before the phase
 

@@ -17,9 +17,9 @@ use Rattle.client_work.specs.declared.work.Work.{Work}
 use Rattle.client_threads.specs.Running.{desks_of}
 use Rattle.client_threads.proofs.Threading.{desks_pushed}
 use Rattle.client_threads.proofs.Rounds.{cells_tick}
-use Rattle.crews.proofs.Places.{Walked, walk_on}
+use Rattle.crews.proofs.lemmas.Places.{Walked, walk_on}
 use Rattle.client_threads.proofs.Walking.{made_more}
-use Rattle.lists.proofs.Members.{Contains-map_cases, Contains-map}
+use Rattle.lists.proofs.lemmas.Members.{Contains-map_cases, Contains-map}
 
 -- all passes, in the order in which they are put together
 abbrev pub passes_of : List CellView → List DeskView → Holder → Holder → List Holder

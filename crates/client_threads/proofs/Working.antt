@@ -27,7 +27,7 @@ use Rattle.plan_followed.specs.Closed.{next_begin, HaveClosed, AreWorked, Finish
 use Rattle.locked_nodes.specs.Slots.{slot_of, slots_of, Cover}
 use Rattle.phase_threads.specs.Standing.{IsCellOf, IsDeskAt, AreCells, AreInside, IsPlanned, HaveOwnSlots, HasWorked, ArePlanned, HaveSeen, PairsStand, PhasesWork, NothingLate, journals_of}
 use Rattle.phase_threads.specs.Ended.{AreClients}
-use Rattle.phase_threads.proofs.Cells.{journal_of, journal_is, entries_at, desk_at, rises_from}
+use Rattle.phase_threads.proofs.lemmas.Cells.{journal_of, journal_is, entries_at, desk_at, rises_from}
 use Rattle.phase_threads.specs.declared.duty.Seat.{Seat}
 use Rattle.client_work.specs.declared.work.Work.{Work}
 use Rattle.client_work.specs.declared.work.Work.TheVariants.{Client, Lying, Courier}
@@ -37,7 +37,7 @@ use Rattle.client_threads.specs.Running.{desks_of, clients_of, plan_of, journals
 use Rattle.client_threads.specs.declared.state.Run.{Run}
 use Rattle.client_threads.proofs.Pairs.{HasMoreAlone, HasSameEntries, pairs_on}
 use Rattle.client_threads.proofs.Parting.{parted_on}
-use Rattle.lists.proofs.Members.{Contains-head, Contains-none, Contains-rest, Contains-map_cases, Contains-slice_get}
+use Rattle.lists.proofs.lemmas.Members.{Contains-head, Contains-none, Contains-rest, Contains-map_cases, Contains-slice_get}
 
 -- ---- lists beside each other
 

@@ -19,14 +19,14 @@ use Rattle.journals.specs.Desks.{DeskState, new_desk, desk_told, desk_after}
 use Rattle.client_desks.specs.Desks.{DeskView, state_at, task_at, asks_of as asks_node, with_call, desk_entry, ending}
 use Rattle.plan_followed.specs.Asked.{drops, holds, client_crash}
 use Rattle.plan_followed.specs.Clients.{InEach, GoesByPlan, IsNext, IsCutOff, client_after, times, asks, asks_of, last_of, turn_after, way_of}
-use Rattle.plan_followed.proofs.Entries as followed
+use Rattle.plan_followed.proofs.lemmas.Entries as followed
 use Rattle.desk_keys.specs.Keys.{IsAskOn, AsksOn}
 use Rattle.client_work.specs.declared.worker.ClientWorker.{ClientWorker}
 use Rattle.client_work.specs.declared.reads.GivenRead.{GivenRead}
 use Rattle.client_work.specs.Work.{given_by, all_given, asks_left, Counts, HasReads, Goes, IsWholeIn, counted, HasCounted, IsOn}
 use Rattle.client_work.proofs.Heard.{numbered, EndedWith, GoesOnWith, told_on, told_end}
 use Rattle.client_work.proofs.Going.{state_is, same_times, counts_more, way_is}
-use Rattle.journals.proofs.Lists.{state_snoc}
+use Rattle.journals.proofs.lemmas.Lists.{state_snoc}
 
 abbrev read_of : ℕ → Stamp → List ℕ → GivenRead
 read_of block stamp value = record { block = block; stamp = stamp; value = value }

@@ -10,7 +10,7 @@ use Rattle.plan_words.specs.declared.plan.Plan.{Plan}
 use Rattle.client_desks.specs.Desks.{DeskView}
 use Rattle.plan_followed.specs.Asked.{drops, holds, client_crash}
 use Rattle.plan_followed.specs.Clients.{InEach, GoesByPlan, IsDone}
-use Rattle.plan_followed.proofs.Entries as followed
+use Rattle.plan_followed.proofs.lemmas.Entries as followed
 use Rattle.client_work.specs.declared.task.Ways.{Ways}
 use Rattle.client_work.specs.declared.task.ClientTask.{ClientTask}
 use Rattle.client_work.specs.Phases.{all_steps}

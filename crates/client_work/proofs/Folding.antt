@@ -4,7 +4,7 @@ use Rattle.std.specs.List.{flat_map, range_with_len}
 use Rattle.std.proofs.lemmas.List.{map_push, append-nil}
 use Rattle.std.specs.Ordering.{nat_cmp}
 use Rattle.std.specs.BTreeSet.{insert_key}
-use Rattle.lists.proofs.Members.{range_more}
+use Rattle.lists.proofs.lemmas.Members.{range_more}
 
 pub fold_append : (start : List ℕ) (xs ys : List ℕ) → fold (insert_key nat_cmp) start (xs ++ ys) ≡ fold (insert_key nat_cmp) (fold (insert_key nat_cmp) start xs) ys
 fold_append start [] ys = refl

@@ -18,13 +18,13 @@ use Rattle.locked_nodes.specs.Slots.{IsWholeAt}
 use Rattle.client_desks.specs.Desks.{DeskView, state_at, with_own, desk_entry}
 use Rattle.plan_followed.specs.Asked.{drops, holds, client_crash}
 use Rattle.plan_followed.specs.Clients.{client_after, times, starts, asks, asks_of, way_of, op_of}
-use Rattle.plan_followed.proofs.Entries as followed
+use Rattle.plan_followed.proofs.lemmas.Entries as followed
 use Rattle.client_work.specs.declared.task.Ways.{Ways}
 use Rattle.client_work.specs.declared.worker.ClientWorker.{ClientWorker}
 use Rattle.client_work.specs.Work.{all_given, ways_left, asks_left, every_step, IsItsDesk, Counts, HasReads, Goes, counted, HasCounted, HoldsWhole}
 use Rattle.client_work.proofs.Heard.{times_snoc}
-use Rattle.lists.proofs.Members.{set_at}
-use Rattle.journals.proofs.Lists.{state_snoc}
+use Rattle.lists.proofs.lemmas.Members.{set_at}
+use Rattle.journals.proofs.lemmas.Lists.{state_snoc}
 
 -- ---- lists
 

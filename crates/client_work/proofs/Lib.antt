@@ -1,3 +1,4 @@
+pub mod lemmas
 pub mod TaskSteps
 pub mod Folding
 pub mod OncePaired
@@ -11,4 +12,3 @@ pub mod Running
 pub mod Mailing
 pub mod Opening
 pub mod Ending
-pub mod Sending

@@ -9,16 +9,16 @@ use Rattle.protocol.specs.Messages.{IsBytes, AreDigests}
 use Rattle.protocol.specs.Setting.{IsBlock, IsValid as IsGood}
 use Rattle.protocol.specs.Instance.{setting, nobody}
 use Rattle.protocol.specs.Lines.{sound_ask, mix_ask, mixed, mixed_sum}
-use Rattle.protocol.proofs.Cluster.{cluster_valid}
-use Rattle.protocol.proofs.Forming.{sum_formed, all_collect}
+use Rattle.protocol.proofs.lemmas.Cluster.{cluster_valid}
+use Rattle.protocol.proofs.lemmas.Forming.{sum_formed, all_collect}
 use Rattle.event_lines.specs.Lines.{IsValue}
 use Rattle.plan_words.specs.declared.fault.Fault.{Fault}
 use Rattle.plan_words.specs.declared.fault.Fault.TheVariants.{LiarNode, LiarSound, LiarMix, LiarFlood, CrashNode, CrashClient, Drop, Hold}
 use Rattle.plan_words.specs.Plans.{IsFault}
 use Rattle.plan_followed.specs.Asked.{messages, messages_by}
 use Rattle.client_work.specs.Tasks.{IsSendable}
-use Rattle.protocol.proofs.Strings.{all_bytes}
-use Rattle.protocol.proofs.Counting.{nobody_counts}
+use Rattle.protocol.proofs.lemmas.Strings.{all_bytes}
+use Rattle.protocol.proofs.lemmas.Counting.{nobody_counts}
 
 bytes_of : (xs : List ℕ) → text.IsBytes xs → IsBytes xs
 unfolding text.IsBytes

@@ -23,7 +23,7 @@ use Rattle.client_work.specs.declared.worker.ClientWorker.{ClientWorker}
 use Rattle.client_work.specs.Work.{given_by, all_given, latest_given, phase_in, steps_of_first, every_step, HasSteps, StepsFit, Goes, Stands, IsAmid, IsAmidOrOff, IsOn, block_in, DidStep}
 use Rattle.client_work.proofs.Heard.{numbered}
 use Rattle.client_work.proofs.Going.{state_is, more_times}
-use Rattle.journals.proofs.Lists.{state_snoc}
+use Rattle.journals.proofs.lemmas.Lists.{state_snoc}
 
 -- ---- reads
 

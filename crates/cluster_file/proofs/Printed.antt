@@ -9,15 +9,15 @@ use Rattle.quorum_rules.specs.Faults.{numbers, fault}
 use Rattle.quorum_rules.specs.declared.ConfigFault.{ConfigFault}
 use Rattle.quorum_rules.specs.declared.Edition.{Edition}
 use Rattle.quorum_rules.specs.declared.Edition.TheVariants.{Three}
-use Rattle.quorum_rules.proofs.FaultLaws.{none_of_valid, size_at_most, blocks_at_most}
+use Rattle.quorum_rules.proofs.lemmas.FaultLaws.{none_of_valid, size_at_most, blocks_at_most}
 use Rattle.text_lines.specs.Lines.{parts_of, fields_of, line_of_fields, text_of_lines, Lacks, AllLack}
 use Rattle.text_lines.specs.Fields.{value_text, IsBytes}
 use Rattle.text_lines.specs.Fields.{number_of, value_of}
-use Rattle.text_lines.proofs.Numbers.{number_of-decimal, number_of-text}
-use Rattle.text_lines.proofs.Values.{value_of-some, value_of-text}
-use Rattle.text_lines.proofs.Joined.{parts-joined, parts-text_of_lines, text_from_parts, Lacks-append, Lacks-decimal, Lacks-value_text}
+use Rattle.text_lines.proofs.lemmas.Numbers.{number_of-decimal, number_of-text}
+use Rattle.text_lines.proofs.lemmas.Values.{value_of-some, value_of-text}
+use Rattle.text_lines.proofs.lemmas.Joined.{parts-joined, parts-text_of_lines, text_from_parts, Lacks-append, Lacks-decimal, Lacks-value_text}
 use Rattle.line_forms.specs.Heads.{cluster_fields, u32_of}
-use Rattle.line_forms.proofs.Accepted.{cluster_apart}
+use Rattle.line_forms.proofs.lemmas.Accepted.{cluster_apart}
 use Rattle.cluster_file.specs.declared.membership.Membership.{Membership}
 use Rattle.cluster_file.specs.declared.membership.MembershipRefusal.{MembershipRefusal}
 use Rattle.cluster_file.specs.declared.membership.MembershipRefusal.TheVariants.{NoMemory, BadLine}

@@ -12,7 +12,7 @@ use Rattle.wire_forms.specs.Liars.{IsAscending}
 use Rattle.plan_words.specs.Named.{lying_nodes, lying_clients}
 use Rattle.plan_followed.specs.Laws.{OfPlans, HasLiars}
 use Rattle.command_texts.specs.ScriptLiars.{HasScriptLiars}
-use Rattle.lists.proofs.Orders.{nat_less, less_of}
+use Rattle.lists.proofs.lemmas.Orders.{nat_less, less_of}
 
 inserted : (x : ℕ) (xs : List ℕ) (k : ℕ) (P : List ℕ → Type 0) → (k < x → P (k ∷ x ∷ xs)) → P (x ∷ xs) → (x < k → P (x ∷ insert_key nat_cmp xs k)) → P (insert_key nat_cmp (x ∷ xs) k)
 inserted x xs k P before here after =

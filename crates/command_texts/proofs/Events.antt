@@ -7,7 +7,7 @@ use Rattle.event_lines.specs.Lines.{IsEventLine}
 use Rattle.event_lines.specs.declared.line.ReplayLine.{ReplayLine}
 use Rattle.event_lines.specs.declared.line.ReplayLine.TheVariants.{Plain}
 use Rattle.journal_records.specs.Told.{IsTold}
-use Rattle.lists.proofs.Members.{all_push, nil_of}
+use Rattle.lists.proofs.lemmas.Members.{all_push, nil_of}
 
 -- the events so far, and the lines that are left, so many
 pub record AreMade (c : Numbers) (lines rest : List Line) (left : ℕ) (events : List ReplayLine) : Type 0 where

@@ -1,7 +1,5 @@
-pub mod Alone
-pub mod Commands
+pub mod lemmas
 pub mod WordForms
-pub mod NbdForms
 pub mod Replaying
 mod Ascending
 mod Events

@@ -3,12 +3,12 @@ use Rattle.std.proofs.Common.{◌≡◌, ℕ, ◌+◌, List, [], ◌∷◌, map,
 use Rattle.quorum_rules.specs.Limits.{Numbers}
 use Rattle.wire_forms.specs.Liars.{Liars}
 use Rattle.event_lines.specs.declared.line.ReplayLine.{ReplayLine}
-use Rattle.script_text.proofs.ReplayLaws.{one_replay}
+use Rattle.script_text.proofs.lemmas.ReplayLaws.{one_replay}
 use Rattle.stamp_order.specs.declared.Stamp.{Stamp}
 use Rattle.protocol.specs.Setting.{Setting, first_stamp}
 use Rattle.protocol.specs.World.{Record}
 use Rattle.protocol.specs.History.{Entry}
-use Rattle.protocol.proofs.Keys.{one_list}
+use Rattle.protocol.proofs.lemmas.Keys.{one_list}
 use Rattle.history_making.specs.Books.{Book}
 use Rattle.history_making.specs.Tellings.{Tells, told_entry}
 use Rattle.history_making.specs.declared.entry.Entry as told

@@ -6,7 +6,7 @@ use Rattle.wire_forms.specs.Firsts.{first_of}
 use Rattle.protocol.specs.Setting.{Setting}
 use Rattle.protocol.specs.World.{World, Record}
 use Rattle.protocol.specs.Lines.{Line, IsRun}
-use Rattle.protocol.proofs.Firsts.{first_stamp_is}
+use Rattle.protocol.proofs.lemmas.Firsts.{first_stamp_is}
 use Rattle.history_making.specs.Books.{Book}
 use Rattle.history_book.specs.Reports.{report_text}
 use Rattle.script_run.specs.Histories.{FitsHistory, AreOfRun, TellsHistory}

@@ -15,12 +15,12 @@ use Rattle.protocol.specs.World.{Record}
 use Rattle.protocol.specs.Report.{is_spent}
 use Rattle.protocol.specs.Instance.{InEachRun, IsCluster}
 use Rattle.protocol.specs.Laws.{NoneIsSpent}
-use Rattle.protocol.proofs.Counting.{count_named}
+use Rattle.protocol.proofs.lemmas.Counting.{count_named}
 use Rattle.history_making.specs.declared.entry.Counts.{Counts}
 use Rattle.script_run.specs.Performing.{CommandQueues, LeadsTo, after_line, start_queues}
-use Rattle.script_run.proofs.Leading.{after-place}
+use Rattle.script_run.proofs.lemmas.Leading.{after-place}
 use Rattle.command_texts.specs.Replays.{cluster_of, Replays}
-use Rattle.lists.proofs.Members.{Contains-head, Contains-rest}
+use Rattle.lists.proofs.lemmas.Members.{Contains-head, Contains-rest}
 
 spent_is : (o : Option Outcome) → is_spent o ≡ true → o ≡ Some Spent
 spent_is None e = absurd (cc)

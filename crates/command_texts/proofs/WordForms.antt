@@ -7,7 +7,7 @@ use Rattle.std.proofs.lemmas.Fmt.{decimal_is_IsNumeral}
 use Rattle.std.proofs.lemmas.Slice.Eq.{bytes_eq-Decides}
 use Rattle.std.proofs.lemmas.Str.Parse.{digit_from_value}
 use Rattle.text_lines.specs.Fields.{number_of}
-use Rattle.text_lines.proofs.Numbers.{number_of-some, number_of-text}
+use Rattle.text_lines.proofs.lemmas.Numbers.{number_of-some, number_of-text}
 use Rattle.command_texts.specs.Words.{words_of, IsForm, IsCommand}
 use Rattle.command_texts.specs.declared.words.Serving.TheVariants.{ByLocks, ByWorkers}
 use Rattle.command_texts.specs.declared.words.Command.{Command}

@@ -4,7 +4,7 @@ use Rattle.std.specs.declared.option.Option.TheVariants.{Some}
 use Rattle.std.specs.Prelude.{slice_get}
 use Rattle.crews.specs.Crews.{Beside}
 use Rattle.crews.specs.Starts.{GoesBy}
-use Rattle.crews.proofs.Places.{right_of}
+use Rattle.crews.proofs.lemmas.Places.{right_of}
 
 -- what is so through the items between
 pub through : {X Y Z : Type 0} (R : X → Y → Type 0) (T : X → Z → Type 0) (xs : List X) (ys : List Y) (zs : List Z) → Beside (λ (i : ℕ) (x : X) (y : Y). R x y) xs ys → Beside (λ (i : ℕ) (y : Y) (z : Z). (x : X) → R x y → T x z) ys zs

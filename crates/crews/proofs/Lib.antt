@@ -1,2 +1,2 @@
+pub mod lemmas
 mod Goings
-pub mod Places

@@ -35,10 +35,10 @@ use Rattle.node_serving.specs.declared.answered.Answered.{Answered}
 use Rattle.node_serving.specs.declared.answered.ClientPlace.{ClientPlace}
 use Rattle.desk_keys.specs.declared.mail.ByMail.{ByMail}
 use Rattle.desk_keys.specs.Keys.{FloorView, IsHead, IsFloor, KeysView, Knows, IsSide, Agree, Agrees, AreKeys, IsByChits, IsByMail, IsAskPlace, Reaches, Fit, refusal_in, HasAsked, HasCalled, HasSent, AddSides, AddCall, AddSent, AddAnswer, AddHeard, AddTold, IsSameMail, HasEnded, LeavesNoSide}
-use Rattle.desk_keys.proofs.Mailing.{agree_answer, agree_own_mail, agree_ended}
-use Rattle.crews.proofs.Places.{get_set}
+use Rattle.desk_keys.proofs.lemmas.Mailing.{agree_answer, agree_own_mail, agree_ended}
+use Rattle.crews.proofs.lemmas.Places.{get_set}
 use Rattle.desk_keys.proofs.Lists.{still_there}
-use Rattle.lists.proofs.Members.{Contains-none, Contains-one, set_at, at_place}
+use Rattle.lists.proofs.lemmas.Members.{Contains-none, Contains-one, set_at, at_place}
 
 -- the chit knows what it knew
 pub knows_more : (was now : Chit Item) (more : List (ℕ × Item)) (n : NodeEntry) → now.vault ≡ was.vault → now.mine ≡ was.mine ++ more → Knows was n → Knows now n

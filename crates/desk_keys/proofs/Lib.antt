@@ -1,4 +1,4 @@
+pub mod lemmas
 mod Lists
 mod Turns
-pub mod Mailing
 mod Keying

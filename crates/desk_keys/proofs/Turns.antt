@@ -20,7 +20,7 @@ use Rattle.locked_nodes.specs.declared.charter.Item.TheVariants.{Head, Entry}
 use Rattle.locked_nodes.specs.Cells.{CellView, IsShare, IsWhole, Serves, HoldsWhole, entry, items, with_entry}
 use Rattle.locked_nodes.specs.declared.slot.Slot.{Slot}
 use Rattle.locked_nodes.specs.Slots.{slot_of, IsFor}
-use Rattle.client_desks.proofs.Desking.{asks_node, items_snoc}
+use Rattle.client_desks.proofs.lemmas.Desking.{asks_node, items_snoc}
 use Rattle.client_desks.specs.Desks.{DeskView, CanCall, state_at, task_at, asks_of, done_by, reply_by, ending, AddPair, Calls, Delivers}
 use Rattle.desk_keys.specs.Keys.{IsHead, IsAskOn, AsksOn, HasLeft, AddSides, AddCall, AddSent, LeavesNoSide}
 

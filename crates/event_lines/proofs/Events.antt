@@ -6,10 +6,10 @@ use Rattle.std.proofs.lemmas.Bool.{cases_Bool}
 use Rattle.std.proofs.lemmas.Slice.Eq.{bytes_eq-Decides}
 use Rattle.quorum_rules.specs.Limits.{Numbers}
 use Rattle.text_lines.specs.Lines.{fields_of, line_of_fields}
-use Rattle.text_lines.proofs.Joined.{line_from_fields}
+use Rattle.text_lines.proofs.lemmas.Joined.{line_from_fields}
 use Rattle.line_forms.specs.Tables.{Gives}
 use Rattle.line_forms.specs.declared.refusal.LineRefusal.{LineRefusal}
-use Rattle.line_forms.proofs.Tables.{gives_same}
+use Rattle.line_forms.proofs.lemmas.Tables.{gives_same}
 use Rattle.event_lines.specs.declared.line.ReplayLine.{ReplayLine}
 use Rattle.event_lines.specs.Forms.{rest_cause, line_cause, event_cause}
 use Rattle.event_lines.specs.Lines.{IsEventLine, IsSpelled, event_text}

@@ -7,7 +7,7 @@ use Rattle.std.proofs.Math.Bool.{or-true}
 use Rattle.std.proofs.lemmas.Bool.{cases_Bool, both_ways, and_parts, or_cases}
 use Rattle.std.proofs.lemmas.Slice.Eq.{bytes_eq-Decides}
 use Rattle.text_lines.specs.Lines.{fields_of}
-use Rattle.text_lines.proofs.Joined.{line_from_fields, some_part}
+use Rattle.text_lines.proofs.lemmas.Joined.{line_from_fields, some_part}
 use Rattle.stamp_order.specs.declared.Bound.TheVariants.{All as Every, AtMost, Below}
 use Rattle.wire_forms.specs.declared.message.Version.{Version}
 use Rattle.wire_forms.specs.declared.message.Request.{Request}
@@ -20,7 +20,7 @@ use Rattle.wire_forms.specs.declared.message.Body.{Body}
 use Rattle.wire_forms.specs.declared.message.Body.TheVariants.{Ask as Asks, Answer as Answers}
 use Rattle.wire_forms.specs.declared.message.Message.{Message}
 use Rattle.message_texts.specs.Texts.{IsVersion, IsRequest, IsReply, IsBody, IsMessage, IsText, version_fields, request_fields, reply_fields, reason_text, message_fields, text_of}
-use Rattle.message_texts.proofs.Fields.{fields-text_of}
+use Rattle.message_texts.proofs.lemmas.Fields.{fields-text_of}
 use Rattle.line_forms.specs.Tables.{Gives, first_of}
 use Rattle.line_forms.specs.declared.cause.Cause.{Cause}
 use Rattle.line_forms.specs.declared.cause.Cause.TheVariants.{WrongCount, BadMessage}

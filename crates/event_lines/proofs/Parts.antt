@@ -11,12 +11,12 @@ use Rattle.hex.proofs.HexLemmas.{length-encode_with}
 use Rattle.cross_sum.specs.Digest.{flat}
 use Rattle.text_lines.specs.Lines.{parts_at}
 use Rattle.text_lines.specs.Fields.{number_of, value_of, value_text}
-use Rattle.text_lines.proofs.Numbers.{number_of-some, number_of-decimal}
-use Rattle.text_lines.proofs.Values.{value_of-some, value_of-text}
+use Rattle.text_lines.proofs.lemmas.Numbers.{number_of-some, number_of-decimal}
+use Rattle.text_lines.proofs.lemmas.Values.{value_of-some, value_of-text}
 use Rattle.stamp_order.specs.declared.Stamp.{Stamp}
 use Rattle.message_texts.specs.Texts.{IsBytes, IsDigest, IsStamp, IsSum, IsFragment, stamp_text, sum_text}
-use Rattle.message_texts.proofs.Digits.{low_encoded, sum_of_digits}
-use Rattle.message_texts.proofs.Spelling.{are_bytes, are_all_bytes, joined, stamp_parts, length-flat, fragment_spelled}
+use Rattle.message_texts.proofs.lemmas.Digits.{low_encoded, sum_of_digits}
+use Rattle.message_texts.proofs.lemmas.Spelling.{are_bytes, are_all_bytes, joined, stamp_parts, length-flat, fragment_spelled}
 use Rattle.event_lines.specs.Messages.{is_digest, is_stamp, is_value}
 
 -- ---- what a part spells

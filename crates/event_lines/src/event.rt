@@ -33,7 +33,7 @@ use text_lines::{cut, fields};
 /// After `lie`, `tell` and `poke` comes the text of a message: `WrongCount` where nothing follows the
 /// word, and `BadMessage` where the rest isn't the text of a message, of an answer after `tell`, or of
 /// an ask after `poke`.
-#[tactic(auto, using(text_lines::proofs::Joined::line_from_fields), unfolding(crate::specs::Forms::event_cause))]
+#[tactic(auto, using(text_lines::proofs::lemmas::Joined::line_from_fields), unfolding(crate::specs::Forms::event_cause))]
 pub fn read_event(alloc: Global, config: &Config, line: &[u8]) -> Result<ReplayLine, LineRefusal>
     ensures { Gives (λ l. IsEventLine config.now l × (event_text l ≡ line.now))
         (event_cause config.now line.now) result }

@@ -1,5 +1,5 @@
 //! The lines of fields, each with its fields one by one, none of them empty.
-#![tactic(auto, using(text_lines::proofs::Spelled::spelled, std::proofs::lemmas::Grind::common_steps))]
+#![tactic(auto, using(text_lines::proofs::lemmas::Spelled::spelled, std::proofs::lemmas::Grind::common_steps))]
 
 ghost use Rattle.std.specs.Prelude.{◌≡◌, ◌≢◌, ◌∷◌, [], length, codes, true, false, MatchOption, is_none};
 ghost use Rattle.quorum_rules.specs.Limits.{Numbers};

@@ -1,5 +1,5 @@
 //! The text of an event line, written from its front to its end.
-#![tactic(auto, using(message_texts::proofs::Printed::joining))]
+#![tactic(auto, using(message_texts::proofs::lemmas::Printed::joining))]
 
 ghost use Rattle.std.specs.Prelude.{◌≡◌, ◌++◌, ◌∷◌, codes, decimal, OnOk};
 ghost use Rattle.text_lines.specs.Fields.{value_text};

@@ -60,7 +60,7 @@ impl<F: DiskFile + Drop> FileDisk<F> {
     }
 
     // A disk over a file that has these bytes, all of them safe.
-    #[tactic(auto, using(disk_model::proofs::Crash::settled_stays))]
+    #[tactic(auto, using(disk_model::proofs::lemmas::Crash::settled_stays))]
     pub(crate) fn over(file: F, mirror: Vec<u8>, most: usize) -> FileDisk<F>
         requires short { length mirror.items ≤ most }
         requires most { most < 2 ^ 63 }
@@ -131,7 +131,7 @@ impl<F: DiskFile + Drop> Disk for FileDisk<F> {
         Ok(())
     }
 
-    #[tactic(auto, using(disk_model::proofs::Crash::wider, disk_model::proofs::Crash::written_stays, disk_model::proofs::Crash::length_overwritten, disk_model::proofs::Past::kept_by_write))]
+    #[tactic(auto, using(disk_model::proofs::lemmas::Crash::wider, disk_model::proofs::lemmas::Crash::written_stays, disk_model::proofs::lemmas::Crash::length_overwritten, disk_model::proofs::lemmas::Past::kept_by_write))]
     fn write_at(&mut self, at: u64, piece: &[u8]) -> Result<(), DiskFault>
         requires begins { at ≤ length self.old.bytes }
         requires ends { at + length piece.now ≤ self.old.most }
@@ -168,7 +168,7 @@ impl<F: DiskFile + Drop> Disk for FileDisk<F> {
         Ok(())
     }
 
-    #[tactic(auto, using(disk_model::proofs::Crash::only_settled, disk_model::proofs::Crash::settled_stays, disk_model::proofs::Crash::settled_within))]
+    #[tactic(auto, using(disk_model::proofs::lemmas::Crash::only_settled, disk_model::proofs::lemmas::Crash::settled_stays, disk_model::proofs::lemmas::Crash::settled_within))]
     fn sync(&mut self) -> Result<(), DiskFault>
         ensures durable { OnOk result (self.new.pending ≡ settled self.old.bytes) }
         ensures bytes { self.new.bytes ≡ self.old.bytes }

@@ -3,7 +3,7 @@ use Rattle.std.proofs.Common.{◌≡◌, ℕ, Bool, true, false, eqb, List, [], 
 use Rattle.std.specs.Prelude.{slice_get, is_none, not, option_map, IfSome}
 use Rattle.std.specs.declared.cmp.Ordering.TheVariants.{Less}
 use Rattle.text_lines.specs.Fields.{value_of}
-use Rattle.text_lines.proofs.Values.{value_of-some}
+use Rattle.text_lines.proofs.lemmas.Values.{value_of-some}
 use Rattle.line_forms.specs.Kinds.{has_empty_field, has_wrong_count}
 use Rattle.line_forms.specs.Tables.{first_of}
 use Rattle.line_forms.specs.Texts.{is_empty}
@@ -17,8 +17,8 @@ use Rattle.history_book.specs.Reports.{entry_fields}
 use Rattle.history_book.specs.ReportTexts.{◌>>=◌, kind_told, numbers_told, numbers_in, entry_told, entry_with, entry_causes, value_causes, has_other_kind, has_other_size, is_bad_value, is_zero_mark, is_not_above, stands_above, last_of, IsRightAfter, MayFollow, IsTold}
 use Rattle.history_making.specs.Orders.{key_cmp}
 use Rattle.history_book.proofs.Spelling.{kind_spelled, numbers_spelled}
-use Rattle.lists.proofs.Tests.{positive}
-use Rattle.lists.proofs.Orders.{lt_less}
+use Rattle.lists.proofs.lemmas.Tests.{positive}
+use Rattle.lists.proofs.lemmas.Orders.{lt_less}
 use Rattle.std.proofs.lemmas.Bool.{or_parts}
 
 -- the table of an entry line's causes where the first three tests fail

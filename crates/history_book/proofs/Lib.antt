@@ -1,3 +1,4 @@
+pub mod lemmas
 pub mod Spelling
 pub mod EntryLines
 pub mod OtherLines
@@ -5,8 +6,5 @@ pub mod Words
 pub mod ReadLines
 pub mod PrintedEntries
 pub mod PrintedOthers
-pub mod PrintedReports
 pub mod Flaws
 pub mod Times
-pub mod Reported
-pub mod Judged

@@ -7,7 +7,7 @@ use Rattle.std.proofs.lemmas.Grind.{common_steps}
 use Rattle.std.proofs.lemmas.Slice.Eq.{bytes_eq-Decides}
 use Rattle.text_lines.specs.Lines.{texts}
 use Rattle.text_lines.specs.Fields.{number_of}
-use Rattle.text_lines.proofs.Numbers.{number_of-some}
+use Rattle.text_lines.proofs.lemmas.Numbers.{number_of-some}
 use Rattle.line_forms.specs.Kinds.{has_empty_field, has_wrong_count}
 use Rattle.line_forms.specs.Tables.{first_of}
 use Rattle.line_forms.specs.declared.cause.Cause.{Cause}

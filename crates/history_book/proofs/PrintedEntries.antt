@@ -10,9 +10,9 @@ use Rattle.std.proofs.lemmas.Fmt.{decimal_is_IsNumeral, decimal_nonempty}
 use Rattle.std.proofs.lemmas.Str.Parse.{digit_from_value}
 use Rattle.text_lines.specs.Lines.{fields_of, line_of_fields, parts_at}
 use Rattle.text_lines.specs.Fields.{value_text}
-use Rattle.text_lines.proofs.Numbers.{number_of-decimal}
-use Rattle.text_lines.proofs.Values.{value_of-text}
-use Rattle.text_lines.proofs.Joined.{parts-joined, Lacks-decimal}
+use Rattle.text_lines.proofs.lemmas.Numbers.{number_of-decimal}
+use Rattle.text_lines.proofs.lemmas.Values.{value_of-text}
+use Rattle.text_lines.proofs.lemmas.Joined.{parts-joined, Lacks-decimal}
 use Rattle.line_forms.specs.Tables.{first_of}
 use Rattle.line_forms.specs.declared.cause.Cause.TheVariants.{OutOfRange, BadValue, NotSorted}
 use Rattle.history_making.specs.declared.entry.Kind.{Kind}
@@ -29,7 +29,7 @@ use Rattle.history_book.proofs.EntryLines.{Seven, with_numbers, told_entry}
 use Rattle.history_book.proofs.OtherLines.{three_none}
 use Rattle.history_book.proofs.ReadLines.{IsRead}
 use Rattle.history_book.proofs.Words.{IsWord, AreWords, wide, word_decimal, word_value, word_kind, word_append, none_empty, fields_apart, differs_from_number}
-use Rattle.lists.proofs.Tests.{not_zero}
+use Rattle.lists.proofs.lemmas.Tests.{not_zero}
 
 -- ---- places
 

@@ -2,7 +2,7 @@
 use Rattle.std.proofs.Common.{◌≡◌, ℕ, ◌<◌, ◌^◌, false, List, [], ◌∷◌, ◌++◌, Option, Some, None, refl, sym, ap, ◌∙◌, arith, lit<, lit≤}
 use Rattle.std.specs.Prelude.{codes, decimal, IfSome}
 use Rattle.text_lines.specs.Lines.{fields_of, line_of_fields}
-use Rattle.text_lines.proofs.Numbers.{number_of-decimal}
+use Rattle.text_lines.proofs.lemmas.Numbers.{number_of-decimal}
 use Rattle.history_making.specs.declared.entry.Entry.{Entry as EntryRecord}
 use Rattle.history_making.specs.declared.entry.Spent.{Spent as SpentRecord}
 use Rattle.history_making.specs.declared.entry.Counts.{Counts}

@@ -11,14 +11,14 @@ use Rattle.std.proofs.lemmas.List.Folds.{list_any-append}
 use Rattle.std.proofs.lemmas.List.Sorted.{IsNonDecreasingBy-from_all_adjacent}
 use Rattle.std.proofs.lemmas.Option.{slice_get_within, slice_get-get_or}
 use Rattle.text_lines.specs.Lines.{fields_of, line_of_fields, parts_of}
-use Rattle.text_lines.proofs.Joined.{line_from_fields}
+use Rattle.text_lines.proofs.lemmas.Joined.{line_from_fields}
 use Rattle.line_forms.specs.Tables.{first_of}
 use Rattle.line_forms.specs.Texts.{IsFault, IsFaultless, ReadsTo, end_causes, ended}
 use Rattle.line_forms.specs.declared.cause.Cause.{Cause}
 use Rattle.line_forms.specs.declared.cause.Cause.TheVariants.{Empty, MissingLine, UnknownWord}
-use Rattle.line_forms.proofs.Texts.{reads_none, reads_on, line_fault, end_fault, needed, cut_short, read_all, text_read}
-use Rattle.history_making.proofs.EntryOrders.{then_less}
-use Rattle.history_making.proofs.Fronts.{slice_get-take}
+use Rattle.line_forms.proofs.lemmas.Texts.{reads_none, reads_on, line_fault, end_fault, needed, cut_short, read_all, text_read}
+use Rattle.history_making.proofs.lemmas.EntryOrders.{then_less}
+use Rattle.history_making.proofs.lemmas.Fronts.{slice_get-take}
 use Rattle.history_book.proofs.Words.{differs_from_number}
 use Rattle.history_making.specs.declared.entry.Entry.{Entry as EntryRecord}
 use Rattle.history_making.specs.declared.entry.Spent.{Spent as SpentRecord}
@@ -30,7 +30,7 @@ use Rattle.history_book.specs.Reports.{entry_fields, spent_fields, end_fields, r
 use Rattle.history_book.specs.ReportTexts.{field, entry_told, spent_told, entries_in, spent_in, has_end, line_cause, report_cause, report, MayFollow, MayFollowSpent, AreToldEntries, AreToldSpent, IsReport, last_of}
 use Rattle.history_making.specs.Orders.{key_cmp}
 use Rattle.history_book.specs.ReportLines.{line_fields, MayStand, IsToldBy, IsAdded, missing_at}
-use Rattle.lists.proofs.Members.{slice_get-front, slice_get-seam}
+use Rattle.lists.proofs.lemmas.Members.{slice_get-front, slice_get-seam}
 
 -- the lines of entries and spent writes
 abbrev pub told_lines : List EntryRecord → List SpentRecord → List (List ℕ)

@@ -7,8 +7,8 @@ use Rattle.std.proofs.lemmas.Slice.Eq.{bytes_eq-Decides}
 use Rattle.std.proofs.lemmas.List.Splits.{join_with_byte-slice_split}
 use Rattle.text_lines.specs.Lines.{parts_at, Lacks}
 use Rattle.text_lines.specs.Fields.{number_of}
-use Rattle.text_lines.proofs.Numbers.{number_of-some}
-use Rattle.text_lines.proofs.Joined.{only_part, Lacks-decimal}
+use Rattle.text_lines.proofs.lemmas.Numbers.{number_of-some}
+use Rattle.text_lines.proofs.lemmas.Joined.{only_part, Lacks-decimal}
 use Rattle.history_making.specs.declared.entry.Kind.{Kind}
 use Rattle.history_making.specs.declared.entry.Kind.TheVariants.{Read, Write, Foreign}
 use Rattle.history_book.specs.declared.numbers.StampNumbers.{StampNumbers}

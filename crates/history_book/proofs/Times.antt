@@ -5,7 +5,7 @@ use Rattle.std.proofs.lemmas.Bool.{cases_lt}
 use Rattle.std.proofs.lemmas.List.{length-take-le}
 use Rattle.std.proofs.lemmas.Option.{slice_get_within}
 use Rattle.history_making.specs.declared.entry.Entry.{Entry}
-use Rattle.history_making.proofs.Fronts.{slice_get-take}
+use Rattle.history_making.proofs.lemmas.Fronts.{slice_get-take}
 use Rattle.history_book.specs.declared.judging.FlawKind.TheVariants.{Time}
 use Rattle.history_book.specs.Judging.{IsTimeFlaw, IsLeastFlaw}
 use Rattle.history_book.specs.Sweeps.{IsStartUpTo, StartsAfter}

@@ -10,13 +10,13 @@ use Rattle.std.proofs.lemmas.Slice.Eq.{bytes_eq-Decides}
 use Rattle.std.proofs.lemmas.Str.Parse.{digit_from_value}
 use Rattle.text_lines.specs.Lines.{fields_of, line_of_fields, parts_of, text_of_lines, Lacks, AllLack}
 use Rattle.text_lines.specs.Fields.{value_text}
-use Rattle.text_lines.proofs.Joined.{parts-joined, Lacks-append, Lacks-decimal, Lacks-value_text}
+use Rattle.text_lines.proofs.lemmas.Joined.{parts-joined, Lacks-append, Lacks-decimal, Lacks-value_text}
 use Rattle.line_forms.specs.Kinds.{has_empty_field}
-use Rattle.line_forms.proofs.Accepted.{line_apart}
+use Rattle.line_forms.proofs.lemmas.Accepted.{line_apart}
 use Rattle.history_making.specs.declared.entry.Kind.{Kind}
 use Rattle.history_making.specs.declared.entry.Kind.TheVariants.{Read, Write, Foreign}
 use Rattle.history_book.specs.Reports.{kind_word}
-use Rattle.lists.proofs.Tests.{not_zero}
+use Rattle.lists.proofs.lemmas.Tests.{not_zero}
 
 -- a text that may stand as a field of a line
 pub record IsWord (text : List ℕ) : Type 0 where

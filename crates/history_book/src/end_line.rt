@@ -1,5 +1,5 @@
 //! The last line of a report: its counts.
-#![tactic(auto, using(text_lines::proofs::Spelled::spelled, std::proofs::lemmas::Grind::common_steps))]
+#![tactic(auto, using(text_lines::proofs::lemmas::Spelled::spelled, std::proofs::lemmas::Grind::common_steps))]
 
 ghost use Rattle.std.specs.Prelude.{◌≡◌, slice_get, codes};
 ghost use Rattle.text_lines.specs.Lines.{texts};

@@ -1,5 +1,5 @@
 //! The entry lines of a report.
-#![tactic(auto, using(text_lines::proofs::Spelled::spelled, std::proofs::lemmas::Grind::common_steps))]
+#![tactic(auto, using(text_lines::proofs::lemmas::Spelled::spelled, std::proofs::lemmas::Grind::common_steps))]
 
 ghost use Rattle.std.specs.Prelude.{◌≡◌, ℕ, List, false, ◌∷◌, [], length, Some};
 ghost use Rattle.text_lines.specs.Fields.{value_of};

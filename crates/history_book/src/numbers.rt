@@ -1,5 +1,5 @@
 //! The fields of an entry line that hold words and numbers.
-#![tactic(auto, using(text_lines::proofs::Spelled::spelled, std::proofs::lemmas::Grind::common_steps))]
+#![tactic(auto, using(text_lines::proofs::lemmas::Spelled::spelled, std::proofs::lemmas::Grind::common_steps))]
 
 ghost use Rattle.std.specs.Prelude.{◌≡◌};
 ghost use Rattle.history_book.specs.ReportTexts.{kind_told, stamp_told, some_place, no_place, start_told, end_told, numbers_told};

@@ -1,5 +1,5 @@
 //! The lines of a report that tell of spent writes.
-#![tactic(auto, using(text_lines::proofs::Spelled::spelled, std::proofs::lemmas::Grind::common_steps))]
+#![tactic(auto, using(text_lines::proofs::lemmas::Spelled::spelled, std::proofs::lemmas::Grind::common_steps))]
 
 ghost use Rattle.std.specs.Prelude.{◌≡◌, not, codes, Some};
 ghost use Rattle.text_lines.specs.Lines.{texts};

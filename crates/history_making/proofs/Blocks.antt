@@ -5,9 +5,9 @@ use Rattle.std.specs.List.Sorted.{IsNonDecreasingBy}
 use Rattle.std.proofs.lemmas.List.{length-map, get_or-map}
 use Rattle.std.proofs.lemmas.List.Sorted.{IsNonDecreasingBy-from_all_adjacent}
 use Rattle.protocol.specs.History.{Entry as FullEntry, entry_cmp, IsSorted}
-use Rattle.protocol.proofs.Entries.{sorted_before}
+use Rattle.protocol.proofs.lemmas.Entries.{sorted_before}
 use Rattle.history_making.specs.declared.entry.Entry.{Entry}
-use Rattle.history_making.proofs.EntryOrders.{then_less}
+use Rattle.history_making.proofs.lemmas.EntryOrders.{then_less}
 use Rattle.history_making.specs.Tellings.{told_entry}
 
 less_block : (e f : FullEntry) → entry_cmp e f ≡ Less → e.block ≤ f.block

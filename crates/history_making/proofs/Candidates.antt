@@ -11,9 +11,9 @@ use Rattle.protocol.specs.World.{Record}
 use Rattle.protocol.specs.History.{Entry, read_entry, write_entry}
 use Rattle.protocol.specs.History.Kind.{Write, Foreign, Read}
 use Rattle.protocol.specs.Report.{Ascend}
-use Rattle.history_making.proofs.Counted.{count_cons}
+use Rattle.history_making.proofs.lemmas.Counted.{count_cons}
 use Rattle.history_making.specs.Drafts.{read_candidate_of, write_candidate_of, candidate_by, candidate, candidates, starts_at, HaveStarts, AreCandidates}
-use Rattle.lists.proofs.Members.{Contains-head, Contains-none, Contains-rest, Contains-cons_cases}
+use Rattle.lists.proofs.lemmas.Members.{Contains-head, Contains-none, Contains-rest, Contains-cons_cases}
 
 -- ---- what a function gives of a list
 

@@ -12,12 +12,12 @@ use Rattle.protocol.specs.World.{Record}
 use Rattle.protocol.specs.Facts.{IsOutcomeOf}
 use Rattle.protocol.specs.History.{Entry, read_entry, write_entry, is_read, entry_cmp, IsEntry, IsSorted, HasRead, HasWrite, IsDue, IsRead, IsWrite, IsForeign}
 use Rattle.protocol.specs.History.Kind.{Write, Read}
-use Rattle.protocol.proofs.Entries.{same_entry, block_made, kind_made, client_made, start_made, end_made, entry_total, member_of, less_by_kind, less_by_end, not_back}
+use Rattle.protocol.proofs.lemmas.Entries.{same_entry, block_made, kind_made, client_made, start_made, end_made, entry_total, member_of, less_by_kind, less_by_end, not_back}
 use Rattle.history_making.specs.Tellings.{AreRecords, IsHistoryOf}
 use Rattle.history_making.specs.Drafts.{candidate, candidates, has_end, foreign_of, is_of_version, IsVersion, IsLeast, IsKept, IsSeen, AreKept}
 use Rattle.history_making.proofs.Orders.{version_is, version_if, version_back, version_on}
 use Rattle.history_making.proofs.Candidates.{IsReadOf, IsWriteOf, given_by, gives, candidate_cases, read_candidate, write_candidate}
-use Rattle.lists.proofs.Members.{Contains-head, Contains-none, Contains-rest, Contains-cons_cases}
+use Rattle.lists.proofs.lemmas.Members.{Contains-head, Contains-none, Contains-rest, Contains-cons_cases}
 
 -- entries that differ at most in the value have one key
 tied : (e f : Entry) → e.block ≡ f.block → e.stamp ≡ f.stamp → e.kind ≡ f.kind → e.client ≡ f.client → e.start ≡ f.start → e.end ≡ f.end → entry_cmp e f ≡ Equal

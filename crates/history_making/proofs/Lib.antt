@@ -1,9 +1,7 @@
-pub mod EntryOrders
-pub mod Fronts
+pub mod lemmas
 pub mod Stamped
 pub mod Orders
 pub mod Blocks
-pub mod Counted
 pub mod Sweeps
 pub mod Sorting
 pub mod Marking

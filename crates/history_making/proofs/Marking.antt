@@ -6,13 +6,13 @@ use Rattle.std.proofs.lemmas.List.Elements.{Contains-append_cases, Contains-appe
 use Rattle.stamp_order.specs.Stamps.{before}
 use Rattle.protocol.specs.History.{Entry, entry_cmp, IsSorted}
 use Rattle.protocol.specs.Report.{mark, AreRivals}
-use Rattle.protocol.proofs.Order.{≼-cases, ≼-refl, not_both}
-use Rattle.protocol.proofs.Entries.{member_of, stamp_upto}
-use Rattle.protocol.proofs.Marks.{marks_ascend, marks_equal, marks_step, rivals_on}
+use Rattle.protocol.proofs.lemmas.Order.{≼-cases, ≼-refl, not_both}
+use Rattle.protocol.proofs.lemmas.Entries.{member_of, stamp_upto}
+use Rattle.protocol.proofs.lemmas.Marks.{marks_ascend, marks_equal, marks_step, rivals_on}
 use Rattle.history_making.specs.Drafts.{IsNextMark}
 use Rattle.history_making.proofs.Orders.{rivals_or_not, rival_back, rival_between}
 use Rattle.history_making.proofs.Sweeps.{sorted_pair, sorted_after, sorted_rest}
-use Rattle.lists.proofs.Members.{Contains-head, Contains-rest, Contains-cons_cases}
+use Rattle.lists.proofs.lemmas.Members.{Contains-head, Contains-rest, Contains-cons_cases}
 
 positive : (h : List Entry) (e : Entry) → 1 ≤ mark h e
 positive h e = omega arith

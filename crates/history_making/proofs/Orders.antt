@@ -11,10 +11,10 @@ use Rattle.std.proofs.lemmas.Map.Lookups.{exact_unsigned}
 use Rattle.stamp_order.specs.Stamps.{stamp_cmp}
 use Rattle.protocol.specs.History.{Entry, is_read, place_cmp, entry_cmp}
 use Rattle.protocol.specs.Report.{AreRivals}
-use Rattle.protocol.proofs.Counting.{both_true}
-use Rattle.protocol.proofs.Order.{stamp_total, stamp_exact, same_stamp-≡, same_stamp-refl}
+use Rattle.protocol.proofs.lemmas.Counting.{both_true}
+use Rattle.protocol.proofs.lemmas.Order.{stamp_total, stamp_exact, same_stamp-≡, same_stamp-refl}
 use Rattle.history_making.specs.Drafts.{is_of_version, IsVersion}
-use Rattle.lists.proofs.Orders.{then_assoc, then_equal}
+use Rattle.lists.proofs.lemmas.Orders.{then_assoc, then_equal}
 
 -- a comparison goes on where what begins it is Equal, and is over where it isn't
 pub then_on_equal : (a b : Ordering) → a ≡ Equal → ordering_then a b ≡ b

@@ -10,13 +10,13 @@ use Rattle.std.proofs.lemmas.Bool.{eq-eqb}
 use Rattle.std.proofs.lemmas.List.Sorted.{ranks_by, sorted_far, sum_by-IsPermutation, Contains-permutation, IsPermutation-sym}
 use Rattle.stamp_order.specs.Stamps.{stamp_cmp}
 use Rattle.protocol.specs.History.{Entry, place_cmp, entry_cmp, is_read, IsSorted}
-use Rattle.protocol.proofs.Entries.{entry_total}
+use Rattle.protocol.proofs.lemmas.Entries.{entry_total}
 use Rattle.history_making.specs.declared.draft.Draft.{Draft}
-use Rattle.history_making.proofs.Counted.{count_cons}
+use Rattle.history_making.proofs.lemmas.Counted.{count_cons}
 use Rattle.history_making.specs.Drafts.{entry_of, entries_of, place_is, starts_at, HaveStarts}
-use Rattle.lists.proofs.Members.{Contains-head, Contains-none, Contains-rest, Contains-cons_cases, Contains-map_cases, all_of}
-use Rattle.lists.proofs.Orders.{then_equal}
-use Rattle.protocol.proofs.Keys.{place_exact}
+use Rattle.lists.proofs.lemmas.Members.{Contains-head, Contains-none, Contains-rest, Contains-cons_cases, Contains-map_cases, all_of}
+use Rattle.lists.proofs.lemmas.Orders.{then_equal}
+use Rattle.protocol.proofs.lemmas.Keys.{place_exact}
 
 last_equal : (a b c d e f : Ordering) → ordering_then a (ordering_then b (ordering_then c (ordering_then d (ordering_then e f)))) ≡ Equal → f ≡ Equal
 last_equal a b c d e f h = (then_equal e f (then_equal d _ (then_equal c _ (then_equal b _ (then_equal a _ h).1).1).1).1).1

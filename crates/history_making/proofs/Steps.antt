@@ -10,7 +10,7 @@ use Rattle.stamp_order.specs.declared.Stamp.{Stamp}
 use Rattle.stamp_order.specs.Stamps.{same_stamp}
 use Rattle.protocol.specs.History.{Entry, IsSorted}
 use Rattle.protocol.specs.Report.{mark, AreRivals}
-use Rattle.protocol.proofs.Order.{same_stamp-≡, same_stamp-refl}
+use Rattle.protocol.proofs.lemmas.Order.{same_stamp-≡, same_stamp-refl}
 use Rattle.history_making.specs.Tellings.{told_entry}
 use Rattle.history_making.specs.declared.draft.Draft.{Draft}
 use Rattle.history_making.specs.Drafts.{entry_of, entries_of, entries_at, is_reading, is_of_version, is_of_some, IsNextMark, AreKept, AreCandidates}

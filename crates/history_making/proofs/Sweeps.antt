@@ -9,13 +9,13 @@ use Rattle.stamp_order.specs.declared.Stamp.{Stamp}
 use Rattle.stamp_order.specs.Stamps.{same_stamp}
 use Rattle.protocol.specs.History.{Entry, Kind, is_read, entry_cmp, IsSorted}
 use Rattle.protocol.specs.History.Kind.{Write, Foreign, Read}
-use Rattle.protocol.proofs.Counting.{both_true}
-use Rattle.protocol.proofs.Order.{same_stamp-≡, same_stamp-refl}
-use Rattle.protocol.proofs.Entries.{entry_total, member_of, not_back, not_self, less_by_kind}
+use Rattle.protocol.proofs.lemmas.Counting.{both_true}
+use Rattle.protocol.proofs.lemmas.Order.{same_stamp-≡, same_stamp-refl}
+use Rattle.protocol.proofs.lemmas.Entries.{entry_total, member_of, not_back, not_self, less_by_kind}
 use Rattle.history_making.specs.Drafts.{is_of_version, is_of_some, is_reading, foreign_of, has_end, entries_by, entries_at, IsVersion, IsLeast, IsKept, IsSeen, AreKept}
 use Rattle.history_making.proofs.Orders.{version_is, version_if, version_back, version_on, version_between, less_by_version}
-use Rattle.lists.proofs.Members.{Contains-head, Contains-none, Contains-rest, Contains-cons_cases, Contains-one, all_of}
-use Rattle.protocol.proofs.Tests.{and_true}
+use Rattle.lists.proofs.lemmas.Members.{Contains-head, Contains-none, Contains-rest, Contains-cons_cases, Contains-one, all_of}
+use Rattle.protocol.proofs.lemmas.Tests.{and_true}
 
 -- ---- tests over a list
 

@@ -4,7 +4,7 @@ use Rattle.std.specs.List.{range_with_len}
 use Rattle.std.proofs.lemmas.List.{ext_get_or, take_min, drop_min, drop-drop, get_or-take, get_or-drop, length-take}
 use Rattle.std.proofs.lemmas.List.FromFn.{map-range_with_len_more}
 use Rattle.gf_field.specs.Fragments.{string_len, padded, row, rows_of}
-use Rattle.gf_field.proofs.FragmentLaws.{length-padded, padded-at, length-row, row-at}
+use Rattle.gf_field.proofs.lemmas.FragmentLaws.{length-padded, padded-at, length-row, row-at}
 
 -- a row is what the block has in its place, padded
 pub row-padded : (m : ℕ) (D : List ℕ) (k L : ℕ) → 1 ≤ m → k < m → L ≡ string_len m (length D) → padded L (take L (drop (k * L) D)) ≡ row m D k

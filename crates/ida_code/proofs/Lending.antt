@@ -7,7 +7,7 @@ use Rattle.cross_sum.specs.declared.part.Part.{Part}
 use Rattle.cross_sum.specs.Parts.{strings}
 use Rattle.gf_field.specs.Polynomials.{AreElements}
 use Rattle.gf_field.specs.Fragments.{byte, HaveElements}
-use Rattle.gf_field.proofs.FragmentLaws.{element_or_zero}
+use Rattle.gf_field.proofs.lemmas.FragmentLaws.{element_or_zero}
 use Rattle.ida_code.specs.Lent.{lent}
 
 pub lent-push : (refs : List (Bor (List ℕ))) (r : Bor (List ℕ)) → lent (refs ++ r ∷ []) ≡ lent refs ++ r.now ∷ []

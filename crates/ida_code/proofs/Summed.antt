@@ -6,8 +6,8 @@ use Rattle.gf_field.specs.Field.{product, total}
 use Rattle.gf_field.specs.Polynomials.{sum_below, AreElements, AreDistinct}
 use Rattle.gf_field.specs.Interpolation.{weight, interpolated}
 use Rattle.gf_field.specs.Fragments.{byte, string_at, HaveElements}
-use Rattle.gf_field.proofs.Lagrange.{interpolated-at_point}
-use Rattle.gf_field.proofs.Sums.{sum_below-none, sum_below-more}
+use Rattle.gf_field.proofs.lemmas.Lagrange.{interpolated-at_point}
+use Rattle.gf_field.proofs.lemmas.Sums.{sum_below-none, sum_below-more}
 
 pub string_at-from : (L : ℕ) (xs : List ℕ) (ss : List (List ℕ)) (x : ℕ) (s : List ℕ) → length s ≡ L
     → ((j : ℕ) → j < L → get_or s j 0 ≡ interpolated xs (λ k. byte ss k j) x) → s ≡ string_at L xs ss x

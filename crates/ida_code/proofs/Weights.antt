@@ -6,10 +6,10 @@ use Rattle.std.proofs.lemmas.List.{get_or_default, length_push, get_or_append_le
 use Rattle.gf_field.specs.Field.{product, total, inverse}
 use Rattle.gf_field.specs.Polynomials.{AreElements}
 use Rattle.gf_field.specs.Interpolation.{product_below, factor, others, weight}
-use Rattle.gf_field.proofs.FieldLaws.{product_comm, product_assoc, product-one_right, product-inverse, inverse-lt}
-use Rattle.gf_field.proofs.Sums.{total-lt, product_below-lt, product_below-more, product_below-none}
-use Rattle.gf_field.proofs.Lagrange.{others-lt, factor-lt}
-use Rattle.gf_field.proofs.Determined.{xor-eq-zero}
+use Rattle.gf_field.proofs.lemmas.FieldLaws.{product_comm, product_assoc, product-one_right, product-inverse, inverse-lt}
+use Rattle.gf_field.proofs.lemmas.Sums.{total-lt, product_below-lt, product_below-more, product_below-none}
+use Rattle.gf_field.proofs.lemmas.Lagrange.{others-lt, factor-lt}
+use Rattle.gf_field.proofs.lemmas.Determined.{xor-eq-zero}
 use Rattle.ida_code.specs.Points.{added, AreScales}
 
 -- what the type of a byte string says

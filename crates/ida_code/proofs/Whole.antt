@@ -7,8 +7,8 @@ use Rattle.std.proofs.lemmas.List.Elements.{All-from_get_or}
 use Rattle.std.proofs.lemmas.List.FromFn.{map-range_with_len_more, take-map-range_with_len, fill_by_all, length-range_with_len, get_or-range_with_len}
 use Rattle.gf_field.specs.Polynomials.{AreElements}
 use Rattle.gf_field.specs.Fragments.{Shape, IsShape, HaveElements, string_len, row, rows_of, string_at, fragments_of, decoded}
-use Rattle.gf_field.proofs.FragmentLaws.{range_elements, range_distinct, length-row, row-at, length-rows_of, rows_of-at, element_or_zero}
-use Rattle.gf_field.proofs.Blocks.{elements_of_strings}
+use Rattle.gf_field.proofs.lemmas.FragmentLaws.{range_elements, range_distinct, length-row, row-at, length-rows_of, rows_of-at, element_or_zero}
+use Rattle.gf_field.proofs.lemmas.Blocks.{elements_of_strings}
 use Rattle.ida_code.specs.Lent.{lent}
 use Rattle.ida_code.proofs.Summed.{string_at-copied}
 

@@ -1,6 +1,5 @@
-pub mod SenderWords
+pub mod lemmas
 pub mod AllEnded
 pub mod ViewLists
 pub mod RuleIsKept
 pub mod TakenInOrder
-pub mod CrossesThreads

@@ -16,7 +16,7 @@ use Rattle.inboxes.specs.declared.rule.Start.{Start}
 use Rattle.inboxes.specs.declared.rule.Account.{Account}
 use Rattle.inboxes.specs.declared.rule.View.{View}
 use Rattle.inboxes.specs.Posts.{words_of, has_ended, IsOrderly, start, number_of, IsTold, SettlesWith, newcomer, spent, opening, opening_of, taking, post_of, with_one_more, next_sender, account_of, with_account, said_more, heard_more, Says, Settles, Knows, FitsWord, IsOpen, Keeps, Hears}
-use Rattle.inboxes.proofs.SenderWords.{true_here, false_here, same_or_not, all_middle, words_append, words_push, words_push_apart, orderly_push, going_at, ended_whole}
+use Rattle.inboxes.proofs.lemmas.SenderWords.{true_here, false_here, same_or_not, all_middle, words_append, words_push, words_push_apart, orderly_push, going_at, ended_whole}
 use Rattle.inboxes.proofs.ViewLists.{one_at, set_one, at_end, set_of_set}
 
 is_running : Role → Bool

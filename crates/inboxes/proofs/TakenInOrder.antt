@@ -9,7 +9,7 @@ use Rattle.inboxes.specs.declared.rule.Post.{Post}
 use Rattle.inboxes.specs.declared.rule.View.{View}
 use Rattle.inboxes.specs.Posts.{words_of, has_ended, IsOrderly, items_of, lasts_in, start, heard_more, FitsWord, HearsWord}
 use Rattle.inboxes.specs.Sides.{Putting, Taking, inbox_of, last_words, IsSameSeat, IsTaking, took_in, items_from, took, IsSettled}
-use Rattle.inboxes.proofs.SenderWords.{same_or_not, items_all, words_push, words_push_apart, orderly_push, going_push, going_whole, items_last}
+use Rattle.inboxes.proofs.lemmas.SenderWords.{same_or_not, items_all, words_push, words_push_apart, orderly_push, going_push, going_whole, items_last}
 use Rattle.inboxes.proofs.AllEnded.{lasts_push}
 
 pub if_none : {X : Type 0} {A B : Type 0} → (A → B) → (r : Option X) → IfNone r A → IfNone r B

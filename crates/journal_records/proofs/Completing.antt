@@ -36,7 +36,7 @@ use Rattle.plan_followed.specs.Clients.{ClientFollows, IsDone, IsFinished, IsNex
 use Rattle.plan_followed.specs.Followed.{AreOfPlan, FollowsAs}
 use Rattle.journal_records.specs.Shown.{ended_by, IsOf, IsShown, HasCrashed, IsSteady, HistoriesAreComplete}
 use Rattle.journal_records.proofs.Operations.{What, of_op, of_ended, of_task, begun_all, started_in, started_count, kth_started}
-use Rattle.journal_records.proofs.Ongoing.{some_once}
+use Rattle.journal_records.proofs.lemmas.Ongoing.{some_once}
 use Rattle.journal_records.proofs.Crashes.{down_by, down_has}
 
 -- an operation of a step is of that step

@@ -10,8 +10,8 @@ use Rattle.journals.specs.Steps.{Step}
 use Rattle.journals.specs.Merging.{line_of, late_ask, IsNumber, next_world, Merged}
 use Rattle.journals.specs.Journals.{setting_for, IsMerge}
 use Rattle.journals.specs.Merged.{OfMerged, AreRun, AreOrdered}
-use Rattle.journals.proofs.Picks.{Numbered, same_ascending}
-use Rattle.journals.proofs.Ordering.{in_order}
+use Rattle.journals.proofs.lemmas.Picks.{Numbered, same_ascending}
+use Rattle.journals.proofs.lemmas.Ordering.{in_order}
 use Rattle.journal_records.specs.Lines.{LinesAreThere, LinesAreCounted, LastPlaceIsCount}
 use Rattle.journal_records.proofs.SameMessages.{messages}
 

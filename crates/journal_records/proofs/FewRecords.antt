@@ -16,7 +16,7 @@ use Rattle.wire_forms.specs.declared.device.DeviceOp.{DeviceOp}
 use Rattle.protocol.specs.World.{Record}
 use Rattle.protocol.specs.Report.{Ascend, rounds_of}
 use Rattle.protocol.specs.Seen.{SeenTask, started_task}
-use Rattle.protocol.proofs.Starts.{starts_few}
+use Rattle.protocol.proofs.lemmas.Starts.{starts_few}
 use Rattle.journals.specs.declared.desk.DeskEntry.{DeskEntry}
 use Rattle.journals.specs.declared.desk.DeskAct.{DeskAct}
 use Rattle.journals.specs.declared.desk.DeskAct.TheVariants.{Start}
@@ -25,7 +25,7 @@ use Rattle.journals.specs.declared.whole.Journals.{Journals}
 use Rattle.journals.specs.Desks.{DeskState, DeskKept, new_desk, desk_after_all}
 use Rattle.journals.specs.Journals.{setting_for, at_desk, AreOfRun}
 use Rattle.journals.specs.Agreement.{ended_record}
-use Rattle.journals.proofs.Lists.{own_entries}
+use Rattle.journals.proofs.lemmas.Lists.{own_entries}
 use Rattle.plan_words.specs.declared.plan.Plan.{Plan}
 use Rattle.plan_words.specs.declared.job.Job.{Job}
 use Rattle.plan_words.specs.declared.job.Job.TheVariants.{Block, Device, Phase}
@@ -44,7 +44,7 @@ use Rattle.journal_records.proofs.Completing.{follows}
 use Rattle.journal_records.proofs.Places.{desk_below}
 use Rattle.journal_records.proofs.Rounds.{rounds_told}
 use Rattle.journal_records.proofs.Totals.{total, total_is, total_count, total_append, total_within, AreDifferent, once_there}
-use Rattle.lists.proofs.Members.{Contains-map, Contains-map_cases, Contains-rest, Contains-head, where_all, at_place, within}
+use Rattle.lists.proofs.lemmas.Members.{Contains-map, Contains-map_cases, Contains-rest, Contains-head, where_all, at_place, within}
 
 -- ---- a client starts no more operations than the plan has
 

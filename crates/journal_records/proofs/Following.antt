@@ -15,7 +15,7 @@ use Rattle.journals.specs.declared.desk.DeskAct.{DeskAct}
 use Rattle.journals.specs.declared.desk.DeskAct.TheVariants.{Start, Crash, Call}
 use Rattle.journals.specs.declared.desk.DeskEntry.{DeskEntry}
 use Rattle.journals.specs.Desks.{DeskState, by_hearing, desk_after, desk_after_all, DeskGoes, DeskKept}
-use Rattle.journals.proofs.Lists.{state_snoc}
+use Rattle.journals.proofs.lemmas.Lists.{state_snoc}
 
 -- ---- one entry more
 

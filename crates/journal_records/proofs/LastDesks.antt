@@ -17,9 +17,9 @@ use Rattle.journals.specs.declared.whole.Journals.{Journals}
 use Rattle.journals.specs.Journals.{setting_for, at_desk, cluster_at, IsMerge, AreOfRun}
 use Rattle.journals.specs.Agreement.{IsDesk, TellAlike, Reaches}
 use Rattle.journals.specs.Merged.{OfMerged, AllReach}
-use Rattle.node_core.proofs.Changes.{filter-all}
-use Rattle.journals.proofs.Law.{last_once}
-use Rattle.journals.proofs.Effects.{heard_life}
+use Rattle.node_core.proofs.lemmas.Changes.{filter-all}
+use Rattle.journals.proofs.lemmas.Law.{last_once}
+use Rattle.journals.proofs.lemmas.Effects.{heard_life}
 
 -- a lower number stands before
 is_before : (k n : ℕ) → n < k → ltb n k ≡ true

@@ -14,8 +14,8 @@ use Rattle.journals.specs.declared.node.Nature.{Nature}
 use Rattle.journals.specs.Acts.{NodeState, after, IsAct, NodeKept}
 use Rattle.journals.specs.declared.desk.DeskAct.{DeskAct}
 use Rattle.journals.specs.Steps.{side}
-use Rattle.lists.proofs.Members.{Contains-head, Contains-none, Contains-rest, Contains-cons_cases}
-use Rattle.journals.proofs.Taking.{of_rest}
+use Rattle.lists.proofs.lemmas.Members.{Contains-head, Contains-none, Contains-rest, Contains-cons_cases}
+use Rattle.journals.proofs.lemmas.Taking.{of_rest}
 
 contains_push : (xs : List Message) (y m : Message) → Contains (xs ++ y ∷ []) m → (P : Message → Type 0) → ((x : Message) → Contains xs x → P x) → P y → P m
 contains_push [] y m h P all last = elim (Contains-cons_cases m y [] h) [ inl e ↦ subst P (sym e) last | inr none ↦ absurd (Contains-none m none) ]

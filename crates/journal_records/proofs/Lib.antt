@@ -1,4 +1,4 @@
-pub mod Ongoing
+pub mod lemmas
 mod SameMessages
 mod Counting
 pub mod LastDesks

@@ -20,13 +20,13 @@ use Rattle.journals.specs.Agreement.{IsEnded, ended_record}
 use Rattle.journals.specs.Merged.{OfMerged, AllReach, AllRecorded}
 use Rattle.journals.specs.declared.whole.Journals.{Journals}
 use Rattle.journals.specs.Journals.{setting_for, entries_of, cluster_at, IsMerge, AreOfRun}
-use Rattle.journals.proofs.Picks.{same_ascending}
+use Rattle.journals.proofs.lemmas.Picks.{same_ascending}
 use Rattle.journal_records.specs.Open.{RecordsTellTasks, TasksAreRecorded, RecordsAreOfCorrect}
 use Rattle.journal_records.specs.Records.{record_of_task, client_records, last_desk, IsDeskRecord, AreAllRecords, WorldsHaveAllRecords, RecordsAreThose}
 use Rattle.journal_records.proofs.LastDesks.{limit, desk, desk_is, desk_agrees, first_life, tells_alike}
-use Rattle.lists.proofs.Members.{Contains-head, Contains-none, Contains-rest, Contains-cons_cases, Contains-one, Contains-map_cases, Contains-map}
-use Rattle.lists.proofs.Tests.{eqb_self}
-use Rattle.journals.proofs.Lists.{own_entries}
+use Rattle.lists.proofs.lemmas.Members.{Contains-head, Contains-none, Contains-rest, Contains-cons_cases, Contains-one, Contains-map_cases, Contains-map}
+use Rattle.lists.proofs.lemmas.Tests.{eqb_self}
+use Rattle.journals.proofs.lemmas.Lists.{own_entries}
 
 -- ---- the desk of a client
 

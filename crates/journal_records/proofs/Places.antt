@@ -10,7 +10,7 @@ use Rattle.journals.specs.declared.whole.Journals.{Journals}
 use Rattle.journals.specs.Steps.{IsOwn}
 use Rattle.journals.specs.Steps.Step.{AtNode, AtDesk}
 use Rattle.journals.specs.Journals.{at_desk, HasSide, PairsAgree, NumbersBelow}
-use Rattle.journals.proofs.Lists.{own_entries}
+use Rattle.journals.proofs.lemmas.Lists.{own_entries}
 use Rattle.journal_records.specs.Telling.{HavePlaces}
 
 -- what holds of each member holds of all

@@ -31,9 +31,9 @@ use Rattle.journals.specs.declared.desk.DeskAct.{DeskAct}
 use Rattle.journals.specs.declared.desk.DeskAct.TheVariants.{Start, Crash, Call}
 use Rattle.plan_followed.specs.Asked.{messages_by, messages}
 use Rattle.plan_followed.specs.Clients.{asked, all_asked}
-use Rattle.lists.proofs.Members.{Contains-none, Contains-cons_cases}
-use Rattle.protocol.proofs.Strings.{all_bytes}
-use Rattle.protocol.proofs.Forming.{all_replicate}
+use Rattle.lists.proofs.lemmas.Members.{Contains-none, Contains-cons_cases}
+use Rattle.protocol.proofs.lemmas.Strings.{all_bytes}
+use Rattle.protocol.proofs.lemmas.Forming.{all_replicate}
 
 -- ---- lengths
 

@@ -18,7 +18,7 @@ use Rattle.journals.specs.Desks.{DeskState, Ended, desk_heard, desk_after, desk_
 use Rattle.journals.specs.Steps.{IsOwn}
 use Rattle.journals.specs.Agreement.{ended_record}
 use Rattle.journal_records.specs.Records.{record_of_task, client_records}
-use Rattle.lists.proofs.Members.{Contains-head, Contains-none, Contains-rest, Contains-cons_cases}
+use Rattle.lists.proofs.lemmas.Members.{Contains-head, Contains-none, Contains-rest, Contains-cons_cases}
 
 abbrev pub starts : List Record → List ℕ
 starts rs = map (λ r. r.start) rs

@@ -21,8 +21,8 @@ use Rattle.journal_records.specs.Records.{client_records, last_desk, AreAllRecor
 use Rattle.journal_records.proofs.Owning.{all_above}
 use Rattle.journal_records.specs.Telling.{AreKeptDesks, told_by, told_records}
 use Rattle.journal_records.proofs.Starts.{starts, starts_of, times, times-cons, times-cases, kept_starts, StartsAt, starts_there, starts_once, one_or_none, times-append}
-use Rattle.lists.proofs.Members.{Contains-head, Contains-none, Contains-rest, Contains-cons_cases, Contains-one}
-use Rattle.journals.proofs.Lists.{own_entries}
+use Rattle.lists.proofs.lemmas.Members.{Contains-head, Contains-none, Contains-rest, Contains-cons_cases, Contains-one}
+use Rattle.journals.proofs.lemmas.Lists.{own_entries}
 
 -- ---- one client's after another's
 

@@ -4,7 +4,7 @@ use Rattle.std.specs.declared.option.Option.TheVariants.{None, Some}
 use Rattle.std.specs.List.{Contains, AllByRecursion}
 use Rattle.std.proofs.lemmas.List.{length-replicate}
 use Rattle.quorum_rules.specs.Limits.{Numbers}
-use Rattle.quorum_rules.proofs.FaultLaws.{size_at_most}
+use Rattle.quorum_rules.proofs.lemmas.FaultLaws.{size_at_most}
 use Rattle.wire_forms.specs.Liars.{Liars, has_number, IsClientNumber}
 use Rattle.message_texts.specs.Texts.{HasLimits}
 use Rattle.wire_forms.specs.declared.op.Op.TheVariants.{Read as ReadOp, Write as WriteOp}
@@ -35,7 +35,7 @@ use Rattle.journals.specs.Steps.Step.{AtNode, AtDesk}
 use Rattle.journals.specs.Merging.{line_of, next_world, Merged}
 use Rattle.journals.specs.Journals.{setting_for, at_node, at_desk, IsEntry, AreOfRun}
 use Rattle.journals.specs.Merged.{AllFit}
-use Rattle.journals.proofs.Acting.{told_lie}
+use Rattle.journals.proofs.lemmas.Acting.{told_lie}
 use Rattle.plan_words.specs.declared.plan.Plan.{Plan}
 use Rattle.plan_followed.specs.Asked.{conduct_of}
 use Rattle.plan_followed.specs.Clients.{LiarFollows}
@@ -44,10 +44,10 @@ use Rattle.plan_followed.specs.Laws.{PlansRun}
 use Rattle.journal_records.specs.Told.{IsTold, LinesAreTold}
 use Rattle.journal_records.proofs.Late.{late_lost}
 use Rattle.journal_records.proofs.Short.{IsShortAsk, share_few, reply_short, messages_short, asked_there}
-use Rattle.lists.proofs.Members.{Contains-head, Contains-none, Contains-rest}
-use Rattle.journals.proofs.Fitting.{node_once}
-use Rattle.journals.proofs.Projections.{there_below}
-use Rattle.protocol.proofs.Counting.{nobody_counts}
+use Rattle.lists.proofs.lemmas.Members.{Contains-head, Contains-none, Contains-rest}
+use Rattle.journals.proofs.lemmas.Fitting.{node_once}
+use Rattle.journals.proofs.lemmas.Projections.{there_below}
+use Rattle.protocol.proofs.lemmas.Counting.{nobody_counts}
 
 -- a lie is a short answer
 lie_short : (ask reply : Message) (o : Option Reply) → ((told : Reply) → o ≡ Some told → HasLimits (Answers told)) → replied ask o ≡ Some reply → HasLimits reply.body × (is_answer reply.body ≡ true)

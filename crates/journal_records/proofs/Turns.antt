@@ -14,7 +14,7 @@ use Rattle.journals.specs.declared.desk.DeskAct.TheVariants.{Start, Crash, Call}
 use Rattle.journals.specs.Desks.{DeskState, Ended, ended_by, desk_heard, desk_after, desk_after_all}
 use Rattle.journal_records.specs.Steady.{ComeInTurn}
 use Rattle.journal_records.proofs.Operations.{task_after, task_is}
-use Rattle.lists.proofs.Members.{all_push}
+use Rattle.lists.proofs.lemmas.Members.{all_push}
 
 all_weaken : {X : Type 0} (P Q : X → Type 0) → ((x : X) → P x → Q x) → (xs : List X) → AllByRecursion P xs → AllByRecursion Q xs
 all_weaken P Q to [] h = tt

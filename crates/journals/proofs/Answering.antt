@@ -28,13 +28,13 @@ use Rattle.journals.specs.Steps.{Cluster, Goes, cluster_after, called, side}
 use Rattle.journals.specs.Steps.Step.{AtNode}
 use Rattle.journals.specs.Merging.{line_of, IsFirst}
 use Rattle.journals.specs.Agreement.{IsNode, IsDesk, Agrees}
-use Rattle.journals.proofs.Lists.{update-other, at_update}
-use Rattle.journals.proofs.Acting.{IsUpright, IsLie, lie_is, answered as means_answered, told_lie, crashed_called, crashed_late, delivered as means_delivered}
+use Rattle.journals.proofs.lemmas.Lists.{update-other, at_update}
+use Rattle.journals.proofs.lemmas.Acting.{IsUpright, IsLie, lie_is, answered as means_answered, told_lie, crashed_called, crashed_late, delivered as means_delivered}
 use Rattle.journals.proofs.Frames.{Frame, set, Before, Taken, honest_by, lying_by}
-use Rattle.journals.proofs.Effects.{OnlyNode, OnlyClient, answering, given_only, place_node, reply_same, served_same, place_client, heard_only, told_desk}
-use Rattle.journals.proofs.Taking.{same_node, same_desk, of_rest, asked_is, soon, grows, agree_node, silent_desks, lost_fine, lost_agrees}
-use Rattle.lists.proofs.Members.{Contains-head, place_of}
-use Rattle.protocol.proofs.Counting.{update-same}
+use Rattle.journals.proofs.lemmas.Effects.{OnlyNode, OnlyClient, answering, given_only, place_node, reply_same, served_same, place_client, heard_only, told_desk}
+use Rattle.journals.proofs.lemmas.Taking.{same_node, same_desk, of_rest, asked_is, soon, grows, agree_node, silent_desks, lost_fine, lost_agrees}
+use Rattle.lists.proofs.lemmas.Members.{Contains-head, place_of}
+use Rattle.protocol.proofs.lemmas.Counting.{update-same}
 
 -- every other client stays
 pub other_desk : (s : Setting) (v u : World) (c : ℕ) (o : Option Task) → OnlyClient v u c o → (x : ℕ) (d : DeskState) → (x ≡ c → ⊥) → IsDesk s v x d → IsDesk s u x d

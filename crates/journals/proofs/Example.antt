@@ -26,7 +26,7 @@ use Rattle.journals.specs.Desks.{DeskEntry, new_desk, desk_after_all, DeskKept}
 use Rattle.journals.specs.Steps.{side}
 use Rattle.journals.specs.Steps.Step.{AtNode, AtDesk}
 use Rattle.journals.specs.Merging.{line_of}
-use Rattle.journals.proofs.Acting.{answered}
+use Rattle.journals.proofs.lemmas.Acting.{answered}
 
 abbrev one : Numbers
 one = record { edition = One; n = 1; t = 0; b = 0; qc = 1; m = 1; size = 1; blocks = 1 }

@@ -20,8 +20,8 @@ use Rattle.journals.specs.Steps.{Step, Cluster, Conduct, IsConduct, is_lying, si
 use Rattle.journals.specs.Steps.Step.{AtNode, AtDesk}
 use Rattle.journals.specs.Agreement.{Agrees, TellAlike}
 use Rattle.journals.proofs.Cited.{Laws}
-use Rattle.journals.proofs.Lists.{at_update}
-use Rattle.journals.proofs.Acting.{IsOf, after_is_of, after_lasts}
+use Rattle.journals.proofs.lemmas.Lists.{at_update}
+use Rattle.journals.proofs.lemmas.Acting.{IsOf, after_is_of, after_lasts}
 
 -- a cluster with its liars, and how its nodes behave
 pub record Frame : Type 0 where

@@ -14,13 +14,13 @@ use Rattle.journals.specs.Steps.Step.{AtNode, AtDesk}
 use Rattle.journals.specs.Merging.{line_of, late_ask, IsNumber, unless_refused, Merged}
 use Rattle.journals.specs.Agreement.{Agrees, TellAlike, Reaches}
 use Rattle.journals.proofs.Cited.{Laws}
-use Rattle.journals.proofs.Picks.{Numbered, Counts}
+use Rattle.journals.proofs.lemmas.Picks.{Numbered, Counts}
 use Rattle.journals.proofs.Frames.{Frame, set, AreOf, start_of, step_of, Before, Taken}
-use Rattle.journals.proofs.Taking.{later, start, crash_client, silent, late_lost}
+use Rattle.journals.proofs.lemmas.Taking.{later, start, crash_client, silent, late_lost}
 use Rattle.journals.proofs.Answering.{answered, lied, crash_node, delivered}
 use Rattle.journals.proofs.Telling.{step_tells}
 use Rattle.journals.proofs.Pruning.{prune}
-use Rattle.lists.proofs.Members.{Contains-none}
+use Rattle.lists.proofs.lemmas.Members.{Contains-none}
 
 -- whatever step it is, its line isn't refused, and world and cluster agree after it
 pub step_taken : {f : Frame} {w : World} {g : Cluster} {n : ℕ} (b : Before f w g n) (k : ℕ) (e : Step) → IsNumber (Some w) (late_ask e) k → Goes (set f) f.conduct g e → Taken f w n (line_of (set f) k e) (cluster_after g n e)

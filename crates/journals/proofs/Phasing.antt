@@ -11,7 +11,7 @@ use Rattle.journals.specs.Desks.{DeskEntry, DeskState, new_desk, desk_after_all}
 use Rattle.journals.specs.Steps.{Cluster, Conduct, HasGiven, PruneGoes, Prunes}
 use Rattle.journals.specs.Journals.{Journals, setting_for, at_node, at_desk, desks_before, cluster_at}
 use Rattle.journals.specs.Phases.{Phase, IsWithin, IsAtRest, IsPhase, IsGreatest, ArePhased, PhasesFollow}
-use Rattle.lists.proofs.Members.{Contains-head, Contains-rest}
+use Rattle.lists.proofs.lemmas.Members.{Contains-head, Contains-rest}
 
 -- where no entry has a number between two, as many stand before the one as before the other
 same_before : (es : List DeskEntry) (k m : ℕ) → k ≤ m → ((x : DeskEntry) → Contains es x → k ≤ x.number → x.number < m → ⊥) → desks_before m es ≡ desks_before k es

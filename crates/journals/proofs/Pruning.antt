@@ -21,14 +21,14 @@ use Rattle.journals.specs.Acts.{after}
 use Rattle.journals.specs.Steps.{Cluster, Goes, HasGiven, PruneGoes, cluster_after}
 use Rattle.journals.specs.Steps.Step.{AtNode}
 use Rattle.journals.specs.Agreement.{IsNode, IsDesk, ended_record}
-use Rattle.journals.proofs.Lists.{update-other}
-use Rattle.journals.proofs.Acting.{pruning}
+use Rattle.journals.proofs.lemmas.Lists.{update-other}
+use Rattle.journals.proofs.lemmas.Acting.{pruning}
 use Rattle.journals.proofs.Frames.{Frame, set, Before, Taken}
-use Rattle.journals.proofs.Effects.{versions_there, versions_elsewhere}
-use Rattle.journals.proofs.Taking.{same_node, same_desk, soon, grows, agree_node}
+use Rattle.journals.proofs.lemmas.Effects.{versions_there, versions_elsewhere}
+use Rattle.journals.proofs.lemmas.Taking.{same_node, same_desk, soon, grows, agree_node}
 use Rattle.journals.proofs.Answering.{node_here}
-use Rattle.protocol.proofs.Counting.{update-cases, update-same}
-use Rattle.protocol.proofs.Sending.{working}
+use Rattle.protocol.proofs.lemmas.Counting.{update-cases, update-same}
+use Rattle.protocol.proofs.lemmas.Sending.{working}
 
 -- a record that gave a stamp has an outcome that gives it
 gave_how : (block : ℕ) (r : Record) (stamp : Stamp) → given_of block r ≡ Some stamp → (r.block ≡ block) × (outcome : Outcome) × (r.outcome ≡ Some outcome) × (stamp_given (Some outcome) ≡ Some stamp)

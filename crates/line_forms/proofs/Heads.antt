@@ -9,12 +9,12 @@ use Rattle.quorum_rules.specs.Limits.{Numbers, edition_number}
 use Rattle.quorum_rules.specs.declared.Edition.{Edition}
 use Rattle.quorum_rules.specs.declared.Edition.TheVariants.{One, Two, Three}
 use Rattle.text_lines.specs.Lines.{parts_of, fields_of, line_of_fields}
-use Rattle.text_lines.proofs.Joined.{line_from_fields}
+use Rattle.text_lines.proofs.lemmas.Joined.{line_from_fields}
 use Rattle.line_forms.specs.Texts.{IsFault, ReadsTo}
 use Rattle.line_forms.specs.Heads.{Body, script, script_cause, IsSpelled, edition_in, header, head_lines, head_text, cluster_fields, cluster_cause}
 use Rattle.line_forms.specs.declared.cause.Cause.{Cause}
 use Rattle.line_forms.specs.declared.cause.Cause.TheVariants.{BadHeader}
-use Rattle.line_forms.proofs.Texts.{reads_none, reads_on, line_fault}
+use Rattle.line_forms.proofs.lemmas.Texts.{reads_none, reads_on, line_fault}
 
 pub bad_header : (body : Body) (text line rest : List ℕ) → parts_of text ≡ line ∷ parts_of rest → edition_in line ≡ None → IsFault (script body) text 1 BadHeader
 bad_header body text line rest e none =

@@ -1,6 +1,2 @@
-pub mod Accepted
-pub mod Clusters
+pub mod lemmas
 pub mod Heads
-pub mod Tables
-pub mod Texts
-pub mod Fine

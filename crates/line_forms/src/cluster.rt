@@ -1,5 +1,5 @@
 //! The second line of a script: the numbers of the cluster.
-#![tactic(auto, using(text_lines::proofs::Spelled::spelled, std::proofs::lemmas::Grind::common_steps))]
+#![tactic(auto, using(text_lines::proofs::lemmas::Spelled::spelled, std::proofs::lemmas::Grind::common_steps))]
 
 ghost use Rattle.std.specs.Prelude.{◌≡◌, true, false, length, map, OnOk, IfErr};
 ghost use Rattle.std.specs.List.{list_any};

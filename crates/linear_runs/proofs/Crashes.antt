@@ -10,14 +10,14 @@ use Rattle.protocol.specs.World.{World, Record, start_world}
 use Rattle.protocol.specs.Lines.{Line, Run, IsRun, plays}
 use Rattle.protocol.specs.Instance.{InEachRun, IsCluster, setting_of}
 use Rattle.protocol.specs.Laws.{RunsComeApart, StartsAscend, RecordsAreTold, BegunStay, EndedStay, CrashedNeverEnd}
-use Rattle.protocol.proofs.Counting.{update-same}
-use Rattle.lists.proofs.Members.{Contains-none, Contains-cons_cases, Contains-map_cases}
+use Rattle.protocol.proofs.lemmas.Counting.{update-same}
+use Rattle.lists.proofs.lemmas.Members.{Contains-none, Contains-cons_cases, Contains-map_cases}
 use Rattle.linear_runs.specs.Linear.{Act, Operation}
 use Rattle.linear_runs.specs.Durable.{Crash, IsNotSpanned}
 use Rattle.linear_runs.specs.Of.{op_of, done_by, known, unknown, unknown_write, operations, crash_at, crashes_of}
 use Rattle.linear_runs.specs.Laws.{EndedAreKept}
-use Rattle.linear_runs.proofs.Matching.{made, makes}
-use Rattle.linear_runs.proofs.Runs.{one_start, done_is}
+use Rattle.linear_runs.proofs.lemmas.Matching.{made, makes}
+use Rattle.linear_runs.proofs.lemmas.Runs.{one_start, done_is}
 
 -- a list at one of its members
 parted : {X : Type 0} (xs : List X) (x : X) → Contains xs x → (front : List X) × (rest : List X) × (xs ≡ front ++ x ∷ rest)

@@ -1,7 +1,5 @@
-pub mod Matching
-pub mod Orders
+pub mod lemmas
 pub mod Unknown
-pub mod Runs
 pub mod Crashes
 pub mod Lies
 pub mod Meaning

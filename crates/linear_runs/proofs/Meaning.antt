@@ -5,7 +5,7 @@ use Rattle.std.specs.List.{Contains, All, AllPairs}
 use Rattle.std.proofs.lemmas.Bool.{eqb-true, eq-eqb}
 use Rattle.std.proofs.lemmas.List.Elements.{Contains-append_cases, Contains-append_left}
 use Rattle.std.proofs.lemmas.List.Sorted.{Contains-permutation, IsPermutation-sym}
-use Rattle.lists.proofs.Members.{Contains-head, Contains-none, Contains-rest, Contains-cons_cases, filter_is, filter_has}
+use Rattle.lists.proofs.lemmas.Members.{Contains-head, Contains-none, Contains-rest, Contains-cons_cases, filter_is, filter_has}
 use Rattle.linear_runs.specs.Linear.{Act, Operation, IsBefore, IsInTime, IsLinear, ReadsLast, gives, value_after, on_block}
 use Rattle.linear_runs.specs.Linear.Act.{Read, Write}
 use Rattle.linear_runs.specs.Meaning.{IsSource, value_of, ReadsAreWritten, ReadsAreFresh}

@@ -13,12 +13,12 @@ use Rattle.protocol.specs.World.{World, Record}
 use Rattle.protocol.specs.Laws.{ReadsAreSound, ReadsAreOfWrites, StampsHaveOneValue}
 use Rattle.protocol.specs.History.{HasLie, Entry, read_entry, foreign_entry, HasRead, HasWrite, IsEntry, IsHistory, NoClash}
 use Rattle.protocol.specs.History.Kind.{Read as ReadKind, Write as WriteKind, Foreign}
-use Rattle.protocol.proofs.Order.{same_stamp-≡, same_stamp-refl}
-use Rattle.lists.proofs.Members.{Contains-head, Contains-none, Contains-rest, Contains-cons_cases, Contains-map_cases, filter_is, filter_has}
+use Rattle.protocol.proofs.lemmas.Order.{same_stamp-≡, same_stamp-refl}
+use Rattle.lists.proofs.lemmas.Members.{Contains-head, Contains-none, Contains-rest, Contains-cons_cases, Contains-map_cases, filter_is, filter_has}
 use Rattle.linear_runs.specs.Of.{seen_by, is_same, each_once, chose, is_write_of, is_unknown, unknown, unknown_write}
 use Rattle.linear_runs.specs.Linear.{Operation}
 use Rattle.linear_runs.specs.Meaning.{value_of}
-use Rattle.linear_runs.proofs.Matching.{Once, once_filter, made, makes, any_is, any_has, filter_none}
+use Rattle.linear_runs.proofs.lemmas.Matching.{Once, once_filter, made, makes, any_is, any_has, filter_none}
 
 -- ---- each once
 

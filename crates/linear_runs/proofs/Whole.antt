@@ -12,12 +12,12 @@ use Rattle.std.proofs.lemmas.List.{append_assoc, append-nil, map-append}
 use Rattle.std.proofs.lemmas.List.Elements.{Contains-get_or, Contains-append_cases, filter-append}
 use Rattle.std.proofs.lemmas.List.Sums.{get_or-le-sum_by}
 use Rattle.std.proofs.lemmas.List.Sorted.{IsPermutation-refl, IsPermutation-cons, IsPermutation-trans, IsPermutation-sym, IsPermutation-middle, IsPermutation-map, IsPermutation-append, IsPermutation-append_left, IsPermutation-append_right, IsPermutation-append_comm, IsPermutation-filter_both, Contains-permutation}
-use Rattle.lists.proofs.Members.{Contains-head, Contains-none, Contains-rest, Contains-cons_cases, Contains-map, filter_is}
+use Rattle.lists.proofs.lemmas.Members.{Contains-head, Contains-none, Contains-rest, Contains-cons_cases, Contains-map, filter_is}
 use Rattle.linear_runs.specs.Linear.{Operation, IsBefore, IsInTime, Linearizable, IsLinearAsOne, ReadsLast, on_block}
 use Rattle.linear_runs.specs.Meaning.{EachTakesTime}
-use Rattle.linear_runs.proofs.Matching.{filter_map_of, filter_none}
+use Rattle.linear_runs.proofs.lemmas.Matching.{filter_map_of, filter_none}
 use Rattle.linear_runs.proofs.Meaning.{first_late, rest_late, comes}
-use Rattle.linear_runs.proofs.Orders.{pairs_map}
+use Rattle.linear_runs.proofs.lemmas.Orders.{pairs_map}
 
 -- an operation and its moment
 record Pin : Type 0 where

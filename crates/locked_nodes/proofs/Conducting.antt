@@ -23,7 +23,7 @@ use Rattle.journals.specs.Acts.{NodeState, Cause, new_state, act, late_act, answ
 use Rattle.journals.specs.Acts.Cause.{Comes, ComesLate, Prunes}
 use Rattle.locked_nodes.specs.Conduct.{serves, served_in, crashes, has_crashed, held_by, held, came_late, IsUp, TellsByRule, IsSilence, GoesByConduct, EntriesGo, HeldComeAgain}
 use Rattle.locked_nodes.proofs.Keeping.{after_all_keeps}
-use Rattle.lists.proofs.Tests.{or_false}
+use Rattle.lists.proofs.lemmas.Tests.{or_false}
 
 -- ---- what a node does in a state
 

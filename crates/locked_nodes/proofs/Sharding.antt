@@ -30,7 +30,7 @@ use Rattle.journals.specs.Acts.Cause.{Comes, ComesLate, Prunes}
 use Rattle.locked_nodes.specs.Cells.{IsShare, IsWhole, IsOfShard, ComesTo}
 use Rattle.locked_nodes.specs.Shards.{block_for, is_of_shard}
 use Rattle.locked_nodes.proofs.Acting.{call_answers}
-use Rattle.lists.proofs.Members.{Contains-head, Contains-none, Contains-rest, Contains-cons_cases}
+use Rattle.lists.proofs.lemmas.Members.{Contains-head, Contains-none, Contains-rest, Contains-cons_cases}
 
 -- a node that isn't to crash, with no ask held back
 pub record IsCalm (s : NodeState) : Type 0 where

@@ -382,7 +382,7 @@ impl NodeCell {
     }
 
     // How many entries its list has: the charter, and those of the journal.
-    #[tactic(auto, using(crate::proofs::Growing::length_items))]
+    #[tactic(auto, using(crate::proofs::lemmas::Growing::length_items))]
     fn list_len(&self) -> u64
         ensures { result ≡ length (items self.now) }
     {

@@ -16,8 +16,8 @@ use Rattle.journals.specs.Steps.{Step}
 use Rattle.journals.specs.Steps.Step.{AtNode}
 use Rattle.journals.specs.Merging.{line_of}
 use Rattle.merge_trace.specs.Numbered.{node_steps, all_node_steps, numbers_of, AreApart, AreNew, AreAdded}
-use Rattle.lists.proofs.Members.{Contains-head, Contains-none, Contains-rest, Contains-cons_cases, Contains-one, Contains-map}
-use Rattle.lists.proofs.Orders.{eq_is}
+use Rattle.lists.proofs.lemmas.Members.{Contains-head, Contains-none, Contains-rest, Contains-cons_cases, Contains-one, Contains-map}
+use Rattle.lists.proofs.lemmas.Orders.{eq_is}
 
 abbrev pub Numbered : Type 0
 Numbered = ℕ × Step

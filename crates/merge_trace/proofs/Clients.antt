@@ -5,9 +5,9 @@ use Rattle.std.proofs.lemmas.List.{map-append}
 use Rattle.std.proofs.lemmas.List.Elements.{Contains-push}
 use Rattle.protocol.specs.Report.{Ascend}
 use Rattle.journals.specs.declared.desk.DeskJournal.{DeskJournal}
-use Rattle.lists.proofs.Members.{Contains-none, Contains-cons_cases, all_push}
-use Rattle.protocol.proofs.Starts.{ascend_push}
-use Rattle.journals.proofs.Lists.{all_below}
+use Rattle.lists.proofs.lemmas.Members.{Contains-none, Contains-cons_cases, all_push}
+use Rattle.protocol.proofs.lemmas.Starts.{ascend_push}
+use Rattle.journals.proofs.lemmas.Lists.{all_below}
 
 abbrev pub clients_of : List DeskJournal → List ℕ
 clients_of ds = map (λ d. d.client) ds

@@ -21,7 +21,7 @@ use Rattle.wire_forms.specs.declared.message.Message.{Message}
 use Rattle.message_texts.specs.declared.piece.Piece.TheVariants.{Byte, Number, Digits}
 use Rattle.message_texts.specs.Texts.{IsStamp, IsVersion, IsRequest, IsReply, IsBody, IsMessage, IsText, stamp_text, sum_text, request_fields, reply_fields, text_of}
 use Rattle.message_texts.specs.Pieces.{IsPiece, piece_of, IsForm, IsOfForms, message_forms}
-use Rattle.message_texts.proofs.Digits.{hash_digits, hash_of_digits, sum_digits, sum_of_digits, fragment_digits, fragment_of_digits}
+use Rattle.message_texts.proofs.lemmas.Digits.{hash_digits, hash_of_digits, sum_digits, sum_of_digits, fragment_digits, fragment_of_digits}
 
 -- ---- pieces at the front of a form
 

@@ -1,9 +1,5 @@
-pub mod Printed
-pub mod Spelling
-pub mod Fields
-pub mod Unique
+pub mod lemmas
 pub mod Fronts
 pub mod Pieces
 pub mod Forms
-pub mod Digits
 pub mod Grammar

@@ -9,7 +9,7 @@ use Rattle.std.proofs.lemmas.List.Elements.{All-head, All-tail, All-append, All-
 use Rattle.std.proofs.lemmas.Fmt.{decimal_is_IsNumeral, decimal-digits_value, first_decimal, decimal_digit}
 use Rattle.std.proofs.lemmas.Str.Parse.{digits_value-take-le, digit_from_value}
 use Rattle.text_lines.specs.Fields.{number_of}
-use Rattle.text_lines.proofs.Numbers.{own, number_of-some, number_of-decimal}
+use Rattle.text_lines.proofs.lemmas.Numbers.{own, number_of-some, number_of-decimal}
 use Rattle.message_texts.specs.declared.piece.Piece.TheVariants.{Byte, Number, Digits}
 use Rattle.message_texts.specs.Longest.{Begins, IsLongest}
 use Rattle.message_texts.specs.Pieces.{is_low_digit, IsPiece, is_fillable}

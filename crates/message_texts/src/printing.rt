@@ -1,5 +1,5 @@
 //! The text of a message, written from its front to its end.
-#![tactic(auto, using(crate::proofs::Printed::joining), unfolding(crate::specs::Texts::spaced))]
+#![tactic(auto, using(crate::proofs::lemmas::Printed::joining), unfolding(crate::specs::Texts::spaced))]
 
 ghost use Rattle.std.specs.Prelude.{◌≡◌, ◌++◌, ◌∷◌, [], decimal, IfOk, OnOk};
 ghost use Rattle.message_texts.specs.Texts.{text_of, spaced, stamp_text, version_fields, bound_fields, request_fields, reply_fields, reason_text, sum_text, ask_fields, body_fields, word_of, HasLimits};

@@ -156,7 +156,7 @@ fn request(alloc: Global, fields: &[&[u8]]) -> Result<Option<Request>, NoMemory>
     }
 }
 
-#[tactic(auto, using(crate::proofs::Spelling::numbers))]
+#[tactic(auto, using(crate::proofs::lemmas::Spelling::numbers))]
 fn ask(alloc: Global, fields: &[&[u8]]) -> Result<Option<Ask>, NoMemory>
     ensures { IfOk result (Spells IsAsk ask_fields (texts fields.now)) }
 {
@@ -185,7 +185,7 @@ fn reason(field: &[u8]) -> Option<Reason>
     }
 }
 
-#[tactic(auto, using(crate::proofs::Spelling::numbers))]
+#[tactic(auto, using(crate::proofs::lemmas::Spelling::numbers))]
 fn time_is(fields: &[&[u8]]) -> Option<Reply>
     ensures { Spells IsReply reply_fields (codes "time" ∷ texts fields.now) result }
 {
@@ -244,7 +244,7 @@ fn message(alloc: Global, text: &[u8]) -> Result<Option<Message>, NoMemory>
     message_of(alloc, fields.as_slice())
 }
 
-#[tactic(auto, using(crate::proofs::Spelling::numbers))]
+#[tactic(auto, using(crate::proofs::lemmas::Spelling::numbers))]
 fn message_of(alloc: Global, fields: &[&[u8]]) -> Result<Option<Message>, NoMemory>
     ensures { IfOk result (Spells IsMessage message_fields (texts fields.now)) }
 {

@@ -12,7 +12,7 @@ use Rattle.node_device.specs.Held.{Held, held_at, unwritten, rewritten}
 use Rattle.node_device.specs.Devices.{SeenDevice}
 use Rattle.nbd_front.specs.Arrays.{array_of, once, time_at, IsInOrder, HasRead, HasWritten}
 use Rattle.nbd_front.proofs.Blocks.{Parts, parts, array_len, middle, merged_middle}
-use Rattle.quorum_rules.proofs.FaultLaws.{size_at_most, blocks_at_most}
+use Rattle.quorum_rules.proofs.lemmas.FaultLaws.{size_at_most, blocks_at_most}
 
 module _ (d : SeenDevice) (o : IsInOrder d) where
   sized : (i : ℕ) → i < length d.held → length (held_at d.config d.held i).value ≡ d.config.size

@@ -9,7 +9,7 @@ use Rattle.nbd_front.specs.Arrays.{array_of, once, time_at, HaveTimes, IsInOrder
 use Rattle.nbd_front.specs.Answers.{most_steps}
 use Rattle.nbd_front.specs.Servers.{life_len, most_len, IsInLife, IsServer, HasRefreshed}
 use Rattle.nbd_front.specs.Sessions.{most_requests}
-use Rattle.node_device.proofs.Holding.{zero_bytes}
+use Rattle.node_device.proofs.lemmas.Holding.{zero_bytes}
 
 -- the client may serve one more request, and the device is as it was
 pub refreshed_order : (served : ℕ) (d e : SeenDevice) → IsInOrder d → HasRefreshed served d e → IsInOrder e

@@ -4,7 +4,7 @@ use Rattle.std.specs.Int.{div_ceil}
 use Rattle.std.proofs.lemmas.Bool.{cases_lt}
 use Rattle.std.proofs.lemmas.Grind.{div_ceil_times}
 use Rattle.std.proofs.Math.Nat.{mul-le-mul_right, mul_comm}
-use Rattle.block_device.proofs.Touching.{last_place, first_place}
+use Rattle.block_device.proofs.lemmas.Touching.{last_place, first_place}
 
 -- the place that is reached before block k
 abbrev pub reached : ℕ → ℕ → ℕ → ℕ → ℕ

@@ -4,7 +4,7 @@ use Rattle.std.proofs.lemmas.List.{length-append, take-append-le, drop-append-le
 use Rattle.std.specs.Io.KnownBytes.{Consumes}
 use Rattle.std.specs.Int.{w32, from_be_bytes}
 use Rattle.outside_io.specs.Given.{GaveAtMost}
-use Rattle.outside_io.proofs.Known.{Consumes-then}
+use Rattle.outside_io.proofs.lemmas.Known.{Consumes-then}
 use Rattle.node_device.specs.Devices.{SeenDevice}
 use Rattle.nbd_front.specs.declared.request.Request.{Request}
 use Rattle.nbd_front.specs.declared.filling.TakeRefusal.{TakeRefusal}

@@ -5,7 +5,7 @@ use Rattle.std.proofs.lemmas.List.{append-nil}
 use Rattle.std.proofs.lemmas.List.Elements.{All-append, All-cons, All-nil}
 use Rattle.std.specs.Io.KnownBytes.{Consumes}
 use Rattle.outside_io.specs.Written.{Adds, TakesPrefix}
-use Rattle.outside_io.proofs.Known.{Consumes-then}
+use Rattle.outside_io.proofs.lemmas.Known.{Consumes-then}
 use Rattle.nbd_front.specs.declared.ending.Served.{Served}
 use Rattle.nbd_front.specs.declared.ending.Served.TheVariants.{Next, Over}
 use Rattle.nbd_front.specs.declared.ending.SessionEnd.{SessionEnd}

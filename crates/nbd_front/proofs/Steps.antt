@@ -11,7 +11,7 @@ use Rattle.protocol.specs.Instance.{setting}
 use Rattle.node_device.specs.Held.{held_at, rewritten}
 use Rattle.node_device.specs.Devices.{SeenDevice}
 use Rattle.block_device.specs.Ranges.{is_touched}
-use Rattle.block_device.proofs.Touching.{last_place, first_place}
+use Rattle.block_device.proofs.lemmas.Touching.{last_place, first_place}
 use Rattle.nbd_front.specs.Arrays.{array_of, once, time_at, IsInOrder, HasRead}
 use Rattle.nbd_front.proofs.Blocks.{merged_then, parts_then, start_then}
 use Rattle.nbd_front.proofs.Devices.{block_part, block_merged, write_order, write_here, write_apart}

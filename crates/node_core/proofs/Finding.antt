@@ -10,13 +10,13 @@ use Rattle.stamp_order.specs.declared.Bound.{Bound}
 use Rattle.stamp_order.specs.declared.Bound.TheVariants.{All as Every}
 use Rattle.wire_forms.specs.declared.message.Version.{Version}
 use Rattle.protocol.specs.Nodes.{keeps, greatest_in, greatest_time}
-use Rattle.protocol.proofs.Order.{≼-antisym, ≼-time}
-use Rattle.protocol.proofs.Keeping.{keeps-Contains, keeps_is, greatest_in_is, greatest_in_above, time_of_one, time_at_least}
+use Rattle.protocol.proofs.lemmas.Order.{≼-antisym, ≼-time}
+use Rattle.protocol.proofs.lemmas.Keeping.{keeps-Contains, keeps_is, greatest_in_is, greatest_in_above, time_of_one, time_at_least}
 use Rattle.node_core.specs.declared.kept.Content.{Content}
 use Rattle.node_core.specs.Index.{version_of, content_at, version_at, versions_of, IsIndex, IsLastIn, IsNoneIn}
 use Rattle.node_core.proofs.Listing.{listed_from, listed_to, read-listed}
-use Rattle.lists.proofs.Members.{Contains-slice_get}
-use Rattle.lists.proofs.Tests.{some_is}
+use Rattle.lists.proofs.lemmas.Members.{Contains-slice_get}
+use Rattle.lists.proofs.lemmas.Tests.{some_is}
 use Rattle.std.proofs.lemmas.Bool.{cases_Bool}
 
 -- a version that is made of something has the stamp that it is made with

@@ -7,9 +7,9 @@ use Rattle.protocol.specs.Messages.{Version}
 use Rattle.protocol.specs.Nodes.{first_version}
 use Rattle.protocol.specs.Instance.{setting}
 use Rattle.protocol.specs.Seen.{as_version}
-use Rattle.protocol.proofs.Firsts.{first_is}
+use Rattle.protocol.proofs.lemmas.Firsts.{first_is}
 use Rattle.wire_forms.specs.declared.first.First.{First}
-use Rattle.wire_forms.proofs.Firsts.{map-replicate}
+use Rattle.wire_forms.proofs.lemmas.Firsts.{map-replicate}
 use Rattle.node_core.specs.Seen.{from_first, new_node, IsNode}
 
 -- a node whose blocks have no later versions is new

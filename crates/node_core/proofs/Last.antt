@@ -10,11 +10,11 @@ use Rattle.stamp_order.specs.declared.Stamp.{Stamp}
 use Rattle.stamp_order.specs.declared.Bound.{Bound}
 use Rattle.stamp_order.specs.declared.Bound.TheVariants.{All as Every, AtMost, Below}
 use Rattle.stamp_order.specs.Stamps.{has, ◌≼◌}
-use Rattle.stamp_order.proofs.Orders.{up_to_by_fields, before_by_fields}
-use Rattle.protocol.proofs.Order.{before_false}
+use Rattle.stamp_order.proofs.lemmas.Orders.{up_to_by_fields, before_by_fields}
+use Rattle.protocol.proofs.lemmas.Order.{before_false}
 use Rattle.node_core.specs.declared.kept.Content.{Content}
 use Rattle.node_core.specs.Index.{compared, content_at, IsLastIn, IsNoneIn}
-use Rattle.lists.proofs.Orders.{lt_less, le_not_gt, not_gt_le}
+use Rattle.lists.proofs.lemmas.Orders.{lt_less, le_not_gt, not_gt_le}
 
 -- the end of a range is that of a bound
 pub record IsEndOf (edge : Edge Stamp) (bound : Bound) : Type 0 where

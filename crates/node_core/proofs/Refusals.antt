@@ -10,7 +10,7 @@ use Rattle.wire_forms.specs.declared.message.Reason.TheVariants.{BadLength, Time
 use Rattle.protocol.specs.Messages.{flat, Version, Reason}
 use Rattle.protocol.specs.Setting.{Setting, digest_at, same}
 use Rattle.protocol.specs.Nodes.{refusal}
-use Rattle.protocol.proofs.Rounds.{same-≡, same-refl}
+use Rattle.protocol.proofs.lemmas.Rounds.{same-≡, same-refl}
 use Rattle.std.proofs.lemmas.Bool.{cases_Bool}
 
 same_false : (xs ys : List ℕ) → (xs ≡ ys → ⊥) → same xs ys ≡ false

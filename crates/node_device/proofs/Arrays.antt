@@ -7,7 +7,7 @@ use Rattle.std.proofs.lemmas.List.{ext_get_or, length-take, length-drop, length-
 use Rattle.std.proofs.lemmas.List.FromFn.{length-map-range_with_len, get_or-map-range_with_len}
 use Rattle.block_device.specs.Device.{byte_at, bytes_of, merged, AreBlocks, IsWritten}
 use Rattle.node_device.specs.Moments.{array_of}
-use Rattle.block_device.proofs.Reading.{byte_in, length-blocks, blocks_at}
+use Rattle.block_device.proofs.lemmas.Reading.{byte_in, length-blocks, blocks_at}
 
 -- ---- neighbouring blocks
 

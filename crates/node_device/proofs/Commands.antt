@@ -18,7 +18,7 @@ use Rattle.protocol.specs.Instance.{setting_of, IsCluster, InEachRun}
 use Rattle.protocol.specs.History.{Entry, IsEntry, IsHistory, NoClash}
 use Rattle.protocol.specs.Facts.{IsTold}
 use Rattle.protocol.specs.Laws.{HistoriesAreLegal, HistoriesAreInTime, ValuesAreBlocks, RecordsAreTold}
-use Rattle.protocol.proofs.Entries.{start_made, end_made}
+use Rattle.protocol.proofs.lemmas.Entries.{start_made, end_made}
 use Rattle.node_device.specs.Moments.{values_at, array_of, IsQuiet}
 use Rattle.node_device.specs.Commands.{IsDone}
 use Rattle.node_device.specs.Laws.{GetsGiveTheirRange, GetsGiveWhatWasPut, array_at}
@@ -27,7 +27,7 @@ use Rattle.node_device.proofs.Moments.{IsOrderly}
 use Rattle.node_device.proofs.Following.{AreReads, own_late, steps_leave, reads_give}
 use Rattle.node_device.proofs.Arrays.{same_array, length_array, range_of, block_of, written_array}
 use Rattle.node_device.proofs.Getting.{same_range, merged_range, own_early, quiet_first, quiet_later, stays_between}
-use Rattle.lists.proofs.Members.{Contains-head, Contains-rest}
+use Rattle.lists.proofs.lemmas.Members.{Contains-head, Contains-rest}
 
 -- ---- what holds of each history
 some_is : (x : Option ℕ) (a b : ℕ) → x ≡ Some a → x ≡ Some b → a ≡ b

@@ -23,18 +23,18 @@ use Rattle.protocol.specs.Operations.Stage.{Times, Versions, Storing}
 use Rattle.protocol.specs.Operations.Decision.{Ends}
 use Rattle.protocol.specs.Seen.{SeenTask, task_at, answers_of, by_decision, seen_goes_on}
 use Rattle.protocol.specs.Seen.Hearing.{Begins, Ended}
-use Rattle.protocol.proofs.Cluster.{cluster_valid}
-use Rattle.protocol.proofs.Lists.{Contains-collect, Contains-take}
-use Rattle.protocol.proofs.Order.{≼-refl, same_stamp-refl}
-use Rattle.protocol.proofs.Parts.{length_chosen, ascending_chosen, ascending_collect}
-use Rattle.protocol.proofs.Rounds.{same_digests-refl}
+use Rattle.protocol.proofs.lemmas.Cluster.{cluster_valid}
+use Rattle.protocol.proofs.lemmas.Lists.{Contains-collect, Contains-take}
+use Rattle.protocol.proofs.lemmas.Order.{≼-refl, same_stamp-refl}
+use Rattle.protocol.proofs.lemmas.Parts.{length_chosen, ascending_chosen, ascending_collect}
+use Rattle.protocol.proofs.lemmas.Rounds.{same_digests-refl}
 use Rattle.node_core.specs.Seen.{SeenNode, versions_in}
 use Rattle.node_device.specs.Held.{Held, node_at, stamp_of, version_of, kept_of, fragment_in, part_in}
 use Rattle.node_device.specs.Phases.{answer_of, asked, phase_end}
 use Rattle.node_device.proofs.Below.{count_below, highest_below}
 use Rattle.node_device.proofs.Keeping.{are_apart, greatest_is, whole_is}
 use Rattle.node_device.proofs.Phases.{answer_there, answer_not, collect_all}
-use Rattle.lists.proofs.Members.{Contains-head, Contains-map_cases}
+use Rattle.lists.proofs.lemmas.Members.{Contains-head, Contains-map_cases}
 
 -- a node or client alone knows of no liar
 pub good_setting : (c : Numbers) → IsValidConfig c → IsValid (setting c)

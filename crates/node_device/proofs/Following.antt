@@ -9,11 +9,11 @@ use Rattle.protocol.specs.Count.{update}
 use Rattle.protocol.specs.Setting.{Setting}
 use Rattle.protocol.specs.History.{Entry, Kind}
 use Rattle.protocol.specs.History.Kind.{Read, Write}
-use Rattle.protocol.proofs.Counting.{update-cases}
+use Rattle.protocol.proofs.lemmas.Counting.{update-cases}
 use Rattle.node_device.specs.Moments.{values_at, HasEndedBefore, HasBegunFrom, IsQuiet}
 use Rattle.node_device.specs.Commands.{IsStep, seen_after, AreSteps}
 use Rattle.node_device.proofs.Moments.{IsOrderly, unchanged, read_gives, write_leaves}
-use Rattle.lists.proofs.Members.{Contains-head, Contains-none, Contains-rest, Contains-cons_cases}
+use Rattle.lists.proofs.lemmas.Members.{Contains-head, Contains-none, Contains-rest, Contains-cons_cases}
 
 but_at-here : (f : ℕ → List ℕ) (k j : ℕ) (value : List ℕ) → j ≡ k → but_at f k value j ≡ value
 but_at-here f k j value e = rw (eq-eqb j k e) refl

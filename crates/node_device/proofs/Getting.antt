@@ -20,7 +20,7 @@ use Rattle.node_device.specs.Commands.{seen_after, AreSteps}
 use Rattle.node_device.proofs.Moments.{IsOrderly, unchanged}
 use Rattle.node_device.proofs.Following.{own_late}
 use Rattle.node_device.proofs.Arrays.{merged_inside, length_merged}
-use Rattle.lists.proofs.Members.{Contains-head, Contains-none, Contains-rest, Contains-cons_cases, filter_has}
+use Rattle.lists.proofs.lemmas.Members.{Contains-head, Contains-none, Contains-rest, Contains-cons_cases, filter_has}
 
 -- ---- ranges
 in_numbers : (a n k : ℕ) → a ≤ k → k < a + n → Contains (range_with_len a n) k

@@ -12,9 +12,9 @@ use Rattle.protocol.specs.Nodes.{first_version, greatest_in, greatest_time, keep
 use Rattle.wire_forms.specs.declared.Request.TheVariants.{Write}
 use Rattle.protocol.specs.Operations.{is_whole}
 use Rattle.protocol.specs.Instance.{setting}
-use Rattle.protocol.proofs.Order.{≼-refl, ≼-time, before-≼, lower_time, same_stamp-≡, same_stamp-refl}
-use Rattle.protocol.proofs.Rounds.{same-refl}
-use Rattle.protocol.proofs.Keeping.{time_at_least}
+use Rattle.protocol.proofs.lemmas.Order.{≼-refl, ≼-time, before-≼, lower_time, same_stamp-≡, same_stamp-refl}
+use Rattle.protocol.proofs.lemmas.Rounds.{same-refl}
+use Rattle.protocol.proofs.lemmas.Keeping.{time_at_least}
 use Rattle.node_device.specs.Held.{Held, stamp_of, version_of, kept_of, rewritten, the_client}
 use Rattle.std.proofs.lemmas.Bool.{eq-eqb, cases_Bool}
 

@@ -1,8 +1,8 @@
+pub mod lemmas
 mod Below
 mod Keeping
 mod Phases
 mod Deciding
-pub mod Holding
 mod Operations
 mod Splits
 mod Values

@@ -10,7 +10,7 @@ use Rattle.protocol.specs.History.Kind.{Read}
 use Rattle.node_device.specs.Moments.{had_ended, values_from, values_at, HasEndedBefore, HasBegunFrom}
 use Rattle.node_device.proofs.Splits.{Split, split, none_late_before, none_early_behind}
 use Rattle.node_device.proofs.Values.{next, next_read, next_sets, values_behind, values_append, legal_between, same_values, kept_values, counted_values}
-use Rattle.lists.proofs.Members.{Contains-rest}
+use Rattle.lists.proofs.lemmas.Members.{Contains-rest}
 
 -- a history that is legal and in time, whose operations end no sooner than they begin
 pub record IsOrderly (s : Setting) (h : List Entry) : Type 0 where

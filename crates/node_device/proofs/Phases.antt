@@ -23,7 +23,7 @@ use Rattle.client_core.specs.declared.heard.Heard.TheVariants.{Unchanged, More, 
 use Rattle.node_device.specs.Held.{node_at}
 use Rattle.node_device.specs.Phases.{answer_of, answer_below, asked, node_after, HaveAnswered, phase_end, heard_of, IsAsking, HasAsked, HasMet}
 use Rattle.node_device.proofs.Below.{count_below}
-use Rattle.lists.proofs.Tests.{eqb_self}
+use Rattle.lists.proofs.lemmas.Tests.{eqb_self}
 
 -- what is collected of all numbers is a list of what they give
 pub collect_all : {A : Type 0} (n : ℕ) (f : ℕ → A) → collect n (λ i. Some (f i)) ≡ map f (range_with_len 0 n)

@@ -4,7 +4,7 @@ use Rattle.std.specs.declared.option.Option.TheVariants.{Some}
 use Rattle.std.specs.List.{Contains}
 use Rattle.std.proofs.lemmas.List.{get_or_append_left, get_or-append-add}
 use Rattle.protocol.specs.History.{Entry, InTime}
-use Rattle.lists.proofs.Members.{Contains-none, Contains-cons_cases}
+use Rattle.lists.proofs.lemmas.Members.{Contains-none, Contains-cons_cases}
 
 -- a list in two parts, with an element between them
 pub record Split {X : Type 0} (xs : List X) (x : X) : Type 0 where

@@ -5,9 +5,9 @@ use Rattle.std.proofs.lemmas.Bool.{cases_eq}
 use Rattle.protocol.specs.Count.{update}
 use Rattle.protocol.specs.History.{Entry, Kind, LegalFrom, legal_at, values_after}
 use Rattle.protocol.specs.History.Kind.{Read, Write, Foreign}
-use Rattle.protocol.proofs.Counting.{update-cases, update-same}
+use Rattle.protocol.proofs.lemmas.Counting.{update-cases, update-same}
 use Rattle.node_device.specs.Moments.{had_ended, values_from}
-use Rattle.lists.proofs.Members.{Contains-head, Contains-rest}
+use Rattle.lists.proofs.lemmas.Members.{Contains-head, Contains-rest}
 
 -- the values after an entry, if it is counted
 abbrev pub next : Bool → Kind → Entry → (ℕ → List ℕ) → ℕ → List ℕ

@@ -17,7 +17,7 @@ use Rattle.node_workers.specs.Opened.{ArePosts}
 use Rattle.node_workers.specs.Ended.{MayClose, HasClosed}
 use Rattle.node_workers.proofs.Working.{nodes_worked, clients_worked, ways_worked, mails_of}
 use Rattle.node_workers.proofs.Phasing.{mails_done, rows_own, cells_worked, desks_later, duties_done, pairs_again}
-use Rattle.phase_threads.proofs.Phasing.{desks_of}
+use Rattle.phase_threads.proofs.lemmas.Phasing.{desks_of}
 
 module _ {T : Type 0} (done : T → DeskView → T → DeskView → Type 0) (of : ClockId) (cells : List CellView) (seats : List (Seat T)) (floor : FloorView) (posts : List (Post T)) (h : ArePosts of cells seats floor posts)
     (last : List (Post T)) (whole : Beside (λ (i : ℕ) (p q : Post T). DidWork done floor p q) posts last) where

@@ -5,7 +5,7 @@ use Rattle.std.specs.Prelude.{◌⊎◌, All, false, slice_get}
 use Rattle.std.specs.List.{AllZip, Contains}
 use Rattle.quorum_rules.specs.Limits.{Numbers}
 use Rattle.crews.specs.Crews.{Beside}
-use Rattle.crews.proofs.Places.{all_from, get_map, map_get}
+use Rattle.crews.proofs.lemmas.Places.{all_from, get_map, map_get}
 use Rattle.event_clock.specs.Passes.{ClockId}
 use Rattle.journals.specs.declared.node.NodeEntry.{NodeEntry}
 use Rattle.journals.specs.declared.desk.DeskAct.{DeskAct}
@@ -19,7 +19,7 @@ use Rattle.phase_threads.specs.declared.duty.Seat.{Seat}
 use Rattle.phase_threads.specs.declared.phase.Left.{Left}
 use Rattle.phase_threads.specs.Phases.{MayPhase, HasPhased}
 use Rattle.phase_threads.specs.Standing.{AreCells, IsCellOf, PairsStand, HasSideIn, HasSideOn, HasWorked}
-use Rattle.lists.proofs.Members.{place_of, all_at, Contains-slice_get}
+use Rattle.lists.proofs.lemmas.Members.{place_of, all_at, Contains-slice_get}
 
 pub beside_map : {A B : Type 0} (f : A → B) (xs : List A) (ys : List B) → Beside (λ i x y. y ≡ f x) xs ys → ys ≡ map f xs
 beside_map f [] [] b = refl

@@ -4,7 +4,7 @@ use Rattle.std.specs.declared.option.Option.TheVariants.{Some}
 use Rattle.std.specs.Prelude.{◌⊎◌, slice_get, All}
 use Rattle.std.proofs.lemmas.List.{reverse-append, reverse-reverse, map-append}
 use Rattle.crews.specs.Crews.{Beside}
-use Rattle.crews.proofs.Places.{same_at, get_snoc}
+use Rattle.crews.proofs.lemmas.Places.{same_at, get_snoc}
 use Rattle.event_clock.specs.Passes.{ClockId}
 use Rattle.inboxes.specs.Sides.{Putting, Taking, new_putter}
 use Rattle.node_serving.specs.declared.answered.Answered.{Answered}
@@ -18,7 +18,7 @@ use Rattle.node_workers.specs.Posts.{nodes_in, clients_in}
 use Rattle.phase_threads.specs.Hands.{AreDealt}
 use Rattle.node_workers.specs.Hands.{AreNewPutters, AreSpread}
 use Rattle.node_workers.specs.Opened.{IsAnswerBox}
-use Rattle.lists.proofs.Members.{all_at, slice_get-seam, at_place, within}
+use Rattle.lists.proofs.lemmas.Members.{all_at, slice_get-seam, at_place, within}
 
 -- each item of the second list is so to the one of the first list at its place
 pub record UpTo {X Y : Type 0} (R : ℕ → X → Y → Type 0) (xs : List X) (ys : List Y) : Type 0 where

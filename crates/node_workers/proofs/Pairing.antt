@@ -23,12 +23,12 @@ use Rattle.node_serving.specs.declared.answered.Answered.{Answered}
 use Rattle.desk_keys.specs.declared.mail.ByMail.{ByMail}
 use Rattle.desk_keys.specs.Keys.{AgreeByMail, HasAnswer, call_told}
 use Rattle.node_serving.specs.Workers.{AnswerPutter, Tells, TellsOf, WasTold, HasAnswered}
-use Rattle.node_serving.proofs.Answering.{none_in}
+use Rattle.node_serving.proofs.lemmas.Answering.{none_in}
 use Rattle.phase_threads.specs.Standing.{HasSideIn, HasSideOn, PairsStand}
-use Rattle.crews.proofs.Places.{same_at, right_of, left_of}
-use Rattle.lists.proofs.Members.{place_of, all_at, at_place, within, Contains-slice_get}
-use Rattle.inboxes.proofs.SenderWords.{true_here}
-use Rattle.desk_keys.proofs.Mailing.{same_told}
+use Rattle.crews.proofs.lemmas.Places.{same_at, right_of, left_of}
+use Rattle.lists.proofs.lemmas.Members.{place_of, all_at, at_place, within, Contains-slice_get}
+use Rattle.inboxes.proofs.lemmas.SenderWords.{true_here}
+use Rattle.desk_keys.proofs.lemmas.Mailing.{same_told}
 
 -- what was taken of a sender is among the sender's items, and the other way round
 module _ {T : Type 0} where

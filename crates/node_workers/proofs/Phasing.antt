@@ -7,7 +7,7 @@ use Rattle.std.specs.List.{AllZip}
 use Rattle.std.proofs.lemmas.List.{length-map}
 use Rattle.quorum_rules.specs.Limits.{Numbers}
 use Rattle.crews.specs.Crews.{Beside}
-use Rattle.crews.proofs.Places.{same_at, all_from, all_zip, get_map, map_get, right_of, left_of}
+use Rattle.crews.proofs.lemmas.Places.{same_at, all_from, all_zip, get_map, map_get, right_of, left_of}
 use Rattle.event_clock.specs.Passes.{ClockId}
 use Rattle.inboxes.specs.Sides.{InboxId, Putting, Taking, IsDone, took, new_putter}
 use Rattle.locked_nodes.specs.declared.slot.Slot.{Slot}
@@ -29,8 +29,8 @@ use Rattle.node_workers.specs.Opened.{IsAnswerBox, IsWorkerOf, IsClientOf, ids_o
 use Rattle.node_workers.specs.Posts.{IsReady, HasDone, HasAll, HasTakenAll, seat_of}
 use Rattle.node_workers.specs.Closed.{IsOfMail, HasAllOf}
 use Rattle.node_workers.proofs.Pairing.{IsServed, IsHeard, Phase, pairs_stand}
-use Rattle.lists.proofs.Members.{all_at, at_place, within}
-use Rattle.phase_threads.proofs.Phasing.{desks_of}
+use Rattle.lists.proofs.lemmas.Members.{all_at, at_place, within}
+use Rattle.phase_threads.proofs.lemmas.Phasing.{desks_of}
 
 abbrev pub mail_floor : ClockId → List (Taking Answered ClientPlace) → List Slot → FloorView
 mail_floor of boxes slots = record { clock = of; slots = slots; vaults = []; answers = boxes }

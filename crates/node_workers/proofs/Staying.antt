@@ -6,7 +6,7 @@ use Rattle.std.specs.declared.result.Result.TheVariants.{Ok, Err}
 use Rattle.std.specs.Prelude.{All, IsSome, IfOk}
 use Rattle.std.proofs.lemmas.List.{length-map}
 use Rattle.quorum_rules.specs.Limits.{Numbers}
-use Rattle.crews.proofs.Places.{all_from, map_get, right_of, left_of}
+use Rattle.crews.proofs.lemmas.Places.{all_from, map_get, right_of, left_of}
 use Rattle.event_clock.specs.Passes.{ClockId}
 use Rattle.inboxes.specs.Sides.{Putting, Taking}
 use Rattle.locked_nodes.specs.Cells.{CellView}

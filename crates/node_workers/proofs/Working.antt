@@ -6,7 +6,7 @@ use Rattle.std.specs.Prelude.{slice_get, map, All, IsSome}
 use Rattle.std.specs.List.{AllZip}
 use Rattle.std.proofs.lemmas.List.Elements.{All-nil, All-cons, All-head, All-tail}
 use Rattle.crews.specs.Crews.{Beside}
-use Rattle.crews.proofs.Places.{all_zip, all_from, left_of}
+use Rattle.crews.proofs.lemmas.Places.{all_zip, all_from, left_of}
 use Rattle.receipt_lock.specs.Chits.{Holder as Chit}
 use Rattle.locked_nodes.specs.declared.charter.Item.{Item}
 use Rattle.locked_nodes.specs.declared.slot.Slot.{Slot}

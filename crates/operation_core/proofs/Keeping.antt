@@ -11,14 +11,14 @@ use Rattle.protocol.specs.Messages.{Reply, Tag}
 use Rattle.protocol.specs.Instance.{setting}
 use Rattle.protocol.specs.Operations.{answered, is_answered, is_of_kind, rounds_after}
 use Rattle.protocol.specs.Seen.{SeenTask, block_of, work_of, answers_of, is_counted, counts_of, ends_phase}
-use Rattle.protocol.proofs.Counting.{both_true, update-cases}
-use Rattle.protocol.proofs.Seeing.{at_list, at_replicate}
+use Rattle.protocol.proofs.lemmas.Counting.{both_true, update-cases}
+use Rattle.protocol.proofs.lemmas.Seeing.{at_list, at_replicate}
 use Rattle.operation_core.specs.declared.stage.Stage.{Stage}
 use Rattle.operation_core.specs.declared.stage.Stage.TheVariants.{Times, Versions, Storing}
 use Rattle.operation_core.specs.Stages.{stage_of, FitsStage}
 use Rattle.operation_core.specs.Counting.{answer_at, task_in, IsOperation}
-use Rattle.operation_core.proofs.Counts.{count_one_more, count_none, count_most}
-use Rattle.protocol.proofs.Tests.{is_ltb}
+use Rattle.operation_core.proofs.lemmas.Counts.{count_one_more, count_none, count_most}
+use Rattle.protocol.proofs.lemmas.Tests.{is_ltb}
 
 -- an operation that no node has answered
 pub no_answer : (c : Numbers) (phase rounds : ℕ) (stage : Stage) → IsValid c → rounds ≤ phase → FitsStage c stage → (answers : List (Option Reply)) → answers ≡ replicate c.n None

@@ -1,3 +1,2 @@
-pub mod Counts
+pub mod lemmas
 pub mod Keeping
-pub mod PhaseEnds

@@ -12,8 +12,8 @@ use Rattle.plan_words.specs.Plans.{Fits}
 use Rattle.plan_text.specs.Plans.{Spells as SpellsPlan}
 use Rattle.command_texts.specs.Texts.{Refuses, ReadsInput, AnswersFor, IsAccepted, IsRefusedFor, GivesAll}
 use Rattle.pasis_shell.specs.Calls.{Ends}
-use Rattle.command_texts.proofs.Commands.{plans_only, plan_form, loads_only, load_form}
-use Rattle.command_texts.proofs.Alone.{RunsPlan}
+use Rattle.command_texts.proofs.lemmas.Commands.{plans_only, plan_form, loads_only, load_form}
+use Rattle.command_texts.proofs.lemmas.Alone.{RunsPlan}
 use Rattle.pasis_shell.proofs.WellFormed.{plan_is_no_bad_script}
 use Rattle.command_texts.specs.declared.status.Status.{Status}
 use Rattle.command_texts.specs.declared.status.Status.TheVariants.{Done, Illegal, BadWords, BadScript, ReadFault, WriteFault, NoMemory, TooLong, ClockFull, BadMagic, CutRequest, TooManyRequests}

@@ -7,7 +7,7 @@ use Rattle.history_making.specs.declared.entry.Entry.{Entry}
 use Rattle.history_book.specs.declared.judging.Flaw.{Flaw}
 use Rattle.history_making.specs.Books.{Book}
 use Rattle.history_book.specs.Judging.{IsLegal, IsInTime}
-use Rattle.history_book.proofs.PrintedReports.{one_report}
+use Rattle.history_book.proofs.lemmas.PrintedReports.{one_report}
 use Rattle.command_texts.specs.Replays.{cluster_of, Replays}
 use Rattle.command_texts.specs.Verdicts.{IsVerdict, Judges}
 

@@ -10,26 +10,26 @@ use Rattle.event_lines.specs.declared.line.ReplayLine.{ReplayLine}
 use Rattle.protocol.specs.Setting.{Setting}
 use Rattle.script_text.specs.Replays.{IsReplay, Spells, replay_script}
 use Rattle.script_text.specs.Sum.{IsSum, sum_text, sum_script}
-use Rattle.script_text.proofs.ReplayLaws.{replay_accepted, one_replay}
-use Rattle.script_text.proofs.SumLaws.{sum_accepted}
+use Rattle.script_text.proofs.lemmas.ReplayLaws.{replay_accepted, one_replay}
+use Rattle.script_text.proofs.lemmas.SumLaws.{sum_accepted}
 use Rattle.script_run.specs.Performing.{CommandQueues, Performs, LeadsTo, StopsAt, cause_of, after_line, start_queues}
 use Rattle.history_making.specs.Books.{Book}
 use Rattle.history_book.specs.Reports.{report_text}
 use Rattle.history_book.specs.ReportTexts.{IsReport, report}
-use Rattle.history_book.proofs.PrintedReports.{report_accepted}
+use Rattle.history_book.proofs.lemmas.PrintedReports.{report_accepted}
 use Rattle.plan_words.specs.declared.plan.Plan.{Plan}
 use Rattle.plan_words.specs.Plans.{Fits}
 use Rattle.plan_text.specs.Plans.{Spells as PlanSpells, plan_script}
-use Rattle.plan_text.proofs.PlanLaws.{plan_accepted}
+use Rattle.plan_text.proofs.lemmas.PlanLaws.{plan_accepted}
 use Rattle.command_texts.specs.Words.{words_of}
 use Rattle.command_texts.specs.Replays.{cluster_of, Stops}
 use Rattle.command_texts.specs.Texts.{HasFault, IsAccepted, RunsIt, Refuses}
-use Rattle.command_texts.proofs.Alone.{replay_alone, check_alone, sum_alone}
+use Rattle.command_texts.proofs.lemmas.Alone.{replay_alone, check_alone, sum_alone}
 use Rattle.command_texts.specs.declared.words.Command.{Command}
 use Rattle.command_texts.specs.declared.words.Command.TheVariants.{Replay, Check, Sum}
 use Rattle.command_texts.specs.declared.refusal.Refusal.{Refusal}
 use Rattle.command_texts.specs.declared.refusal.Refusal.TheVariants.{NoMemory, BadScript, ClockFull}
-use Rattle.line_forms.proofs.Texts.{no_fault}
+use Rattle.line_forms.proofs.lemmas.Texts.{no_fault}
 
 -- ---- one command
 

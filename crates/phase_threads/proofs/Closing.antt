@@ -7,8 +7,8 @@ use Rattle.receipt_lock.specs.Chits.{Holder as Chit, Deposit}
 use Rattle.locked_nodes.specs.declared.charter.Item.{Item}
 use Rattle.crews.specs.Crews.{Beside}
 use Rattle.phase_threads.specs.Phased.{AreTaken, AreChitsOf}
-use Rattle.crews.proofs.Places.{same_at, all_from, get_snoc, get_set, get_map, map_get, right_of, left_of}
-use Rattle.lists.proofs.Members.{all_at, slice_get-seam, at_place, within}
+use Rattle.crews.proofs.lemmas.Places.{same_at, all_from, get_snoc, get_set, get_map, map_get, right_of, left_of}
+use Rattle.lists.proofs.lemmas.Members.{all_at, slice_get-seam, at_place, within}
 
 -- lists that end alike
 tail_same : {A : Type 0} (a b x y : A) (xs ys : List A) → a ∷ (xs ++ x ∷ []) ≡ b ∷ (ys ++ y ∷ []) → xs ++ x ∷ [] ≡ ys ++ y ∷ []

@@ -2,9 +2,9 @@
 use Rattle.std.proofs.Common.{◌≡◌, ◌≢◌, ℕ, ◌+◌, ◌≤◌, ◌<◌, List, [], ◌∷◌, ◌++◌, length, length-set, length-append, refl, sym, ap, ◌∙◌, arith, inl, inr}
 use Rattle.std.specs.declared.option.Option.TheVariants.{Some}
 use Rattle.std.specs.Prelude.{◌⊎◌, All, slice_get, slice_set}
-use Rattle.crews.proofs.Places.{all_from, same_at, get_set}
+use Rattle.crews.proofs.lemmas.Places.{all_from, same_at, get_set}
 use Rattle.phase_threads.specs.Hands.{AreDealt}
-use Rattle.lists.proofs.Members.{all_at, at_place, get_left, slice_get-seam, within}
+use Rattle.lists.proofs.lemmas.Members.{all_at, at_place, get_left, slice_get-seam, within}
 
 -- the things from this place on are dealt
 pub record AreDealtFrom {A : Type 0} (old : List (List A)) (things : List A) (hands : List (List A)) (left : List A) : Type 0 where

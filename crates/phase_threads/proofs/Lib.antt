@@ -1,11 +1,5 @@
+pub mod lemmas
 mod Dealing
 mod Opening
 mod Closing
 mod Pairing
-pub mod Phasing
-pub mod Sending
-pub mod Nodes
-pub mod Cells
-pub mod Sharded
-pub mod Working
-pub mod Ending

@@ -25,8 +25,8 @@ use Rattle.desk_keys.specs.Keys.{KeysView, FloorView, IsHead, IsFloor, IsByChits
 use Rattle.phase_threads.specs.Standing.{AreCells, IsCellOf, IsDeskAt, HasSideIn, PairsStand}
 use Rattle.crews.specs.Crews.{Beside}
 use Rattle.phase_threads.specs.Phased.{IsVaultOf, new_hand}
-use Rattle.crews.proofs.Places.{all_from, get_map, map_get, right_of}
-use Rattle.lists.proofs.Members.{Contains-none, place_of, all_at, Contains-slice_get}
+use Rattle.crews.proofs.lemmas.Places.{all_from, get_map, map_get, right_of}
+use Rattle.lists.proofs.lemmas.Members.{Contains-none, place_of, all_at, Contains-slice_get}
 
 -- the chits of a new vault are all alike
 pub all_new : {E : Type 0} {X : Type 0} (result : Result (Deposit X × List (Chit X)) E) (clients : ℕ) → IfOk result (λ r. length r.1 ≡ clients) → IfOk result (λ r. AreNew r.0.id r.1 clients) → IfOk result (λ r. All (λ c. c ≡ new_chit r.0.id) r.1)

@@ -20,8 +20,8 @@ use Rattle.desk_keys.specs.Keys.{Agree, IsSide, Knows}
 use Rattle.phase_threads.specs.Standing.{HasSideIn, HasSideOn, PairsStand, HasWorked}
 use Rattle.crews.specs.Crews.{Beside}
 use Rattle.phase_threads.specs.Phased.{IsVaultOf, IsClosed}
-use Rattle.crews.proofs.Places.{same_at, get_map, map_get, right_of, left_of}
-use Rattle.lists.proofs.Members.{place_of, within, Contains-slice_get}
+use Rattle.crews.proofs.lemmas.Places.{same_at, get_map, map_get, right_of, left_of}
+use Rattle.lists.proofs.lemmas.Members.{place_of, within, Contains-slice_get}
 
 -- a cell's entries are those of its list, but for the head
 in_items : (cell : CellView) (p : ℕ) (n : NodeEntry) → slice_get (items cell) p ≡ Some (Entry n) → Contains cell.journal n

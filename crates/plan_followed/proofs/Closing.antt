@@ -24,16 +24,16 @@ use Rattle.journals.specs.Desks.{DeskState, new_desk, desk_after_all}
 use Rattle.journals.specs.Steps.{HasGiven}
 use Rattle.journals.specs.Journals.{setting_for, at_node, at_desk, desks_before, nodes_before, cluster_at}
 use Rattle.journals.specs.Phases.{Phase, IsWithin}
-use Rattle.journals.proofs.Lists.{update-other}
+use Rattle.journals.proofs.lemmas.Lists.{update-other}
 use Rattle.plan_followed.specs.Asked.{conduct_of, steps_for, steps_in, first_phases, nature}
 use Rattle.plan_followed.specs.Clients.{IsDone}
 use Rattle.plan_followed.specs.Nodes.{Pruning, act_of, node_after, nodes_within, IsClosed}
 use Rattle.plan_followed.specs.Followed.{begin_of, IsGivenIn, ArePrunes, FollowsAs}
 use Rattle.plan_followed.specs.Closed.{NodeGoesOn, DeskGoesOn, AreBelow, HasPruned, next_begin, IsDoneWith, ClosedAs, HaveClosed, AreWorked, FinishedAs, IsWorkedOff, HavePruned, Begins, GoesOn, Closes, Ends}
-use Rattle.plan_followed.proofs.Later.{below_same, within_same, below_all, within_more}
+use Rattle.plan_followed.proofs.lemmas.Later.{below_same, within_same, below_all, within_more}
 use Rattle.plan_followed.proofs.Turns.{ends_before, closes_before, in_turn, get_pushed, same_begin}
-use Rattle.lists.proofs.Members.{Contains-none, Contains-one, Contains-slice_get}
-use Rattle.protocol.proofs.Counting.{update-same}
+use Rattle.lists.proofs.lemmas.Members.{Contains-none, Contains-one, Contains-slice_get}
+use Rattle.protocol.proofs.lemmas.Counting.{update-same}
 
 abbrev number_at : NodeEntry → ℕ
 number_at = λ e. e.number

@@ -29,8 +29,8 @@ use Rattle.journals.specs.Desks.{DeskState, Ended, new_desk}
 use Rattle.plan_followed.specs.Asked.{steps_for, first_phases}
 use Rattle.plan_followed.specs.Clients.{InEach, IsNext, way_of, op_of, client_after, IsNextStart, IsOnItsWay, GoesByPlan, IsCutOff, IsDone, ClientFollows, LiarFollows}
 use Rattle.plan_followed.specs.Nodes.{NodeFollows}
-use Rattle.plan_followed.proofs.Entries.{each_in}
-use Rattle.lists.proofs.Members.{Contains-head, Contains-none}
+use Rattle.plan_followed.proofs.lemmas.Entries.{each_in}
+use Rattle.lists.proofs.lemmas.Members.{Contains-head, Contains-none}
 
 abbrev one : Numbers
 one = record { edition = One; n = 1; t = 0; b = 0; qc = 1; m = 1; size = 1; blocks = 1 }

@@ -1,9 +1,6 @@
-pub mod Plans
-pub mod Phases
-pub mod Entries
+pub mod lemmas
 mod Example
 mod Listing
 mod Raising
-pub mod Later
 pub mod Turns
 pub mod Closing

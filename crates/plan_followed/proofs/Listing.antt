@@ -11,9 +11,9 @@ use Rattle.protocol.specs.Report.{Ascend}
 use Rattle.plan_followed.specs.declared.prunes.BlockStamp.{BlockStamp}
 use Rattle.plan_followed.specs.Prunings.{blocks_of, ArePrunings}
 use Rattle.plan_followed.specs.Tops.{IsTop, AreTops, AreListed}
-use Rattle.lists.proofs.Members.{Contains-none, Contains-map_cases, all_push}
-use Rattle.protocol.proofs.Starts.{ascend_push}
-use Rattle.journals.proofs.Lists.{all_below}
+use Rattle.lists.proofs.lemmas.Members.{Contains-none, Contains-map_cases, all_push}
+use Rattle.protocol.proofs.lemmas.Starts.{ascend_push}
+use Rattle.journals.proofs.lemmas.Lists.{all_below}
 
 blocks_more : (xs : List BlockStamp) (x : BlockStamp) → blocks_of (xs ++ x ∷ []) ≡ blocks_of xs ++ x.block ∷ []
 blocks_more [] x = refl

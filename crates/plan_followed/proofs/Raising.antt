@@ -11,11 +11,11 @@ use Rattle.std.proofs.lemmas.Option.{slice_get_within, slice_get-get_or, get_or_
 use Rattle.std.proofs.lemmas.List.{get_or-set_same, get_or-set_other, get_or-replicate, length-replicate}
 use Rattle.stamp_order.specs.declared.Stamp.{Stamp}
 use Rattle.stamp_order.specs.Stamps.{◌≼◌}
-use Rattle.protocol.proofs.Order.{≼-trans}
+use Rattle.protocol.proofs.lemmas.Order.{≼-trans}
 use Rattle.plan_followed.specs.declared.prunes.BlockStamp.{BlockStamp}
 use Rattle.plan_followed.specs.Prunings.{blocks_of}
 use Rattle.plan_followed.specs.Tops.{IsOneOf, IsTop, IsTopOf, AreTops}
-use Rattle.lists.proofs.Members.{Contains-none, Contains-map}
+use Rattle.lists.proofs.lemmas.Members.{Contains-none, Contains-map}
 
 -- ---- lists
 

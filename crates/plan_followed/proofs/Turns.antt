@@ -6,7 +6,7 @@ use Rattle.std.specs.List.{Contains}
 use Rattle.journals.specs.Phases.{Phase}
 use Rattle.plan_followed.specs.Followed.{AreInTurn, begin_of, end_of}
 use Rattle.plan_followed.specs.Closed.{next_begin}
-use Rattle.lists.proofs.Members.{Contains-none, Contains-cons_cases, slice_get-front}
+use Rattle.lists.proofs.lemmas.Members.{Contains-none, Contains-cons_cases, slice_get-front}
 
 -- the end of the last phase, or where the first begins
 abbrev last_end : ℕ → List Phase → ℕ

@@ -8,15 +8,15 @@ use Rattle.std.proofs.lemmas.List.Elements.{filter_map-append}
 use Rattle.std.proofs.lemmas.List.Sums.{fold_push}
 use Rattle.quorum_rules.specs.Limits.{Numbers, IsValid}
 use Rattle.text_lines.specs.Lines.{fields_of, parts_of, line_of_fields}
-use Rattle.text_lines.proofs.Cuts.{rest_part}
+use Rattle.text_lines.proofs.lemmas.Cuts.{rest_part}
 use Rattle.wire_forms.specs.Liars.{Liars}
 use Rattle.line_forms.specs.Heads.{IsOfScripts, header, head_lines, cluster_fields}
 use Rattle.line_forms.specs.Tables.{first_of, or_then}
 use Rattle.line_forms.specs.Texts.{IsFault, IsFaultless, ReadsTo, end_causes}
 use Rattle.line_forms.specs.declared.cause.Cause.{Cause}
 use Rattle.line_forms.specs.declared.cause.Cause.TheVariants.{Cut}
-use Rattle.line_forms.proofs.Accepted.{numbers_back}
-use Rattle.line_forms.proofs.Texts.{reads_on, line_fault, end_fault, read_all, text_read}
+use Rattle.line_forms.proofs.lemmas.Accepted.{numbers_back}
+use Rattle.line_forms.proofs.lemmas.Texts.{reads_on, line_fault, end_fault, read_all, text_read}
 use Rattle.plan_words.specs.declared.fault.Fault.{Fault}
 use Rattle.plan_words.specs.declared.job.Job.{Job}
 use Rattle.plan_words.specs.declared.plan.Plan.{Plan}
@@ -32,7 +32,7 @@ use Rattle.plan_text.specs.Reading.{IsSeen, AreFine, BodyRead, next_cause, seen_
 use Rattle.plan_text.proofs.Marked.{marks_back, all_marks_back, one_sided}
 use Rattle.plan_text.proofs.Causes.{seen_is, free_from_none}
 use Rattle.plan_text.proofs.Steps.{IsNoted, seen_more, fine_more}
-use Rattle.lists.proofs.Members.{all_push}
+use Rattle.lists.proofs.lemmas.Members.{all_push}
 
 small : (c : Numbers) → IsValid c → c.n < 2 ^ 64
 small c v = let top = v.nodes.1 in omega arith

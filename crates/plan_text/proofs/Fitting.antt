@@ -21,7 +21,7 @@ use Rattle.plan_text.specs.Plans.{client_of, rules_in, work_in}
 use Rattle.plan_text.specs.Reading.{HasAll, IsSeen, AreFine, BodyRead}
 use Rattle.plan_text.proofs.Marked.{one_sided, named_by_rules, named_by_both, counted_by_rules, counted_by_work}
 use Rattle.plan_text.proofs.Sets.{len_is}
-use Rattle.lists.proofs.Tests.{or_swapped}
+use Rattle.lists.proofs.lemmas.Tests.{or_swapped}
 
 each_rule : (c : Numbers) (ls : List PlanLine) → AllByRecursion (IsPlanLine c) ls → AllByRecursion (IsFault c) (rules_in ls)
 each_rule c [] h = tt

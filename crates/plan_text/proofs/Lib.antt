@@ -1,8 +1,7 @@
+pub mod lemmas
 pub mod Sets
 pub mod Marked
 pub mod Causes
 pub mod Steps
 pub mod Bodies
 pub mod Fitting
-pub mod Standing
-pub mod PlanLaws

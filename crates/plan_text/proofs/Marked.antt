@@ -18,10 +18,10 @@ use Rattle.plan_words.specs.declared.line.PlanLine.TheVariants.{Rule, Work}
 use Rattle.plan_words.specs.Lines.{IsPlanLine, line_fields, line_text}
 use Rattle.plan_text.specs.Marks.{Marks, marks_in, line_marks, rule_marks, job_marks}
 use Rattle.plan_text.specs.Plans.{marks_of, rules_in, work_in}
-use Rattle.plan_words.proofs.Texts.{fields_back}
-use Rattle.lists.proofs.Tests.{or_swapped}
-use Rattle.event_lines.proofs.Unique.{u64_back, value_back}
-use Rattle.plan_words.proofs.Unique.{node_back, client_back}
+use Rattle.plan_words.proofs.lemmas.Texts.{fields_back}
+use Rattle.lists.proofs.lemmas.Tests.{or_swapped}
+use Rattle.event_lines.proofs.lemmas.Unique.{u64_back, value_back}
+use Rattle.plan_words.proofs.lemmas.Unique.{node_back, client_back}
 
 -- ---- the marks of a line's text
 

@@ -22,8 +22,8 @@ use Rattle.plan_text.specs.Reading.{HasAll, IsSeen, AreFine, pair_cmp, seen_agai
 use Rattle.plan_text.specs.Sets.{IsAdded}
 use Rattle.plan_text.proofs.Sets.{has_more, nat_tie, pair_tie, pair_laws, more_named, more_length, distinct_more, len_is}
 use Rattle.plan_text.proofs.Causes.{IsFree, no_cause}
-use Rattle.lists.proofs.Members.{all_push}
-use Rattle.lists.proofs.Tests.{or_false}
+use Rattle.lists.proofs.lemmas.Members.{all_push}
+use Rattle.lists.proofs.lemmas.Tests.{or_false}
 
 none_of_four : (a b c d : Bool) → (((a || b) || c) || d) ≡ false → (a ≡ false) × (b ≡ false) × (c ≡ false) × (d ≡ false)
 none_of_four true b c d h = absurd cc

@@ -8,13 +8,13 @@ use Rattle.std.proofs.lemmas.Bool.Decides.{nat_tests}
 use Rattle.quorum_rules.specs.Limits.{Numbers}
 use Rattle.text_lines.specs.Fields.{number_of}
 use Rattle.text_lines.specs.Lines.{texts}
-use Rattle.text_lines.proofs.Numbers.{number_of-decimal}
+use Rattle.text_lines.proofs.lemmas.Numbers.{number_of-decimal}
 use Rattle.line_forms.specs.Kinds as kinds
 use Rattle.line_forms.specs.Kinds.{Kind, some_field, is_other_word, is_bad_number, is_outside, is_bad_value, has_wrong_count, form_cause, block, any_u64, count_to}
 use Rattle.line_forms.specs.Kinds.Kind.{value}
 use Rattle.line_forms.specs.Tables.{first_of}
 use Rattle.line_forms.specs.declared.cause.Cause.TheVariants.{UnknownWord, WrongCount, BadNumber, OutOfRange, BadValue}
-use Rattle.line_forms.proofs.Clusters.{some_field-never}
+use Rattle.line_forms.proofs.lemmas.Clusters.{some_field-never}
 use Rattle.event_lines.specs.Forms.{fields_cause}
 use Rattle.plan_words.specs.Forms.{any_rule, field_at, number_at, node_form, sound_form, mix_form, flood_form, crash_node_form, crash_client_form}
 

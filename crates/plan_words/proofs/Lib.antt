@@ -1,5 +1,3 @@
+pub mod lemmas
 mod FormCauses
 mod Words
-pub mod Texts
-pub mod Accepted
-pub mod Unique

@@ -7,7 +7,7 @@ use Rattle.std.proofs.lemmas.Slice.Eq.{bytes_eq-Decides}
 use Rattle.quorum_rules.specs.Limits.{Numbers}
 use Rattle.line_forms.specs.Tables.{Gives}
 use Rattle.line_forms.specs.declared.refusal.LineRefusal.{LineRefusal}
-use Rattle.line_forms.proofs.Tables.{gives_same}
+use Rattle.line_forms.proofs.lemmas.Tables.{gives_same}
 use Rattle.event_lines.specs.Forms.{fields_cause}
 use Rattle.plan_words.specs.declared.line.PlanLine.{PlanLine}
 use Rattle.plan_words.specs.Forms.{Word, word_text, words, word_of, forms_of, rest_cause, line_cause}

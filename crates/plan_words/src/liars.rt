@@ -1,5 +1,5 @@
 //! The lines of a plan that declare somebody lying.
-#![tactic(auto, using(text_lines::proofs::Spelled::spelled, std::proofs::lemmas::Grind::common_steps))]
+#![tactic(auto, using(text_lines::proofs::lemmas::Spelled::spelled, std::proofs::lemmas::Grind::common_steps))]
 
 ghost use Rattle.std.specs.Prelude.{◌≡◌, ◌∷◌, [], codes, false, true, not, ℕ, MatchOption, is_none, is_some};
 ghost use Rattle.text_lines.specs.Lines.{texts};

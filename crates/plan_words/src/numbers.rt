@@ -1,6 +1,6 @@
 //! The fields of a plan's lines that hold numbers alone. All of a line's numbers are read before one of them is found
 //! out of its range.
-#![tactic(auto, using(text_lines::proofs::Spelled::spelled, std::proofs::lemmas::Grind::common_steps))]
+#![tactic(auto, using(text_lines::proofs::lemmas::Spelled::spelled, std::proofs::lemmas::Grind::common_steps))]
 
 ghost use Rattle.std.specs.Prelude.{◌≡◌, ◌∷◌, ◌^◌, ◌<◌, ◌≤◌, [], false, decimal, min};
 ghost use Rattle.line_forms.specs.Kinds as kinds;

@@ -10,11 +10,11 @@ use Rattle.protocol.specs.Operations.{is_counted, Task, Decision, begun, counted
 use Rattle.protocol.specs.Operations.Decision.{GoesOn, Ends}
 use Rattle.protocol.specs.World.{World, Record, Event, Allowed, happens, moved, decided, advanced, heard, heard_by, only_place, open_record, closed_record, with_record, under_way, last_op, greatest_given}
 use Rattle.protocol.specs.World.Event.{Start, Resend, Give, Hear, CrashNode, CrashClient, Lie, Prune, Back}
-use Rattle.protocol.proofs.Replacing.{with_cases}
+use Rattle.protocol.proofs.lemmas.Replacing.{with_cases}
 use Rattle.protocol.proofs.Growing.{given_records, resent_records, pruned_records}
 use Rattle.protocol.proofs.Invariant.{IsSafe}
 use Rattle.protocol.proofs.Origins.{HasOrigins}
-use Rattle.lists.proofs.Members.{Contains-one}
+use Rattle.lists.proofs.lemmas.Members.{Contains-one}
 
 -- records that start or end at one place are one
 pub record IsApart (rs : List Record) : Type 0 where

@@ -13,8 +13,8 @@ use Rattle.protocol.specs.History.Kind.{Foreign}
 use Rattle.protocol.specs.Facts.{IsComplete}
 use Rattle.protocol.specs.Bounds.{IsFewAt}
 use Rattle.protocol.specs.Moments.{IsLineAt}
-use Rattle.protocol.proofs.Theorem.{run_bounded, run_foreign}
-use Rattle.protocol.proofs.Kept.{run_complete}
+use Rattle.protocol.proofs.lemmas.Theorem.{run_bounded, run_foreign}
+use Rattle.protocol.proofs.lemmas.Kept.{run_complete}
 use Rattle.protocol.proofs.Endings.{lines_then, run_then, on_then, right_before, had_ended, not_ended}
 use Rattle.protocol.proofs.LiedBefore.{lied_before}
 

@@ -15,10 +15,10 @@ use Rattle.protocol.specs.Operations.Decision.{GoesOn, Ends}
 use Rattle.protocol.specs.World.{World, Record, open_record, chosen_stamp, stamp_of_outcome, replaced_by, with_record, under_way}
 use Rattle.protocol.specs.History.{HasWrite, HasLie}
 use Rattle.protocol.specs.Bounds.{lied_time, lied, is_chosen, choices}
-use Rattle.protocol.proofs.Tests.{are_same, same_are}
+use Rattle.protocol.proofs.lemmas.Tests.{are_same, same_are}
 use Rattle.protocol.proofs.Invariant.{IsSafe}
 use Rattle.protocol.proofs.Heard.{filled}
-use Rattle.lists.proofs.Members.{Contains-head, Contains-none, Contains-rest, Contains-cons_cases, Contains-map}
+use Rattle.lists.proofs.lemmas.Members.{Contains-head, Contains-none, Contains-rest, Contains-cons_cases, Contains-map}
 
 -- the record takes the place of one of the same operation, and keeps the stamp that it had chosen
 pub record IsNewer (old r : Record) : Type 0 where

@@ -3,10 +3,10 @@ use Rattle.std.proofs.Common.{◌≡◌, ℕ, ◌+◌, ◌<◌, ◌≤◌, Bool,
 use Rattle.std.specs.List.{Contains}
 use Rattle.protocol.specs.World.{Accepted}
 use Rattle.protocol.specs.Bounds.{same_accepted, is_among, different}
-use Rattle.protocol.proofs.Counting.{both_true}
-use Rattle.protocol.proofs.Order.{same_stamp-≡, same_stamp-refl}
-use Rattle.lists.proofs.Members.{Contains-head, Contains-none, Contains-rest, Contains-cons_cases}
-use Rattle.lists.proofs.Tests.{eqb_self}
+use Rattle.protocol.proofs.lemmas.Counting.{both_true}
+use Rattle.protocol.proofs.lemmas.Order.{same_stamp-≡, same_stamp-refl}
+use Rattle.lists.proofs.lemmas.Members.{Contains-head, Contains-none, Contains-rest, Contains-cons_cases}
+use Rattle.lists.proofs.lemmas.Tests.{eqb_self}
 use Rattle.std.proofs.lemmas.Bool.{eqb-true, or_cases, cases_Bool}
 
 fields : (a b : Accepted) → a.node ≡ b.node → a.block ≡ b.block → a.stamp ≡ b.stamp → a ≡ b

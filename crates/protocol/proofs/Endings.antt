@@ -13,20 +13,20 @@ use Rattle.protocol.specs.World.Event.{Start, Resend, Give, Hear, CrashNode, Cra
 use Rattle.protocol.specs.Lines.{Line, Run, events, plays}
 use Rattle.protocol.specs.Facts.{IsSameOperation, HasOperation}
 use Rattle.protocol.specs.Moments.{IsLineAt}
-use Rattle.protocol.proofs.Counting.{update-cases}
-use Rattle.protocol.proofs.Tests.{are_same}
-use Rattle.protocol.proofs.Replacing.{with_cases, with_iff}
+use Rattle.protocol.proofs.lemmas.Counting.{update-cases}
+use Rattle.protocol.proofs.lemmas.Tests.{are_same}
+use Rattle.protocol.proofs.lemmas.Replacing.{with_cases, with_iff}
 use Rattle.protocol.proofs.Growing.{happens_more}
 use Rattle.protocol.proofs.Invariant.{IsSafe}
-use Rattle.protocol.proofs.Sending.{working, crash_fewer, back_fewer}
+use Rattle.protocol.proofs.lemmas.Sending.{working, crash_fewer, back_fewer}
 use Rattle.protocol.proofs.Starting.{task_cases}
 use Rattle.protocol.proofs.Heard.{filled, heard_case}
 use Rattle.protocol.proofs.Runs.{happens_safe}
-use Rattle.protocol.proofs.Playing.{no_fault, allowed}
+use Rattle.protocol.proofs.lemmas.Playing.{no_fault, allowed}
 use Rattle.protocol.proofs.Plays.{IsRight, start_right, plays_right, run_right}
 use Rattle.protocol.proofs.Inductions.{run_keeps}
-use Rattle.protocol.proofs.Kept.{run_parts}
-use Rattle.lists.proofs.Members.{Contains-none, Contains-one, Contains-map}
+use Rattle.protocol.proofs.lemmas.Kept.{run_parts}
+use Rattle.lists.proofs.lemmas.Members.{Contains-none, Contains-one, Contains-map}
 
 -- an event takes place no earlier than those before it
 allowed_later : (s : Setting) (w : World) (place : ℕ) (e : Event) → Allowed s w place e → w.place ≤ place

@@ -14,13 +14,13 @@ use Rattle.protocol.specs.Operations.Work.{Reads, Writes}
 use Rattle.run_words.specs.declared.outcome.Outcome.TheVariants.{Wrote, Spent, Gave, Outvoted}
 use Rattle.protocol.specs.World.{World, Record}
 use Rattle.protocol.specs.History.{Entry, read_entry, write_entry, foreign_entry, entry_cmp, IsSorted, IsEntry, IsDue, IsForeign, HasRead, HasWrite, IsHistory}
-use Rattle.protocol.proofs.Order.{same_stamp-≡, same_stamp-refl}
-use Rattle.protocol.proofs.Entries.{block_made, made_of, entry_total, member_of}
+use Rattle.protocol.proofs.lemmas.Order.{same_stamp-≡, same_stamp-refl}
+use Rattle.protocol.proofs.lemmas.Entries.{block_made, made_of, entry_total, member_of}
 use Rattle.protocol.proofs.Searches.{find_write, find_read, FirstRead}
 use Rattle.protocol.proofs.Invariant.{IsSafe}
 use Rattle.protocol.proofs.Apart.{IsApart}
-use Rattle.protocol.proofs.Keys.{one_key}
-use Rattle.lists.proofs.Members.{Contains-head, Contains-none, Contains-rest, Contains-cons_cases, Contains-one, all_of}
+use Rattle.protocol.proofs.lemmas.Keys.{one_key}
+use Rattle.lists.proofs.lemmas.Members.{Contains-head, Contains-none, Contains-rest, Contains-cons_cases, Contains-one, all_of}
 use Rattle.std.proofs.lemmas.Bool.{cases_Bool}
 
 -- all entries of which P holds, in a list

@@ -20,24 +20,24 @@ use Rattle.protocol.specs.Lines.{Line, Rule, Run, FitsLine, fault, events, plays
 use Rattle.run_words.specs.declared.line.Line.TheVariants.{Write as WriteLine, Read as ReadLine, Resend, Call, Give, Hear, Lost, CrashNode, CrashClient, Lie, Tell, Poke, False, Sound, Mix, Prune, Back, Restart}
 use Rattle.protocol.specs.Facts.{IsHonest, IsHosted}
 use Rattle.protocol.specs.Freshness.{Pruning, pruning_by, pruning_of, prunings, HasPruned, IsNotBehind, IsSentAt, IsSentDuring}
-use Rattle.protocol.proofs.Counting.{update-cases}
-use Rattle.protocol.proofs.Order.{≼-trans, ≼-time}
-use Rattle.protocol.proofs.Keeping.{time_at_least, keeps-Contains, greatest_in_above, has-down}
+use Rattle.protocol.proofs.lemmas.Counting.{update-cases}
+use Rattle.protocol.proofs.lemmas.Order.{≼-trans, ≼-time}
+use Rattle.protocol.proofs.lemmas.Keeping.{time_at_least, keeps-Contains, greatest_in_above, has-down}
 use Rattle.protocol.proofs.Invariant.{IsSafe, IsTask, IsCoveredBy, Accepts}
-use Rattle.protocol.proofs.Sending.{working}
-use Rattle.protocol.proofs.Sending as sending
+use Rattle.protocol.proofs.lemmas.Sending.{working}
+use Rattle.protocol.proofs.lemmas.Sending as sending
 use Rattle.protocol.proofs.Starting as starting
 use Rattle.protocol.proofs.Giving as giving
 use Rattle.protocol.proofs.Heard.{filled, heard_case}
 use Rattle.protocol.proofs.Runs.{happens_safe, start_safe}
-use Rattle.protocol.proofs.Kept.{run_parts}
-use Rattle.protocol.proofs.Playing.{no_fault, allowed}
+use Rattle.protocol.proofs.lemmas.Kept.{run_parts}
+use Rattle.protocol.proofs.lemmas.Playing.{no_fault, allowed}
 use Rattle.protocol.proofs.Plays.{IsRight, start_right, plays_right, run_right}
 use Rattle.protocol.proofs.Inductions.{run_keeps}
 use Rattle.protocol.proofs.Growing.{Grows, all_place, grows_itself, grows_both, happens_more, plays_more, run_more, still_accepts}
 use Rattle.protocol.proofs.Hosts.{IsMade, AreHosted, still_made, happens_hosted, unsaid}
 use Rattle.protocol.proofs.OneBlock.{HasBlocks, happens_blocks, start_blocks}
-use Rattle.lists.proofs.Members.{Contains-head, Contains-none, Contains-rest, Contains-cons_cases, Contains-slice_get}
+use Rattle.lists.proofs.lemmas.Members.{Contains-head, Contains-none, Contains-rest, Contains-cons_cases, Contains-slice_get}
 
 -- an event that is no prune
 abbrev pub PrunesNothing : Event → Type 0

@@ -21,13 +21,13 @@ use Rattle.protocol.specs.Operations.Stage.{Times, Versions, Storing}
 use Rattle.protocol.specs.World.{Record, World, Accepted, handled, accepted_at, answer_of, under_way}
 use Rattle.protocol.specs.History.{NoClash, IsValue}
 use Rattle.protocol.specs.History.IsValue.{zeros_value, written, given}
-use Rattle.protocol.proofs.Counting.{update-cases, update-same}
-use Rattle.protocol.proofs.Lists.{one_more_cases, one_more_left, one_more_new}
-use Rattle.protocol.proofs.Order.{≼-refl, ≼-trans, ≼-time}
-use Rattle.protocol.proofs.Strings.{NoClash-before, NoClashFor-before}
-use Rattle.protocol.proofs.Keeping.{time_at_least, time_of_one, keeps-Contains, keeps-append, greatest_in_is, greatest_in_above, accepts_is, whole_if_taken, taken, keeps_is, has-down}
+use Rattle.protocol.proofs.lemmas.Counting.{update-cases, update-same}
+use Rattle.protocol.proofs.lemmas.Lists.{one_more_cases, one_more_left, one_more_new}
+use Rattle.protocol.proofs.lemmas.Order.{≼-refl, ≼-trans, ≼-time}
+use Rattle.protocol.proofs.lemmas.Strings.{NoClash-before, NoClashFor-before}
+use Rattle.protocol.proofs.lemmas.Keeping.{time_at_least, time_of_one, keeps-Contains, keeps-append, greatest_in_is, greatest_in_above, accepts_is, whole_if_taken, taken, keeps_is, has-down}
 use Rattle.protocol.proofs.Invariant.{AtWork, IsOwned, IsTagged, Quorum, IsTask, IsStage, IsRecord, IsSafe, IsFresh, Fits, Accepts, IsStored, IsCoveredBy, IsPassed}
-use Rattle.lists.proofs.Members.{Contains-one}
+use Rattle.lists.proofs.lemmas.Members.{Contains-one}
 
 -- what an honest node answers
 module _ (s : Setting) (w : World) (i block : ℕ) (stored : IsStored s w i block) where

@@ -14,7 +14,7 @@ use Rattle.protocol.specs.World.{World, Event, happens, all_happen, moved, decid
 use Rattle.protocol.specs.World.Event.{Start, Resend, Give, Hear, CrashNode, CrashClient, Lie, Prune, Back}
 use Rattle.protocol.specs.Lines.{Line, Run, events, plays}
 use Rattle.protocol.specs.Facts.{Extends, HasAccepted}
-use Rattle.protocol.proofs.Lists.{append_nil}
+use Rattle.protocol.proofs.lemmas.Lists.{append_nil}
 
 extends_itself : {A : Type 0} (xs : List A) → Extends xs xs
 extends_itself xs = ([], append_nil xs)

@@ -11,7 +11,7 @@ use Rattle.protocol.specs.Operations.{is_counted, Task, Stage, Outcome, Decision
 use Rattle.protocol.specs.Operations.Decision.{GoesOn, Ends}
 use Rattle.protocol.specs.World.{World, IsAnswerTo, only_place, moved, decided, advanced, heard, heard_by, open_record, closed_record, under_way}
 use Rattle.protocol.proofs.Invariant.{IsSafe}
-use Rattle.protocol.proofs.Sending.{is_under_way}
+use Rattle.protocol.proofs.lemmas.Sending.{is_under_way}
 use Rattle.protocol.proofs.Runs.{task_hears}
 
 -- the task with these answers counted

@@ -4,7 +4,7 @@ use Rattle.std.specs.declared.option.Option.TheVariants.{None, Some}
 use Rattle.std.specs.List.{Contains}
 use Rattle.std.proofs.lemmas.Bool.Decides.{nat_tests}
 use Rattle.std.proofs.lemmas.List.Elements.{Contains-append_left, Contains-append_right}
-use Rattle.protocol.proofs.Lists.{Contains-collected}
+use Rattle.protocol.proofs.lemmas.Lists.{Contains-collected}
 use Rattle.stamp_order.specs.declared.Stamp.{Stamp}
 use Rattle.stamp_order.specs.declared.Bound.{Bound}
 use Rattle.stamp_order.specs.Stamps.{has, before, same_stamp, ◌≼◌}
@@ -12,7 +12,7 @@ use Rattle.stamp_order.specs.declared.Bound.TheVariants.{AtMost, Below}
 use Rattle.protocol.specs.Messages.{IsFormedBody, Version, Reply, Message}
 use Rattle.wire_forms.specs.declared.Reply.TheVariants.{TimeIs, Found, Nothing, Ack, Refused}
 use Rattle.wire_forms.specs.declared.Body.TheVariants.{Answer as Answers}
-use Rattle.protocol.proofs.Forming.{zeros_block, request_formed}
+use Rattle.protocol.proofs.lemmas.Forming.{zeros_block, request_formed}
 use Rattle.protocol.specs.Setting.{Setting, IsBlock, same_digests, IsValid, honest, first_stamp, zeros, verifier_of, Sound}
 use Rattle.protocol.specs.Operations.{Task, Work, Stage, How, Outcome, Decision, is_answered, is_of_kind, answered, valid, pivot, support, carries, candidate, chosen, sum_of_first, decide, decide_at, decide_pivot, decide_time, drawn_from, stored, value_of, goes_on, outstanding, mail}
 use Rattle.protocol.specs.Operations.Work.{Reads, Writes}
@@ -23,15 +23,15 @@ use Rattle.protocol.specs.Operations.Decision.{GoesOn, Ends}
 use Rattle.protocol.specs.World.{Record, World, moved, decided, advanced, open_record, closed_record, chosen_stamp, stamp_of_outcome, under_way}
 use Rattle.protocol.specs.History.{IsValue}
 use Rattle.protocol.specs.History.IsValue.{zeros_value, written, given}
-use Rattle.protocol.proofs.Counting.{both_true, shared}
+use Rattle.protocol.proofs.lemmas.Counting.{both_true, shared}
 use Rattle.protocol.proofs.Mails.{in_mail}
-use Rattle.protocol.proofs.Strings.{NoClashFor-any}
+use Rattle.protocol.proofs.lemmas.Strings.{NoClashFor-any}
 use Rattle.protocol.proofs.Invariant.{Quorum, IsGood, IsGiven, IsStage, IsTask, IsOutcome, IsAimed, IsAfter, NoClashFor, IsSafe, Fits, Accepts}
 use Rattle.protocol.proofs.Moving.{IsHeld, IsNext, IsMove, moved_safe}
-use Rattle.protocol.proofs.Rounds.{answered_is, valid_was, honest_many, is_honest, drawn_above, some_pivot, pivot_above, pivot_time, candidate_size, candidate_good, not_poisonous, honest_valid, fits_at}
-use Rattle.protocol.proofs.Order.{same_stamp-≡, same_stamp-refl, ≼-cases}
-use Rattle.protocol.proofs.Parts.{length_chosen, ascending_chosen}
-use Rattle.lists.proofs.Members.{Contains-none}
+use Rattle.protocol.proofs.lemmas.Rounds.{answered_is, valid_was, honest_many, is_honest, drawn_above, some_pivot, pivot_above, pivot_time, candidate_size, candidate_good, not_poisonous, honest_valid, fits_at}
+use Rattle.protocol.proofs.lemmas.Order.{same_stamp-≡, same_stamp-refl, ≼-cases}
+use Rattle.protocol.proofs.lemmas.Parts.{length_chosen, ascending_chosen}
+use Rattle.lists.proofs.lemmas.Members.{Contains-none}
 
 open_outcome : (s : Setting) (work : Work) (stage : Stage) → IsStage s work stage → IsOutcome s work (chosen_stamp work stage) None
 open_outcome s Reads Times h = absurd h

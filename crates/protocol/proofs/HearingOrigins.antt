@@ -18,14 +18,14 @@ use Rattle.protocol.specs.Operations.Stage.{Times, Versions, Storing}
 use Rattle.run_words.specs.declared.outcome.Outcome.TheVariants.{Spent, Gave}
 use Rattle.protocol.specs.Operations.Decision.{GoesOn, Ends}
 use Rattle.protocol.specs.World.{World, moved, decided, advanced, open_record, closed_record, chosen_stamp, stamp_of_outcome, under_way}
-use Rattle.protocol.proofs.Counting.{both_true, shared, some_passes}
+use Rattle.protocol.proofs.lemmas.Counting.{both_true, shared, some_passes}
 use Rattle.protocol.proofs.Mails.{in_mail}
 use Rattle.protocol.proofs.Invariant.{IsSafe, IsStage}
-use Rattle.protocol.proofs.Rounds.{valid_was, honest_many, some_pivot, honest_valid}
+use Rattle.protocol.proofs.lemmas.Rounds.{valid_was, honest_many, some_pivot, honest_valid}
 use Rattle.protocol.proofs.Hearing.{open_move, close_move, full, IsDecision, full_decided, carries_is, mailed_next, mailed_same, formed_next}
 use Rattle.protocol.proofs.Moving.{IsMove}
 use Rattle.protocol.proofs.Origins.{HasOrigins, IsKnown, IsKnownStage, known-more, stage-more, went_origins, went_pool, went_writes}
-use Rattle.lists.proofs.Members.{Contains-none}
+use Rattle.lists.proofs.lemmas.Members.{Contains-none}
 
 module _ (s : Setting) (good : IsValid s) (w : World) (safe : IsSafe s w) (origins : HasOrigins s w) (place : ℕ) (later : w.place ≤ place) (c : ℕ) (task : Task) (busy : under_way w c ≡ Some task) (answers : ℕ → Option Reply)
     (heard : (i : ℕ) (reply : Reply) → answers i ≡ Some reply → Contains w.pool (record { client = c; node = i; tag = record { op = task.op; phase = task.phase }; body = Answers reply }) × (is_of_kind task.stage reply ≡ true)) where

@@ -8,7 +8,7 @@ use Rattle.std.proofs.lemmas.List.Elements.{Contains-get_or}
 use Rattle.protocol.specs.Count.{count, collect}
 use Rattle.stamp_order.specs.declared.Stamp.{Stamp}
 use Rattle.stamp_order.specs.Stamps.{◌≼◌}
-use Rattle.protocol.proofs.Forming.{zeros_block, sum_formed, flat_inj}
+use Rattle.protocol.proofs.lemmas.Forming.{zeros_block, sum_formed, flat_inj}
 use Rattle.protocol.specs.Messages.{flat}
 use Rattle.protocol.specs.Setting.{Setting, IsBlock, IsValid, IsAscending, first_stamp, Sound, verifier_of}
 use Rattle.protocol.specs.Operations.{Work, Outcome, How}
@@ -19,12 +19,12 @@ use Rattle.protocol.specs.History.{Entry, is_read, entry_cmp, IsEntry, IsRead, I
 use Rattle.protocol.specs.History.Kind.{Write, Read}
 use Rattle.protocol.specs.History.IsValue.{written, given}
 use Rattle.protocol.specs.History.IsSeen.{sum_seen, fragment_seen}
-use Rattle.protocol.proofs.Order.{≼-refl, ≼-cases, before-≼, lower_time}
+use Rattle.protocol.proofs.lemmas.Order.{≼-refl, ≼-cases, before-≼, lower_time}
 use Rattle.protocol.proofs.Invariant.{IsSafe, IsGood, IsGiven, IsOutcome, IsAfter}
-use Rattle.protocol.proofs.Strings.{NoClashFor-any}
-use Rattle.protocol.proofs.Entries.{block_made, kind_made, start_made, end_made, less_by_stamp, less_by_kind, less_by_end, not_back, not_self, sorted_before}
-use Rattle.protocol.proofs.Parts.{ascending_collect, length_collect}
-use Rattle.protocol.proofs.Lists.{Contains-collect}
+use Rattle.protocol.proofs.lemmas.Strings.{NoClashFor-any}
+use Rattle.protocol.proofs.lemmas.Entries.{block_made, kind_made, start_made, end_made, less_by_stamp, less_by_kind, less_by_end, not_back, not_self, sorted_before}
+use Rattle.protocol.proofs.lemmas.Parts.{ascending_collect, length_collect}
+use Rattle.protocol.proofs.lemmas.Lists.{Contains-collect}
 
 gave_as : (s : Setting) (work : Work) (stamp : Option Stamp) (given : Stamp) (value : List ℕ) (how : How) (rounds : ℕ) → IsOutcome s work stamp (Some (Gave given value how rounds)) → (work ≡ Reads) × (stamp ≡ Some given) × IsGiven s given value
 gave_as s Reads stamp t value how rounds h = (refl, h.0, h.1)

@@ -16,14 +16,14 @@ use Rattle.protocol.specs.Operations.{Task, mail, goes_on}
 use Rattle.protocol.specs.World.{World, Event, happens, Allowed, IsAskTo, IsAnswerTo, given, handled, heard, pruned_at, greatest_given, IsOfLiar, only_place, start_world}
 use Rattle.protocol.specs.World.Event.{Start, Resend, Give, Hear, CrashNode, CrashClient, Lie, Prune, Back}
 use Rattle.protocol.specs.Facts.{HasAccepted, IsGrounded, IsHosted}
-use Rattle.protocol.proofs.Lists.{append_nil}
-use Rattle.protocol.proofs.Tests.{is_ltb}
-use Rattle.protocol.proofs.Keeping.{time_of_one, greatest_in_is}
+use Rattle.protocol.proofs.lemmas.Lists.{append_nil}
+use Rattle.protocol.proofs.lemmas.Tests.{is_ltb}
+use Rattle.protocol.proofs.lemmas.Keeping.{time_of_one, greatest_in_is}
 use Rattle.protocol.proofs.Mails.{in_mail, mail_answers}
 use Rattle.protocol.proofs.Invariant.{IsSafe, IsStored}
 use Rattle.protocol.proofs.Giving.{accepted_more, wrote_there}
 use Rattle.protocol.proofs.Heard.{filled, heard_case}
-use Rattle.lists.proofs.Members.{Contains-none, Contains-one, get_left, Contains-slice_get}
+use Rattle.lists.proofs.lemmas.Members.{Contains-none, Contains-one, get_left, Contains-slice_get}
 
 pub get_cases : {X : Type 0} (xs ys : List X) (k : ℕ) (x : X) → slice_get (xs ++ ys) k ≡ Some x → (slice_get xs k ≡ Some x) ⊎ ((length xs ≤ k) × Contains ys x)
 get_cases [] ys k x h = inr (omega arith, Contains-slice_get ys k x h)

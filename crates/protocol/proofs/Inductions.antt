@@ -5,7 +5,7 @@ use Rattle.protocol.specs.World.{World, Event, Allowed, AllAllowed, all_happen, 
 use Rattle.protocol.specs.Lines.{Line, Run, events, plays}
 use Rattle.protocol.proofs.Invariant.{IsSafe}
 use Rattle.protocol.proofs.Runs.{happens_safe}
-use Rattle.protocol.proofs.Playing.{no_fault, allowed}
+use Rattle.protocol.proofs.lemmas.Playing.{no_fault, allowed}
 use Rattle.protocol.proofs.Plays.{IsRight, plays_right}
 
 module _ (s : Setting) (good : IsValid s) (P : World → Type 0) (event : (w : World) → IsSafe s w → P w → (place : ℕ) (e : Event) → Allowed s w place e → P (happens s w place e))

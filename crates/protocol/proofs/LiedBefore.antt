@@ -19,8 +19,8 @@ use Rattle.protocol.proofs.Mails.{in_mail}
 use Rattle.protocol.proofs.Invariant.{IsSafe}
 use Rattle.protocol.proofs.Heard.{filled, heard_case}
 use Rattle.protocol.proofs.Runs.{happens_safe}
-use Rattle.protocol.proofs.Playing.{no_fault, allowed}
-use Rattle.lists.proofs.Members.{Contains-none, Contains-one}
+use Rattle.protocol.proofs.lemmas.Playing.{no_fault, allowed}
+use Rattle.lists.proofs.lemmas.Members.{Contains-none, Contains-one}
 
 -- the event ends no operation
 abbrev EndsNothing : Event → Type 0

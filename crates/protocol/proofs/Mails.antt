@@ -6,7 +6,7 @@ use Rattle.protocol.specs.Messages.{Ask, Reply, Message}
 use Rattle.wire_forms.specs.declared.Body.TheVariants.{Ask as Asks, Answer as Answers}
 use Rattle.protocol.specs.Setting.{Setting}
 use Rattle.protocol.specs.Operations.{Task, outstanding, mail, request_of}
-use Rattle.protocol.proofs.Lists.{Contains-collect}
+use Rattle.protocol.proofs.lemmas.Lists.{Contains-collect}
 
 module _ (s : Setting) (c : ℕ) (task : Task) where
   pub in_mail : (m : Message) → Contains (mail s c task) m → (i : ℕ) × (i < s.n) × (m ≡ outstanding s c task i)

@@ -14,15 +14,15 @@ use Rattle.protocol.specs.Operations.Work.{Writes}
 use Rattle.protocol.specs.World.{Record, World, chosen_stamp, moved, replaced_by, open_record, unless, under_way, last_op}
 use Rattle.protocol.specs.History.{NoClash, IsValue}
 use Rattle.protocol.specs.History.IsValue.{zeros_value, written, given}
-use Rattle.protocol.proofs.Counting.{update-cases}
+use Rattle.protocol.proofs.lemmas.Counting.{update-cases}
 use Rattle.protocol.proofs.Mails.{mail_asks, mail_answers}
-use Rattle.protocol.proofs.Tests.{are_same}
-use Rattle.protocol.proofs.Replacing.{with_cases}
-use Rattle.protocol.proofs.Strings.{NoClash-before, NoClashFor-before}
+use Rattle.protocol.proofs.lemmas.Tests.{are_same}
+use Rattle.protocol.proofs.lemmas.Replacing.{with_cases}
+use Rattle.protocol.proofs.lemmas.Strings.{NoClash-before, NoClashFor-before}
 use Rattle.protocol.proofs.Invariant.{AtWork, IsOwned, IsTagged, Quorum, IsTask, IsRecord, IsOutcome, IsAimed, IsAfter, NoClashFor, IsSafe, Fits, Accepts, IsOpen, IsFresh, IsStored, IsPassed}
 use Rattle.protocol.proofs.Freshness.{IsFresh-more}
-use Rattle.protocol.proofs.Sending.{working}
-use Rattle.lists.proofs.Members.{Contains-map}
+use Rattle.protocol.proofs.lemmas.Sending.{working}
+use Rattle.lists.proofs.lemmas.Members.{Contains-map}
 
 -- enough honest nodes have accepted the stamp
 pub record IsHeld (s : Setting) (w : World) (block : ℕ) (stamp : Stamp) : Type 0 where

@@ -12,12 +12,12 @@ use Rattle.protocol.specs.Nodes.{reply}
 use Rattle.protocol.specs.Operations.{Task, Work, begun, outstanding, mail, goes_on}
 use Rattle.protocol.specs.World.{World, Event, happens, Allowed, IsAnswerTo, IsOfLiar, given, heard, pruned_at, under_way, last_op, greatest_given, start_world}
 use Rattle.protocol.specs.World.Event.{Start, Resend, Give, Hear, CrashNode, CrashClient, Lie, Prune, Back}
-use Rattle.protocol.proofs.Counting.{update-cases}
+use Rattle.protocol.proofs.lemmas.Counting.{update-cases}
 use Rattle.protocol.proofs.Mails.{in_mail, mail_asks}
 use Rattle.protocol.proofs.Invariant.{IsSafe}
-use Rattle.protocol.proofs.Sending.{is_under_way}
+use Rattle.protocol.proofs.lemmas.Sending.{is_under_way}
 use Rattle.protocol.proofs.Heard.{filled, heard_case}
-use Rattle.lists.proofs.Members.{Contains-none, Contains-one}
+use Rattle.lists.proofs.lemmas.Members.{Contains-none, Contains-one}
 
 module _ (s : Setting) where
   -- each ask of a correct client in the pool is of the block of its client and operation

@@ -9,7 +9,7 @@ use Rattle.protocol.specs.Messages.{Version, Ask, Request, Message}
 use Rattle.wire_forms.specs.declared.Request.TheVariants.{Time, Read, Write}
 use Rattle.wire_forms.specs.declared.Body.TheVariants.{Ask as Asks}
 use Rattle.protocol.specs.Setting.{Setting}
-use Rattle.protocol.proofs.Keeping.{accepts_is}
+use Rattle.protocol.proofs.lemmas.Keeping.{accepts_is}
 use Rattle.protocol.specs.Operations.{Task, Work, Stage, How, first_work, begun, request_of, outstanding}
 use Rattle.protocol.specs.Operations.Work.{Reads, Writes}
 use Rattle.run_words.specs.declared.outcome.Outcome.TheVariants.{Gave}
@@ -21,10 +21,10 @@ pub use Rattle.protocol.specs.Facts.{IsKnown}
 use Rattle.protocol.proofs.Mails.{mail_asks}
 use Rattle.protocol.proofs.Giving.{accepted_cases}
 use Rattle.protocol.proofs.Starting.{pool_cases, task_cases}
-use Rattle.protocol.proofs.Sending.{IsSentNow, IsLess, changed}
+use Rattle.protocol.proofs.lemmas.Sending.{IsSentNow, IsLess, changed}
 use Rattle.protocol.proofs.Moving.{IsMove, record_after, pool_cases as moved_pool, task_cases as moved_task, record_cases as moved_record}
 use Rattle.protocol.proofs.Invariant.{IsSafe}
-use Rattle.lists.proofs.Members.{Contains-one, Contains-map}
+use Rattle.lists.proofs.lemmas.Members.{Contains-one, Contains-map}
 
 module _ (s : Setting) where
   abbrev pub IsKnownStage : World → ℕ → Stage → Type 0

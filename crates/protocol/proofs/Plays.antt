@@ -9,7 +9,7 @@ use Rattle.protocol.specs.World.{World, Event, Allowed, AllAllowed, all_happen, 
 use Rattle.protocol.specs.Lines.{Line, Rule, events, plays, called, falsely_told, false_answer, told, given_at, heard_at, FitsLine, fault, Run}
 use Rattle.run_words.specs.declared.line.Line.TheVariants.{Write, Read, Resend, Call, Give, Hear, Lost, CrashNode, CrashClient, Lie, Tell, Poke, False, Sound, Mix, Prune, Back, Restart}
 use Rattle.protocol.proofs.Invariant.{IsSafe}
-use Rattle.protocol.proofs.Sending.{only_safe}
+use Rattle.protocol.proofs.lemmas.Sending.{only_safe}
 use Rattle.protocol.proofs.Runs.{happens_safe, start_safe}
 use Rattle.protocol.proofs.Origins.{HasOrigins}
 use Rattle.protocol.proofs.RunOrigins.{happens_origins, start_origins, only_origins}
@@ -17,9 +17,9 @@ use Rattle.protocol.proofs.Apart.{IsApart, IsBefore, before_place, happens_apart
 use Rattle.protocol.specs.Bounds.{IsLow}
 use Rattle.protocol.proofs.RunRounds.{HasRounds, start_rounds, happens_rounds}
 use Rattle.protocol.proofs.RunTimes.{start_low, happens_low, happens_writes, KeepsWrites}
-use Rattle.protocol.proofs.Playing.{no_fault, allowed}
+use Rattle.protocol.proofs.lemmas.Playing.{no_fault, allowed}
 use Rattle.protocol.proofs.Growing.{all_place}
-use Rattle.lists.proofs.Members.{Contains-none}
+use Rattle.lists.proofs.lemmas.Members.{Contains-none}
 
 module _ (s : Setting) (good : IsValid s) where
   pub record IsRight (w : World) : Type 0 where

@@ -17,8 +17,8 @@ use Rattle.protocol.specs.World.{World, AllAllowed, IsClient, IsQuiet, IsAskTo, 
 use Rattle.protocol.specs.Lines.{Line, sender, is_ask_to, is_answer_to, misgiven, misheard, does_something, is_at, is_missing, all_faults, called, falsely_told, false_reply, answer_with, told, FitsLine, given_at, heard_at, is_actor, is_liar, is_idle, is_busy_at, meets, fault, IsPlayable, Rule}
 use Rattle.run_words.specs.declared.line.Line.TheVariants.{Write, Read, Resend, Call, Give, Hear, Lost, CrashNode, CrashClient, Lie, Tell, Poke, False, Sound, Mix, Prune, Back, Restart}
 use Rattle.protocol.specs.Lines.Actor.{Node, Client}
-use Rattle.protocol.proofs.Counting.{some_passes}
-use Rattle.protocol.proofs.Tests.{or_false}
+use Rattle.protocol.proofs.lemmas.Counting.{some_passes}
+use Rattle.protocol.proofs.lemmas.Tests.{or_false}
 use Rattle.std.proofs.lemmas.Bool.{cases_Bool}
 
 all_none : {A : Type 0} (p : A → Bool) (xs : List A) → AllByRecursion (λ x. p x ≡ false) xs → find p xs ≡ None

@@ -13,13 +13,13 @@ use Rattle.run_words.specs.declared.outcome.Outcome.TheVariants.{Wrote, Spent, G
 use Rattle.protocol.specs.World.{Record, World}
 use Rattle.protocol.specs.History.{Entry, Kind, write_entry, foreign_entry, is_read, entry_cmp, IsSorted, IsEntry, IsDue, HasRead, HasWrite, IsHistory, Legal, LegalFrom, legal_at, values_after, NoClash}
 use Rattle.protocol.specs.History.Kind.{Write, Foreign, Read}
-use Rattle.protocol.proofs.Counting.{update-cases}
-use Rattle.protocol.proofs.Order.{≼-antisym}
+use Rattle.protocol.proofs.lemmas.Counting.{update-cases}
+use Rattle.protocol.proofs.lemmas.Order.{≼-antisym}
 use Rattle.protocol.proofs.Invariant.{IsSafe, IsRecord, IsGiven, IsOutcome}
-use Rattle.protocol.proofs.Entries.{kind_made, less_by_kind, not_back, stamp_upto, member_of}
+use Rattle.protocol.proofs.lemmas.Entries.{kind_made, less_by_kind, not_back, stamp_upto, member_of}
 use Rattle.protocol.proofs.Searches.{find_write, find_read, FirstRead}
 use Rattle.protocol.proofs.Histories.{entry_stamped, entry_low, one_value, has_read, has_read_given}
-use Rattle.lists.proofs.Members.{Contains-head, Contains-rest, Contains-cons_cases}
+use Rattle.lists.proofs.lemmas.Members.{Contains-head, Contains-rest, Contains-cons_cases}
 
 -- an entry that sets its block
 abbrev Sets : Kind → Type 0

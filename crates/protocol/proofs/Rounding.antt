@@ -9,12 +9,12 @@ use Rattle.stamp_order.specs.Stamps.{has, up_to, before, ◌≼◌}
 use Rattle.stamp_order.specs.declared.Bound.TheVariants.{AtMost, Below}
 use Rattle.protocol.specs.World.{World, Accepted}
 use Rattle.protocol.specs.Bounds.{different, pairs, IsFewAt}
-use Rattle.protocol.proofs.Counting.{both_true}
-use Rattle.protocol.proofs.Lists.{one_more_left}
-use Rattle.protocol.proofs.Order.{≼-refl, ≼-cases, before-≼, not_both}
-use Rattle.protocol.proofs.Keeping.{has-down}
+use Rattle.protocol.proofs.lemmas.Counting.{both_true}
+use Rattle.protocol.proofs.lemmas.Lists.{one_more_left}
+use Rattle.protocol.proofs.lemmas.Order.{≼-refl, ≼-cases, before-≼, not_both}
+use Rattle.protocol.proofs.lemmas.Keeping.{has-down}
 use Rattle.protocol.proofs.Different.{different_within, different_less, different_more}
-use Rattle.lists.proofs.Tests.{eqb_self}
+use Rattle.lists.proofs.lemmas.Tests.{eqb_self}
 use Rattle.std.proofs.lemmas.Bool.{cases_Bool}
 
 -- an accepted version of the block that isn't in the bound

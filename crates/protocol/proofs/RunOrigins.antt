@@ -12,11 +12,11 @@ use Rattle.protocol.specs.World.{World, Event, happens, Allowed, IsAskTo, IsAnsw
 use Rattle.protocol.specs.World.Event.{Start, Resend, Give, Hear, CrashNode, CrashClient, Lie, Prune, Back}
 use Rattle.protocol.specs.History.{HasRead}
 use Rattle.protocol.proofs.Invariant.{IsSafe}
-use Rattle.protocol.proofs.Sending.{MayBeSent, place_less, sent_less, crash_less, back_less, lie_may, lie_formed, mail_may, mail_formed, is_under_way}
+use Rattle.protocol.proofs.lemmas.Sending.{MayBeSent, place_less, sent_less, crash_less, back_less, lie_may, lie_formed, mail_may, mail_formed, is_under_way}
 use Rattle.protocol.proofs.Runs.{task_hears}
 use Rattle.protocol.proofs.Origins.{HasOrigins, IsKnown, given_origins, started_origins, less_origins}
 use Rattle.protocol.proofs.HearingOrigins.{advanced_origins}
-use Rattle.lists.proofs.Members.{Contains-none}
+use Rattle.lists.proofs.lemmas.Members.{Contains-none}
 
 module _ (s : Setting) (good : IsValid s) (w : World) (safe : IsSafe s w) (origins : HasOrigins s w) (place : ℕ) (later : w.place ≤ place) where
   pub only_origins : HasOrigins s (only_place s w place)

@@ -24,17 +24,17 @@ use Rattle.protocol.specs.Operations.Decision.{GoesOn, Ends}
 use Rattle.protocol.specs.World.{World, Record, Accepted, Event, Allowed, happens, handled, accepted_at, given, moved, resent_by, pruned_at, open_record, closed_record, under_way, greatest_given, last_op, IsAnswerTo, start_world}
 use Rattle.protocol.specs.World.Event.{Start, Resend, Give, Hear, CrashNode, CrashClient, Lie, Prune, Back}
 use Rattle.protocol.specs.Bounds.{IsFewAt, IsBounded}
-use Rattle.protocol.proofs.Counting.{both_true, shared, some_passes, count_within, update-cases}
-use Rattle.protocol.proofs.Order.{≼-antisym, same_stamp-refl}
-use Rattle.protocol.proofs.Highest.{highest_is}
-use Rattle.protocol.proofs.Order.{stamps_order}
+use Rattle.protocol.proofs.lemmas.Counting.{both_true, shared, some_passes, count_within, update-cases}
+use Rattle.protocol.proofs.lemmas.Order.{≼-antisym, same_stamp-refl}
+use Rattle.protocol.proofs.lemmas.Highest.{highest_is}
+use Rattle.protocol.proofs.lemmas.Order.{stamps_order}
 use Rattle.protocol.proofs.Invariant.{IsSafe, IsStage}
-use Rattle.protocol.proofs.Sending.{working}
-use Rattle.protocol.proofs.Rounds.{valid_was, honest_many, some_pivot, honest_valid, pivot_given}
+use Rattle.protocol.proofs.lemmas.Sending.{working}
+use Rattle.protocol.proofs.lemmas.Rounds.{valid_was, honest_many, some_pivot, honest_valid, pivot_given}
 use Rattle.protocol.proofs.Rounding.{IsRounds, WasAccepted, rounds_below, rounds_at_most, few_rounds, IsRounds-more, IsFewAt-more}
-use Rattle.protocol.proofs.Replacing.{with_cases}
+use Rattle.protocol.proofs.lemmas.Replacing.{with_cases}
 use Rattle.protocol.proofs.Heard.{filled, AreSent, heard_case}
-use Rattle.lists.proofs.Members.{Contains-none, Contains-one}
+use Rattle.lists.proofs.lemmas.Members.{Contains-none, Contains-one}
 
 -- the rounds of a task
 abbrev RoundsOf : World → ℕ → ℕ → Work → Stage → Type 0

@@ -19,17 +19,17 @@ use Rattle.protocol.specs.World.{World, Record, Event, Allowed, happens, given, 
 use Rattle.protocol.specs.World.Event.{Start, Resend, Give, Hear, CrashNode, CrashClient, Lie, Prune, Back}
 use Rattle.protocol.specs.History.{HasWrite}
 use Rattle.protocol.specs.Bounds.{is_chosen, ceiling, IsLow}
-use Rattle.protocol.proofs.Counting.{both_true, shared, some_passes}
-use Rattle.protocol.proofs.Highest.{highest_is}
-use Rattle.protocol.proofs.Order.{times_order}
+use Rattle.protocol.proofs.lemmas.Counting.{both_true, shared, some_passes}
+use Rattle.protocol.proofs.lemmas.Highest.{highest_is}
+use Rattle.protocol.proofs.lemmas.Order.{times_order}
 use Rattle.protocol.proofs.Invariant.{IsSafe, IsStage, IsOutcome, Fits}
-use Rattle.protocol.proofs.Rounds.{honest_many, fits_at}
+use Rattle.protocol.proofs.lemmas.Rounds.{honest_many, fits_at}
 use Rattle.protocol.proofs.Hearing.{IsDecision, full_decided}
 use Rattle.protocol.proofs.Origins.{HasOrigins, IsKnown}
-use Rattle.protocol.proofs.Replacing.{with_cases}
+use Rattle.protocol.proofs.lemmas.Replacing.{with_cases}
 use Rattle.protocol.proofs.Heard.{filled, AreSent, heard_case}
 use Rattle.protocol.proofs.Choices.{IsNewer, writes_still, choices_still, choices_more, choices_push, only_open, keeps_stamp, lied_push, lie_low}
-use Rattle.lists.proofs.Members.{Contains-none, Contains-one}
+use Rattle.lists.proofs.lemmas.Members.{Contains-none, Contains-one}
 
 pub start_low : (s : Setting) → IsLow s (start_world s)
 start_low s = record { chosen = λ r value stamp h. absurd (Contains-none r h); spent = λ r h. absurd (Contains-none r h) }

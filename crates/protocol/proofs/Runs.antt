@@ -5,7 +5,7 @@ use Rattle.std.specs.List.{Contains}
 use Rattle.protocol.specs.Count.{update}
 use Rattle.stamp_order.specs.declared.Stamp.{Stamp}
 use Rattle.stamp_order.specs.Stamps.{same_stamp}
-use Rattle.protocol.proofs.Forming.{zeros_block, sum_formed}
+use Rattle.protocol.proofs.lemmas.Forming.{zeros_block, sum_formed}
 use Rattle.protocol.specs.Messages.{flat, Version, Reply, Body, Message}
 use Rattle.wire_forms.specs.declared.Body.TheVariants.{Ask as Asks, Answer as Answers}
 use Rattle.protocol.specs.Setting.{Setting, IsValid, zeros, first_stamp, same, digest_at}
@@ -13,16 +13,16 @@ use Rattle.protocol.specs.Nodes.{first_version}
 use Rattle.protocol.specs.Operations.{is_counted, Task, Stage, is_of_kind, is_whole, counted}
 use Rattle.protocol.specs.World.{World, Event, happens, all_happen, AllAllowed, Allowed, IsAskTo, IsAnswerTo, IsQuiet, start_world, given, heard, heard_by, advanced, only_place, pruned_at, greatest_given, under_way}
 use Rattle.protocol.specs.World.Event.{Start, Resend, Give, Hear, CrashNode, CrashClient, Lie, Prune, Back}
-use Rattle.protocol.proofs.Counting.{update-cases, both_true}
-use Rattle.protocol.proofs.Order.{same_stamp-refl, ≼-refl}
-use Rattle.protocol.proofs.Rounds.{same-refl}
+use Rattle.protocol.proofs.lemmas.Counting.{update-cases, both_true}
+use Rattle.protocol.proofs.lemmas.Order.{same_stamp-refl, ≼-refl}
+use Rattle.protocol.proofs.lemmas.Rounds.{same-refl}
 use Rattle.protocol.proofs.Invariant.{IsSafe, IsStored}
 use Rattle.protocol.proofs.Starting.{started_safe}
 use Rattle.protocol.proofs.Giving.{handled_safe}
-use Rattle.protocol.proofs.Sending.{only_safe, crash_node_safe, crash_client_safe, back_safe, pruned_safe, lie_safe, resend_safe, is_under_way}
+use Rattle.protocol.proofs.lemmas.Sending.{only_safe, crash_node_safe, crash_client_safe, back_safe, pruned_safe, lie_safe, resend_safe, is_under_way}
 use Rattle.protocol.proofs.Hearing.{advanced_safe, message_is}
-use Rattle.lists.proofs.Members.{Contains-head, Contains-none, Contains-one}
-use Rattle.lists.proofs.Tests.{eqb_self}
+use Rattle.lists.proofs.lemmas.Members.{Contains-head, Contains-none, Contains-one}
+use Rattle.lists.proofs.lemmas.Tests.{eqb_self}
 use Rattle.std.proofs.lemmas.Bool.{eqb-true}
 
 first_whole : (s : Setting) → IsValid s → (i : ℕ) → i < s.n → is_whole s i (first_version s i) ≡ true

@@ -9,8 +9,8 @@ use Rattle.protocol.specs.Operations.Work.{Reads, Writes}
 use Rattle.run_words.specs.declared.outcome.Outcome.TheVariants.{Wrote, Spent, Gave, Outvoted}
 use Rattle.protocol.specs.World.{Record}
 use Rattle.protocol.specs.History.{HasRead, HasWrite}
-use Rattle.protocol.proofs.Order.{same_stamp-≡, same_stamp-refl}
-use Rattle.lists.proofs.Members.{Contains-head, Contains-none, Contains-rest, Contains-cons_cases}
+use Rattle.protocol.proofs.lemmas.Order.{same_stamp-≡, same_stamp-refl}
+use Rattle.lists.proofs.lemmas.Members.{Contains-head, Contains-none, Contains-rest, Contains-cons_cases}
 
 abbrev Decided : Type 0 → Type 0
 Decided P = P ⊎ (P → ⊥)

@@ -14,15 +14,15 @@ use Rattle.protocol.specs.World.{Record, World, Fits, happens, open_record, chos
 use Rattle.protocol.specs.World.Event.{Start}
 use Rattle.protocol.specs.History.{NoClash, IsValue}
 use Rattle.protocol.specs.History.IsValue.{zeros_value, written, given}
-use Rattle.protocol.proofs.Counting.{update-cases}
-use Rattle.protocol.proofs.Lists.{Contains-collected}
+use Rattle.protocol.proofs.lemmas.Counting.{update-cases}
+use Rattle.protocol.proofs.lemmas.Lists.{Contains-collected}
 use Rattle.protocol.proofs.Mails.{in_mail, mail_asks, mail_answers}
-use Rattle.protocol.proofs.Strings.{NoClash-before, NoClashFor-before}
+use Rattle.protocol.proofs.lemmas.Strings.{NoClash-before, NoClashFor-before}
 use Rattle.protocol.proofs.Invariant.{AtWork, IsOwned, IsTagged, Quorum, IsTask, IsStage, IsRecord, IsOutcome, IsAimed, IsAfter, NoClashFor, IsSafe, Fits as Fits', IsOpen, IsStored, IsPassed}
-use Rattle.protocol.proofs.Forming.{first_formed}
+use Rattle.protocol.proofs.lemmas.Forming.{first_formed}
 use Rattle.protocol.proofs.Freshness.{IsFresh-more}
-use Rattle.protocol.proofs.Sending.{working}
-use Rattle.lists.proofs.Members.{Contains-one}
+use Rattle.protocol.proofs.lemmas.Sending.{working}
+use Rattle.lists.proofs.lemmas.Members.{Contains-one}
 
 first_stage : (s : Setting) (work : Work) → Fits s work → IsStage s work (first_work work)
 first_stage s Reads h = refl

@@ -6,7 +6,7 @@ use Rattle.quorum_rules.specs.Limits.{Numbers}
 use Rattle.quorum_rules.specs.declared.Edition.TheVariants.{One}
 use Rattle.protocol.specs.Instance.{IsCluster}
 use Rattle.protocol.proofs.Example.{toy, second_of_first}
-use Rattle.lists.proofs.Members.{Contains-head}
+use Rattle.lists.proofs.lemmas.Members.{Contains-head}
 
 one_part : (value : List ℕ) (parts : List (ℕ × List ℕ)) → length parts ≡ 1 → ((q : ℕ × List ℕ) → Contains parts q → q.1 ≡ value) → second_of_first parts ≡ value
 one_part value [] e h = absurd (omega arith)

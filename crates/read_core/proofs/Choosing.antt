@@ -20,18 +20,18 @@ use Rattle.protocol.specs.Count.{count, collect, kept_where}
 use Rattle.protocol.specs.Setting.{Setting, IsAscending}
 use Rattle.protocol.specs.Instance.{setting, nobody, part_numbers, part_strings, IsCluster}
 use Rattle.protocol.specs.Operations.{stamp_of, is_valid, is_whole, valid, carries, only_if, numbered, part_of, stamps as stamps_of, support, carriers, chosen, candidate, sum_of_first}
-use Rattle.protocol.proofs.Counting.{both_true}
-use Rattle.protocol.proofs.Seeing.{funext}
-use Rattle.protocol.proofs.Lists.{Contains-take, Contains-collect}
-use Rattle.protocol.proofs.Parts.{length_chosen, ascending_chosen}
-use Rattle.protocol.proofs.Rounds.{whole_facts, valid_was}
-use Rattle.protocol.proofs.Cluster.{are_parts, cluster_valid}
+use Rattle.protocol.proofs.lemmas.Counting.{both_true}
+use Rattle.protocol.proofs.lemmas.Seeing.{funext}
+use Rattle.protocol.proofs.lemmas.Lists.{Contains-take, Contains-collect}
+use Rattle.protocol.proofs.lemmas.Parts.{length_chosen, ascending_chosen}
+use Rattle.protocol.proofs.lemmas.Rounds.{whole_facts, valid_was}
+use Rattle.protocol.proofs.lemmas.Cluster.{are_parts, cluster_valid}
 use Rattle.candidate_class.specs.Stamps.{stamp_at, is_stamp}
-use Rattle.candidate_class.proofs.Nodes.{is_stamp-stamp_of}
+use Rattle.candidate_class.proofs.lemmas.Nodes.{is_stamp-stamp_of}
 use Rattle.operation_core.specs.Counting.{answer_at}
 use Rattle.read_core.specs.Candidates.{found_in, carrier, shown_parts, CarryWhole}
-use Rattle.operation_core.proofs.Counts.{count_none}
-use Rattle.lists.proofs.Members.{Contains-head, Contains-map_cases}
+use Rattle.operation_core.proofs.lemmas.Counts.{count_none}
+use Rattle.lists.proofs.lemmas.Members.{Contains-head, Contains-map_cases}
 
 -- an answer carries the stamp if it's valid with it
 carried : (s : Setting) (bound : Bound) (p : Stamp) (i : ℕ) (o : Option Reply) → only_if (is_stamp p (stamp_of (valid s i bound o))) (numbered i (found_in o)) ≡ only_if (carries p (valid s i bound o)) (numbered i (valid s i bound o))

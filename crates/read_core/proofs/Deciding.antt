@@ -13,8 +13,8 @@ use Rattle.protocol.specs.Setting.{Setting, zeros, first_stamp, same_digests}
 use Rattle.protocol.specs.Operations.{pivot, support, invalid_nodes, chosen, candidate, sum_of_first, decide_at, decide_pivot}
 use Rattle.protocol.specs.Operations.Stage.{Versions, Storing}
 use Rattle.protocol.specs.Operations.Decision.{GoesOn, Ends}
-use Rattle.protocol.proofs.Order.{same_stamp-≡}
-use Rattle.protocol.proofs.Rounds.{same_digests-≡, same_digests-refl}
+use Rattle.protocol.proofs.lemmas.Order.{same_stamp-≡}
+use Rattle.protocol.proofs.lemmas.Rounds.{same_digests-≡, same_digests-refl}
 use Rattle.std.proofs.lemmas.Bool.{cases_Bool}
 
 module _ (s : Setting) (answers : ℕ → Option Reply) (bound : Bound) (rounds : ℕ) where

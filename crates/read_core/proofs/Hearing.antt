@@ -17,7 +17,7 @@ use Rattle.protocol.specs.Seen.Hearing.{Ended}
 use Rattle.operation_core.specs.declared.stage.Stage.{Stage}
 use Rattle.operation_core.specs.Stages.{stage_of}
 use Rattle.operation_core.specs.Counting.{ends_in, hears_in, ended_of, counted_task, counted_in, next_task, next_in, rounds_of, FitsWork, GoesOn as GoesOnIn, IsAtEnd, IsMail, IsBegun}
-use Rattle.operation_core.proofs.PhaseEnds.{hears_end, goes_on_by}
+use Rattle.operation_core.proofs.lemmas.PhaseEnds.{hears_end, goes_on_by}
 use Rattle.read_core.specs.declared.read_end.ReadEnd.{ReadEnd}
 use Rattle.read_core.specs.declared.read_end.ReadEnd.TheVariants.{Outvoted, Gives, GoesOn}
 use Rattle.read_core.specs.Ends.{IsReadStage, IsEnd, IsNext, decision_of}

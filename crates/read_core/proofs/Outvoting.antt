@@ -18,7 +18,7 @@ use Rattle.protocol.specs.Operations.Stage.{Times, Versions, Storing}
 use Rattle.protocol.specs.Operations.Decision.{GoesOn, Ends}
 use Rattle.protocol.specs.Seen.{SeenTask, Hearing, task_at, answers_of, by_decision, seen_counted, hears}
 use Rattle.protocol.specs.Seen.Hearing.{Ignored, Counted, Ended}
-use Rattle.candidate_class.proofs.Reaching.{highest_none}
+use Rattle.candidate_class.proofs.lemmas.Reaching.{highest_none}
 use Rattle.read_core.specs.Readers.{FewAreValid, EndsOutvoted, IsReading}
 use Rattle.read_core.specs.declared.reading.Reading.{Reading}
 use Rattle.read_core.specs.declared.reading.Reading.TheVariants.{More, Send, Got, Outvoted}

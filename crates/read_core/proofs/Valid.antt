@@ -10,7 +10,7 @@ use Rattle.wire_forms.specs.declared.message.Reply.{Reply}
 use Rattle.protocol.specs.Setting.{first_stamp}
 use Rattle.protocol.specs.Instance.{setting}
 use Rattle.protocol.specs.Operations.{stamp_of, valid, stamps as stamps_of}
-use Rattle.protocol.proofs.Seeing.{funext}
+use Rattle.protocol.proofs.lemmas.Seeing.{funext}
 use Rattle.candidate_class.specs.Stamps.{stamp_at}
 use Rattle.operation_core.specs.Counting.{answer_at}
 use Rattle.read_core.specs.Rounds.{IsRound}

@@ -4,7 +4,7 @@ use Rattle.std.specs.List.{All}
 use Rattle.std.proofs.lemmas.List.{length-append}
 use Rattle.std.proofs.lemmas.List.Elements.{recursion_from_All}
 use Rattle.wire_forms.specs.Liars.{IsAscending, has_number, IsClientNumber}
-use Rattle.script_text.proofs.Ascending.{below, below_next, below_none, below_all}
+use Rattle.script_text.proofs.lemmas.Ascending.{below, below_next, below_none, below_all}
 
 -- how many of the numbers are below a limit
 abbrev pub counted_below : ℕ → List ℕ → ℕ

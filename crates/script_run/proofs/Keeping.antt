@@ -15,9 +15,9 @@ use Rattle.run_words.specs.declared.line.Line.{Line}
 use Rattle.run_words.specs.declared.line.Line.TheVariants.{Write, Read, Resend, Call, Give, Hear, Lost, CrashNode, CrashClient, Lie, Tell, Poke, False, Sound, Mix, Prune, Back, Restart}
 use Rattle.protocol.specs.Lines.{StepFault, fault}
 use Rattle.line_forms.specs.declared.cause.Cause.TheVariants.{Step}
-use Rattle.protocol.proofs.Playing.{no_fault}
-use Rattle.protocol.proofs.Counting.{update-cases}
-use Rattle.protocol.proofs.Seeing.{funext, at_list, at_replicate}
+use Rattle.protocol.proofs.lemmas.Playing.{no_fault}
+use Rattle.protocol.proofs.lemmas.Counting.{update-cases}
+use Rattle.protocol.proofs.lemmas.Seeing.{funext, at_list, at_replicate}
 use Rattle.block_device.specs.declared.steps.BlockStep.{BlockStep}
 use Rattle.block_device.specs.Steps.{Fits}
 use Rattle.script_run.specs.Performing.{CommandQueues, returning, without}

@@ -4,7 +4,7 @@ use Rattle.std.specs.Prelude.{slice_index_or, false}
 use Rattle.stamp_order.specs.declared.Stamp.{Stamp}
 use Rattle.protocol.specs.Setting.{IsValid, first_stamp}
 use Rattle.protocol.specs.World.{Record}
-use Rattle.protocol.proofs.Cluster.{cluster_valid}
+use Rattle.protocol.proofs.lemmas.Cluster.{cluster_valid}
 use Rattle.world_state.specs.Worlds.{WorldView, setting_in, world_in}
 use Rattle.world_steps.specs.Reached.{IsReached}
 use Rattle.script_run.specs.Histories.{FitsHistory, IsOfCluster, AreOfRun}

@@ -1,8 +1,7 @@
+pub mod lemmas
 pub mod Reading
-pub mod Leading
 pub mod Counting
 pub mod Keeping
-pub mod Fitting
 pub mod Taking
 mod Accepting
 mod LastWorlds

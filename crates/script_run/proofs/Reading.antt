@@ -11,8 +11,8 @@ use Rattle.protocol.specs.Operations.{Outcome}
 use Rattle.protocol.specs.World.{Record}
 use Rattle.protocol.specs.Seen.{record_of}
 use Rattle.protocol.specs.History.{read_entry}
-use Rattle.protocol.proofs.Cluster.{cluster_valid}
-use Rattle.protocol.proofs.Kept.{run_blocks}
+use Rattle.protocol.proofs.lemmas.Cluster.{cluster_valid}
+use Rattle.protocol.proofs.lemmas.Kept.{run_blocks}
 use Rattle.world_state.specs.Worlds.{WorldView, setting_in, world_in}
 use Rattle.world_steps.specs.Reached.{IsReached}
 use Rattle.script_run.specs.Performing.{latest_read, read_by, or_else, value_given}

@@ -13,16 +13,16 @@ use Rattle.protocol.specs.World.{World, Record, Accepted, start_world}
 use Rattle.protocol.specs.Lines.{Line, IsRun}
 use Rattle.protocol.specs.Bounds.{pairs, different, is_among}
 use Rattle.protocol.specs.Report.{Ascend, rounds_of}
-use Rattle.protocol.proofs.Theorem.{run_keys, run_bounded, run_legal, run_in_time, run_sound}
-use Rattle.protocol.proofs.Kept.{run_in_order, run_told}
-use Rattle.protocol.proofs.SpentLies.{records_few as at_most_places}
+use Rattle.protocol.proofs.lemmas.Theorem.{run_keys, run_bounded, run_legal, run_in_time, run_sound}
+use Rattle.protocol.proofs.lemmas.Kept.{run_in_order, run_told}
+use Rattle.protocol.proofs.lemmas.SpentLies.{records_few as at_most_places}
 use Rattle.history_making.specs.Tellings.{AreRecords, IsHistoryOf}
 use Rattle.linear_runs.specs.Laws.{IsLinearizable, IsDurablyLinearizable}
 use Rattle.script_run.specs.Registers.{AreRegisters}
 use Rattle.script_run.specs.Histories.{FitsHistory}
 use Rattle.protocol.specs.History.{Entry}
 use Rattle.script_run.proofs.Accepting.{accepted_few}
-use Rattle.lists.proofs.Members.{Contains-head, Contains-rest, Contains-map_cases}
+use Rattle.lists.proofs.lemmas.Members.{Contains-head, Contains-rest, Contains-map_cases}
 
 at_most_one : (b : Bool) (k n : ℕ) → k ≤ n → cond b 1 0 + k ≤ suc n
 at_most_one true k n h = omega (arith, h)

@@ -12,18 +12,18 @@ use Rattle.protocol.specs.Lines.{Line, IsRun}
 use Rattle.protocol.specs.History.{Entry, Kind, IsEntry, IsRead, IsWrite, IsForeign, NoClash}
 use Rattle.protocol.specs.History.Kind.{Read, Write, Foreign}
 use Rattle.protocol.specs.Report.{SpentWrite, spent_writes, is_ended, is_done, is_spent, is_pending, is_repaired}
-use Rattle.protocol.proofs.Entries.{kind_made, start_made, end_made}
-use Rattle.protocol.proofs.Theorem.{run_legal, run_in_time}
-use Rattle.protocol.proofs.Kept.{run_told, run_blocks, run_done, run_spent, run_spent_ascend}
-use Rattle.protocol.proofs.Counts.{spent_writes_are}
+use Rattle.protocol.proofs.lemmas.Entries.{kind_made, start_made, end_made}
+use Rattle.protocol.proofs.lemmas.Theorem.{run_legal, run_in_time}
+use Rattle.protocol.proofs.lemmas.Kept.{run_told, run_blocks, run_done, run_spent, run_spent_ascend}
+use Rattle.protocol.proofs.lemmas.Counts.{spent_writes_are}
 use Rattle.history_making.specs.Books.{Book}
 use Rattle.history_making.specs.declared.entry.Counts.{Counts}
 use Rattle.history_making.specs.Numbers.{HaveNumbers}
 use Rattle.history_book.specs.ReportTexts.{IsReport, AreCounts, HasPlaces, IsPlaceOrNone}
 use Rattle.history_book.specs.Judging.{IsLegal, IsInTime}
 use Rattle.history_making.specs.Tellings.{Tells, told_kind, told_spent}
-use Rattle.history_book.proofs.Reported.{IsWhole, told_entries, told_spent_writes, done_told}
-use Rattle.history_book.proofs.Judged.{is_legal, is_in_time}
+use Rattle.history_book.proofs.lemmas.Reported.{IsWhole, told_entries, told_spent_writes, done_told}
+use Rattle.history_book.proofs.lemmas.Judged.{is_legal, is_in_time}
 use Rattle.script_run.specs.Histories.{FitsHistory}
 
 module _ (s : Setting) (lines : List (ℕ × Line)) (w : World) (good : IsValid s) (run : IsRun s lines w) (small : FitsHistory w) where

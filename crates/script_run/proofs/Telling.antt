@@ -5,7 +5,7 @@ use Rattle.stamp_order.specs.declared.Stamp.{Stamp}
 use Rattle.protocol.specs.Setting.{Setting, IsValid, first_stamp}
 use Rattle.protocol.specs.Lines.{IsRun}
 use Rattle.protocol.specs.Instance.{InEachRun}
-use Rattle.protocol.proofs.Cluster.{cluster_valid}
+use Rattle.protocol.proofs.lemmas.Cluster.{cluster_valid}
 use Rattle.linear_runs.specs.Laws.{IsLinearizable, IsDurablyLinearizable}
 use Rattle.protocol.specs.World.{World, Record}
 use Rattle.protocol.specs.History.{Entry}

@@ -14,7 +14,7 @@ use Rattle.line_forms.specs.declared.refusal.LineRefusal.{LineRefusal}
 use Rattle.line_forms.specs.declared.refusal.LineRefusal.TheVariants as line_refusals
 use Rattle.event_lines.specs.Forms.{fields_cause}
 use Rattle.event_lines.specs.Lines.{event_text, IsEventLine}
-use Rattle.event_lines.proofs.Lines.{no_liar}
+use Rattle.event_lines.proofs.lemmas.Lines.{no_liar}
 use Rattle.event_lines.specs.declared.line.ReplayLine.{ReplayLine}
 use Rattle.script_text.specs.declared.liars.Declared.{Declared}
 use Rattle.script_text.specs.Replays.{liar_line, liar_forms, IsDeclarable, is_liar_line, is_event, again_causes, replay_cause}

@@ -1,8 +1,6 @@
+pub mod lemmas
 pub mod Sums
-pub mod SumLaws
 pub mod Declarations
 pub mod Causes
 pub mod Steps
-pub mod Ascending
 pub mod Printed
-pub mod ReplayLaws

@@ -12,7 +12,7 @@ use Rattle.event_lines.specs.declared.line.ReplayLine.{ReplayLine}
 use Rattle.script_text.specs.declared.liars.Declared.{Declared}
 use Rattle.script_text.specs.declared.liars.Declared.TheVariants.{Node, Client}
 use Rattle.script_text.specs.Replays.{liar_line, declarations, replay_text}
-use Rattle.script_text.proofs.Ascending.{below, below_next}
+use Rattle.script_text.proofs.lemmas.Ascending.{below, below_next}
 
 -- one more line
 pub line_added : (lines : List (List ℕ)) (line : List ℕ) → text_of_lines (lines ++ line ∷ []) ≡ text_of_lines lines ++ (line ++ 10 ∷ [])

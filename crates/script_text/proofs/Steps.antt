@@ -7,16 +7,16 @@ use Rattle.std.proofs.lemmas.List.{map_push, append-nil, length-map, length-drop
 use Rattle.std.proofs.lemmas.List.Splits.{join_with_byte-slice_split}
 use Rattle.quorum_rules.specs.Limits.{Numbers, IsValid}
 use Rattle.text_lines.specs.Lines.{parts_of, text_of_lines, line_of_fields}
-use Rattle.text_lines.proofs.Cuts.{rest_part}
-use Rattle.text_lines.proofs.Joined.{some_part}
+use Rattle.text_lines.proofs.lemmas.Cuts.{rest_part}
+use Rattle.text_lines.proofs.lemmas.Joined.{some_part}
 use Rattle.wire_forms.specs.Liars.{Liars}
 use Rattle.line_forms.specs.Heads.{IsOfScripts, header, head_lines, cluster_fields}
 use Rattle.line_forms.specs.Texts.{IsFault, IsFaultless, ReadsTo, end_causes}
 use Rattle.line_forms.specs.declared.cause.Cause.{Cause}
 use Rattle.line_forms.specs.declared.cause.Cause.TheVariants.{Cut}
 use Rattle.line_forms.specs.Tables.{first_of}
-use Rattle.line_forms.proofs.Accepted.{numbers_back}
-use Rattle.line_forms.proofs.Texts.{reads_on, line_fault, end_fault, read_all, text_read}
+use Rattle.line_forms.proofs.lemmas.Accepted.{numbers_back}
+use Rattle.line_forms.proofs.lemmas.Texts.{reads_on, line_fault, end_fault, read_all, text_read}
 use Rattle.event_lines.specs.Lines.{event_text, IsEventLine}
 use Rattle.event_lines.specs.declared.line.ReplayLine.{ReplayLine}
 use Rattle.script_text.specs.declared.liars.Declared.{Declared}
@@ -25,7 +25,7 @@ use Rattle.script_text.specs.Replays.{liar_line, event_limit, AreAscendingLiars,
 use Rattle.script_text.specs.Reading.{AreDeclared, AreAscending, LiarsRead, FrontRead, EventsRead, again_cause, later_cause}
 use Rattle.script_text.proofs.Declarations.{none_declared, one_declared, free_from_none, declared_inside}
 use Rattle.script_text.proofs.Causes.{later_here}
-use Rattle.lists.proofs.Members.{all_push}
+use Rattle.lists.proofs.lemmas.Members.{all_push}
 
 -- the lines of the body of a script
 abbrev pub body_lines : List Declared → List ReplayLine → List (List ℕ)

@@ -6,18 +6,18 @@ use Rattle.std.proofs.Math.Bool.{or-false}
 use Rattle.quorum_rules.specs.Limits.{Numbers, IsValid}
 use Rattle.text_lines.specs.Lines.{texts, parts_of, fields_of, line_of_fields}
 use Rattle.text_lines.specs.Fields.{value_of, IsBytes}
-use Rattle.text_lines.proofs.Cuts.{rest_part}
-use Rattle.text_lines.proofs.Joined.{line_from_fields}
+use Rattle.text_lines.proofs.lemmas.Cuts.{rest_part}
+use Rattle.text_lines.proofs.lemmas.Joined.{line_from_fields}
 use Rattle.line_forms.specs.Kinds.{form_cause, has_other_length}
 use Rattle.line_forms.specs.Tables.{first_of}
 use Rattle.line_forms.specs.Texts.{ended, IsFault, IsFaultless, ReadsTo}
 use Rattle.line_forms.specs.Heads.{IsOfScripts, header, head_lines, cluster_fields}
 use Rattle.line_forms.specs.declared.cause.Cause.{Cause}
 use Rattle.line_forms.specs.declared.cause.Cause.TheVariants.{BadValue, UnknownWord, MissingLine}
-use Rattle.line_forms.proofs.Accepted.{numbers_back}
-use Rattle.line_forms.proofs.Texts.{reads_on, line_fault, end_fault, needed, cut_short, read_all, text_read}
+use Rattle.line_forms.proofs.lemmas.Accepted.{numbers_back}
+use Rattle.line_forms.proofs.lemmas.Texts.{reads_on, line_fault, end_fault, needed, cut_short, read_all, text_read}
 use Rattle.script_text.specs.Sum.{IsSum, value_form, value_fields, sum_lines, sum_text, sum_script}
-use Rattle.lists.proofs.Tests.{not_zero}
+use Rattle.lists.proofs.lemmas.Tests.{not_zero}
 
 -- what is wrong with `value` and a field that isn't empty
 pub value_cause : (word field : List ℕ) (len : ℕ) → word ≡ codes "value" → 0 < length field → form_cause (value_form len) (word ∷ field ∷ []) ≡ first_of ((has_other_length len (value_of field), BadValue) ∷ [])

@@ -1,5 +1,5 @@
 //! The liar lines of a replay script.
-#![tactic(auto, using(text_lines::proofs::Spelled::spelled, std::proofs::lemmas::Grind::common_steps))]
+#![tactic(auto, using(text_lines::proofs::lemmas::Spelled::spelled, std::proofs::lemmas::Grind::common_steps))]
 
 ghost use Rattle.std.specs.Prelude.{◌≡◌, ◌∷◌, ◌++◌, ◌≤◌, ◌<◌, [], ℕ, List, true, false, codes, drop, length, map, IfNone, IfOk, IfErr, IfSome, OnErr, OnOk, Some, None};
 ghost use Rattle.quorum_rules.specs.Limits.{Numbers, IsValid};

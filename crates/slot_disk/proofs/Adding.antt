@@ -3,12 +3,12 @@ use Rattle.std.proofs.Common.{◌≡◌, inl, inr, ℕ, suc, ◌+◌, ◌-◌, �
 use Rattle.std.proofs.lemmas.Bool.{cases_lt}
 use Rattle.std.proofs.lemmas.List.{append-nil}
 use Rattle.disk_model.specs.Crash.{Pending, MayLeave, IsWithin, Elapses, LeavesOnly, settled, with_range, overwritten}
-use Rattle.disk_model.proofs.Crash.{only_settled, settled_stays, synced_may, range_within, before, inside}
+use Rattle.disk_model.proofs.lemmas.Crash.{only_settled, settled_stays, synced_may, range_within, before, inside}
 use Rattle.slot_disk.specs.Bodies.{bodies, bodies_in, IsClosedAt, AreWithFirst}
 use Rattle.slot_disk.specs.Gates.{gated, AreOpen}
-use Rattle.slot_disk.proofs.Gates.{OnlyGates, only_gates, gate_below, gated_up_to, torn_gates, all_there, long_staged}
-use Rattle.slot_disk.proofs.Moments.{started, goes_on, joined}
-use Rattle.slot_disk.proofs.Moments.{weaker}
+use Rattle.slot_disk.proofs.lemmas.Gates.{OnlyGates, only_gates, gate_below, gated_up_to, torn_gates, all_there, long_staged}
+use Rattle.slot_disk.proofs.lemmas.Moments.{started, goes_on, joined}
+use Rattle.slot_disk.proofs.lemmas.Moments.{weaker}
 use Rattle.slot_disk.proofs.Torn.{torn_behind}
 
 module _ {D : Type 0} (moment : D → ℕ) (left_since : D → ℕ → List ℕ → Type 0) (pending : D → Pending) (seen : D → List ℕ) where

@@ -1,9 +1,5 @@
+pub mod lemmas
 pub mod Adding
-pub mod Bodies
-pub mod Closing
-pub mod Codec
-pub mod Gates
-pub mod Moments
 pub mod Order
 pub mod Rows
 pub mod Torn

@@ -4,7 +4,7 @@ use Rattle.std.specs.Prelude.{slice_get, slice_range, Some}
 use Rattle.std.proofs.lemmas.Bool.{cases_eq, cases_lt}
 use Rattle.std.proofs.lemmas.List.{get_or-drop, drop-drop}
 use Rattle.slot_disk.specs.Bodies.{bodies, IsOpen, AreInOrder}
-use Rattle.slot_disk.proofs.Bodies.{open_first, shut}
+use Rattle.slot_disk.proofs.lemmas.Bodies.{open_first, shut}
 
 module _ (w : ℕ) where
   at_zero : (gate : ℕ) (rest : List ℕ) → get_or (gate ∷ rest) (0 * (w + 1)) 0 ≡ gate

@@ -3,7 +3,7 @@ use Rattle.std.proofs.Common.{◌≡◌, ◌≢◌, ◌⊎◌, inl, inr, ℕ, ze
 use Rattle.std.proofs.lemmas.Bool.{cases_eq}
 use Rattle.std.proofs.lemmas.List.{ext_get_or, get_or-take, get_or-drop}
 use Rattle.slot_disk.specs.Bodies.{bodies, bodies_in}
-use Rattle.slot_disk.proofs.Bodies.{open_first, shut}
+use Rattle.slot_disk.proofs.lemmas.Bodies.{open_first, shut}
 
 -- so many bodies of a piece stand in the bytes, and the gate behind the last of them isn't open
 pub record IsRow (w more : ℕ) (piece bytes : List ℕ) : Type 0 where

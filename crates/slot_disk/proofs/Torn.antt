@@ -3,7 +3,7 @@ use Rattle.std.proofs.Common.{◌≡◌, ◌≢◌, inl, ℕ, ◌+◌, ◌*◌, 
 use Rattle.std.proofs.lemmas.List.{ext_get_or, take_at, get_or-take, get_or_at}
 use Rattle.disk_model.specs.Crash.{MayLeave, settled, with_range}
 use Rattle.slot_disk.specs.Bodies.{bodies, IsClosedAt}
-use Rattle.slot_disk.proofs.Bodies.{chain, AreLong, length-chain, bodies_closed, ClosedParts, closed_parts}
+use Rattle.slot_disk.proofs.lemmas.Bodies.{chain, AreLong, length-chain, bodies_closed, ClosedParts, closed_parts}
 
 -- what stands before the range that was written is kept
 pub front_kept : (B c : List ℕ) (at n : ℕ) → at ≤ length B → MayLeave (with_range at n (settled B)) c → take at c ≡ take at B

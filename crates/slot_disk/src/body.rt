@@ -88,7 +88,7 @@ fn read_hash(body: &[u8], at: usize) -> Hash
 }
 
 // Reads so many digests.
-#[tactic(auto, using(crate::proofs::Codec::digests_more))]
+#[tactic(auto, using(crate::proofs::lemmas::Codec::digests_more))]
 fn read_digests(alloc: Global, count: usize, bytes: &[u8]) -> Result<CrossSum, NoMemory>
     requires { 32 * count ≤ length bytes.now }
     ensures { IfOk result (λ sum. sum ≡ digests count bytes.now) }

@@ -26,7 +26,7 @@ use Rattle.journals.specs.declared.whole.Journals.{Journals}
 use Rattle.journals.specs.Desks.{Ended}
 use Rattle.journals.specs.Journals.{setting_for, at_desk}
 use Rattle.journals.specs.Agreement.{ended_record}
-use Rattle.journals.proofs.Picks.{same_ascending}
+use Rattle.journals.proofs.lemmas.Picks.{same_ascending}
 use Rattle.journal_records.specs.Shown.{ended_by, IsComplete}
 use Rattle.journal_records.specs.Steady.{ComeInTurn, AreSteady}
 use Rattle.soak_loads.specs.Serial.{IsPast, AreInTurn, IsDone, AreSerial, record_deed}
@@ -35,7 +35,7 @@ use Rattle.soak_loads.proofs.Records.{writes_by}
 use Rattle.soak_loads.proofs.Bounded.{writes, choices_few, no_lies}
 use Rattle.soak_loads.proofs.OwnStamps.{EndsOwn, own_stamps}
 use Rattle.soak_loads.proofs.OwnedWork.{ops_for, ops_few, ops_there, as_deed, deeds_are, ended_op, on_its_block, ops_ended}
-use Rattle.lists.proofs.Members.{Contains-map_cases, Contains-map, filter_is, filter_has, all_of}
+use Rattle.lists.proofs.lemmas.Members.{Contains-map_cases, Contains-map, filter_is, filter_has, all_of}
 
 -- ---- lists
 

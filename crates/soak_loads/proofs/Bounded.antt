@@ -17,8 +17,8 @@ use Rattle.protocol.specs.World.{Record}
 use Rattle.protocol.specs.Report.{Ascend}
 use Rattle.protocol.specs.Bounds.{is_chosen, choices, lied, lied_time}
 use Rattle.soak_loads.proofs.Records.{writes_by, IsWriting}
-use Rattle.lists.proofs.Members.{Contains-head, Contains-none, Contains-rest, Contains-cons_cases}
-use Rattle.protocol.proofs.Counting.{both_true}
+use Rattle.lists.proofs.lemmas.Members.{Contains-head, Contains-none, Contains-rest, Contains-cons_cases}
+use Rattle.protocol.proofs.lemmas.Counting.{both_true}
 
 abbrev pub writes : List Record → ℕ
 writes [] = 0

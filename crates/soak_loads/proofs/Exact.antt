@@ -13,12 +13,12 @@ use Rattle.protocol.specs.Facts.{IsKnown, IsComplete}
 use Rattle.protocol.specs.History.{Entry, entry_as, IsEntry, IsForeign}
 use Rattle.protocol.specs.History.Kind.{Read as ReadKind, Write as WriteKind}
 use Rattle.protocol.specs.Laws.{RecordsAreTold, CompletedIsHeld, AcceptedIsKnown}
-use Rattle.protocol.proofs.Counting.{some_passes}
+use Rattle.protocol.proofs.lemmas.Counting.{some_passes}
 use Rattle.soak_loads.specs.Serial.{IsDone, AreSerial}
 use Rattle.soak_loads.proofs.Records.{stamp_in, stamp_of, given_in, value_by, kind_by, record_entry, stamped, ended, IsWriting}
 use Rattle.soak_loads.proofs.Sorted.{in_flat}
-use Rattle.lists.proofs.Members.{Contains-map_cases, Contains-map}
-use Rattle.journal_records.proofs.Ongoing.{some_once}
+use Rattle.lists.proofs.lemmas.Members.{Contains-map_cases, Contains-map}
+use Rattle.journal_records.proofs.lemmas.Ongoing.{some_once}
 
 abbrev pub block_entries : (ℕ → List Record) → ℕ → List Entry
 block_entries rs block = map record_entry (rs block)

@@ -8,7 +8,7 @@ use Rattle.std.proofs.lemmas.Bool.{cases_Bool, eqb-true}
 use Rattle.std.proofs.lemmas.Bool.Decides.{nat_tests}
 use Rattle.std.proofs.lemmas.List.Sums.{sum_by-cons}
 use Rattle.std.proofs.lemmas.List.FromFn.{length-range_with_len, length-map-range_with_len}
-use Rattle.plan_text.proofs.Standing.{fewer_different}
+use Rattle.plan_text.proofs.lemmas.Standing.{fewer_different}
 use Rattle.text_lines.specs.Fields.{IsBytes}
 use Rattle.quorum_rules.specs.Limits.{Numbers, IsValid}
 use Rattle.event_lines.specs.Lines.{IsNode, IsBlock, IsValue}

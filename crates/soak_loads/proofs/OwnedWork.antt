@@ -29,7 +29,7 @@ use Rattle.plan_followed.specs.Asked.{step_of, steps_in, steps_for}
 use Rattle.journal_records.specs.Shown.{ended_by, IsOf, IsSteady, IsComplete}
 use Rattle.soak_loads.specs.Serial.{op_by}
 use Rattle.soak_loads.specs.Loads.{IsByOwner, HasOwners}
-use Rattle.lists.proofs.Members.{Contains-none, Contains-one}
+use Rattle.lists.proofs.lemmas.Members.{Contains-none, Contains-one}
 
 -- ---- the operations of a client
 

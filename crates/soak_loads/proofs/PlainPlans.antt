@@ -21,7 +21,7 @@ use Rattle.protocol.specs.Seen.{block_of}
 use Rattle.history_making.specs.declared.entry.Counts.{Counts}
 use Rattle.history_making.specs.Books.{Book}
 use Rattle.history_making.specs.Tellings.{Tells}
-use Rattle.history_making.proofs.Counted.{count_cons}
+use Rattle.history_making.proofs.lemmas.Counted.{count_cons}
 use Rattle.soak_loads.specs.Soaks.{plain_line, line_with, soak_text}
 use Rattle.soak_loads.specs.Plain.{Deed, deeds_of, is_on, first_register, entries_from, plain_entries, plain_text}
 use Rattle.plan_words.specs.declared.plan.Plan.{Plan}
@@ -36,7 +36,7 @@ use Rattle.soak_loads.specs.Loads.{HasOwners, OwnersAreDone, OwnersArePlain}
 use Rattle.soak_loads.proofs.Parts.{same_length}
 use Rattle.soak_loads.proofs.OwnedWork.{deeds_below, steady_client}
 use Rattle.soak_loads.proofs.BlockRecords as of_block
-use Rattle.lists.proofs.Members.{Contains-head, Contains-rest, all_of}
+use Rattle.lists.proofs.lemmas.Members.{Contains-head, Contains-rest, all_of}
 
 -- ---- counts
 

@@ -9,13 +9,13 @@ use Rattle.protocol.specs.Operations.{Work}
 use Rattle.protocol.specs.Operations.Work.{Reads, Writes}
 use Rattle.protocol.specs.World.{Record}
 use Rattle.protocol.specs.History.{Entry, entry_cmp, is_read, IsSorted}
-use Rattle.protocol.proofs.Entries.{less_by_stamp, less_by_kind, less_by_end, member_of}
-use Rattle.protocol.proofs.Order.{lower_time}
+use Rattle.protocol.proofs.lemmas.Entries.{less_by_stamp, less_by_kind, less_by_end, member_of}
+use Rattle.protocol.proofs.lemmas.Order.{lower_time}
 use Rattle.soak_loads.specs.Serial.{IsPast, AreInTurn}
 use Rattle.soak_loads.proofs.Records.{stamp_of, record_entry, kind_by, IsReading}
 use Rattle.soak_loads.proofs.Walk.{Stamped, IsNext, next_stamp, later, own_next}
-use Rattle.lists.proofs.Members.{Contains-head, Contains-none, Contains-rest, all_of}
-use Rattle.lists.proofs.Orders.{nat_less}
+use Rattle.lists.proofs.lemmas.Members.{Contains-head, Contains-none, Contains-rest, all_of}
+use Rattle.lists.proofs.lemmas.Orders.{nat_less}
 
 -- each starts by its end
 abbrev pub EndsInOrder : Record → Type 0

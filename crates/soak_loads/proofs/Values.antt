@@ -9,9 +9,9 @@ use Rattle.protocol.specs.Operations.Work.{Reads, Writes}
 use Rattle.protocol.specs.World.{Record}
 use Rattle.protocol.specs.History.{Entry, Kind, LegalFrom, legal_at, values_after}
 use Rattle.protocol.specs.History.Kind.{Read, Write, Foreign}
-use Rattle.protocol.proofs.Counting.{update-same}
+use Rattle.protocol.proofs.lemmas.Counting.{update-same}
 use Rattle.soak_loads.proofs.Records.{record_entry, value_by}
-use Rattle.lists.proofs.Members.{Contains-head, Contains-rest}
+use Rattle.lists.proofs.lemmas.Members.{Contains-head, Contains-rest}
 
 abbrev after_all : List Entry → (ℕ → List ℕ) → ℕ → List ℕ
 after_all [] values = values

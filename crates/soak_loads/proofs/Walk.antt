@@ -6,12 +6,12 @@ use Rattle.stamp_order.specs.Stamps.{◌≼◌}
 use Rattle.protocol.specs.Operations.{Work}
 use Rattle.protocol.specs.Operations.Work.{Reads, Writes}
 use Rattle.protocol.specs.World.{Record}
-use Rattle.protocol.proofs.Entries.{member_of}
-use Rattle.protocol.proofs.Order.{≼-time}
+use Rattle.protocol.proofs.lemmas.Entries.{member_of}
+use Rattle.protocol.proofs.lemmas.Order.{≼-time}
 use Rattle.soak_loads.specs.Serial.{IsPast, AreInTurn}
 use Rattle.soak_loads.proofs.Records.{stamp_of, writes_by, IsWriting, IsReading, either}
 use Rattle.soak_loads.proofs.Bounded.{writes}
-use Rattle.lists.proofs.Members.{Contains-head, Contains-none, Contains-rest, Contains-cons_cases}
+use Rattle.lists.proofs.lemmas.Members.{Contains-head, Contains-none, Contains-rest, Contains-cons_cases}
 
 -- the last write's stamp after an operation
 abbrev pub next_stamp : Work → Stamp → Stamp → Stamp

@@ -28,7 +28,7 @@ use Rattle.soak_loads.proofs.Walk.{Stamped, IsNext, next_stamp, AreOrdered, Stan
 use Rattle.soak_loads.proofs.Sorted.{sorted, sorted_flat}
 use Rattle.soak_loads.proofs.Exact.{block_entries, all_entries, stamp_is, end_is, record_of, origin, exact, entries_there}
 use Rattle.soak_loads.proofs.Values.{Valued, IsGiven, next_value, legal_in, valued}
-use Rattle.lists.proofs.Members.{Contains-head, Contains-rest, Contains-map_cases}
+use Rattle.lists.proofs.lemmas.Members.{Contains-head, Contains-rest, Contains-map_cases}
 
 -- ---- lines
 

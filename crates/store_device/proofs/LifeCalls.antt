@@ -6,7 +6,7 @@ use Rattle.protocol.specs.Setting.{Setting}
 use Rattle.protocol.specs.Operations.{Work, Outcome}
 use Rattle.protocol.specs.Seen.{block_of}
 use Rattle.disk_model.specs.Crash.{Pending, MayLeave}
-use Rattle.disk_model.proofs.Crash.{only_settled}
+use Rattle.disk_model.proofs.lemmas.Crash.{only_settled}
 use Rattle.node_core.specs.Seen.{SeenNode, versions_in}
 use Rattle.version_disk.specs.Held.{held}
 use Rattle.version_disk.specs.Stored.{Stored}

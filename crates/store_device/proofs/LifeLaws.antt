@@ -9,7 +9,7 @@ use Rattle.protocol.specs.Instance.{setting, nobody}
 use Rattle.protocol.specs.Laws.{InEachCluster}
 use Rattle.linear_runs.specs.Linear.{Operation, IsLinear, Linearizable, on_block}
 use Rattle.linear_runs.specs.Meaning.{BlocksComeTogether}
-use Rattle.linear_runs.proofs.Matching.{filter_none}
+use Rattle.linear_runs.proofs.lemmas.Matching.{filter_none}
 use Rattle.block_lives.specs.Lives.{IsToldBy}
 use Rattle.block_lives.specs.Laws.{LivesAreLinearizable as BlocksAreLinearizable}
 use Rattle.store_device.specs.Told.{cluster}

@@ -7,7 +7,7 @@ use Rattle.std.specs.List.{AllByRecursion, cons_option}
 use Rattle.std.proofs.lemmas.Bool.{eqb-true, eq-eqb}
 use Rattle.std.proofs.lemmas.List.{append-nil, map-append}
 use Rattle.std.proofs.lemmas.List.Elements.{filter-append}
-use Rattle.lists.proofs.Members.{all_of}
+use Rattle.lists.proofs.lemmas.Members.{all_of}
 use Rattle.quorum_rules.specs.Limits.{Numbers}
 use Rattle.stamp_order.specs.declared.Stamp.{Stamp}
 use Rattle.wire_forms.specs.declared.op.Op.{Op}
@@ -16,7 +16,7 @@ use Rattle.protocol.specs.Seen.{block_of, work_of}
 use Rattle.linear_runs.specs.Linear.{Act, Operation, IsLinear, on_block}
 use Rattle.block_lives.specs.Lives.{Turn as BlockTurn, operation, act_of, act_left, told_by as told_there, told as told_of, turns_of}
 use Rattle.block_lives.specs.Lives.Turn.{Did, Left, Pruned as PrunedThere, Changed as ChangedThere}
-use Rattle.block_lives.proofs.TurnNumbers.{renumbered, linear_renumbered, turn_at, turn_first, turn_later, turns_rise}
+use Rattle.block_lives.proofs.lemmas.TurnNumbers.{renumbered, linear_renumbered, turn_at, turn_first, turn_later, turns_rise}
 use Rattle.store_device.specs.Stores.{Nodes}
 use Rattle.store_device.specs.Told.{AreApart, kept_of}
 use Rattle.store_device.specs.Lives.{Turn, Moment, turn_of, batch_on, turn_on, life_on, prunable_after, told_one, told_by, told_at, told_from, told, first_nodes, Takes, TakesAll, IsLife}

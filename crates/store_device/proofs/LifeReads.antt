@@ -3,7 +3,7 @@ use Rattle.std.proofs.Common.{◌≡◌, ◌≢◌, ℕ, ◌+◌, ◌<◌, ◌�
 use Rattle.std.specs.declared.option.Option.TheVariants.{None, Some}
 use Rattle.std.specs.List.{Contains}
 use Rattle.std.proofs.lemmas.Bool.{cases_lt, cases_eq, eqb-true, eq-eqb}
-use Rattle.lists.proofs.Members.{Contains-head, filter_is, filter_has}
+use Rattle.lists.proofs.lemmas.Members.{Contains-head, filter_is, filter_has}
 use Rattle.quorum_rules.specs.Limits.{Numbers}
 use Rattle.wire_forms.specs.declared.op.Op.{Op}
 use Rattle.wire_forms.specs.declared.op.Op.TheVariants.{Read as ReadOp, Write as WriteOp}

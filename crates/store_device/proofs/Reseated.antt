@@ -5,7 +5,7 @@ use Rattle.std.specs.Option.{option_copied}
 use Rattle.std.proofs.lemmas.Bool.{cases_Bool, cases_lt, cases_eq}
 use Rattle.std.proofs.lemmas.List.{length-set, length-map, length-replicate, map-set, get_or-map, get_or-replicate, get_or-set_same, get_or-set_other, get_or_past, set_past}
 use Rattle.std.proofs.Math.Seq.{take-append_seam}
-use Rattle.lists.proofs.Members.{at_place}
+use Rattle.lists.proofs.lemmas.Members.{at_place}
 use Rattle.quorum_rules.specs.Limits.{Numbers, IsValid}
 use Rattle.stamp_order.specs.declared.Stamp.{Stamp}
 use Rattle.protocol.specs.Messages.{Version}

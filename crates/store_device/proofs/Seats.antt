@@ -8,13 +8,13 @@ use Rattle.protocol.specs.Messages.{Ask, Reply, IsFormedReply}
 use Rattle.protocol.specs.Nodes.{pruned}
 use Rattle.protocol.specs.Instance.{setting}
 use Rattle.disk_model.specs.Crash.{Pending, MayLeave, settled}
-use Rattle.disk_model.proofs.Crash.{only_settled}
+use Rattle.disk_model.proofs.lemmas.Crash.{only_settled}
 use Rattle.node_core.specs.Seen.{SeenNode, versions_in, with_versions, new_node, after_of}
 use Rattle.slot_disk.specs.Slots.{Slot}
 use Rattle.version_disk.specs.Held.{held, played, after_slot, slots_of, written}
 use Rattle.version_disk.specs.Deeds.{after_asks, replies_of, AreDoneInPart}
-use Rattle.version_disk.proofs.Playing.{played_config}
-use Rattle.version_disk.proofs.Answering.{after_config}
+use Rattle.version_disk.proofs.lemmas.Playing.{played_config}
+use Rattle.version_disk.proofs.lemmas.Answering.{after_config}
 use Rattle.version_disk.specs.Stored.{Stored}
 use Rattle.store_device.specs.Stores.{IsSound, IsFoundAt, IsLeftAt, is_up, kept_at}
 use Rattle.store_device.specs.Working.{HasAnswered, HasDone, HasWorked, WorksIn, HasGoneOn}

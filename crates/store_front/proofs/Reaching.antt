@@ -5,7 +5,7 @@ use Rattle.std.proofs.lemmas.Bool.{cases_lt, and_parts, ltb-true, leb-true, eqb-
 use Rattle.std.proofs.lemmas.Grind.{div_ceil_times}
 use Rattle.std.proofs.Math.Nat.{mul-le-mul_right, mul_comm}
 use Rattle.quorum_rules.specs.Limits.{Numbers}
-use Rattle.block_device.proofs.Touching.{first_place, last_place}
+use Rattle.block_device.proofs.lemmas.Touching.{first_place, last_place}
 use Rattle.nbd_front.specs.declared.request.Request.{Request}
 use Rattle.nbd_front.specs.Requests.{write_kind}
 use Rattle.nbd_front.specs.Replies.{error_of}

@@ -4,7 +4,7 @@ use Rattle.std.specs.List.{flat_map, list_all, range_with_len}
 use Rattle.std.proofs.lemmas.Bool.{cases_lt, and_right}
 use Rattle.std.proofs.lemmas.List.{flat_map_more}
 use Rattle.quorum_rules.specs.Limits.{Numbers}
-use Rattle.block_device.proofs.Touching.{range_more}
+use Rattle.block_device.proofs.lemmas.Touching.{range_more}
 use Rattle.nbd_front.specs.declared.request.Request.{Request}
 use Rattle.nbd_front.specs.Replies.{error_of}
 use Rattle.store_front.specs.Blocks.{first_of, end_of, blocks_of}

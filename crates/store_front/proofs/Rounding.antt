@@ -11,7 +11,7 @@ use Rattle.std.proofs.lemmas.List.Folds.{concat-append}
 use Rattle.std.proofs.lemmas.Grind.{flat_map-append}
 use Rattle.std.proofs.Math.Seq.{take-add}
 use Rattle.quorum_rules.specs.Limits.{Numbers}
-use Rattle.block_device.proofs.Touching.{range_more}
+use Rattle.block_device.proofs.lemmas.Touching.{range_more}
 use Rattle.nbd_front.specs.declared.request.Request.{Request}
 use Rattle.nbd_front.specs.Requests.{magic_of, request_of, fields_of, head_len, data_len}
 use Rattle.nbd_front.specs.Sessions.{leave_kind, IsRequest}

@@ -9,8 +9,8 @@ use Rattle.slot_disk.specs.Slots.{Slot}
 use Rattle.version_disk.specs.Held.{played, held, slots_of, first_bad}
 use Rattle.version_disk.specs.Kept.{IsKept, AreGoodIn, HoldsFirstOf}
 use Rattle.version_disk.specs.Deeds.{after_asks, slots_by_all, AreDone, AreDoneInPart}
-use Rattle.version_disk.proofs.Answering.{few_slots, all_slots}
-use Rattle.slot_disk.proofs.Moments.{weaker}
+use Rattle.version_disk.proofs.lemmas.Answering.{few_slots, all_slots}
+use Rattle.slot_disk.proofs.lemmas.Moments.{weaker}
 use Rattle.version_disk.proofs.Opening.{unread}
 
 -- bytes that hold the state after the first few slots hold that after the first few asks

@@ -13,13 +13,13 @@ use Rattle.protocol.specs.Messages.{Version, Reason}
 use Rattle.protocol.specs.Setting.{Setting, first_stamp}
 use Rattle.protocol.specs.Instance.{setting}
 use Rattle.protocol.specs.Nodes.{first_version, refusal, keeps, added, after, outlives, pruned, carries, greatest_in}
-use Rattle.protocol.proofs.Order.{same_stamp-refl}
+use Rattle.protocol.proofs.lemmas.Order.{same_stamp-refl}
 use Rattle.node_core.specs.Seen.{SeenNode, versions_in, with_versions, new_node, after_of}
 use Rattle.slot_disk.specs.Slots.{Slot, version_slot}
 use Rattle.version_disk.specs.Held.{after_slot, played, held, slots_of, written}
 use Rattle.version_disk.specs.Deeds.{replies_of}
 use Rattle.version_disk.specs.Compacted.{slots_in, slots_from, kept_slots, IsAlike}
-use Rattle.version_disk.proofs.Playing.{played_append}
+use Rattle.version_disk.proofs.lemmas.Playing.{played_append}
 
 module _ (s : Setting) (i : ℕ) where
   -- each of these versions would be accepted behind those before it

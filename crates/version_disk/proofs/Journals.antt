@@ -19,11 +19,11 @@ use Rattle.version_disk.specs.Held.{played, held, slots_of, is_refusal, first_ba
 use Rattle.version_disk.specs.Kept.{IsGoodIn, AreGoodIn}
 use Rattle.version_disk.specs.Compacted.{slots_in, slots_from, kept_slots, open_slots, IsWhole, AreWhole, AreFitting}
 use Rattle.version_disk.proofs.Accepting.{refusal_lengths}
-use Rattle.slot_disk.proofs.Bodies.{chain, AreLong, bodies_closed}
+use Rattle.slot_disk.proofs.lemmas.Bodies.{chain, AreLong, bodies_closed}
 use Rattle.version_disk.proofs.Compacting.{Follow, IsGrown, IsGrownNode, held_grown, kept_played}
-use Rattle.slot_disk.proofs.Gates.{mul_le, gate_below}
+use Rattle.slot_disk.proofs.lemmas.Gates.{mul_le, gate_below}
 use Rattle.version_disk.proofs.Keeping.{length-body_of, slots_of_bodies}
-use Rattle.version_disk.proofs.Playing.{all_good}
+use Rattle.version_disk.proofs.lemmas.Playing.{all_good}
 
 module _ (P : Slot → Type 0) where
   pub both : (xs ys : List Slot) → AllByRecursion P xs → AllByRecursion P ys → AllByRecursion P (xs ++ ys)

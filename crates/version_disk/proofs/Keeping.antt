@@ -7,7 +7,7 @@ use Rattle.quorum_rules.specs.Limits.{Numbers}
 use Rattle.node_core.specs.Seen.{SeenNode, new_node}
 use Rattle.protocol.specs.Messages.{flat}
 use Rattle.disk_model.specs.Crash.{Pending, MayLeave, LeavesOnly}
-use Rattle.slot_disk.proofs.Moments.{weaker}
+use Rattle.slot_disk.proofs.lemmas.Moments.{weaker}
 use Rattle.version_disk.proofs.Opening.{unread}
 use Rattle.slot_disk.specs.Bodies.{bodies, bodies_in, AreWithFirst}
 use Rattle.slot_disk.specs.Slots.{Slot, body_len, body_of, slot_of, Fits, IsPieceOf, pieces_of}
@@ -15,8 +15,8 @@ use Rattle.version_disk.specs.Held.{after_slot, played, held, slots_of, first_ba
 use Rattle.std.proofs.Common.{Bool}
 use Rattle.version_disk.specs.Stored.{Stored}
 use Rattle.version_disk.specs.Kept.{IsKept, AreGoodIn, HoldsOneOf, HoldsFirstOf}
-use Rattle.slot_disk.proofs.Codec.{length-flat, slot_of_body}
-use Rattle.version_disk.proofs.Playing.{played_append, good_append, held_config}
+use Rattle.slot_disk.proofs.lemmas.Codec.{length-flat, slot_of_body}
+use Rattle.version_disk.proofs.lemmas.Playing.{played_append, good_append, held_config}
 
 pub length-body_of : (c : Numbers) (s : Slot) → Fits c s → length (body_of s) ≡ body_len c
 length-body_of c s fits =

@@ -1,5 +1,5 @@
+pub mod lemmas
 pub mod Accepting
-pub mod Answering
 pub mod Asking
 pub mod Compacting
 pub mod Deeds
@@ -7,4 +7,3 @@ pub mod Journals
 pub mod Keeping
 pub mod Lives
 pub mod Opening
-pub mod Playing

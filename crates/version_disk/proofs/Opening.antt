@@ -1,12 +1,12 @@
 -- The calls by which a disk is read, and what a crash leaves at each moment of them.
 use Rattle.std.proofs.Common.{◌≡◌, inl, inr, ℕ, List, map, ◌∙◌, ap, subst}
 use Rattle.disk_model.specs.Crash.{Pending, MayLeave, Elapses, LeavesOnly, settled, IsWithin}
-use Rattle.disk_model.proofs.Crash.{only_settled}
+use Rattle.disk_model.proofs.lemmas.Crash.{only_settled}
 use Rattle.quorum_rules.specs.Limits.{Numbers}
 use Rattle.slot_disk.specs.Bodies.{bodies}
 use Rattle.slot_disk.specs.Slots.{body_len, slot_of}
 use Rattle.version_disk.specs.Reopened.{IsStillThere}
-use Rattle.slot_disk.proofs.Moments.{started, goes_on, joined, weaker}
+use Rattle.slot_disk.proofs.lemmas.Moments.{started, goes_on, joined, weaker}
 
 module _ {D : Type 0} (moment : D → ℕ) (left_since : D → ℕ → List ℕ → Type 0) (pending : D → Pending) (seen : D → List ℕ) (old : D)
     (only_now : (bytes : List ℕ) → left_since old (moment old) bytes → MayLeave (pending old) bytes) where

@@ -86,7 +86,7 @@ impl<D: Disk> StoredNode<D> {
 
     /// Opens a disk that may be empty, or that a crash may have left. It begins with a sync, and closes the gate behind the
     /// slots where a crash left it open.
-    #[tactic(auto, using(crate::proofs::Playing::held_config))]
+    #[tactic(auto, using(crate::proofs::lemmas::Playing::held_config))]
     pub fn open(
         alloc: Global,
         config: &Config,

@@ -13,8 +13,8 @@ use Rattle.protocol.specs.Setting.{Setting}
 use Rattle.protocol.specs.Operations.{Task}
 use Rattle.protocol.specs.World.{World}
 use Rattle.protocol.specs.Seen.{SeenClient, SeenWorld, client_at, new_client, started_task, world_of, record_of}
-use Rattle.protocol.proofs.Counting.{update-cases}
-use Rattle.protocol.proofs.Seeing.{funext, life-set, started-set, task-begun, client_crashed-set}
+use Rattle.protocol.proofs.lemmas.Counting.{update-cases}
+use Rattle.protocol.proofs.lemmas.Seeing.{funext, life-set, started-set, task-begun, client_crashed-set}
 use Rattle.world_state.specs.declared.client_slot.ClientSlot.{ClientSlot}
 use Rattle.world_state.specs.declared.state.State.TheInside.{Inside}
 use Rattle.world_state.specs.contracts.state.State.{the_view}

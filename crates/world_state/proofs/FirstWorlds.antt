@@ -16,7 +16,7 @@ use Rattle.protocol.specs.Nodes.{first_version}
 use Rattle.protocol.specs.Instance.{setting, setting_of}
 use Rattle.protocol.specs.World.{start_world}
 use Rattle.protocol.specs.Seen.{new_client, client_at, started_task, record_of, accepted_of}
-use Rattle.protocol.proofs.Seeing.{versions-new}
+use Rattle.protocol.proofs.lemmas.Seeing.{versions-new}
 use Rattle.world_state.specs.declared.node_slot.NodeSlot.{NodeSlot}
 use Rattle.world_state.specs.declared.client_slot.ClientSlot.{ClientSlot}
 use Rattle.world_state.specs.declared.state.State.TheInside.{Inside}

@@ -10,7 +10,7 @@ use Rattle.stamp_order.specs.Stamps.{up_to, ◌≼◌}
 use Rattle.protocol.specs.World.{Record, given_of, greater_stamp, greatest_given, stamp_given}
 use Rattle.run_words.specs.declared.record.Record.{Record as Told}
 use Rattle.protocol.specs.Seen.{record_of}
-use Rattle.protocol.proofs.Order.{≼-refl, ≼-trans, ≼-antisym, not_up_to}
+use Rattle.protocol.proofs.lemmas.Order.{≼-refl, ≼-trans, ≼-antisym, not_up_to}
 
 -- ---- the greater of two stamps
 

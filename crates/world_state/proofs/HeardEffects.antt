@@ -13,7 +13,7 @@ use Rattle.protocol.specs.Operations.Decision.{GoesOn, Ends as EndsWith}
 use Rattle.protocol.specs.World.{World, heard, heard_by, with_record, chosen_stamp}
 use Rattle.protocol.specs.Seen.{SeenTask, record_of, phase_of, Hearing, new_client, client_at, task_at, started_task, seen_goes_on, seen_counted, is_counted, answers_of, by_decision, after_counting, hearing}
 use Rattle.protocol.specs.Seen.Hearing.{Ignored, Counted, Begins, Ended}
-use Rattle.protocol.proofs.Seeing.{length-goes_on, length-counted, after_hearing, heard_by-seen}
+use Rattle.protocol.proofs.lemmas.Seeing.{length-goes_on, length-counted, after_hearing, heard_by-seen}
 use Rattle.operation_core.specs.Counting.{GoesOn as GoesOnIn, IsAtEnd}
 use Rattle.client_core.specs.Clients.{ClientView, operation_of, hears, goes_to, is_only_counted, next_of}
 use Rattle.world_state.specs.declared.answer_effect.AnswerEffect.{AnswerEffect}
@@ -25,7 +25,7 @@ use Rattle.world_state.specs.Worlds.{WorldView, setting_in, world_in}
 use Rattle.world_state.specs.Slots.{IsWorld, IsTaskOf}
 use Rattle.world_state.specs.Changes.{client_in, IsAnswer}
 use Rattle.world_state.specs.AnswerEffects.{IsEffect, next_mail, answer_does, Becomes, MayApply, goes_on, applied}
-use Rattle.client_core.proofs.AnswersHeard.{told_is}
+use Rattle.client_core.proofs.lemmas.AnswersHeard.{told_is}
 use Rattle.world_state.proofs.ClientSlots.{slot-client}
 
 -- the operation u follows t

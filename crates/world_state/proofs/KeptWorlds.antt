@@ -11,13 +11,13 @@ use Rattle.quorum_rules.specs.Limits.{Numbers}
 use Rattle.run_words.specs.declared.record.Record.{Record as Told}
 use Rattle.protocol.specs.World.{Record, open_record}
 use Rattle.protocol.specs.Seen.{SeenTask, task_at, record_of}
-use Rattle.protocol.proofs.Starts.{ascend_push}
+use Rattle.protocol.proofs.lemmas.Starts.{ascend_push}
 use Rattle.world_state.specs.declared.node_slot.NodeSlot.{NodeSlot}
 use Rattle.world_state.specs.declared.client_slot.ClientSlot.{ClientSlot}
 use Rattle.world_state.specs.declared.state.State.TheInside.{Inside}
 use Rattle.world_state.specs.Slots.{IsWorld, IsClientSlot, IsTaskOf}
 use Rattle.world_state.proofs.ListItems.{slice_get-set_cases, slice_get-set_other, slice_get-push_cases}
-use Rattle.lists.proofs.Members.{slice_get-push}
+use Rattle.lists.proofs.lemmas.Members.{slice_get-push}
 
 -- a task stays told where the place is raised, and the record of its number is what it was
 task_kept : (c : Numbers) (records more : List Record) (p q k start index : ℕ) (o : Option SeenTask)

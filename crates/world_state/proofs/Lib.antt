@@ -1,5 +1,5 @@
+pub mod lemmas
 pub mod ListItems
-pub mod Became
 pub mod KeptWorlds
 pub mod ClientSlots
 pub mod GreatestGiven

@@ -18,7 +18,7 @@ use Rattle.protocol.specs.Setting.{Setting}
 use Rattle.protocol.specs.World.{accepted_at}
 use Rattle.protocol.specs.Seen.{world_of, accepted_of}
 use Rattle.protocol.specs.Instance.{setting}
-use Rattle.protocol.proofs.Seeing.{versions-set, node_crashed-set}
+use Rattle.protocol.proofs.lemmas.Seeing.{versions-set, node_crashed-set}
 use Rattle.node_core.specs.Seen.{SeenNode, versions_in, with_versions, reply_of, accepts_of, after_of}
 use Rattle.world_state.specs.declared.node_slot.NodeSlot.{NodeSlot}
 use Rattle.world_state.specs.declared.client_slot.ClientSlot.{ClientSlot}

@@ -27,7 +27,7 @@ use Rattle.world_state.specs.AnswerEffects.{IsSame, Becomes, settled}
 use Rattle.world_state.proofs.ListItems.{slice_get-set_same}
 use Rattle.world_state.proofs.KeptWorlds.{told}
 use Rattle.world_state.proofs.ClientSlots.{update-known, world-client_slot, slot-lying, slot-task, slot-crashed, client_slot-there}
-use Rattle.lists.proofs.Members.{slice_set-there}
+use Rattle.lists.proofs.lemmas.Members.{slice_set-there}
 
 -- ---- the record of an operation is the one that began at its place
 

@@ -26,7 +26,7 @@ use Rattle.world_state.proofs.ClientSlots.{slot-task, slot-crashed}
 use Rattle.world_state.proofs.GreatestGiven.{given_none, given_here, given_elsewhere, greatest-told}
 use Rattle.world_state.proofs.BlockUses.{count_items, works_on_task, idle_works_nowhere, crashed_works_nowhere, used-there, use-there, uses-kept, uses-set, count-kept, works-there}
 use Rattle.world_state.proofs.SettledRecords.{record-there, task-there, task-is}
-use Rattle.lists.proofs.Tests.{eqb_self}
+use Rattle.lists.proofs.lemmas.Tests.{eqb_self}
 use Rattle.std.proofs.lemmas.Bool.{ne_eqb}
 
 -- ---- the world's count

@@ -13,7 +13,7 @@ use Rattle.protocol.specs.Instance.{setting}
 use Rattle.protocol.specs.Operations.{Task, first_work, begun, mail}
 use Rattle.protocol.specs.World.{greatest_given, Record, open_record, chosen_stamp, last_op, started_by}
 use Rattle.protocol.specs.Seen.{SeenTask, task_at, started_task, record_of, ops_of, block_of, work_of}
-use Rattle.protocol.proofs.Seeing.{begun-seen, length-begun}
+use Rattle.protocol.proofs.lemmas.Seeing.{begun-seen, length-begun}
 use Rattle.client_core.specs.Clients.{ClientView, started, with_started, mail_of}
 use Rattle.world_state.specs.declared.block_use.BlockUse.{BlockUse}
 use Rattle.world_state.specs.declared.client_slot.ClientSlot.{ClientSlot}
@@ -27,8 +27,8 @@ use Rattle.world_state.proofs.KeptWorlds.{added}
 use Rattle.world_state.proofs.ClientSlots.{update-known, world-client_slot, slot-lying, slot-crashed}
 use Rattle.world_state.proofs.GreatestGiven.{greatest-more}
 use Rattle.world_state.proofs.BlockUses.{works_on_task, idle_works_nowhere, use-there, uses-set}
-use Rattle.lists.proofs.Members.{get_new}
-use Rattle.lists.proofs.Tests.{eqb_self}
+use Rattle.lists.proofs.lemmas.Members.{get_new}
+use Rattle.lists.proofs.lemmas.Tests.{eqb_self}
 use Rattle.std.proofs.lemmas.Bool.{ne_eqb}
 
 -- no stamp is chosen at the beginning

@@ -5,13 +5,13 @@ use Rattle.std.specs.declared.option.Option.TheVariants.{None}
 use Rattle.quorum_rules.specs.Limits.{Numbers, IsValid}
 use Rattle.wire_forms.specs.Liars.{Liars, has_number, AreLiars}
 use Rattle.protocol.specs.Count.{count}
-use Rattle.protocol.proofs.Counting.{count_named}
+use Rattle.protocol.proofs.lemmas.Counting.{count_named}
 use Rattle.protocol.specs.Setting.{Setting}
 use Rattle.protocol.specs.World.{World, start_world}
 use Rattle.protocol.specs.Lines.{Line, IsRun, FitsLine, fault, plays}
 use Rattle.protocol.specs.Instance.{setting_of}
 use Rattle.protocol.specs.Seen.{SeenWorld}
-use Rattle.protocol.proofs.Kept.{run_parts}
+use Rattle.protocol.proofs.lemmas.Kept.{run_parts}
 use Rattle.world_state.specs.Worlds.{WorldView, setting_in, world_in}
 use Rattle.world_steps.specs.Reached.{IsReached}
 use Rattle.world_steps.specs.Steps.{IsPlayedBy}

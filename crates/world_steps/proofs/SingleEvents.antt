@@ -14,9 +14,9 @@ use Rattle.protocol.specs.Operations.{Task}
 use Rattle.protocol.specs.World.{World, Event as AnyEvent, Allowed, AllAllowed, only_place, all_happen, happens, given, resent_by, pruned_at, greatest_given}
 use Rattle.protocol.specs.World.Event.{Start as Starts, Resend as Resends, Give as Gives, Hear as Hears, CrashNode as NodeCrashes, CrashClient as ClientCrashes, Lie as Lies, Prune as Prunes, Back as ComesBack}
 use Rattle.protocol.specs.Lines.{Line, FitsLine, Names, events, fault, given_at, heard_at, plays}
-use Rattle.protocol.proofs.Cluster.{cluster_valid}
-use Rattle.protocol.proofs.Playing.{no_fault}
-use Rattle.protocol.proofs.Theorem.{run_refusals}
+use Rattle.protocol.proofs.lemmas.Cluster.{cluster_valid}
+use Rattle.protocol.proofs.lemmas.Playing.{no_fault}
+use Rattle.protocol.proofs.lemmas.Theorem.{run_refusals}
 use Rattle.world_steps.specs.Events.{line_of, event_of, Happens}
 use Rattle.world_steps.specs.declared.event.Event.{Event}
 use Rattle.world_steps.specs.declared.event.Event.TheVariants.{Start, Resend, Give, Hear, CrashNode, CrashClient, Lie, Prune, Back}

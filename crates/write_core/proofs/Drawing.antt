@@ -16,7 +16,7 @@ use Rattle.operation_core.specs.declared.stage.Storing.{Storing as Stored}
 use Rattle.operation_core.specs.declared.stage.Stage.TheVariants.{Storing as Stores}
 use Rattle.operation_core.specs.Stages.{stage_of, IsEncoded}
 use Rattle.operation_core.specs.Counting.{ends_in, hears_in, ended_of, counted_task, next_task, next_in, IsMail, IsBegun}
-use Rattle.operation_core.proofs.PhaseEnds.{hears_end}
+use Rattle.operation_core.proofs.lemmas.PhaseEnds.{hears_end}
 use Rattle.write_core.specs.Times.{time_at}
 use Rattle.write_core.specs.Writers.{IsWriter, IsUnder}
 

@@ -2,7 +2,7 @@ use Rattle.std.proofs.Common.{length, sym, ap, subst, ◌∙◌, arith}
 use Rattle.std.specs.Vec.Iter.{into_iter_items}
 use Rattle.std.proofs.lemmas.List.{length-map}
 use Rattle.std.proofs.lemmas.Grind.{common_steps}
-use Rattle.lists.proofs.Members.{nil_of}
+use Rattle.lists.proofs.lemmas.Members.{nil_of}
 use Rattle.protocol.specs.Instance.{setting}
 use Rattle.batch_clients.specs.Parts.{lists_of, items_of}
 use Rattle.batch_clients.proofs.Dealing.{IsDealing, dealing_begins, next_there, next_asks, dealing_goes_on, dealing_ends}

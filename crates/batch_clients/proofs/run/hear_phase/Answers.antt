@@ -1,7 +1,7 @@
 use Rattle.std.proofs.Common.{length, sym, ap, subst, ◌∙◌, arith}
 use Rattle.std.specs.Vec.Iter.{into_iter_items}
 use Rattle.std.proofs.lemmas.Grind.{common_steps}
-use Rattle.lists.proofs.Members.{nil_of}
+use Rattle.lists.proofs.lemmas.Members.{nil_of}
 use Rattle.batch_clients.proofs.Hearing.{IsHearing, LeadsTo, hearing_begins, in_phase, hearing_step, still_hearing, hearing_lost}
 use Rattle.batch_clients.proofs.run.hear_phase.Goals as goal
 

@@ -2,7 +2,7 @@ use Rattle.std.proofs.Common.{◌≡◌, ◌+◌, ◌-◌, ◌*◌, ◌<◌, ◌
 use Rattle.std.proofs.lemmas.List.{append_assoc}
 use Rattle.block_device.specs.Ranges.{bytes_in}
 use Rattle.block_device.specs.declared.steps.BlockStep.TheVariants.{Read, Whole, Merge}
-use Rattle.block_device.proofs.Merges.{put_whole, put_partly, bytes_in-cut}
+use Rattle.block_device.proofs.lemmas.Merges.{put_whole, put_partly, bytes_in-cut}
 use Rattle.block_device.proofs.cutting.add_put_steps.Goals as goal
 use Rattle.block_device.proofs.cutting.add_put_steps.Goals.{else-start-first-via-then-start-first+else-after-end, else-start-first-via-else-start-first}
 

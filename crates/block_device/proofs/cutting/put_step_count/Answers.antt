@@ -1,6 +1,6 @@
 use Rattle.std.proofs.Common.{◌≡◌, ◌+◌, ◌*◌, ◌<◌, ◌⊎◌, inl, inr, length, ap, sym, arith}
 use Rattle.block_device.specs.declared.steps.BlockStep.{BlockStep}
-use Rattle.block_device.proofs.Merges.{put_whole, put_partly}
+use Rattle.block_device.proofs.lemmas.Merges.{put_whole, put_partly}
 use Rattle.block_device.proofs.cutting.put_step_count.Goals as goal
 use Rattle.block_device.proofs.cutting.put_step_count.Goals.{else-start-first-via-then-start-first+else-after-end, else-start-first-via-else-start-first}
 

@@ -5,7 +5,7 @@ use Rattle.std.proofs.lemmas.List.{append-nil}
 use Rattle.block_device.specs.Ranges.{start_of, len_of, touched}
 use Rattle.block_device.specs.Steps.{steps_in}
 use Rattle.block_device.specs.declared.steps.BlockStep.{BlockStep}
-use Rattle.block_device.proofs.Touching.{IsWithin, within_if, range_more, touched_range, first_before_last}
+use Rattle.block_device.proofs.lemmas.Touching.{IsWithin, within_if, range_more, touched_range, first_before_last}
 use Rattle.block_device.proofs.cutting.step_count.Goals as goal
 
 pub loop-touched-preserved : goal.loop-touched-preserved

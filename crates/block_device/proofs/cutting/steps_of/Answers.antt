@@ -4,7 +4,7 @@ use Rattle.std.proofs.lemmas.List.Concat.{flat_map-append}
 use Rattle.std.proofs.lemmas.List.{append-nil}
 use Rattle.block_device.specs.Ranges.{start_of, len_of, touched}
 use Rattle.block_device.specs.Steps.{steps_in}
-use Rattle.block_device.proofs.Touching.{IsWithin, within_if, range_more, touched_range, first_before_last}
+use Rattle.block_device.proofs.lemmas.Touching.{IsWithin, within_if, range_more, touched_range, first_before_last}
 use Rattle.block_device.proofs.cutting.steps_of.Goals as goal
 
 pub loop-block-preserved : goal.loop-block-preserved

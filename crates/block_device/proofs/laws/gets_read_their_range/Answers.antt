@@ -1,4 +1,4 @@
-use Rattle.block_device.proofs.Reading.{get_gives, get_keeps}
+use Rattle.block_device.proofs.lemmas.Reading.{get_gives, get_keeps}
 use Rattle.block_device.proofs.laws.gets_read_their_range.Goals as goal
 
 pub returns-clause-given : goal.returns-clause-given

@@ -1,6 +1,6 @@
 use Rattle.std.proofs.Common.{◌+◌, ◌∙◌, arith}
 use Rattle.std.proofs.lemmas.Result.{IfOk-weaker}
-use Rattle.block_device.proofs.Merges.{merged_parts}
+use Rattle.block_device.proofs.lemmas.Merges.{merged_parts}
 use Rattle.block_device.proofs.merging.merge.Goals as goal
 
 pub returns-clause-value : goal.returns-clause-value

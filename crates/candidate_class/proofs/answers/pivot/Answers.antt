@@ -7,8 +7,8 @@ use Rattle.protocol.specs.Instance.{setting}
 use Rattle.protocol.specs.Operations.{stamps}
 use Rattle.candidate_class.specs.Answers.{by_node}
 use Rattle.candidate_class.specs.Stamps.{stamp_at}
-use Rattle.candidate_class.proofs.Nodes.{stamps_taken}
-use Rattle.candidate_class.proofs.Reaching.{highest_none}
+use Rattle.candidate_class.proofs.lemmas.Nodes.{stamps_taken}
+use Rattle.candidate_class.proofs.lemmas.Reaching.{highest_none}
 use Rattle.candidate_class.proofs.answers.pivot.Goals as goal
 
 pub returns-clause-value : goal.returns-clause-value

@@ -1,6 +1,6 @@
 use Rattle.std.proofs.Common.{◌<◌, ◌∙◌, length, arith, length-set}
 use Rattle.protocol.specs.Instance.{setting}
-use Rattle.candidate_class.proofs.Nodes.{stamps_next, node_below}
+use Rattle.candidate_class.proofs.lemmas.Nodes.{stamps_next, node_below}
 use Rattle.candidate_class.proofs.answers.stamps_of.Goals as goal
 
 pub loop-answer-preserved : goal.loop-answer-preserved

@@ -2,10 +2,10 @@ use Rattle.std.proofs.Common.{◌≤◌, ◌∙◌, ℕ, Bool, length, take, ap,
 use Rattle.protocol.specs.Count.{count}
 use Rattle.protocol.specs.Instance.{setting}
 use Rattle.protocol.specs.Operations.{valid}
-use Rattle.protocol.proofs.Seeing.{funext}
+use Rattle.protocol.proofs.lemmas.Seeing.{funext}
 use Rattle.candidate_class.specs.Answers.{by_node}
 use Rattle.candidate_class.specs.Stamps.{stamp_at, is_stamp}
-use Rattle.candidate_class.proofs.Nodes.{stamps_taken, is_stamp-stamp_of}
+use Rattle.candidate_class.proofs.lemmas.Nodes.{stamps_taken, is_stamp-stamp_of}
 use Rattle.candidate_class.proofs.answers.support.Goals as goal
 
 pub returns : goal.returns

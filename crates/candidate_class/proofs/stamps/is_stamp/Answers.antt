@@ -1,6 +1,6 @@
 use Rattle.std.proofs.Common.{◌∙◌, ap}
 use Rattle.std.specs.Ordering.{is_eq}
-use Rattle.candidate_class.proofs.Compared.{same_by_fields}
+use Rattle.candidate_class.proofs.lemmas.Compared.{same_by_fields}
 use Rattle.candidate_class.proofs.stamps.is_stamp.Goals as goal
 
 pub returns-in-Some : goal.returns-in-Some

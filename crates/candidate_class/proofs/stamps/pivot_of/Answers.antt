@@ -1,6 +1,6 @@
 use Rattle.std.proofs.Common.{◌≡◌, length, arith}
 use Rattle.candidate_class.specs.Stamps.{stamp_at}
-use Rattle.candidate_class.proofs.Reaching.{highest_none}
+use Rattle.candidate_class.proofs.lemmas.Reaching.{highest_none}
 use Rattle.candidate_class.proofs.stamps.pivot_of.Goals as goal
 
 pub returns-clause-none : goal.returns-clause-none

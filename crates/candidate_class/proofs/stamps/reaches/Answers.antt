@@ -1,6 +1,6 @@
 use Rattle.std.proofs.Common.{◌∙◌, ap}
 use Rattle.std.specs.Ordering.{is_le}
-use Rattle.stamp_order.proofs.Orders.{up_to_by_fields}
+use Rattle.stamp_order.proofs.lemmas.Orders.{up_to_by_fields}
 use Rattle.candidate_class.proofs.stamps.reaches.Goals as goal
 
 pub returns-in-Some : goal.returns-in-Some

@@ -2,7 +2,7 @@ use Rattle.std.proofs.Common.{◌≡◌, ◌||◌, false, sym, ◌∙◌, ap, ar
 use Rattle.std.proofs.lemmas.Bool.Decides.{nat_tests}
 use Rattle.std.specs.Ordering.{is_eq}
 use Rattle.stamp_order.specs.Stamps.{same_stamp}
-use Rattle.candidate_class.proofs.Compared.{same_by_fields}
+use Rattle.candidate_class.proofs.lemmas.Compared.{same_by_fields}
 use Rattle.candidate_class.proofs.validity.has_time.Goals as goal
 
 pub returns-else-version-gt0 : goal.returns-else-version-gt0

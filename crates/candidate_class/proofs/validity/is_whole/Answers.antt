@@ -1,7 +1,7 @@
 use Rattle.std.proofs.Common.{◌<◌, ◌||◌, true, false, length, refl, sym, ◌∙◌, ap, ltb}
 use Rattle.stamp_order.specs.Stamps.{same_stamp}
 use Rattle.protocol.specs.Instance.{setting}
-use Rattle.candidate_class.proofs.Compared.{whole_by_parts, lengths_tell, same_tells, entry_tells}
+use Rattle.candidate_class.proofs.lemmas.Compared.{whole_by_parts, lengths_tell, same_tells, entry_tells}
 use Rattle.candidate_class.proofs.validity.is_whole.Goals as goal
 
 pub returns-then-not-has_verifier : goal.returns-then-not-has_verifier

@@ -6,7 +6,7 @@ use Rattle.phase_threads.specs.Standing.{journal_at}
 use Rattle.phase_threads.specs.declared.duty.Seat.{Seat}
 use Rattle.client_work.specs.declared.work.Work.{Work}
 use Rattle.client_threads.specs.Running.{desks_of}
-use Rattle.crews.proofs.Places.{walk_end}
+use Rattle.crews.proofs.lemmas.Places.{walk_end}
 use Rattle.client_threads.proofs.Together.{one_finished}
 use Rattle.client_threads.proofs.closing.finish_desks.Goals as goal
 

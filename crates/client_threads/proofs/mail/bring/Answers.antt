@@ -1,4 +1,4 @@
-use Rattle.locked_nodes.proofs.Aside.{aside_then}
+use Rattle.locked_nodes.proofs.lemmas.Aside.{aside_then}
 use Rattle.client_threads.proofs.Mailing.{keeps_then, delivers_aside, none_left}
 use Rattle.client_threads.proofs.mail.bring.Goals as goal
 

@@ -1,13 +1,13 @@
 use Rattle.std.proofs.Common.{◌≡◌, ◌+◌, get_or, arith, set}
 use Rattle.std.proofs.lemmas.Option.{slice_get-get_or}
 use Rattle.locked_nodes.specs.Cells.{KeptCell, HasNoLateMail, HasMoreAside}
-use Rattle.locked_nodes.proofs.Aside.{aside_none}
+use Rattle.locked_nodes.proofs.lemmas.Aside.{aside_none}
 use Rattle.client_threads.proofs.Stepping.{partly_all, partly_stays, partly_old, partly_long}
 use Rattle.client_threads.proofs.Stepping.Partly.{Same}
 use Rattle.client_threads.proofs.Keepers.{partly_map, partly_next, zip_right, set_all}
 use Rattle.client_threads.proofs.Mailing.{HasAllAside, same_desk, keeps_then}
 use Rattle.client_threads.proofs.mail.bring_all.Goals as goal
-use Rattle.lists.proofs.Members.{all_at}
+use Rattle.lists.proofs.lemmas.Members.{all_at}
 
 pub loop-cell-init : goal.loop-cell-init
 loop-cell-init g c = (same_desk c.args.courier.now, Same c.args.cells.now, c.know_cells.ensures)

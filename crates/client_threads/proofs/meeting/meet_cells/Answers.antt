@@ -7,7 +7,7 @@ use Rattle.client_threads.proofs.Stepping.Partly.{Same}
 use Rattle.client_threads.proofs.Working.{zip_map}
 use Rattle.client_threads.proofs.Keepers.{MeetsCell, same_keeper, keeper_on, meets_cell, cells_on, zip_right, partly_next}
 use Rattle.client_threads.proofs.meeting.meet_cells.Goals as goal
-use Rattle.lists.proofs.Members.{all_at}
+use Rattle.lists.proofs.lemmas.Members.{all_at}
 
 pub loop-cell-init : goal.loop-cell-init
 loop-cell-init c = (same_keeper c.args.keeper.now, Same c.args.cells.now)

@@ -9,7 +9,7 @@ use Rattle.client_threads.proofs.Stepping.Partly.{Same}
 use Rattle.client_threads.proofs.Working.{zip_map}
 use Rattle.client_threads.proofs.Keepers.{MeetsSeat, same_keeper, keeper_on, meets_seat, seats_on, zip_right, all_desks, partly_next}
 use Rattle.client_threads.proofs.meeting.meet_desks.Goals as goal
-use Rattle.lists.proofs.Members.{all_at}
+use Rattle.lists.proofs.lemmas.Members.{all_at}
 
 pub loop-seat-init : goal.loop-seat-init
 loop-seat-init c = (same_keeper c.args.keeper.now, Same c.args.seats.now)

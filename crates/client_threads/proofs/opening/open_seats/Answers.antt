@@ -7,7 +7,7 @@ use Rattle.phase_threads.specs.declared.duty.Seat.{Seat}
 use Rattle.client_work.specs.declared.work.Work.{Work}
 use Rattle.event_clock.specs.Passes.{ClockId}
 use Rattle.client_threads.specs.Opened.{IsUnusedPass, IsNewSeat}
-use Rattle.crews.proofs.Places.{walk_on}
+use Rattle.crews.proofs.lemmas.Places.{walk_on}
 use Rattle.client_threads.proofs.Walking.{made_more}
 use Rattle.client_threads.proofs.opening.open_seats.Goals as goal
 

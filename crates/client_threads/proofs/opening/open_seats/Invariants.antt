@@ -3,7 +3,7 @@ use Rattle.std.specs.Vec.Iter.{into_iter_items, into_iter_len}
 use Rattle.client_work.specs.declared.task.Task.{Task}
 use Rattle.client_work.specs.Tasks.{client_of}
 use Rattle.client_threads.specs.Opened.{IsUnusedPass, IsNewSeat}
-use Rattle.crews.proofs.Places.{Walked}
+use Rattle.crews.proofs.lemmas.Places.{Walked}
 use Rattle.client_threads.proofs.opening.open_seats.Given as goal
 
 -- the tasks so far have their seats

@@ -1,7 +1,7 @@
 use Rattle.std.proofs.Common.{◌≡◌, Some, None, ap, sym, ◌∙◌}
 use Rattle.text_lines.specs.Lines.{fields_of, texts}
 use Rattle.line_forms.specs.Heads.{cluster_fields}
-use Rattle.line_forms.proofs.Accepted.{cluster_apart}
+use Rattle.line_forms.proofs.lemmas.Accepted.{cluster_apart}
 use Rattle.cluster_file.proofs.Printed.{other_line}
 use Rattle.cluster_file.proofs.reading.config_in.Goals as goal
 use Rattle.cluster_file.proofs.reading.config_in.Goals.{in_default-via-in-Some+in_ok-is_cluster_line+else-branch, in_default-via-in_default}

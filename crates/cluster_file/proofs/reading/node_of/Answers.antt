@@ -1,6 +1,6 @@
 use Rattle.std.proofs.Common.{◌≡◌, ◌<◌, Some, None, sym, ◌∙◌, arith, lit≤}
 use Rattle.text_lines.specs.Fields.{number_of}
-use Rattle.text_lines.proofs.Numbers.{number_of-some}
+use Rattle.text_lines.proofs.lemmas.Numbers.{number_of-some}
 use Rattle.cluster_file.proofs.Printed.{one_number, no_number}
 use Rattle.cluster_file.proofs.reading.node_of.Goals as goal
 

@@ -3,7 +3,7 @@ use Rattle.std.proofs.Common.{◌≡◌, ℕ, ◌++◌, ◌∷◌, [], vec_len, 
 use Rattle.std.specs.Vec.Iter.{into_iter_items, into_iter_len}
 use Rattle.crews.specs.declared.at_once.Begun.{Begun}
 use Rattle.crews.specs.Starts.{IsBegun, lock_of}
-use Rattle.crews.proofs.Places.{none_filled, one_filled, all_filled, none_all, one_all, room_first, room_one, room_some, walk_begin, walk_on}
+use Rattle.crews.proofs.lemmas.Places.{none_filled, one_filled, all_filled, none_all, one_all, room_first, room_one, room_some, walk_begin, walk_on}
 use Rattle.crews.proofs.at_once.begin_all.Goals as goal
 
 pub loop-post-init : goal.loop-post-init

@@ -2,7 +2,7 @@ use Rattle.std.proofs.Common.{◌≡◌, ◌≤◌, ◌+◌, List, All, vec_len,
 use Rattle.std.specs.Vec.Iter.{into_iter_items, into_iter_len}
 use Rattle.crews.specs.Crews.{Beside}
 use Rattle.crews.specs.Starts.{IsBegun, lock_of}
-use Rattle.crews.proofs.Places.{Walked}
+use Rattle.crews.proofs.lemmas.Places.{Walked}
 use Rattle.crews.proofs.at_once.begin_all.Given as goal
 
 -- the posts so far have begun, and there is room for the rest

@@ -4,7 +4,7 @@ use Rattle.std.specs.Vec.Iter.{into_iter_items, into_iter_len}
 use Rattle.crews.specs.declared.at_once.Begun.{Begun}
 use Rattle.crews.specs.Starts.{IsBegun, GoesBy, lock_of}
 use Rattle.crews.proofs.Goings.{by_same_word}
-use Rattle.crews.proofs.Places.{none_filled, one_filled, all_filled, room_first, room_one, walk_begin, walk_on, walked_at}
+use Rattle.crews.proofs.lemmas.Places.{none_filled, one_filled, all_filled, room_first, room_one, walk_begin, walk_on, walked_at}
 use Rattle.crews.proofs.at_once.finish_all.Goals as goal
 
 pub loop-one-init : goal.loop-one-init

@@ -3,7 +3,7 @@ use Rattle.std.specs.Vec.Iter.{into_iter_items, into_iter_len}
 use Rattle.crews.specs.declared.at_once.Begun.{Begun}
 use Rattle.crews.specs.Crews.{Beside}
 use Rattle.crews.specs.Starts.{IsBegun, GoesBy}
-use Rattle.crews.proofs.Places.{Walked}
+use Rattle.crews.proofs.lemmas.Places.{Walked}
 use Rattle.crews.proofs.at_once.finish_all.Given as goal
 
 -- the posts so far have ended, and there is room for the rest

@@ -8,7 +8,7 @@ use Rattle.event_lines.specs.Lines.{IsSpelled}
 use Rattle.event_lines.specs.Rests.{field_count}
 use Rattle.event_lines.specs.declared.word.Form.TheVariants.{Mix}
 use Rattle.event_lines.proofs.event.read_fields.Goals as goal
-use Rattle.line_forms.proofs.Texts.{six_texts}
+use Rattle.line_forms.proofs.lemmas.Texts.{six_texts}
 
 pub returns-in-Resend : goal.returns-in-Resend
 returns-in-Resend c = let h = c.resend.ensures c.args.config.now in first_of (search rules, grind (arith, common_steps))

@@ -1,5 +1,5 @@
-use Rattle.event_lines.proofs.Accepted.{event_apart}
-use Rattle.event_lines.proofs.Lines.{one_line, no_liar, event_printed}
+use Rattle.event_lines.proofs.lemmas.Accepted.{event_apart}
+use Rattle.event_lines.proofs.lemmas.Lines.{one_line, no_liar, event_printed}
 use Rattle.event_lines.proofs.laws.event_lines_are_lines.Goals as goal
 
 pub returns-clause-apart : goal.returns-clause-apart

@@ -1,5 +1,5 @@
-use Rattle.event_lines.proofs.Accepted.{event_accepted}
-use Rattle.event_lines.proofs.Unique.{one_event}
+use Rattle.event_lines.proofs.lemmas.Accepted.{event_accepted}
+use Rattle.event_lines.proofs.lemmas.Unique.{one_event}
 use Rattle.event_lines.proofs.laws.event_lines_have_one_text.Goals as goal
 
 pub returns-clause-accepted : goal.returns-clause-accepted

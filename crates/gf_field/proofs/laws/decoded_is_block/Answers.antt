@@ -1,4 +1,4 @@
-use Rattle.gf_field.proofs.Blocks as lemmas
+use Rattle.gf_field.proofs.lemmas.Blocks as lemmas
 use Rattle.gf_field.proofs.laws.decoded_is_block.Goals as goal
 
 pub returns : goal.returns

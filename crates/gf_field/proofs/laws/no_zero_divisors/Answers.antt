@@ -1,4 +1,4 @@
-use Rattle.gf_field.proofs.FieldLaws as lemmas
+use Rattle.gf_field.proofs.lemmas.FieldLaws as lemmas
 use Rattle.gf_field.proofs.laws.no_zero_divisors.Goals as goal
 
 pub returns : goal.returns

@@ -1,4 +1,4 @@
-use Rattle.gf_field.proofs.Blocks as lemmas
+use Rattle.gf_field.proofs.lemmas.Blocks as lemmas
 use Rattle.gf_field.proofs.laws.zeros_give_zeros.Goals as goal
 
 pub returns : goal.returns

@@ -8,7 +8,7 @@ use Rattle.history_book.specs.Reports.{end_fields}
 use Rattle.history_book.specs.ReportTexts.{field, count_numbers, end_causes, has_other_name, done_count, AreCounts}
 use Rattle.history_book.proofs.OtherLines.{counts_right}
 use Rattle.history_book.proofs.end_line.counts_in.Goals as goal
-use Rattle.line_forms.proofs.Texts.{six_texts}
+use Rattle.line_forms.proofs.lemmas.Texts.{six_texts}
 
 pub returns : goal.returns
 returns c =

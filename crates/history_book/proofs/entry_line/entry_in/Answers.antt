@@ -5,13 +5,13 @@ use Rattle.text_lines.specs.Lines.{texts}
 use Rattle.text_lines.specs.Fields.{value_of}
 use Rattle.line_forms.specs.Kinds.{has_empty_field}
 use Rattle.line_forms.specs.Tables.{first_of}
-use Rattle.line_forms.proofs.Tables.{gives_same}
+use Rattle.line_forms.proofs.lemmas.Tables.{gives_same}
 use Rattle.history_making.specs.declared.entry.Entry.{Entry}
 use Rattle.history_book.specs.Reports.{entry_fields}
 use Rattle.history_book.specs.ReportTexts.{kind_told, numbers_told, entry_with, entry_causes, entry_told, value_causes, MayFollow, IsRightAfter}
 use Rattle.history_book.proofs.EntryLines.{Seven, no_numbers, with_numbers, follows}
 use Rattle.history_book.proofs.entry_line.entry_in.Goals as goal
-use Rattle.line_forms.proofs.Texts.{seven_texts}
+use Rattle.line_forms.proofs.lemmas.Texts.{seven_texts}
 
 pub returns-in_default-numbers_of : goal.returns-in_default-numbers_of
 returns-in_default-numbers_of c =

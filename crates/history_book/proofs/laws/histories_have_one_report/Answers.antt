@@ -1,4 +1,4 @@
-use Rattle.history_book.proofs.PrintedReports.{report_accepted, one_report}
+use Rattle.history_book.proofs.lemmas.PrintedReports.{report_accepted, one_report}
 use Rattle.history_book.proofs.laws.histories_have_one_report.Goals as goal
 
 pub returns-clause-accepted : goal.returns-clause-accepted

@@ -1,7 +1,7 @@
 use Rattle.std.proofs.Common.{◌≡◌, ◌<◌, ◌^◌, List, length, Option, Some, None, sym, ap, subst, ◌∙◌, arith}
 use Rattle.text_lines.specs.Lines.{fields_of}
 use Rattle.line_forms.specs.Texts.{IsRefusal}
-use Rattle.line_forms.proofs.Tables.{refusal_here, err_is}
+use Rattle.line_forms.proofs.lemmas.Tables.{refusal_here, err_is}
 use Rattle.history_making.specs.declared.entry.Entry.{Entry}
 use Rattle.history_making.specs.declared.entry.Spent.{Spent}
 use Rattle.history_making.specs.declared.entry.Counts.{Counts}

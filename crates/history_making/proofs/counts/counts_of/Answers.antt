@@ -2,7 +2,7 @@ use Rattle.std.proofs.Common.{sym, ◌∙◌}
 use Rattle.protocol.specs.Seen.{record_of}
 use Rattle.protocol.specs.World.{Record}
 use Rattle.protocol.specs.Report.{is_done, is_spent, is_pending, is_repaired}
-use Rattle.history_making.proofs.Counted.{count_by-map}
+use Rattle.history_making.proofs.lemmas.Counted.{count_by-map}
 use Rattle.history_making.proofs.counts.counts_of.Goals as goal
 
 pub returns : goal.returns

@@ -1,6 +1,6 @@
 use Rattle.std.proofs.Common.{rules}
 use Rattle.std.proofs.lemmas.List.Sorted.{ranks_by, IsPermutation-map, answers_always}
-use Rattle.protocol.proofs.Entries.{entry_total}
+use Rattle.protocol.proofs.lemmas.Entries.{entry_total}
 use Rattle.history_making.specs.Drafts.{entry_of, entries_of}
 use Rattle.history_making.proofs.Sorting.{is_below, sorted_drafts, starts_permuted}
 use Rattle.history_making.proofs.sweep.sort.Goals as goal

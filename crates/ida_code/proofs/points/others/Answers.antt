@@ -1,6 +1,6 @@
 use Rattle.std.proofs.Common.{sym, arith}
-use Rattle.gf_field.proofs.FieldLaws.{product-lt}
-use Rattle.gf_field.proofs.Sums.{product_below-none, total-lt}
+use Rattle.gf_field.proofs.lemmas.FieldLaws.{product-lt}
+use Rattle.gf_field.proofs.lemmas.Sums.{product_below-none, total-lt}
 use Rattle.ida_code.proofs.Weights.{others_step_in, others_step_out, others_end}
 use Rattle.ida_code.proofs.points.others.Goals as goal
 use Rattle.ida_code.proofs.points.others.Goals.{then-l-k, else-l-k}

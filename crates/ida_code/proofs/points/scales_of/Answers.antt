@@ -1,5 +1,5 @@
 use Rattle.std.proofs.Common.{◌<◌, sym, subst, arith}
-use Rattle.gf_field.proofs.Lagrange.{others-positive}
+use Rattle.gf_field.proofs.lemmas.Lagrange.{others-positive}
 use Rattle.ida_code.proofs.Weights.{elements-from}
 use Rattle.ida_code.proofs.points.scales_of.Goals as goal
 

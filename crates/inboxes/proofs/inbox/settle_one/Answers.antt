@@ -2,7 +2,7 @@ use Rattle.std.proofs.Common.{ap, ◌∙◌}
 use Rattle.crossbeam_channel.specs.Claims.{view}
 use Rattle.inboxes.specs.declared.rule.View.{View}
 use Rattle.inboxes.specs.Posts.{items_of, has_ended}
-use Rattle.inboxes.proofs.SenderWords.{last_ends}
+use Rattle.inboxes.proofs.lemmas.SenderWords.{last_ends}
 use Rattle.inboxes.proofs.RuleIsKept.{tells, listens, learns}
 use Rattle.inboxes.proofs.inbox.settle_one.Goals as goal
 

@@ -1,5 +1,5 @@
 -- The lemma of `Ongoing`.
-use Rattle.journal_records.proofs.Ongoing.{are_told}
+use Rattle.journal_records.proofs.lemmas.Ongoing.{are_told}
 use Rattle.journal_records.proofs.laws.open_records.Goals as goal
 
 pub returns : goal.returns

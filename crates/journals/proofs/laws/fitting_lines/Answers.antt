@@ -1,5 +1,5 @@
 -- The lemma of `Fitting`.
-use Rattle.journals.proofs.Fitting.{all_fit}
+use Rattle.journals.proofs.lemmas.Fitting.{all_fit}
 use Rattle.journals.proofs.laws.fitting_lines.Goals as goal
 
 pub returns : goal.returns

@@ -1,6 +1,6 @@
 -- What the induction over the steps gives, from the laws of runs.
 use Rattle.journals.proofs.Cited.{Laws}
-use Rattle.journals.proofs.Law.{all_reach, are_run, all_recorded}
+use Rattle.journals.proofs.lemmas.Law.{all_reach, are_run, all_recorded}
 use Rattle.journals.proofs.laws.merged_runs.Goals as goal
 
 pub returns : goal.returns

@@ -1,5 +1,5 @@
 -- Lemmas of `Law`.
-use Rattle.journals.proofs.Law.{merge_once, are_ordered, are_numbered, are_shown}
+use Rattle.journals.proofs.lemmas.Law.{merge_once, are_ordered, are_numbered, are_shown}
 use Rattle.journals.proofs.laws.one_merge.Goals as goal
 
 pub returns-clause-once : goal.returns-clause-once

@@ -3,7 +3,7 @@ use Rattle.protocol.specs.Messages.{Version}
 use Rattle.protocol.specs.Lines.{flipped}
 use Rattle.wire_forms.specs.declared.message.Reply.TheVariants.{Found}
 use Rattle.protocol.specs.Seen.{as_version}
-use Rattle.protocol.proofs.Firsts.{first_is}
+use Rattle.protocol.proofs.lemmas.Firsts.{first_is}
 use Rattle.liar_rules.proofs.answers.reply.Goals as goal
 
 -- the version with a damaged fragment

@@ -7,9 +7,9 @@ use Rattle.quorum_rules.specs.Limits.{Numbers, IsValid}
 use Rattle.text_lines.specs.Lines.{texts}
 use Rattle.line_forms.specs.Kinds.{has_empty_field}
 use Rattle.line_forms.specs.Heads.{cluster_fields}
-use Rattle.line_forms.proofs.Clusters.{wrong_count, bad_number, spelled}
+use Rattle.line_forms.proofs.lemmas.Clusters.{wrong_count, bad_number, spelled}
 use Rattle.line_forms.specs.declared.cause.Cause.TheVariants.{BadNumber}
-use Rattle.line_forms.proofs.Tables.{gives_same, gives_cause}
+use Rattle.line_forms.proofs.lemmas.Tables.{gives_same, gives_cause}
 use Rattle.line_forms.proofs.cluster.config_in.Goals as goal
 use Rattle.line_forms.proofs.cluster.config_in.Goals.{then-fields-ne7-via-then-fields-ne7, then-fields-ne7-via-else-fields-ne7+then-has_empty}
 

@@ -1,6 +1,6 @@
 use Rattle.std.proofs.Common.{◌≡◌, ℕ, List, [], ◌∷◌, false, Some, None, refl, sym, ◌∙◌}
 use Rattle.text_lines.specs.Fields.{value_of, value_text, IsBytes}
-use Rattle.text_lines.proofs.Values.{value_of-some}
+use Rattle.text_lines.proofs.lemmas.Values.{value_of-some}
 use Rattle.line_forms.specs.Kinds.{form_cause, has_empty_field}
 use Rattle.line_forms.specs.Kinds.Kind.{bytes}
 use Rattle.line_forms.proofs.fields.any_value.Goals as goal

@@ -1,7 +1,7 @@
 use Rattle.std.proofs.Common.{◌≡◌, ℕ, List, [], ◌∷◌, length, Some, None, refl, sym, ◌∙◌}
 use Rattle.std.proofs.lemmas.Bool.{eq-eqb}
 use Rattle.text_lines.specs.Fields.{value_of, value_text, IsBytes}
-use Rattle.text_lines.proofs.Values.{value_of-some}
+use Rattle.text_lines.proofs.lemmas.Values.{value_of-some}
 use Rattle.line_forms.specs.Kinds.{has_other_length}
 use Rattle.line_forms.specs.Tables.{first_of}
 use Rattle.line_forms.specs.declared.cause.Cause.TheVariants.{BadValue}

@@ -3,8 +3,8 @@ use Rattle.quorum_rules.specs.Limits.{Numbers}
 use Rattle.text_lines.specs.Lines.{fields_of}
 use Rattle.line_forms.specs.Heads.{script, IsSpelled, edition_in}
 use Rattle.line_forms.proofs.Heads.{bad_header, header_read, never_third, cluster_fault, head_read}
-use Rattle.line_forms.proofs.Tables.{refusal_here}
-use Rattle.line_forms.proofs.Texts.{rest_of_two}
+use Rattle.line_forms.proofs.lemmas.Tables.{refusal_here}
+use Rattle.line_forms.proofs.lemmas.Texts.{rest_of_two}
 use Rattle.line_forms.proofs.head.read_head.Goals as goal
 
 pub returns-in_default-clause-fault : goal.returns-in_default-clause-fault

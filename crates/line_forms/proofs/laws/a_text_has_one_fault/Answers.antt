@@ -1,4 +1,4 @@
-use Rattle.line_forms.proofs.Texts.{one_fault, no_fault}
+use Rattle.line_forms.proofs.lemmas.Texts.{one_fault, no_fault}
 use Rattle.line_forms.proofs.laws.a_text_has_one_fault.Goals as goal
 
 pub returns-clause-one : goal.returns-clause-one

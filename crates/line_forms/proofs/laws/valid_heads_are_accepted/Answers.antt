@@ -1,4 +1,4 @@
-use Rattle.line_forms.proofs.Accepted.{head_accepted, numbers_back}
+use Rattle.line_forms.proofs.lemmas.Accepted.{head_accepted, numbers_back}
 use Rattle.line_forms.proofs.laws.valid_heads_are_accepted.Goals as goal
 
 pub returns-clause-read : goal.returns-clause-read

@@ -1,5 +1,5 @@
 -- The law is a lemma of `Runs`, by the laws of the protocol.
-use Rattle.linear_runs.proofs.Runs.{linearizable, takes_time}
+use Rattle.linear_runs.proofs.lemmas.Runs.{linearizable, takes_time}
 use Rattle.linear_runs.proofs.Unknown.{agree_on}
 use Rattle.linear_runs.proofs.Whole.{one_order}
 use Rattle.protocol.specs.Instance.{setting_of}

@@ -1,5 +1,5 @@
 -- Lemmas of `Joins`.
-use Rattle.locked_nodes.proofs.Joins.{join_has, join_sum, join_ascends, join_own, join_other, join_grows}
+use Rattle.locked_nodes.proofs.lemmas.Joins.{join_has, join_sum, join_ascends, join_own, join_other, join_grows}
 use Rattle.locked_nodes.proofs.laws.joined_journals.Goals as goal
 
 pub returns : goal.returns

@@ -1,4 +1,4 @@
-use Rattle.message_texts.proofs.Unique.{message_unique}
+use Rattle.message_texts.proofs.lemmas.Unique.{message_unique}
 use Rattle.message_texts.proofs.laws.texts_are_unique.Goals as goal
 
 pub returns : goal.returns

@@ -1,4 +1,4 @@
-use Rattle.message_texts.proofs.Printed.{after_field}
+use Rattle.message_texts.proofs.lemmas.Printed.{after_field}
 use Rattle.message_texts.proofs.printing.add_ask.Goals as goal
 
 pub returns : goal.returns

@@ -1,4 +1,4 @@
-use Rattle.message_texts.proofs.Printed.{after_field}
+use Rattle.message_texts.proofs.lemmas.Printed.{after_field}
 use Rattle.message_texts.proofs.printing.add_bound.Goals as goal
 
 pub returns-in_ok-add_field-in-AtMost : goal.returns-in_ok-add_field-in-AtMost

@@ -1,6 +1,6 @@
 use Rattle.std.proofs.Common.{◌++◌, ◌∙◌, List, ℕ, ap, arith}
 use Rattle.hex.specs.Hex.{encode_lower, encode_with}
-use Rattle.message_texts.proofs.Printed.{next_digest, all_digests}
+use Rattle.message_texts.proofs.lemmas.Printed.{next_digest, all_digests}
 use Rattle.message_texts.proofs.printing.add_sum.Goals as goal
 
 pub loop-i-init : goal.loop-i-init

@@ -1,6 +1,6 @@
 use Rattle.cross_sum.specs.Digest.{flat}
 use Rattle.std.proofs.Common.{◌≡◌, ◌*◌, ◌+◌, take, length, All, List, ℕ, sym, subst, arith}
-use Rattle.message_texts.proofs.Spelling.{one_digest_more, all_32_more}
+use Rattle.message_texts.proofs.lemmas.Spelling.{one_digest_more, all_32_more}
 use Rattle.message_texts.proofs.reading.digests.Goals as goal
 
 pub loop-i-preserved : goal.loop-i-preserved

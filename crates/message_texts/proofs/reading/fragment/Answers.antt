@@ -1,5 +1,5 @@
 use Rattle.std.proofs.Common.{sym, ◌∙◌, arith}
-use Rattle.message_texts.proofs.Spelling.{fragment_needs_value, fragment_too_long, fragment_spelled}
+use Rattle.message_texts.proofs.lemmas.Spelling.{fragment_needs_value, fragment_too_long, fragment_spelled}
 use Rattle.message_texts.proofs.reading.fragment.Goals as goal
 
 pub returns-in_default : goal.returns-in_default

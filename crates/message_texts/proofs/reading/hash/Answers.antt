@@ -1,5 +1,5 @@
 use Rattle.std.proofs.Common.{sym}
-use Rattle.message_texts.proofs.Spelling.{capital_spells_none, hash_spelled}
+use Rattle.message_texts.proofs.lemmas.Spelling.{capital_spells_none, hash_spelled}
 use Rattle.message_texts.proofs.reading.hash.Goals as goal
 
 pub returns-then-has_capital : goal.returns-then-has_capital

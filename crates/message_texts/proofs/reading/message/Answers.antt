@@ -2,7 +2,7 @@ use Rattle.std.proofs.Common.{◌∙◌, ap}
 use Rattle.std.proofs.lemmas.Result.{IfOk-weaker}
 use Rattle.text_lines.specs.Lines.{texts}
 use Rattle.message_texts.specs.Texts.{Spells, IsMessage, message_fields, text_of}
-use Rattle.message_texts.proofs.Fields.{text_spelled}
+use Rattle.message_texts.proofs.lemmas.Fields.{text_spelled}
 use Rattle.message_texts.proofs.reading.message.Goals as goal
 
 pub returns : goal.returns

@@ -1,5 +1,5 @@
 use Rattle.std.proofs.Common.{[], sym}
-use Rattle.message_texts.proofs.Fields.{message_spelled}
+use Rattle.message_texts.proofs.lemmas.Fields.{message_spelled}
 use Rattle.message_texts.proofs.reading.message_of.Goals as goal
 
 pub returns : goal.returns

@@ -1,5 +1,5 @@
 use Rattle.std.proofs.Common.{sym}
-use Rattle.message_texts.proofs.Spelling.{stamp_needs_time, stamp_needs_client, stamp_time_spelled, stamp_client_spelled, stamp_hash_spelled, stamp_spelled}
+use Rattle.message_texts.proofs.lemmas.Spelling.{stamp_needs_time, stamp_needs_client, stamp_time_spelled, stamp_client_spelled, stamp_hash_spelled, stamp_spelled}
 use Rattle.message_texts.proofs.reading.stamp.Goals as goal
 
 pub returns-in_err-time : goal.returns-in_err-time

@@ -1,5 +1,5 @@
 use Rattle.std.proofs.Common.{sym, ◌∙◌, arith}
-use Rattle.message_texts.proofs.Spelling.{sum_needs_value, sum_of_other_length, sum_spelled}
+use Rattle.message_texts.proofs.lemmas.Spelling.{sum_needs_value, sum_of_other_length, sum_spelled}
 use Rattle.message_texts.proofs.reading.sum.Goals as goal
 use Rattle.message_texts.proofs.reading.sum.Goals.{then-len-ne0-via-then-len-ne0, then-len-ne0-via-else-len-ne0+then-len-gt1024}
 

@@ -2,7 +2,7 @@ use Rattle.std.proofs.Common.{◌≡◌, ◌∙◌, ap, length, arith}
 use Rattle.quorum_rules.specs.Limits.{Numbers}
 use Rattle.node_device.specs.Held.{held_at}
 use Rattle.nbd_front.proofs.array.merged_block.Goals as goal
-use Rattle.block_device.proofs.Merges.{merged_whole}
+use Rattle.block_device.proofs.lemmas.Merges.{merged_whole}
 
 pub returns-then-piece-size-clause-value : goal.returns-then-piece-size-clause-value
 returns-then-piece-size-clause-value c =

@@ -1,6 +1,6 @@
 use Rattle.std.proofs.Common.{◌≡◌, ◌+◌, ◌*◌, ◌<◌, ◌≤◌, ◌++◌, ◌∙◌, ap, subst, sym, arith, slice_range}
 use Rattle.quorum_rules.specs.Limits.{Numbers}
-use Rattle.quorum_rules.proofs.FaultLaws.{blocks_at_most}
+use Rattle.quorum_rules.proofs.lemmas.FaultLaws.{blocks_at_most}
 use Rattle.node_device.specs.Devices.{SeenDevice}
 use Rattle.nbd_front.specs.Arrays.{array_of}
 use Rattle.nbd_front.proofs.Progress.{step, ends}

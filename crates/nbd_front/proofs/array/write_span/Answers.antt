@@ -5,7 +5,7 @@ use Rattle.std.proofs.lemmas.Bool.{eqb-true, eqb-false}
 use Rattle.std.proofs.lemmas.List.{nil_from_length}
 use Rattle.block_device.specs.Ranges.{is_touched}
 use Rattle.quorum_rules.specs.Limits.{Numbers}
-use Rattle.quorum_rules.proofs.FaultLaws.{blocks_at_most}
+use Rattle.quorum_rules.proofs.lemmas.FaultLaws.{blocks_at_most}
 use Rattle.block_device.specs.Device.{merged}
 use Rattle.node_device.specs.Devices.{SeenDevice}
 use Rattle.nbd_front.specs.Arrays.{array_of, once, time_at}

@@ -2,7 +2,7 @@ use Rattle.std.proofs.lemmas.Grind.{common_steps}
 use Rattle.nbd_front.specs.declared.filling.TakeRefusal.TheVariants.{ReadFault, NoMemory}
 use Rattle.std.proofs.Common.{rules, Err, ◌≡◌, ◌<◌, ◌++◌, length, sym, ◌∙◌, ap, arith, length-append}
 use Rattle.std.specs.Int.{w32, from_be_bytes}
-use Rattle.outside_io.proofs.Known.{Consumes-then}
+use Rattle.outside_io.proofs.lemmas.Known.{Consumes-then}
 use Rattle.nbd_front.specs.Requests.{request_magic, fields_of}
 use Rattle.nbd_front.proofs.Joined.{magic_joined, request_joined}
 use Rattle.nbd_front.proofs.arrival.read_request.Goals as goal

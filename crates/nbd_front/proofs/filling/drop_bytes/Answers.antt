@@ -1,6 +1,6 @@
 use Rattle.std.proofs.Common.{◌≡◌, ◌≤◌, ◌+◌, ◌++◌, ◌∙◌, length, take, arith, length-append}
 use Rattle.std.proofs.lemmas.List.{length-take}
-use Rattle.outside_io.proofs.Known.{Consumes-then}
+use Rattle.outside_io.proofs.lemmas.Known.{Consumes-then}
 use Rattle.nbd_front.proofs.filling.drop_bytes.Goals as goal
 
 pub loop-dropped-preserved : goal.loop-dropped-preserved

@@ -1,6 +1,6 @@
 use Rattle.std.proofs.Common.{◌≡◌, ◌≤◌, ◌+◌, length, take, arith}
 use Rattle.std.proofs.lemmas.List.{length-take}
-use Rattle.outside_io.proofs.Known.{gave_more}
+use Rattle.outside_io.proofs.lemmas.Known.{gave_more}
 use Rattle.nbd_front.proofs.filling.take_bytes.Goals as goal
 
 pub returns-in_err-extend_from_slice-in-Ok-clause-most : goal.returns-in_err-extend_from_slice-in-Ok-clause-most

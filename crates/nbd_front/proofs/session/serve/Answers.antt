@@ -3,7 +3,7 @@ use Rattle.std.proofs.lemmas.Grind.{common_steps}
 use Rattle.std.proofs.Common.{arith}
 use Rattle.outside_io.specs.Causes.{Rose}
 use Rattle.outside_io.specs.Written.{Adds, TakesPrefix}
-use Rattle.outside_io.proofs.Known.{Consumes-none}
+use Rattle.outside_io.proofs.lemmas.Known.{Consumes-none}
 use Rattle.quorum_rules.specs.Limits.{Numbers}
 use Rattle.nbd_front.specs.Replies.{greeting}
 use Rattle.nbd_front.specs.declared.ending.Served.TheVariants.{Over}

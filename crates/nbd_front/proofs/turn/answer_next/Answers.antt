@@ -1,5 +1,5 @@
 use Rattle.std.proofs.Common.{rules, ◌≡◌, ◌≢◌, ◌+◌, ◌≤◌, ◌++◌, ◌∙◌, Err, refl, ap, sym, subst, arith, length, length-append}
-use Rattle.outside_io.proofs.Known.{Consumes-then}
+use Rattle.outside_io.proofs.lemmas.Known.{Consumes-then}
 use Rattle.node_device.specs.Devices.{SeenDevice}
 use Rattle.nbd_front.specs.Requests.{request_of, data_len}
 use Rattle.nbd_front.specs.Replies.{error_of}

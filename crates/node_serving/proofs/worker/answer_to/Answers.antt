@@ -1,4 +1,4 @@
-use Rattle.node_serving.proofs.Answering.{has_met}
+use Rattle.node_serving.proofs.lemmas.Answering.{has_met}
 use Rattle.node_serving.proofs.worker.answer_to.Goals as goal
 
 pub returns-clause-met : goal.returns-clause-met

@@ -1,4 +1,4 @@
-use Rattle.locked_nodes.proofs.Aside.{aside_then}
+use Rattle.locked_nodes.proofs.lemmas.Aside.{aside_then}
 use Rattle.node_serving.proofs.worker.bring_all.Goals as goal
 
 pub loop-preserved : goal.loop-preserved

@@ -1,4 +1,4 @@
-use Rattle.node_serving.proofs.Answering.{came_aside}
+use Rattle.node_serving.proofs.lemmas.Answering.{came_aside}
 use Rattle.node_serving.proofs.worker.bring_one.Goals as goal
 
 pub returns-in-Ok-Delivered : goal.returns-in-Ok-Delivered

@@ -6,7 +6,7 @@ use Rattle.std.specs.Vec.Iter.{into_iter_items, into_iter_len}
 use Rattle.std.proofs.lemmas.List.{map-append}
 use Rattle.std.proofs.lemmas.Option.{same_Some}
 use Rattle.std.proofs.lemmas.List.Elements.{All-push}
-use Rattle.crews.proofs.Places.{walk_on, walk_end}
+use Rattle.crews.proofs.lemmas.Places.{walk_on, walk_end}
 use Rattle.desk_keys.specs.declared.mail.ByMail.{ByMail}
 use Rattle.desk_keys.specs.Keys.{KeysView, AgreeByMail}
 use Rattle.node_serving.specs.Workers.{WorkerView}
@@ -14,7 +14,7 @@ use Rattle.node_workers.specs.declared.crew.Post.{Post}
 use Rattle.node_workers.specs.Posts.{nodes_in, clients_in, seat_of}
 use Rattle.node_workers.proofs.Opening.{node_nodes, node_clients, client_nodes, client_clients, client_at, map_more}
 use Rattle.node_workers.proofs.close.part.Goals as goal
-use Rattle.lists.proofs.Members.{all_at}
+use Rattle.lists.proofs.lemmas.Members.{all_at}
 
 pub loop-post-preserved-in-Continue-branch-2 : goal.loop-post-preserved-in-Continue-branch-2
 loop-post-preserved-in-Continue-branch-2 g c =

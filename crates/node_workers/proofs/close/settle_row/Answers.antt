@@ -8,7 +8,7 @@ use Rattle.node_serving.specs.Workers.{AnswerPutter}
 use Rattle.node_workers.specs.Closed.{HasAllOf}
 use Rattle.node_workers.proofs.Settling.{answers_same, next_within, settled_more}
 use Rattle.node_workers.proofs.close.settle_row.Goals as goal
-use Rattle.lists.proofs.Members.{all_at, slice_set-there}
+use Rattle.lists.proofs.lemmas.Members.{all_at, slice_set-there}
 
 pub loop-sent-preserved : goal.loop-sent-preserved
 loop-sent-preserved c =

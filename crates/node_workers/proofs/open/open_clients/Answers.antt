@@ -3,7 +3,7 @@ use Rattle.std.proofs.Common.{◌≡◌, ◌++◌, ◌∷◌, [], ◌+◌, lengt
 use Rattle.std.specs.declared.option.Option.TheVariants.{Some}
 use Rattle.std.specs.Prelude.{slice_get}
 use Rattle.std.specs.Vec.Iter.{into_iter_items, into_iter_len}
-use Rattle.crews.proofs.Places.{walk_on, walk_end}
+use Rattle.crews.proofs.lemmas.Places.{walk_on, walk_end}
 use Rattle.inboxes.specs.Sides.{took_in}
 use Rattle.client_desks.specs.Desks.{DeskView}
 use Rattle.desk_keys.specs.declared.mail.ByMail.{ByMail}

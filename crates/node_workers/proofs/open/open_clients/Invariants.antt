@@ -1,6 +1,6 @@
 use Rattle.std.proofs.Common.{◌≡◌, List, length}
 use Rattle.std.specs.Vec.Iter.{into_iter_items, into_iter_len}
-use Rattle.crews.proofs.Places.{Walked}
+use Rattle.crews.proofs.lemmas.Places.{Walked}
 use Rattle.phase_threads.specs.declared.duty.Seat.{Seat}
 use Rattle.node_workers.specs.Posts.{nodes_in, clients_in}
 use Rattle.node_workers.specs.Opened.{IsClientOf}

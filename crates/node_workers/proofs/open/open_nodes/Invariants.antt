@@ -1,6 +1,6 @@
 use Rattle.std.proofs.Common.{◌≡◌, List, [], length, map}
 use Rattle.std.specs.Vec.Iter.{into_iter_items, into_iter_len}
-use Rattle.crews.proofs.Places.{Walked}
+use Rattle.crews.proofs.lemmas.Places.{Walked}
 use Rattle.locked_nodes.specs.Cells.{CellView}
 use Rattle.node_serving.specs.Workers.{WorkerView}
 use Rattle.node_workers.specs.Hands.{AreSpread}

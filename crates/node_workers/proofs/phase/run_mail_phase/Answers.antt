@@ -2,7 +2,7 @@
 use denote.Param.Send.{sendable}
 use Rattle.std.proofs.Common.{ap, ◌∙◌}
 use Rattle.desk_keys.specs.Keys.{FloorView}
-use Rattle.phase_threads.proofs.Sending.{floor_sync}
+use Rattle.phase_threads.proofs.lemmas.Sending.{floor_sync}
 use Rattle.node_workers.specs.Posts.{nodes_in, clients_in}
 use Rattle.node_workers.proofs.Sending.{post_send}
 use Rattle.node_workers.proofs.Working.{can_all}

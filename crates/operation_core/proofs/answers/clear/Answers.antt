@@ -1,6 +1,6 @@
 use Rattle.std.proofs.Common.{◌≡◌, ◌<◌, length, replicate, None, sym, ◌∙◌, arith}
 use Rattle.std.proofs.lemmas.List.{length-replicate, ext_get_or}
-use Rattle.protocol.proofs.Seeing.{at_replicate}
+use Rattle.protocol.proofs.lemmas.Seeing.{at_replicate}
 use Rattle.operation_core.proofs.answers.clear.Goals as goal
 
 pub returns : goal.returns

@@ -5,8 +5,8 @@ use Rattle.command_texts.specs.Texts.{IsAccepted}
 use Rattle.pasis_shell.specs.Sessions.{Serves}
 use Rattle.pasis_shell.proofs.Accepted.{complete, some_answered}
 use Rattle.pasis_shell.proofs.Sessions.{told_some}
-use Rattle.command_texts.proofs.Commands.{runs_none}
-use Rattle.command_texts.proofs.NbdForms.{one_nbd}
+use Rattle.command_texts.proofs.lemmas.Commands.{runs_none}
+use Rattle.command_texts.proofs.lemmas.NbdForms.{one_nbd}
 use Rattle.pasis_shell.proofs.top.alone.Goals as goal
 
 pub returns-in-Some-clause-session : goal.returns-in-Some-clause-session

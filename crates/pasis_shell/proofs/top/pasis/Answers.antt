@@ -4,8 +4,8 @@ use Rattle.command_texts.specs.Words.{texts, words_of, AskForPlan, AskForLoad}
 use Rattle.command_texts.specs.Texts.{IsAccepted}
 use Rattle.pasis_shell.proofs.Accepted.{complete, plan_runs, load_runs}
 use Rattle.pasis_shell.proofs.Sessions.{told_alone}
-use Rattle.command_texts.proofs.Commands.{asks_threads, plan_form, load_threads, load_form}
-use Rattle.command_texts.proofs.NbdForms.{no_command}
+use Rattle.command_texts.proofs.lemmas.Commands.{asks_threads, plan_form, load_threads, load_form}
+use Rattle.command_texts.proofs.lemmas.NbdForms.{no_command}
 use Rattle.pasis_shell.proofs.top.pasis.Goals as goal
 
 pub returns-in-Some-clause-complete : goal.returns-in-Some-clause-complete

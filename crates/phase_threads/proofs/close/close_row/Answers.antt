@@ -5,10 +5,10 @@ use Rattle.locked_nodes.specs.declared.charter.Item.{Item}
 use Rattle.locked_nodes.specs.Cells.{items}
 use Rattle.crews.specs.Crews.{Beside}
 use Rattle.phase_threads.specs.Phased.{IsClosed}
-use Rattle.crews.proofs.Places.{none_beside, push_beside, walk_on, walk_end}
+use Rattle.crews.proofs.lemmas.Places.{none_beside, push_beside, walk_on, walk_end}
 use Rattle.phase_threads.proofs.Closing.{AreWithout, all_hands, none_empty, without_more, chits_are, chits_own, chits_rest}
 use Rattle.phase_threads.proofs.close.close_row.Goals as goal
-use Rattle.lists.proofs.Members.{all_at, slice_get-seam}
+use Rattle.lists.proofs.lemmas.Members.{all_at, slice_get-seam}
 
 pub loop-vault-init : goal.loop-vault-init
 loop-vault-init c =

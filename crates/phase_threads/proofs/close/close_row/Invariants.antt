@@ -4,7 +4,7 @@ use Rattle.receipt_lock.specs.Chits.{Deposit}
 use Rattle.locked_nodes.specs.declared.charter.Item.{Item}
 use Rattle.crews.specs.Crews.{Beside}
 use Rattle.phase_threads.specs.Phased.{IsClosed}
-use Rattle.crews.proofs.Places.{Walked}
+use Rattle.crews.proofs.lemmas.Places.{Walked}
 use Rattle.phase_threads.proofs.Closing.{AreWithout}
 use Rattle.phase_threads.proofs.close.close_row.Given as goal
 

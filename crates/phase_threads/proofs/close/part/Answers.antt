@@ -8,9 +8,9 @@ use Rattle.phase_threads.specs.declared.duty.Seat.{Seat}
 use Rattle.phase_threads.specs.declared.crew.Post.{Post}
 use Rattle.crews.specs.Crews.{Beside}
 use Rattle.phase_threads.specs.Phased.{IsSeatOf, IsHandOf}
-use Rattle.crews.proofs.Places.{none_beside, push_beside, walk_on, walk_end}
+use Rattle.crews.proofs.lemmas.Places.{none_beside, push_beside, walk_on, walk_end}
 use Rattle.phase_threads.proofs.close.part.Goals as goal
-use Rattle.lists.proofs.Members.{all_at, slice_get-seam}
+use Rattle.lists.proofs.lemmas.Members.{all_at, slice_get-seam}
 
 pub loop-post-init : goal.loop-post-init
 loop-post-init g c =

@@ -5,7 +5,7 @@ use Rattle.desk_keys.specs.Keys.{Agree}
 use Rattle.phase_threads.specs.declared.crew.Post.{Post}
 use Rattle.crews.specs.Crews.{Beside}
 use Rattle.phase_threads.specs.Phased.{IsSeatOf, IsHandOf}
-use Rattle.crews.proofs.Places.{Walked}
+use Rattle.crews.proofs.lemmas.Places.{Walked}
 use Rattle.phase_threads.proofs.close.part.Given as goal
 
 -- the posts so far are parted

@@ -6,8 +6,8 @@ use Rattle.client_desks.specs.Later.{IsLater}
 use Rattle.desk_keys.specs.Keys.{Fit}
 use Rattle.phase_threads.specs.declared.crew.Post.{Post}
 use Rattle.crews.specs.Crews.{Beside}
-use Rattle.crews.proofs.Places.{written_back, made_beside, all_right}
-use Rattle.phase_threads.proofs.Sending.{post_send, floor_sync}
+use Rattle.crews.proofs.lemmas.Places.{written_back, made_beside, all_right}
+use Rattle.phase_threads.proofs.lemmas.Sending.{post_send, floor_sync}
 use Rattle.phase_threads.proofs.crew.work_all.Goals as goal
 
 pub each-requires-send-P : goal.each-requires-send-P

@@ -1,6 +1,6 @@
 -- Lemmas of `Working` and `Sharded`.
-use Rattle.phase_threads.proofs.Working.{phases_work, journals_below, cells_prune}
-use Rattle.phase_threads.proofs.Sharded.{nodes_prune, nothing_late}
+use Rattle.phase_threads.proofs.lemmas.Working.{phases_work, journals_below, cells_prune}
+use Rattle.phase_threads.proofs.lemmas.Sharded.{nodes_prune, nothing_late}
 use Rattle.phase_threads.proofs.laws.phases_work.Goals as goal
 
 pub returns : goal.returns

@@ -1,5 +1,5 @@
 -- The lemma of `Ending`.
-use Rattle.phase_threads.proofs.Ending.{runs_end}
+use Rattle.phase_threads.proofs.lemmas.Ending.{runs_end}
 use Rattle.phase_threads.proofs.laws.runs_end.Goals as goal
 
 pub returns : goal.returns

@@ -9,9 +9,9 @@ use Rattle.phase_threads.specs.declared.duty.Seat.{Seat}
 use Rattle.phase_threads.specs.declared.crew.Post.{Post}
 use Rattle.crews.specs.Crews.{Beside}
 use Rattle.phase_threads.specs.Phased.{IsPostOf}
-use Rattle.crews.proofs.Places.{none_beside, push_beside, walk_on, walk_end}
+use Rattle.crews.proofs.lemmas.Places.{none_beside, push_beside, walk_on, walk_end}
 use Rattle.phase_threads.proofs.open.open_posts.Goals as goal
-use Rattle.lists.proofs.Members.{all_at, slice_get-seam}
+use Rattle.lists.proofs.lemmas.Members.{all_at, slice_get-seam}
 
 pub loop-seat-init : goal.loop-seat-init
 loop-seat-init g c =

@@ -7,7 +7,7 @@ use Rattle.desk_keys.specs.Keys.{Agree}
 use Rattle.phase_threads.specs.declared.duty.Seat.{Seat}
 use Rattle.crews.specs.Crews.{Beside}
 use Rattle.phase_threads.specs.Phased.{IsPostOf}
-use Rattle.crews.proofs.Places.{Walked}
+use Rattle.crews.proofs.lemmas.Places.{Walked}
 use Rattle.phase_threads.proofs.open.open_posts.Given as goal
 
 -- the seats so far have their hands

@@ -4,7 +4,7 @@ use Rattle.receipt_lock.specs.Chits.{Holder as Chit, new_chit}
 use Rattle.locked_nodes.specs.declared.charter.Item.{Item}
 use Rattle.crews.specs.Crews.{Beside}
 use Rattle.phase_threads.specs.Phased.{IsVaultOf, new_hand}
-use Rattle.crews.proofs.Places.{none_beside, push_beside, walk_on, walk_end}
+use Rattle.crews.proofs.lemmas.Places.{none_beside, push_beside, walk_on, walk_end}
 use Rattle.phase_threads.proofs.Dealing.{dealt_alike}
 use Rattle.phase_threads.proofs.Opening.{hand_more, vault_at}
 use Rattle.phase_threads.proofs.open.open_row.Goals as goal

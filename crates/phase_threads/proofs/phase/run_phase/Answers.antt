@@ -8,7 +8,7 @@ use Rattle.locked_nodes.specs.Slots.{slots_of}
 use Rattle.desk_keys.specs.Keys.{FloorView}
 use Rattle.crews.specs.Crews.{Beside}
 use Rattle.phase_threads.specs.Phased.{IsClosed, new_hand}
-use Rattle.phase_threads.proofs.Phasing.{floor_with, hands_rest, hands_agree, posts_chits, posts_fit, posts_sound, posts_ready, hands_own, hands_left, chits_all, desks_later, duties_done, cells_worked, pairs_again}
+use Rattle.phase_threads.proofs.lemmas.Phasing.{floor_with, hands_rest, hands_agree, posts_chits, posts_fit, posts_sound, posts_ready, hands_own, hands_left, chits_all, desks_later, duties_done, cells_worked, pairs_again}
 use Rattle.phase_threads.proofs.phase.run_phase.Goals as goal
 
 pub open_posts-requires-clause-rest : goal.open_posts-requires-clause-rest

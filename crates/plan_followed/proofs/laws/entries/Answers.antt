@@ -1,5 +1,5 @@
 -- The lemma of `Entries`.
-use Rattle.plan_followed.proofs.Entries.{one_more}
+use Rattle.plan_followed.proofs.lemmas.Entries.{one_more}
 use Rattle.plan_followed.proofs.laws.entries.Goals as goal
 
 pub returns : goal.returns

@@ -1,5 +1,5 @@
 -- Lemmas of `Phases`.
-use Rattle.plan_followed.proofs.Phases.{plans_phase, plans_run}
+use Rattle.plan_followed.proofs.lemmas.Phases.{plans_phase, plans_run}
 use Rattle.plan_followed.proofs.laws.followed_plans.Goals as goal
 
 pub returns : goal.returns

@@ -1,5 +1,5 @@
 -- Lemmas of `Plans`.
-use Rattle.plan_followed.proofs.Plans.{has_conduct, has_liars, has_cluster}
+use Rattle.plan_followed.proofs.lemmas.Plans.{has_conduct, has_liars, has_cluster}
 use Rattle.plan_followed.proofs.laws.plans.Goals as goal
 
 pub returns : goal.returns

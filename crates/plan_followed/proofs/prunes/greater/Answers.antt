@@ -2,8 +2,8 @@ use Rattle.std.proofs.Common.{◌≡◌, false, sym, ◌∙◌, ap, subst}
 use Rattle.std.specs.Prelude.{IfSome}
 use Rattle.std.specs.Ordering.{is_le}
 use Rattle.stamp_order.specs.Stamps.{up_to, ◌≼◌}
-use Rattle.stamp_order.proofs.Orders.{up_to_by_fields}
-use Rattle.protocol.proofs.Order.{≼-refl, not_up_to}
+use Rattle.stamp_order.proofs.lemmas.Orders.{up_to_by_fields}
+use Rattle.protocol.proofs.lemmas.Order.{≼-refl, not_up_to}
 use Rattle.plan_followed.proofs.prunes.greater.Goals as goal
 
 pub returns-then-is_le-clause-top : goal.returns-then-is_le-clause-top

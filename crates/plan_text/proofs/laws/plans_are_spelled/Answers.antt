@@ -1,4 +1,4 @@
-use Rattle.plan_text.proofs.PlanLaws.{plan_accepted, one_plan, text_spells}
+use Rattle.plan_text.proofs.lemmas.PlanLaws.{plan_accepted, one_plan, text_spells}
 use Rattle.plan_text.proofs.laws.plans_are_spelled.Goals as goal
 
 pub returns-clause-accepted : goal.returns-clause-accepted

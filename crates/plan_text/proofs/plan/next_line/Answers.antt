@@ -1,5 +1,5 @@
 use Rattle.std.proofs.Common.{ap, sym, ◌∙◌}
-use Rattle.line_forms.proofs.Tables.{gives_cause}
+use Rattle.line_forms.proofs.lemmas.Tables.{gives_cause}
 use Rattle.plan_text.specs.Reading.{seen_cause}
 use Rattle.plan_text.proofs.Bodies.{next_is}
 use Rattle.plan_text.proofs.plan.next_line.Goals as goal

@@ -1,6 +1,6 @@
 use Rattle.std.proofs.Common.{◌≡◌, ◌≢◌, [], refl, ap, subst, ◌∙◌, None, arith}
 use Rattle.std.proofs.lemmas.Grind.{common_steps}
-use Rattle.line_forms.proofs.Tables.{refusal_here}
+use Rattle.line_forms.proofs.lemmas.Tables.{refusal_here}
 use Rattle.plan_words.specs.declared.plan.Plan.{Plan}
 use Rattle.plan_words.specs.declared.line.PlanLine.{PlanLine}
 use Rattle.plan_words.specs.Lines.{IsPlanLine, line_text}

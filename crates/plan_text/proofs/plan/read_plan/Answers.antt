@@ -1,5 +1,5 @@
 use Rattle.line_forms.specs.Texts.{IsRefusal}
-use Rattle.line_forms.proofs.Tables.{err_is}
+use Rattle.line_forms.proofs.lemmas.Tables.{err_is}
 use Rattle.plan_text.specs.Plans.{plan_body, plan_script}
 use Rattle.plan_text.proofs.plan.read_plan.Goals as goal
 

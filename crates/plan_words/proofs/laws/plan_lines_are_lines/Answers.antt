@@ -1,4 +1,4 @@
-use Rattle.plan_words.proofs.Texts.{fields_back, one_line}
+use Rattle.plan_words.proofs.lemmas.Texts.{fields_back, one_line}
 use Rattle.plan_words.proofs.laws.plan_lines_are_lines.Goals as goal
 
 pub returns-clause-apart : goal.returns-clause-apart

@@ -3,7 +3,7 @@ use Rattle.std.specs.Prelude.{codes}
 use Rattle.std.specs.Borrow.{Bor}
 use Rattle.text_lines.specs.Lines.{texts}
 use Rattle.plan_words.proofs.liars.flood_in.Goals as goal
-use Rattle.line_forms.proofs.Texts.{seven_texts}
+use Rattle.line_forms.proofs.lemmas.Texts.{seven_texts}
 
 pub returns : goal.returns
 returns c =

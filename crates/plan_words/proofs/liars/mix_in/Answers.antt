@@ -2,7 +2,7 @@ use Rattle.std.proofs.Common.{◌≡◌, ℕ, List, [], length, get_or, arith}
 use Rattle.std.specs.Prelude.{codes}
 use Rattle.std.specs.Borrow.{Bor}
 use Rattle.plan_words.proofs.liars.mix_in.Goals as goal
-use Rattle.line_forms.proofs.Texts.{seven_texts}
+use Rattle.line_forms.proofs.lemmas.Texts.{seven_texts}
 
 pub returns : goal.returns
 returns c =

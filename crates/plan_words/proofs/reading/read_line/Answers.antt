@@ -1,7 +1,7 @@
 use Rattle.std.proofs.Common.{◌≡◌, sym, ap, ◌∙◌}
 use Rattle.text_lines.specs.Lines.{fields_of, texts}
-use Rattle.text_lines.proofs.Joined.{line_from_fields}
-use Rattle.line_forms.proofs.Tables.{gives_same}
+use Rattle.text_lines.proofs.lemmas.Joined.{line_from_fields}
+use Rattle.line_forms.proofs.lemmas.Tables.{gives_same}
 use Rattle.plan_words.specs.Forms.{line_cause}
 use Rattle.plan_words.specs.Lines.{IsPlanLine, IsSpelled, line_fields, line_text}
 use Rattle.plan_words.specs.declared.line.PlanLine.{PlanLine}

@@ -1,7 +1,7 @@
 -- The law's clauses are lemmas of `Theorem` and `AtEnds`, at the setting of a cluster.
-use Rattle.protocol.proofs.Theorem.{run_bounded, run_low}
+use Rattle.protocol.proofs.lemmas.Theorem.{run_bounded, run_low}
 use Rattle.protocol.proofs.AtEnds.{few_then, lied_then}
-use Rattle.protocol.proofs.Cluster.{cluster_valid}
+use Rattle.protocol.proofs.lemmas.Cluster.{cluster_valid}
 use Rattle.protocol.specs.Instance.{setting_of}
 use Rattle.protocol.proofs.laws.bounds.Goals as goal
 

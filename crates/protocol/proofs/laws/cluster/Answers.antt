@@ -1,5 +1,5 @@
 -- The law is a lemma of `Cluster`.
-use Rattle.protocol.proofs.Cluster.{cluster_valid}
+use Rattle.protocol.proofs.lemmas.Cluster.{cluster_valid}
 use Rattle.protocol.proofs.laws.cluster.Goals as goal
 
 pub returns : goal.returns

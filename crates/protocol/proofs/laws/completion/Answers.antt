@@ -1,7 +1,7 @@
 -- The law's clauses are lemmas of `Kept` and `AtEnds`, at the setting of a cluster.
-use Rattle.protocol.proofs.Kept.{run_complete}
+use Rattle.protocol.proofs.lemmas.Kept.{run_complete}
 use Rattle.protocol.proofs.AtEnds.{completed_then}
-use Rattle.protocol.proofs.Cluster.{cluster_valid}
+use Rattle.protocol.proofs.lemmas.Cluster.{cluster_valid}
 use Rattle.protocol.specs.Instance.{setting_of}
 use Rattle.protocol.proofs.laws.completion.Goals as goal
 

@@ -1,7 +1,7 @@
 -- The law's clauses are lemmas, at the setting of a cluster.
-use Rattle.protocol.proofs.Cluster.{cluster_valid}
+use Rattle.protocol.proofs.lemmas.Cluster.{cluster_valid}
 use Rattle.protocol.specs.Instance.{setting_of}
-use Rattle.protocol.proofs.Kept.{run_done, run_spent, run_total}
+use Rattle.protocol.proofs.lemmas.Kept.{run_done, run_spent, run_total}
 use Rattle.protocol.proofs.laws.counts.Goals as goal
 
 pub returns : goal.returns

@@ -1,6 +1,6 @@
 -- The law is a lemma of `Forming`, at the setting of a cluster.
-use Rattle.protocol.proofs.Forming.{formed_reply}
-use Rattle.protocol.proofs.Cluster.{cluster_valid}
+use Rattle.protocol.proofs.lemmas.Forming.{formed_reply}
+use Rattle.protocol.proofs.lemmas.Cluster.{cluster_valid}
 use Rattle.protocol.specs.Instance.{setting_of}
 use Rattle.protocol.proofs.laws.false_replies.Goals as goal
 

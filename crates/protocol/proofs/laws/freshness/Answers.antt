@@ -1,6 +1,6 @@
 -- The law's clauses are lemmas of `Fresh`, at the setting of a cluster.
 use Rattle.protocol.proofs.Fresh.{run_always, run_fresh}
-use Rattle.protocol.proofs.Cluster.{cluster_valid}
+use Rattle.protocol.proofs.lemmas.Cluster.{cluster_valid}
 use Rattle.protocol.specs.Instance.{setting_of}
 use Rattle.protocol.proofs.laws.freshness.Goals as goal
 

@@ -1,5 +1,5 @@
 -- The law's clauses are lemmas of `Given`.
-use Rattle.protocol.proofs.Given.{greatest_iff, none_iff}
+use Rattle.protocol.proofs.lemmas.Given.{greatest_iff, none_iff}
 use Rattle.protocol.proofs.laws.given.Goals as goal
 
 pub returns : goal.returns

@@ -1,8 +1,8 @@
 -- The law's clauses are lemmas of `Endings`, at the setting of a cluster.
 use Rattle.protocol.proofs.Endings.{begun_stay, ended_the_same, over_stays, crashed_over, at_line}
-use Rattle.protocol.proofs.Theorem.{right}
-use Rattle.protocol.proofs.Kept.{run_told}
-use Rattle.protocol.proofs.Cluster.{cluster_valid}
+use Rattle.protocol.proofs.lemmas.Theorem.{right}
+use Rattle.protocol.proofs.lemmas.Kept.{run_told}
+use Rattle.protocol.proofs.lemmas.Cluster.{cluster_valid}
 use Rattle.protocol.specs.Instance.{setting_of}
 use Rattle.protocol.proofs.laws.later_worlds.Goals as goal
 

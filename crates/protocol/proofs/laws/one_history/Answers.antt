@@ -1,7 +1,7 @@
 -- The law's clauses are lemmas of `Theorem` and `Kept`, at the setting of a cluster.
-use Rattle.protocol.proofs.Theorem.{run_has, run_keys, run_one, run_values, run_written}
-use Rattle.protocol.proofs.Kept.{run_blocks}
-use Rattle.protocol.proofs.Cluster.{cluster_valid}
+use Rattle.protocol.proofs.lemmas.Theorem.{run_has, run_keys, run_one, run_values, run_written}
+use Rattle.protocol.proofs.lemmas.Kept.{run_blocks}
+use Rattle.protocol.proofs.lemmas.Cluster.{cluster_valid}
 use Rattle.protocol.specs.Instance.{setting_of}
 use Rattle.protocol.proofs.laws.one_history.Goals as goal
 

@@ -1,6 +1,6 @@
 -- The law's clauses are lemmas of `Kept`, at the setting of a cluster.
-use Rattle.protocol.proofs.Kept.{run_above, run_aim, run_up}
-use Rattle.protocol.proofs.Cluster.{cluster_valid}
+use Rattle.protocol.proofs.lemmas.Kept.{run_above, run_aim, run_up}
+use Rattle.protocol.proofs.lemmas.Cluster.{cluster_valid}
 use Rattle.protocol.specs.Instance.{setting_of}
 use Rattle.protocol.proofs.laws.order.Goals as goal
 

@@ -1,8 +1,8 @@
 -- The law's clauses are lemmas, at the setting of a cluster.
-use Rattle.protocol.proofs.Cluster.{cluster_valid}
+use Rattle.protocol.proofs.lemmas.Cluster.{cluster_valid}
 use Rattle.protocol.specs.Instance.{setting_of}
-use Rattle.protocol.proofs.Kept.{run_in_order, run_told}
-use Rattle.protocol.proofs.SpentLies.{records_few}
+use Rattle.protocol.proofs.lemmas.Kept.{run_in_order, run_told}
+use Rattle.protocol.proofs.lemmas.SpentLies.{records_few}
 use Rattle.protocol.proofs.laws.records.Goals as goal
 
 pub returns : goal.returns

@@ -1,7 +1,7 @@
 -- The law's clauses are lemmas of `Theorem` and `Refusing`, at the setting of a cluster.
-use Rattle.protocol.proofs.Theorem.{run_refusals}
+use Rattle.protocol.proofs.lemmas.Theorem.{run_refusals}
 use Rattle.protocol.proofs.Refusing.{playable}
-use Rattle.protocol.proofs.Cluster.{cluster_valid}
+use Rattle.protocol.proofs.lemmas.Cluster.{cluster_valid}
 use Rattle.protocol.specs.Instance.{setting_of}
 use Rattle.protocol.proofs.laws.refusals.Goals as goal
 

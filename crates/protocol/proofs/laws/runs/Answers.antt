@@ -1,5 +1,5 @@
 -- The law is a lemma of `Kept`.
-use Rattle.protocol.proofs.Kept.{run_parts}
+use Rattle.protocol.proofs.lemmas.Kept.{run_parts}
 use Rattle.protocol.proofs.laws.runs.Goals as goal
 
 pub returns : goal.returns

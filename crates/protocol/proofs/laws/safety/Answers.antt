@@ -1,6 +1,6 @@
 -- The law's clauses are lemmas of `Theorem`, at the setting of a cluster.
-use Rattle.protocol.proofs.Theorem.{run_in_time, run_legal, run_never_outvoted, run_sound}
-use Rattle.protocol.proofs.Cluster.{cluster_valid}
+use Rattle.protocol.proofs.lemmas.Theorem.{run_in_time, run_legal, run_never_outvoted, run_sound}
+use Rattle.protocol.proofs.lemmas.Cluster.{cluster_valid}
 use Rattle.protocol.specs.Instance.{setting_of}
 use Rattle.protocol.proofs.laws.safety.Goals as goal
 

@@ -1,9 +1,9 @@
 -- The law's clauses are lemmas, at the setting of a cluster.
-use Rattle.protocol.proofs.Cluster.{cluster_valid}
+use Rattle.protocol.proofs.lemmas.Cluster.{cluster_valid}
 use Rattle.protocol.specs.Instance.{setting_of}
-use Rattle.protocol.proofs.Kept.{run_spent_ascend}
-use Rattle.protocol.proofs.Counts.{spent_writes_are}
-use Rattle.protocol.proofs.SpentLies.{run_spent_lied}
+use Rattle.protocol.proofs.lemmas.Kept.{run_spent_ascend}
+use Rattle.protocol.proofs.lemmas.Counts.{spent_writes_are}
+use Rattle.protocol.proofs.lemmas.SpentLies.{run_spent_lied}
 use Rattle.protocol.proofs.laws.spent.Goals as goal
 
 pub returns : goal.returns

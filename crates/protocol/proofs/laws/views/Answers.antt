@@ -1,5 +1,5 @@
 -- The law's clauses are lemmas of `Seeing`.
-use Rattle.protocol.proofs.Seeing.{begun-seen, heard_by-seen, length-begun, hearing_full}
+use Rattle.protocol.proofs.lemmas.Seeing.{begun-seen, heard_by-seen, length-begun, hearing_full}
 use Rattle.protocol.proofs.laws.views.Goals as goal
 
 pub returns : goal.returns

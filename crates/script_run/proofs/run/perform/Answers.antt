@@ -12,7 +12,7 @@ use Rattle.protocol.specs.Lines.{IsRun, FitsLine}
 use Rattle.script_run.specs.Performing.{cause_of, after_line, start_queues, run_line, run_lines, LeadsTo, Performs}
 use Rattle.script_run.specs.Performing.{CommandQueues as TheQueues}
 use Rattle.script_run.specs.CommandQueues.{queues_in}
-use Rattle.script_run.proofs.Leading.{leads_next, stops_here, after-place, run_next, told_at}
+use Rattle.script_run.proofs.lemmas.Leading.{leads_next, stops_here, after-place, run_next, told_at}
 use Rattle.script_run.proofs.Taking.{next_within, next_is, rest_is, all_counted, all_taken}
 use Rattle.script_run.proofs.run.perform.Goals as goal
 

@@ -1,4 +1,4 @@
-use Rattle.script_text.proofs.ReplayLaws.{replay_accepted, one_replay, text_spells}
+use Rattle.script_text.proofs.lemmas.ReplayLaws.{replay_accepted, one_replay, text_spells}
 use Rattle.script_text.proofs.laws.replays_are_spelled.Goals as goal
 
 pub returns-clause-accepted : goal.returns-clause-accepted

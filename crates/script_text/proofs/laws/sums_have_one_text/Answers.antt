@@ -1,4 +1,4 @@
-use Rattle.script_text.proofs.SumLaws.{sum_accepted, one_sum}
+use Rattle.script_text.proofs.lemmas.SumLaws.{sum_accepted, one_sum}
 use Rattle.script_text.proofs.laws.sums_have_one_text.Goals as goal
 
 pub returns-clause-accepted : goal.returns-clause-accepted

@@ -5,7 +5,7 @@ use Rattle.std.proofs.lemmas.List.Elements.{recursion_from_All}
 use Rattle.wire_forms.specs.Liars.{IsClientNumber}
 use Rattle.script_text.specs.Replays.{liar_line}
 use Rattle.script_text.specs.declared.liars.Declared.TheVariants.{Client}
-use Rattle.script_text.proofs.Ascending.{below_none, below_all}
+use Rattle.script_text.proofs.lemmas.Ascending.{below_none, below_all}
 use Rattle.script_text.proofs.Printed.{written, none_written, all_written, number_skipped, pieces_written}
 use Rattle.script_text.proofs.liars.add_clients.Goals as goal
 use Rattle.script_text.proofs.liars.add_clients.Goals.{then-client+in_ok-add+in_ok-add_number+in_ok-add_newline, else-client}

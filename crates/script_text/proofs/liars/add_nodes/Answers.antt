@@ -3,7 +3,7 @@ use Rattle.std.specs.Prelude.{codes, decimal}
 use Rattle.std.proofs.lemmas.List.Elements.{recursion_from_All}
 use Rattle.script_text.specs.Replays.{liar_line}
 use Rattle.script_text.specs.declared.liars.Declared.TheVariants.{Node}
-use Rattle.script_text.proofs.Ascending.{below_zero, below_all}
+use Rattle.script_text.proofs.lemmas.Ascending.{below_zero, below_all}
 use Rattle.script_text.proofs.Printed.{written, none_written, all_written, number_skipped, pieces_written}
 use Rattle.script_text.proofs.liars.add_nodes.Goals as goal
 use Rattle.script_text.proofs.liars.add_nodes.Goals.{then-node+in_ok-add+in_ok-add_number+in_ok-add_newline, else-node}

@@ -1,7 +1,7 @@
 use Rattle.std.proofs.Common.{◌≡◌, sym, ◌∙◌}
 use Rattle.text_lines.specs.Lines.{fields_of}
-use Rattle.text_lines.proofs.Joined.{line_from_fields}
-use Rattle.line_forms.proofs.Tables.{gives_cause}
+use Rattle.text_lines.proofs.lemmas.Joined.{line_from_fields}
+use Rattle.line_forms.proofs.lemmas.Tables.{gives_cause}
 use Rattle.script_text.specs.Replays.{liar_fields, liar_line, IsDeclarable}
 use Rattle.script_text.proofs.Causes.{gives_refusal, liar_refused, liar_again}
 use Rattle.script_text.proofs.liars.next_declared.Goals as goal

@@ -1,5 +1,5 @@
 use Rattle.std.proofs.Common.{List, ℕ, drop, ap, sym, ◌∙◌}
-use Rattle.text_lines.proofs.Joined.{some_part}
+use Rattle.text_lines.proofs.lemmas.Joined.{some_part}
 use Rattle.script_text.proofs.liars.next_liar_line.Goals as goal
 
 pub returns-in_err-line-clause-none : goal.returns-in_err-line-clause-none

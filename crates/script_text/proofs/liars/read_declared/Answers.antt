@@ -1,7 +1,7 @@
 use Rattle.std.proofs.Common.{◌≡◌, ◌∷◌, List, ℕ, drop, get_or, [], ap, sym, ◌∙◌}
 use Rattle.std.specs.Prelude.{codes}
 use Rattle.text_lines.specs.Lines.{fields_of, texts}
-use Rattle.line_forms.proofs.Tables.{gives_same}
+use Rattle.line_forms.proofs.lemmas.Tables.{gives_same}
 use Rattle.event_lines.specs.Forms.{fields_cause}
 use Rattle.script_text.specs.Replays.{liar_fields, liar_forms, IsDeclarable}
 use Rattle.script_text.proofs.Declarations.{first_is_liar}

@@ -1,5 +1,5 @@
 use Rattle.std.proofs.Common.{◌≡◌, None, refl}
-use Rattle.line_forms.proofs.Tables.{refusal_here}
+use Rattle.line_forms.proofs.lemmas.Tables.{refusal_here}
 use Rattle.script_text.specs.Replays.{liar_line, IsDeclarable, replay_script}
 use Rattle.script_text.specs.Reading.{again_cause}
 use Rattle.script_text.specs.declared.liars.Declared.{Declared}

@@ -2,7 +2,7 @@ use Rattle.std.proofs.Common.{◌≡◌, ◌<◌, ◌++◌, List, length, get_or
 use Rattle.std.proofs.lemmas.List.Elements.{All-from_recursion}
 use Rattle.event_lines.specs.Lines.{event_text, IsEventLine}
 use Rattle.event_lines.specs.declared.line.ReplayLine.{ReplayLine}
-use Rattle.event_lines.proofs.Lines.{event_printed}
+use Rattle.event_lines.proofs.lemmas.Lines.{event_printed}
 use Rattle.script_text.proofs.Printed.{event_written}
 use Rattle.script_text.proofs.replay.print_replay.Goals as goal
 

@@ -1,6 +1,6 @@
 use Rattle.std.proofs.Common.{◌≡◌, ◌≢◌, ◌<◌, ℕ, [], length, refl, sym, ap, subst, ◌∙◌, arith}
 use Rattle.std.proofs.lemmas.Grind.{common_steps}
-use Rattle.line_forms.proofs.Tables.{refusal_here}
+use Rattle.line_forms.proofs.lemmas.Tables.{refusal_here}
 use Rattle.event_lines.specs.Lines.{event_text, IsEventLine}
 use Rattle.event_lines.specs.declared.line.ReplayLine.{ReplayLine}
 use Rattle.script_text.specs.Replays.{replay_script, event_limit}

@@ -1,5 +1,5 @@
 use Rattle.line_forms.specs.Texts.{IsRefusal}
-use Rattle.line_forms.proofs.Tables.{err_is}
+use Rattle.line_forms.proofs.lemmas.Tables.{err_is}
 use Rattle.script_text.specs.Replays.{replay_body, replay_script}
 use Rattle.script_text.proofs.replay.read_replay.Goals as goal
 

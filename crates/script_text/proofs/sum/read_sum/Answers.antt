@@ -3,7 +3,7 @@ use Rattle.std.proofs.lemmas.Grind.{common_steps}
 use Rattle.text_lines.specs.Fields.{IsBytes}
 use Rattle.text_lines.specs.Lines.{fields_of}
 use Rattle.line_forms.specs.Texts.{IsRefusal}
-use Rattle.line_forms.proofs.Tables.{err_is, refusal_here}
+use Rattle.line_forms.proofs.lemmas.Tables.{err_is, refusal_here}
 use Rattle.script_text.specs.Sum.{sum_script, sum_body, value_fields}
 use Rattle.script_text.proofs.Sums.{head_at, no_value_line, value_fault, value_line_read, sum_read, sum_faultless, further_cut, further_line}
 use Rattle.script_text.proofs.sum.read_sum.Goals as goal

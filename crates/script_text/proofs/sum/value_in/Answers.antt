@@ -6,7 +6,7 @@ use Rattle.std.proofs.lemmas.Grind.{common_steps}
 use Rattle.std.proofs.lemmas.Slice.Eq.{bytes_eq-Decides}
 use Rattle.text_lines.specs.Fields.{value_text, IsBytes}
 use Rattle.text_lines.specs.Lines.{texts}
-use Rattle.line_forms.proofs.Tables.{gives_same}
+use Rattle.line_forms.proofs.lemmas.Tables.{gives_same}
 use Rattle.script_text.specs.Sum.{value_fields}
 use Rattle.script_text.proofs.Sums.{value_cause, one_text}
 use Rattle.script_text.proofs.sum.value_in.Goals as goal

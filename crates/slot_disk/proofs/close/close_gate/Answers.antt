@@ -1,7 +1,7 @@
 use Rattle.std.proofs.Common.{◌≡◌, ◌⊎◌, ℕ, List, ◌+◌, ◌≤◌, length, get_or, sym, ◌∙◌, ap, subst}
 use Rattle.std.proofs.lemmas.Result.{on_ok_weaker}
 use Rattle.slot_disk.specs.Bodies.{bodies}
-use Rattle.slot_disk.proofs.Closing.{ends, nothing_done, one_call, two_calls, gate_closed}
+use Rattle.slot_disk.proofs.lemmas.Closing.{ends, nothing_done, one_call, two_calls, gate_closed}
 use Rattle.slot_disk.proofs.close.close_gate.Goals as goal
 
 pub returns-then-is_closed-clause-any_moment : goal.returns-then-is_closed-clause-any_moment

@@ -1,5 +1,5 @@
 use Rattle.std.proofs.Common.{arith}
-use Rattle.slot_disk.proofs.Closing.{begins}
+use Rattle.slot_disk.proofs.lemmas.Closing.{begins}
 use Rattle.slot_disk.proofs.close.gate_behind.Goals as goal
 
 pub overflow_mul-result : goal.overflow_mul-result

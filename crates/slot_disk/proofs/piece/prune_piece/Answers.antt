@@ -2,7 +2,7 @@ use Rattle.std.proofs.Common.{◌≡◌, ℕ, ◌+◌, ◌*◌, List, ◌++◌, 
 use Rattle.std.proofs.lemmas.List.{length-replicate}
 use Rattle.quorum_rules.specs.Limits.{share_of}
 use Rattle.slot_disk.specs.Slots.{head_of}
-use Rattle.slot_disk.proofs.Codec.{zeros_apart, zero_digests}
+use Rattle.slot_disk.proofs.lemmas.Codec.{zeros_apart, zero_digests}
 use Rattle.slot_disk.proofs.piece.prune_piece.Goals as goal
 
 pub returns-clause-piece : goal.returns-clause-piece

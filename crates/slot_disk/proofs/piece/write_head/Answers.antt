@@ -1,6 +1,6 @@
 use Rattle.std.proofs.Common.{◌≡◌, ◌∷◌, [], ◌++◌, List, ℕ, ◌∙◌, ap}
 use Rattle.std.specs.Int.{w32, w64, to_be_bytes}
-use Rattle.slot_disk.proofs.Codec.{five_behind}
+use Rattle.slot_disk.proofs.lemmas.Codec.{five_behind}
 use Rattle.slot_disk.proofs.piece.write_head.Goals as goal
 
 pub returns : goal.returns

@@ -1,6 +1,6 @@
 use Rattle.std.proofs.Common.{◌≡◌, ℕ, suc, ◌+◌, refl, ◌∙◌, subst, arith}
 use Rattle.slot_disk.specs.Gates.{AreOpen}
-use Rattle.slot_disk.proofs.Gates.{gate_below}
+use Rattle.slot_disk.proofs.lemmas.Gates.{gate_below}
 use Rattle.slot_disk.proofs.Adding.{AreWritten, none_written, same_long, next_written, next_open, all_written}
 use Rattle.slot_disk.proofs.slots.open_gates.Goals as goal
 

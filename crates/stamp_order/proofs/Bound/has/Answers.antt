@@ -1,7 +1,7 @@
 use Rattle.std.proofs.Common.{ap, sym, ◌∙◌}
 use Rattle.std.specs.Ordering.{is_le, is_lt}
 use Rattle.stamp_order.specs.Stamps.{has}
-use Rattle.stamp_order.proofs.Orders.{up_to_by_fields, before_by_fields}
+use Rattle.stamp_order.proofs.lemmas.Orders.{up_to_by_fields, before_by_fields}
 use Rattle.stamp_order.proofs.Bound.has.Goals as goal
 
 pub returns-in-AtMost : goal.returns-in-AtMost

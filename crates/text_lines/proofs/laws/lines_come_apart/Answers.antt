@@ -1,4 +1,4 @@
-use Rattle.text_lines.proofs.Joined.{parts-text_of_lines}
+use Rattle.text_lines.proofs.lemmas.Joined.{parts-text_of_lines}
 use Rattle.text_lines.proofs.laws.lines_come_apart.Goals as goal
 
 pub returns : goal.returns

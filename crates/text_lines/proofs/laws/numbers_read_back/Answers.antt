@@ -1,4 +1,4 @@
-use Rattle.text_lines.proofs.Numbers.{number_of-decimal}
+use Rattle.text_lines.proofs.lemmas.Numbers.{number_of-decimal}
 use Rattle.text_lines.proofs.laws.numbers_read_back.Goals as goal
 
 pub returns : goal.returns

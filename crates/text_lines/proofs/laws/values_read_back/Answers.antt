@@ -1,4 +1,4 @@
-use Rattle.text_lines.proofs.Values.{value_of-text}
+use Rattle.text_lines.proofs.lemmas.Values.{value_of-text}
 use Rattle.text_lines.proofs.laws.values_read_back.Goals as goal
 
 pub returns : goal.returns

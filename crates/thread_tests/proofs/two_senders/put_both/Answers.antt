@@ -1,6 +1,6 @@
 use denote.Param.Send.{sendable}
 use Rattle.std.proofs.Crossing.{crosses}
-use Rattle.inboxes.proofs.CrossesThreads.{putter_send, sent_send}
+use Rattle.inboxes.proofs.lemmas.CrossesThreads.{putter_send, sent_send}
 use Rattle.thread_tests.proofs.two_senders.Crossing.{number_send}
 use Rattle.thread_tests.proofs.two_senders.put_both.Goals as goal
 

@@ -1,6 +1,6 @@
 use denote.Param.Send.{sendable}
 use Rattle.std.proofs.Crossing.{crosses, send, sync}
-use Rattle.inboxes.proofs.CrossesThreads.{taker_send}
+use Rattle.inboxes.proofs.lemmas.CrossesThreads.{taker_send}
 use Rattle.thread_tests.proofs.two_senders.Crossing.{number_send}
 use Rattle.thread_tests.proofs.two_senders.send_side_by_side.Goals as goal
 

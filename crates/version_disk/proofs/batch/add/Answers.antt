@@ -1,7 +1,7 @@
 use Rattle.std.proofs.Common.{◌≡◌, ◌∷◌, [], ◌++◌, List, ◌∙◌, ap}
 use Rattle.version_disk.specs.Undone.{undone}
 use Rattle.version_disk.specs.declared.batch.Added.{Added}
-use Rattle.version_disk.proofs.Answering.{undone_more}
+use Rattle.version_disk.proofs.lemmas.Answering.{undone_more}
 use Rattle.version_disk.proofs.batch.add.Goals as goal
 
 pub returns-clause-undone : goal.returns-clause-undone

@@ -1,7 +1,7 @@
 use Rattle.std.proofs.Common.{◌≡◌, ◌∷◌, [], ◌++◌, refl, sym, ◌∙◌, ap}
 use Rattle.protocol.specs.Messages.{Reply}
 use Rattle.node_core.specs.Seen.{reply_of}
-use Rattle.version_disk.proofs.Answering.{one_accepted, one_refused, on_ok_four}
+use Rattle.version_disk.proofs.lemmas.Answering.{one_accepted, one_refused, on_ok_four}
 use Rattle.version_disk.proofs.batch.answer.Goals as goal
 
 pub returns-in-Some-clause-batch : goal.returns-in-Some-clause-batch

@@ -2,7 +2,7 @@ use Rattle.std.proofs.Common.{◌≡◌, ◌∷◌, [], ◌++◌, sym, ◌∙◌
 use Rattle.quorum_rules.specs.Limits.{Numbers}
 use Rattle.node_core.specs.Seen.{SeenNode}
 use Rattle.version_disk.specs.Undone.{undone, IsLater, AreLater}
-use Rattle.version_disk.proofs.Answering.{undone_push, all_front}
+use Rattle.version_disk.proofs.lemmas.Answering.{undone_push, all_front}
 use Rattle.version_disk.proofs.batch.take_back.Goals as goal
 
 pub loop-last-preserved : goal.loop-last-preserved

@@ -4,7 +4,7 @@ use Rattle.slot_disk.specs.Slots.{body_of}
 use Rattle.version_disk.specs.Held.{after_slot, held, slots_of}
 use Rattle.version_disk.specs.Kept.{HoldsOneOf}
 use Rattle.version_disk.proofs.Keeping.{holds_one}
-use Rattle.slot_disk.proofs.Moments.{weaker}
+use Rattle.slot_disk.proofs.lemmas.Moments.{weaker}
 use Rattle.version_disk.proofs.keep.keep_slot.Goals as goal
 
 pub returns-clause-any_moment : goal.returns-clause-any_moment

@@ -6,7 +6,7 @@ use Rattle.slot_disk.specs.Slots.{body_len, body_of}
 use Rattle.version_disk.specs.Held.{held, slots_of}
 use Rattle.version_disk.specs.Kept.{HoldsFirstOf}
 use Rattle.version_disk.proofs.Keeping.{bodies_in_pieces, held_more, slots_more, good_more_slots, opens, on_ok_three}
-use Rattle.slot_disk.proofs.Moments.{weaker}
+use Rattle.slot_disk.proofs.lemmas.Moments.{weaker}
 use Rattle.version_disk.proofs.keep.keep_slots.Goals as goal
 
 pub returns-clause-any_moment : goal.returns-clause-any_moment

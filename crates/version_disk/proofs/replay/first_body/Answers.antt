@@ -1,6 +1,6 @@
 use Rattle.std.proofs.Common.{◌∷◌, sym, ◌∙◌, ap}
 use Rattle.slot_disk.specs.Bodies.{bodies}
-use Rattle.slot_disk.proofs.Bodies.{open_first}
+use Rattle.slot_disk.proofs.lemmas.Bodies.{open_first}
 use Rattle.version_disk.proofs.replay.first_body.Goals as goal
 
 pub returns-clause-some : goal.returns-clause-some

@@ -2,7 +2,7 @@ use Rattle.std.proofs.Common.{◌≡◌, ℕ, refl, ◌∙◌, ap, subst, arith,
 use Rattle.slot_disk.specs.Bodies.{bodies}
 use Rattle.slot_disk.specs.Slots.{body_len, slot_of}
 use Rattle.version_disk.specs.Held.{held, first_bad}
-use Rattle.version_disk.proofs.Playing.{play_more, good_more}
+use Rattle.version_disk.proofs.lemmas.Playing.{play_more, good_more}
 use Rattle.version_disk.proofs.replay.replay.Goals as goal
 
 pub loop-first-preserved : goal.loop-first-preserved

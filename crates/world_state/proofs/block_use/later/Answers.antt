@@ -1,7 +1,7 @@
 use Rattle.std.proofs.Common.{◌≡◌, true, false, ap, sym, ◌∙◌}
 use Rattle.std.specs.Ordering.{is_le}
 use Rattle.stamp_order.specs.Stamps.{up_to}
-use Rattle.stamp_order.proofs.Orders.{up_to_by_fields}
+use Rattle.stamp_order.proofs.lemmas.Orders.{up_to_by_fields}
 use Rattle.world_state.proofs.block_use.later.Goals as goal
 
 pub returns-then-is_le : goal.returns-then-is_le

@@ -2,7 +2,7 @@ use Rattle.std.proofs.Common.{◌∙◌, sym}
 use Rattle.world_state.specs.Worlds.{setting_in, world_in}
 use Rattle.world_steps.proofs.play.call.Goals as goal
 use Rattle.std.proofs.lemmas.Result.{on_ok_weaker}
-use Rattle.world_state.proofs.Became.{is_this}
+use Rattle.world_state.proofs.lemmas.Became.{is_this}
 use Rattle.world_steps.proofs.LineEvents.{called_plays}
 
 -- src/play.rt:86:5

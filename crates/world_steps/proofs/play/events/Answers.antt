@@ -7,8 +7,8 @@ use Rattle.world_steps.proofs.play.events.Goals as goal
 use Rattle.std.proofs.lemmas.Result.{on_ok_weaker}
 use Rattle.protocol.specs.World.{heard, sent, happens, only_place}
 use Rattle.protocol.specs.World.Event.{Prune as Prunes}
-use Rattle.protocol.proofs.Playing.{no_fault}
-use Rattle.world_state.proofs.Became.{is_this}
+use Rattle.protocol.proofs.lemmas.Playing.{no_fault}
+use Rattle.world_state.proofs.lemmas.Became.{is_this}
 use Rattle.world_steps.proofs.SingleEvents.{happens-place}
 use Rattle.world_steps.proofs.LineEvents.{placed, is_node, is_ask, is_pooled, heard_plays, told_plays}
 

@@ -3,7 +3,7 @@ use Rattle.std.specs.Prelude.{slice_get}
 use Rattle.std.specs.declared.option.Option.TheVariants.{Some}
 use Rattle.std.proofs.lemmas.Result.{on_ok_weaker}
 use Rattle.world_state.specs.Worlds.{setting_in, world_in}
-use Rattle.world_state.proofs.Became.{is_this}
+use Rattle.world_state.proofs.lemmas.Became.{is_this}
 use Rattle.world_steps.proofs.LineEvents.{given_plays}
 use Rattle.world_steps.proofs.play.give_pooled.Goals as goal
 

@@ -1,6 +1,6 @@
 use Rattle.std.proofs.Common.{◌∙◌, ap}
 use Rattle.client_core.specs.Clients.{ClientView}
-use Rattle.client_core.proofs.AnswersHeard.{answer_is}
+use Rattle.client_core.proofs.lemmas.AnswersHeard.{answer_is}
 use Rattle.client_core.proofs.client.Client.prepare.Goals as goal
 
 pub returns-in-Answer : goal.returns-in-Answer

@@ -1,7 +1,7 @@
 use Rattle.std.proofs.Common.{◌∙◌, sym, ap}
 use Rattle.protocol.specs.Seen.{SeenOperation}
 use Rattle.operation_core.specs.Counting.{counts_in, ends_in}
-use Rattle.operation_core.proofs.PhaseEnds.{hears_one}
+use Rattle.operation_core.proofs.lemmas.PhaseEnds.{hears_one}
 use Rattle.client_core.specs.Clients.{operation_of}
 use Rattle.client_core.proofs.client.Client.step_by.Goals as goal
 

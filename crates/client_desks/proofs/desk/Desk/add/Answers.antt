@@ -6,7 +6,7 @@ use Rattle.client_core.specs.Clients.{ClientView}
 use Rattle.locked_nodes.specs.Cells.{number_of, with_seen}
 use Rattle.client_desks.specs.Desks.{DeskView, state_at, heard, ending, desk_entry, with_call}
 use Rattle.locked_nodes.specs.Cells.{reply_told}
-use Rattle.client_desks.proofs.Desking.{desk_grows, desk_stays, heeds_call, told_client, told_crashed}
+use Rattle.client_desks.proofs.lemmas.Desking.{desk_grows, desk_stays, heeds_call, told_client, told_crashed}
 use Rattle.client_desks.proofs.desk.Desk.add.Goals as goal
 
 pub invariant_of-self-in_err-outcome : goal.invariant_of-self-in_err-outcome

@@ -6,7 +6,7 @@ use Rattle.journals.specs.Acts.{answer_of}
 use Rattle.locked_nodes.specs.Cells.{state_of, number_of}
 use Rattle.client_desks.specs.Desks.{DeskView, state_at, reply_by, call_by, done_by, ending, with_call}
 use Rattle.locked_nodes.specs.Cells.{reply_told}
-use Rattle.client_desks.proofs.Desking.{told_reply, act_side, items_grew}
+use Rattle.client_desks.proofs.lemmas.Desking.{told_reply, act_side, items_grew}
 use Rattle.client_desks.proofs.desk.Desk.ask.Goals as goal
 
 pub returns-in_err-add-clause-grew : goal.returns-in_err-add-clause-grew

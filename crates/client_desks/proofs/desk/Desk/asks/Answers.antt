@@ -1,7 +1,7 @@
 use Rattle.std.proofs.Common.{◌≡◌, ap, subst, ◌∙◌}
 use Rattle.std.specs.Prelude.{IfOk}
 use Rattle.client_desks.specs.Desks.{DeskView, asks_of}
-use Rattle.client_desks.proofs.Desking.{asks_at, asks_some, asks_to}
+use Rattle.client_desks.proofs.lemmas.Desking.{asks_at, asks_some, asks_to}
 use Rattle.client_desks.proofs.desk.Desk.asks.Goals as goal
 
 pub returns-clause-asked : goal.returns-clause-asked

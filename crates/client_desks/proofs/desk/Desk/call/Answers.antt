@@ -2,9 +2,9 @@ use Rattle.std.proofs.Common.{◌≡◌, sym, ap, subst, ◌∙◌}
 use Rattle.std.specs.Prelude.{IfSome}
 use Rattle.std.specs.declared.option.Option.TheVariants.{Some}
 use Rattle.client_desks.specs.Desks.{asks_of, CanCall}
-use Rattle.client_desks.proofs.Desking.{calls_as, on_ok_calls, if_ok_ended}
+use Rattle.client_desks.proofs.lemmas.Desking.{calls_as, on_ok_calls, if_ok_ended}
 use Rattle.client_desks.proofs.desk.Desk.call.Goals as goal
-use Rattle.lists.proofs.Tests.{some_is}
+use Rattle.lists.proofs.lemmas.Tests.{some_is}
 
 pub unreachable-requires : goal.unreachable-requires
 unreachable-requires c =

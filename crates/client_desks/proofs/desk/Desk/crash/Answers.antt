@@ -2,7 +2,7 @@ use Rattle.std.proofs.Common.{◌++◌, ◌∷◌, [], true, sym, ap, subst, ◌
 use Rattle.journals.specs.declared.desk.DeskAct.TheVariants.{Crash}
 use Rattle.journals.specs.Desks.{new_desk, desk_after_all, ActsAs}
 use Rattle.client_desks.specs.Desks.{IsUp, desk_entry}
-use Rattle.client_desks.proofs.Desking.{desk_grows}
+use Rattle.client_desks.proofs.lemmas.Desking.{desk_grows}
 use Rattle.client_desks.proofs.desk.Desk.crash.Goals as goal
 
 pub invariant_of-self-2 : goal.invariant_of-self-2

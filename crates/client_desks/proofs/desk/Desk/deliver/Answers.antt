@@ -1,6 +1,6 @@
 use Rattle.std.proofs.Common.{ap, subst, refl}
 use Rattle.client_desks.specs.Desks.{DeskView, KeepsDesk}
-use Rattle.client_desks.proofs.Desking.{late_does, desk_stays}
+use Rattle.client_desks.proofs.lemmas.Desking.{late_does, desk_stays}
 use Rattle.client_desks.proofs.desk.Desk.deliver.Goals as goal
 
 pub invariant_of-self : goal.invariant_of-self

@@ -1,5 +1,5 @@
 use Rattle.locked_nodes.specs.Cells.{reply_told}
-use Rattle.client_desks.proofs.Desking.{calls_as}
+use Rattle.client_desks.proofs.lemmas.Desking.{calls_as}
 use Rattle.client_desks.proofs.desk.Desk.hear.Goals as goal
 
 pub add-requires-clause-may : goal.add-requires-clause-may

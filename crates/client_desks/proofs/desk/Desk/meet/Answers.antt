@@ -1,6 +1,6 @@
 use Rattle.std.proofs.Common.{sym, subst}
 use Rattle.client_desks.specs.Desks.{IsDesk}
-use Rattle.client_desks.proofs.Desking.{desk_meets}
+use Rattle.client_desks.proofs.lemmas.Desking.{desk_meets}
 use Rattle.client_desks.proofs.desk.Desk.meet.Goals as goal
 
 pub invariant_of-self : goal.invariant_of-self

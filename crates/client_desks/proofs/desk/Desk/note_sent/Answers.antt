@@ -2,7 +2,7 @@ use Rattle.std.proofs.Common.{subst}
 use Rattle.journals.specs.Desks.{DeskKept, new_desk}
 use Rattle.client_desks.specs.Desks.{DeskView}
 use Rattle.locked_nodes.specs.Cells.{reply_told}
-use Rattle.client_desks.proofs.Desking.{liar_calls, liar_phase}
+use Rattle.client_desks.proofs.lemmas.Desking.{liar_calls, liar_phase}
 use Rattle.client_desks.proofs.desk.Desk.note_sent.Goals as goal
 
 pub add-requires-clause-may : goal.add-requires-clause-may

@@ -2,7 +2,7 @@ use Rattle.std.proofs.Common.{sym, ap, subst, ◌∙◌}
 use Rattle.protocol.specs.Messages.{Message, IsFormedBody}
 use Rattle.journals.specs.Desks.{DeskKept, new_desk}
 use Rattle.client_desks.specs.Desks.{DeskView}
-use Rattle.client_desks.proofs.Desking.{liar_calls, liar_phase}
+use Rattle.client_desks.proofs.lemmas.Desking.{liar_calls, liar_phase}
 use Rattle.client_desks.proofs.desk.Desk.send.Goals as goal
 
 pub ask-requires-clause-may : goal.ask-requires-clause-may

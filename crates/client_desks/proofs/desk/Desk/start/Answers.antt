@@ -6,7 +6,7 @@ use Rattle.client_core.specs.Clients.{ClientView, with_started, started}
 use Rattle.journals.specs.declared.desk.DeskAct.TheVariants.{Start}
 use Rattle.journals.specs.Desks.{DeskState, new_desk, desk_after_all, ActsAs, FitsOp, MayStart}
 use Rattle.client_desks.specs.Desks.{DeskView, CanStart, desk_entry}
-use Rattle.client_desks.proofs.Desking.{desk_grows, config_at}
+use Rattle.client_desks.proofs.lemmas.Desking.{desk_grows, config_at}
 use Rattle.client_desks.proofs.desk.Desk.start.Goals as goal
 
 pub start-requires-clause-block : goal.start-requires-clause-block

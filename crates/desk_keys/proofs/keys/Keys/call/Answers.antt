@@ -7,7 +7,7 @@ use Rattle.client_desks.specs.Desks.{DeskView}
 use Rattle.desk_keys.specs.declared.mail.ByMail.{ByMail}
 use Rattle.desk_keys.specs.Keys.{KeysView, IsHead, AsksOn, Fit, AreKeys}
 use Rattle.desk_keys.proofs.Keying.{is_none, by_chits, by_mail, place_in, chit_in, own_at, chit_at, fit_turn, fit_mail, keys_called, keys_heard, add_called, heard_called, called_stays}
-use Rattle.desk_keys.proofs.Mailing.{can_ask_own}
+use Rattle.desk_keys.proofs.lemmas.Mailing.{can_ask_own}
 use Rattle.desk_keys.proofs.keys.Keys.call.Goals as goal
 
 pub call_in-answer-requires-clause-own : goal.call_in-answer-requires-clause-own

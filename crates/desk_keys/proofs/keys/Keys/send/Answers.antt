@@ -6,7 +6,7 @@ use Rattle.event_clock.specs.Passes.{ClockId}
 use Rattle.desk_keys.specs.declared.mail.ByMail.{ByMail}
 use Rattle.desk_keys.specs.Keys.{KeysView, IsHead, Fit, AreKeys}
 use Rattle.desk_keys.proofs.Keying.{is_none, by_chits, by_mail, place_in, chit_in, own_at, chit_at, fit_turn, fit_mail, keys_sent, keys_told, add_sent, told_sent, sent_stays}
-use Rattle.desk_keys.proofs.Mailing.{can_ask_any}
+use Rattle.desk_keys.proofs.lemmas.Mailing.{can_ask_any}
 use Rattle.desk_keys.proofs.keys.Keys.send.Goals as goal
 
 pub send_in-answer-requires-clause-own : goal.send_in-answer-requires-clause-own

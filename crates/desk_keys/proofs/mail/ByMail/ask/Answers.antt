@@ -5,7 +5,7 @@ use Rattle.protocol.specs.Messages.{Message}
 use Rattle.event_clock.specs.Passes.{Sight}
 use Rattle.node_serving.specs.declared.asked.Asked.{Asked}
 use Rattle.node_serving.specs.Mail.{IsAskAt}
-use Rattle.desk_keys.proofs.Mailing.{same_next, same_lasts}
+use Rattle.desk_keys.proofs.lemmas.Mailing.{same_next, same_lasts}
 use Rattle.desk_keys.proofs.mail.ByMail.ask.Goals as goal
 
 pub put-requires : goal.put-requires

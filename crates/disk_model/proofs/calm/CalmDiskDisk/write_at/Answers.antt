@@ -2,7 +2,7 @@ use Rattle.std.proofs.Common.{◌++◌, ◌∷◌, [], ◌∙◌, ap}
 use Rattle.disk_model.specs.Crash.{settled}
 use Rattle.disk_model.specs.Kept.{Kept}
 use Rattle.disk_model.specs.Memory.{Calm}
-use Rattle.disk_model.proofs.Past.{grown, remembered}
+use Rattle.disk_model.proofs.lemmas.Past.{grown, remembered}
 use Rattle.disk_model.proofs.calm.CalmDiskDisk.write_at.Goals as goal
 
 pub returns-clause-remembers : goal.returns-clause-remembers

@@ -1,6 +1,6 @@
 use Rattle.std.proofs.Common.{◌++◌, ◌∷◌, [], ◌∙◌, ap}
 use Rattle.disk_model.specs.Kept.{Kept}
-use Rattle.disk_model.proofs.Past.{grown, remembered}
+use Rattle.disk_model.proofs.lemmas.Past.{grown, remembered}
 use Rattle.file_disk.specs.OnFile.{OnFile}
 use Rattle.file_disk.proofs.disk.FileDiskDisk.sync.Goals as goal
 

@@ -5,7 +5,7 @@ use Rattle.protocol.specs.History.{Kind, is_read}
 use Rattle.protocol.specs.History.Kind.{Write, Foreign, Read}
 use Rattle.history_making.specs.Drafts.{entry_of}
 use Rattle.history_making.proofs.draft.Draft.compare_in_version.Goals as goal
-use Rattle.lists.proofs.Orders.{then_assoc}
+use Rattle.lists.proofs.lemmas.Orders.{then_assoc}
 
 -- reads after the others, by the test and by the number
 by_kind : (a b : Kind) → bool_cmp (is_read a == 1) (is_read b == 1) ≡ nat_cmp (is_read a) (is_read b)

@@ -1,5 +1,5 @@
 use Rattle.std.proofs.Common.{sym}
-use Rattle.gf_field.proofs.Sums.{product_below-none}
+use Rattle.gf_field.proofs.lemmas.Sums.{product_below-none}
 use Rattle.ida_code.proofs.Weights.{whole-more}
 use Rattle.ida_code.proofs.points.Points.whole.Goals as goal
 

@@ -1,7 +1,7 @@
 use Rattle.std.proofs.Common.{◌≡◌, ◌++◌, length, All, sym, ap, subst, ◌∙◌, arith}
 use Rattle.std.proofs.lemmas.Result.{IfOk-weaker}
 use Rattle.gf_field.specs.Fragments.{HaveElements, IsDecoded, decoded, string_len, string_at}
-use Rattle.gf_field.proofs.FragmentLaws.{decoded_exists, decoded-fragments, length-decoded}
+use Rattle.gf_field.proofs.lemmas.FragmentLaws.{decoded_exists, decoded-fragments, length-decoded}
 use Rattle.cross_sum.specs.Parts.{numbers, strings}
 use Rattle.ida_code.specs.Lent.{lent}
 use Rattle.ida_code.proofs.Whole.{shape, shape-m, lengths-lent, concat-more, decoded-from}

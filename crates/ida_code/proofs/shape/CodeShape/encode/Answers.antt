@@ -4,7 +4,7 @@ use Rattle.std.proofs.lemmas.List.{map-id}
 use Rattle.std.proofs.lemmas.List.FromFn.{length-range_with_len}
 use Rattle.gf_field.specs.Polynomials.{AreDistinct}
 use Rattle.gf_field.specs.Fragments.{HaveElements, IsFragments, string_len, string_at, rows_of, fragments_of}
-use Rattle.gf_field.proofs.FragmentLaws.{fragments_exist, range_distinct, length-rows_of}
+use Rattle.gf_field.proofs.lemmas.FragmentLaws.{fragments_exist, range_distinct, length-rows_of}
 use Rattle.ida_code.proofs.Whole.{shape, shape-n, shape-m, rows_elements, rows_lengths, rows_of-strings, rows_taken, strings-more, fragments_of-from}
 use Rattle.ida_code.proofs.shape.CodeShape.encode.Goals as goal
 

@@ -3,7 +3,7 @@ use Rattle.crossbeam_channel.specs.Claims.{view}
 use Rattle.crossbeam_channel.specs.Ends.{sends_on, ruled_capacity}
 use Rattle.inboxes.specs.declared.rule.View.{View}
 use Rattle.inboxes.specs.Posts.{start, items_of}
-use Rattle.inboxes.proofs.SenderWords.{items_last}
+use Rattle.inboxes.proofs.lemmas.SenderWords.{items_last}
 use Rattle.inboxes.proofs.RuleIsKept.{says}
 use Rattle.inboxes.proofs.TakenInOrder.{same_inbox, same_putting, ended_push}
 use Rattle.inboxes.proofs.inbox.Putter.last.Goals as goal

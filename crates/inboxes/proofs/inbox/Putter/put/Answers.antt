@@ -4,7 +4,7 @@ use Rattle.crossbeam_channel.specs.Ends.{sends_on, ruled_capacity}
 use Rattle.inboxes.specs.declared.rule.View.{View}
 use Rattle.inboxes.specs.Posts.{start, items_of, has_ended}
 use Rattle.inboxes.specs.Sides.{Putting, put_more}
-use Rattle.inboxes.proofs.SenderWords.{going_push, items_push}
+use Rattle.inboxes.proofs.lemmas.SenderWords.{going_push, items_push}
 use Rattle.inboxes.proofs.RuleIsKept.{says}
 use Rattle.inboxes.proofs.TakenInOrder.{same_inbox, same_putting}
 use Rattle.inboxes.proofs.inbox.Putter.put.Goals as goal

@@ -1,6 +1,6 @@
 use Rattle.std.proofs.Common.{sym, subst, ap, ◌∙◌}
 use Rattle.locked_nodes.specs.Cells.{CellView, Serves, HoldsWhole}
-use Rattle.locked_nodes.proofs.Growing.{cell_steps, node_is}
+use Rattle.locked_nodes.proofs.lemmas.Growing.{cell_steps, node_is}
 use Rattle.locked_nodes.proofs.cell.NodeCell.answer.Goals as goal
 
 pub act-requires-clause-node : goal.act-requires-clause-node

@@ -1,6 +1,6 @@
 use Rattle.std.proofs.Common.{◌≡◌, length, sym, subst, ap, ◌∙◌, rules}
 use Rattle.locked_nodes.specs.Cells.{CellView, IsCell, next_terms}
-use Rattle.locked_nodes.proofs.Growing.{cell_goes_on}
+use Rattle.locked_nodes.proofs.lemmas.Growing.{cell_goes_on}
 use Rattle.locked_nodes.proofs.cell.NodeCell.go_on.Goals as goal
 
 pub invariant_of-result : goal.invariant_of-result

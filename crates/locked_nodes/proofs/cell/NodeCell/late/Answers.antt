@@ -1,7 +1,7 @@
 use Rattle.std.proofs.Common.{◌≡◌, ap, subst, ◌∙◌}
 use Rattle.event_clock.specs.Passes.{Holder, Sight, heeded}
 use Rattle.locked_nodes.specs.Cells.{SawLate}
-use Rattle.locked_nodes.proofs.Growing.{came_to}
+use Rattle.locked_nodes.proofs.lemmas.Growing.{came_to}
 use Rattle.locked_nodes.proofs.cell.NodeCell.late.Goals as goal
 
 pub returns-clause-delivered : goal.returns-clause-delivered

@@ -1,6 +1,6 @@
 use Rattle.std.proofs.Common.{sym, subst}
 use Rattle.locked_nodes.specs.Cells.{IsCell}
-use Rattle.locked_nodes.proofs.Growing.{cell_meets}
+use Rattle.locked_nodes.proofs.lemmas.Growing.{cell_meets}
 use Rattle.locked_nodes.proofs.cell.NodeCell.meet.Goals as goal
 
 pub invariant_of-self : goal.invariant_of-self

@@ -2,7 +2,7 @@ use Rattle.std.proofs.Common.{◌≡◌, [], subst, ◌∙◌, rules}
 use Rattle.locked_nodes.specs.declared.answers.Late.TheVariants.{Delivered, Lost}
 use Rattle.locked_nodes.specs.Cells.{BroughtLate, SawLate}
 use Rattle.locked_nodes.proofs.Keeping.{late_asks}
-use Rattle.locked_nodes.proofs.Growing.{cell_late, cell_lates, oldest_of, late_came, told_delivered, told_lost}
+use Rattle.locked_nodes.proofs.lemmas.Growing.{cell_late, cell_lates, oldest_of, late_came, told_delivered, told_lost}
 use Rattle.locked_nodes.proofs.cell.NodeCell.meet_late.Goals as goal
 
 pub act_late-requires-clause-asks : goal.act_late-requires-clause-asks

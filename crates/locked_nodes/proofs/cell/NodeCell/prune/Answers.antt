@@ -2,7 +2,7 @@ use Rattle.std.proofs.Common.{◌≡◌, ◌<◌, ◌%◌, true, sym, subst, ap,
 use Rattle.journals.specs.declared.node.NodeAct.TheVariants.{Pruned}
 use Rattle.journals.specs.Acts.{can_prune}
 use Rattle.locked_nodes.specs.Cells.{CellView}
-use Rattle.locked_nodes.proofs.Growing.{MayJoin, cell_joins, block_there}
+use Rattle.locked_nodes.proofs.lemmas.Growing.{MayJoin, cell_joins, block_there}
 use Rattle.locked_nodes.proofs.cell.NodeCell.prune.Goals as goal
 
 pub prune-requires : goal.prune-requires

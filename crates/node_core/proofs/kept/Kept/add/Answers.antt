@@ -1,5 +1,5 @@
 use Rattle.std.proofs.Common.{refl, arith}
-use Rattle.node_core.proofs.Changes.{added_index, added_list}
+use Rattle.node_core.proofs.lemmas.Changes.{added_index, added_list}
 use Rattle.node_core.proofs.Finding.{none_at}
 use Rattle.node_core.proofs.kept.Kept.add.Goals as goal
 

@@ -1,7 +1,7 @@
 use Rattle.std.proofs.Common.{sym, ◌∙◌}
 use Rattle.node_core.specs.Index.{is_up_to}
 use Rattle.node_core.proofs.Finding.{listed_later}
-use Rattle.node_core.proofs.Changes.{dropped_index, dropped_list, kept_from, kept_all}
+use Rattle.node_core.proofs.lemmas.Changes.{dropped_index, dropped_list, kept_from, kept_all}
 use Rattle.node_core.proofs.kept.Kept.prune.Goals as goal
 
 pub invariant_of-self : goal.invariant_of-self

@@ -1,6 +1,6 @@
 use Rattle.std.proofs.Common.{◌∙◌}
 use Rattle.node_core.specs.Index.{is_other}
-use Rattle.node_core.proofs.Changes.{dropped_index, dropped_list, other_stamps}
+use Rattle.node_core.proofs.lemmas.Changes.{dropped_index, dropped_list, other_stamps}
 use Rattle.node_core.proofs.kept.Kept.take_back.Goals as goal
 
 pub invariant_of-self : goal.invariant_of-self

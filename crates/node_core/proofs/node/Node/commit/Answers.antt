@@ -3,8 +3,8 @@ use Rattle.std.specs.declared.option.Option.TheVariants.{Some}
 use Rattle.protocol.specs.Instance.{setting}
 use Rattle.node_core.specs.Seen.{accepts_of, versions_in}
 use Rattle.node_core.specs.contracts.node.Node.{the_view}
-use Rattle.node_core.proofs.Accepting.{accepted_is_new}
-use Rattle.node_core.proofs.Blocks.{block_at, node_set, keeps_later}
+use Rattle.node_core.proofs.lemmas.Accepting.{accepted_is_new}
+use Rattle.node_core.proofs.lemmas.Blocks.{block_at, node_set, keeps_later}
 use Rattle.node_core.proofs.node.Node.commit.Goals as goal
 
 pub index_mut-kept-requires : goal.index_mut-kept-requires

@@ -1,6 +1,6 @@
 use Rattle.std.proofs.Common.{◌≡◌, sym, ap, arith}
 use Rattle.wire_forms.specs.declared.message.Reply.TheVariants.{Found}
-use Rattle.node_core.proofs.Blocks.{block_at, greatest_later}
+use Rattle.node_core.proofs.lemmas.Blocks.{block_at, greatest_later}
 use Rattle.node_core.proofs.node.Node.found.Goals as goal
 
 pub returns-in_ok-version-in-Some : goal.returns-in_ok-version-in-Some

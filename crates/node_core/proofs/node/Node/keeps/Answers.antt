@@ -1,7 +1,7 @@
 use Rattle.std.proofs.Common.{◌≡◌, ◌∙◌, Bool, true, false, ◌||◌, refl, sym, ap, arith}
 use Rattle.std.specs.Ordering.{is_eq}
-use Rattle.node_core.proofs.Blocks.{block_at, not_so}
-use Rattle.node_core.proofs.Changes.{same_by_fields}
+use Rattle.node_core.proofs.lemmas.Blocks.{block_at, not_so}
+use Rattle.node_core.proofs.lemmas.Changes.{same_by_fields}
 use Rattle.node_core.proofs.node.Node.keeps.Goals as goal
 
 either : (a b : Bool) → b ≡ true → a || b ≡ true

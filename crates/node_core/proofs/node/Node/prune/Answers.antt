@@ -1,6 +1,6 @@
 use Rattle.std.proofs.Common.{ap, arith}
 use Rattle.protocol.specs.Instance.{setting}
-use Rattle.node_core.proofs.Blocks.{block_at, node_set, pruned_later}
+use Rattle.node_core.proofs.lemmas.Blocks.{block_at, node_set, pruned_later}
 use Rattle.node_core.proofs.node.Node.prune.Goals as goal
 
 pub returns : goal.returns

@@ -1,6 +1,6 @@
 use Rattle.std.proofs.Common.{◌≡◌, ◌∷◌, ap, not, Bool, cond, arith}
 use Rattle.node_core.specs.Seen.{without}
-use Rattle.node_core.proofs.Blocks.{block_at, node_set, not_of_first}
+use Rattle.node_core.proofs.lemmas.Blocks.{block_at, node_set, not_of_first}
 use Rattle.node_core.proofs.node.Node.take_back.Goals as goal
 
 pub returns : goal.returns

@@ -1,7 +1,7 @@
 use Rattle.std.proofs.Common.{◌≡◌, refl, sym, ◌∙◌, arith}
 use Rattle.std.proofs.lemmas.List.FromFn.{map-range_with_len_more}
 use Rattle.node_core.specs.Seen.{new_node}
-use Rattle.node_device.proofs.Holding.{new_held, held_is}
+use Rattle.node_device.proofs.lemmas.Holding.{new_held, held_is}
 use Rattle.node_device.proofs.device.NodeDevice.new.Goals as goal
 
 pub loop-number-preserved : goal.loop-number-preserved

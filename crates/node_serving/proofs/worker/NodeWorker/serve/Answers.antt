@@ -8,7 +8,7 @@ use Rattle.locked_nodes.specs.declared.charter.Charter.{Charter}
 use Rattle.locked_nodes.specs.Slots.{slot_of}
 use Rattle.protocol.specs.Messages.{Message}
 use Rattle.node_serving.specs.Workers.{HasAnswered, AreAnswered, clients_of}
-use Rattle.node_serving.proofs.Answering.{IsServing, serving_none, answered_more, answered_late, asked_more, seat_within, putter_of}
+use Rattle.node_serving.proofs.lemmas.Answering.{IsServing, serving_none, answered_more, answered_late, asked_more, seat_within, putter_of}
 use Rattle.node_serving.proofs.worker.NodeWorker.serve.Goals as goal
 
 pub loop-init : goal.loop-init

@@ -1,4 +1,4 @@
-use Rattle.node_serving.proofs.Answering.{IsServing}
+use Rattle.node_serving.proofs.lemmas.Answering.{IsServing}
 use Rattle.node_serving.proofs.worker.NodeWorker.serve.Given as goal
 
 -- what was asked so far is answered

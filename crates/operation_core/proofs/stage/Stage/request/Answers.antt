@@ -1,4 +1,4 @@
-use Rattle.gf_field.proofs.Blocks.{length-fragments_of}
+use Rattle.gf_field.proofs.lemmas.Blocks.{length-fragments_of}
 use Rattle.operation_core.proofs.stage.Stage.request.Goals as goal
 
 pub version-requires : goal.version-requires

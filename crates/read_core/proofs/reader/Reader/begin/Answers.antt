@@ -1,5 +1,5 @@
 use Rattle.std.proofs.Common.{refl, ◌∙◌}
-use Rattle.protocol.proofs.Firsts.{first_stamp_is}
+use Rattle.protocol.proofs.lemmas.Firsts.{first_stamp_is}
 use Rattle.read_core.proofs.reader.Reader.begin.Goals as goal
 
 pub invariant_of-reader : goal.invariant_of-reader

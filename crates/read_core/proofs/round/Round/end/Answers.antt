@@ -5,7 +5,7 @@ use Rattle.stamp_order.specs.Stamps.{same_stamp}
 use Rattle.quorum_rules.specs.Limits.{complete_of, repairable_of}
 use Rattle.protocol.specs.Instance.{setting}
 use Rattle.protocol.specs.Operations.{pivot, support}
-use Rattle.candidate_class.proofs.Compared.{same_by_fields}
+use Rattle.candidate_class.proofs.lemmas.Compared.{same_by_fields}
 use Rattle.operation_core.specs.Counting.{answer_at}
 use Rattle.read_core.proofs.Ending.{pivot_told, supported, is_outvoted, is_first, is_later, is_little}
 use Rattle.read_core.proofs.round.Round.end.Goals as goal

@@ -3,7 +3,7 @@ use Rattle.std.specs.Prelude.{slice_index_or}
 use Rattle.event_lines.specs.Lines.{IsLine, IsEventLine}
 use Rattle.event_lines.specs.declared.line.ReplayLine.{ReplayLine}
 use Rattle.world_state.specs.Worlds.{WorldView}
-use Rattle.script_run.proofs.Fitting.{fits_line}
+use Rattle.script_run.proofs.lemmas.Fitting.{fits_line}
 use Rattle.run_pictures.proofs.stage.Stage.takes_place.Goals as goal
 
 pub play-requires-clause-fits : goal.play-requires-clause-fits

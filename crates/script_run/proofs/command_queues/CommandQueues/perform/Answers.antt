@@ -6,7 +6,7 @@ use Rattle.event_lines.specs.declared.line.ReplayLine.{ReplayLine}
 use Rattle.world_state.specs.Worlds.{setting_in}
 use Rattle.script_run.specs.Performing.{run_line}
 use Rattle.script_run.specs.CommandQueues.{queues_in}
-use Rattle.script_run.proofs.Fitting.{fits_line}
+use Rattle.script_run.proofs.lemmas.Fitting.{fits_line}
 use Rattle.script_run.proofs.Keeping.{on_ok}
 use Rattle.script_run.proofs.command_queues.CommandQueues.perform.Goals as goal
 

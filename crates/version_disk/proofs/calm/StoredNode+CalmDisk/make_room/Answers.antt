@@ -2,7 +2,7 @@ use Rattle.std.proofs.Common.{◌≤◌, ◌+◌, length, ◌∙◌, ap, arith}
 use Rattle.std.proofs.lemmas.Result.{on_ok_weaker}
 use Rattle.disk_model.specs.Memory.{Calm}
 use Rattle.slot_disk.specs.Slots.{body_len}
-use Rattle.slot_disk.proofs.Closing.{fits_room}
+use Rattle.slot_disk.proofs.lemmas.Closing.{fits_room}
 use Rattle.version_disk.proofs.calm.«StoredNode+CalmDisk».make_room.Goals as goal
 
 pub returns-clause-place : goal.returns-clause-place

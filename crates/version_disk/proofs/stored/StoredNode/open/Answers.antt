@@ -1,7 +1,7 @@
 use Rattle.std.proofs.Common.{ap, arith}
 use Rattle.quorum_rules.specs.Limits.{Numbers}
 use Rattle.version_disk.proofs.Keeping.{kept_own}
-use Rattle.version_disk.proofs.Playing.{held_config}
+use Rattle.version_disk.proofs.lemmas.Playing.{held_config}
 use Rattle.version_disk.proofs.stored.StoredNode.open.Goals as goal
 
 pub invariant_of-result : goal.invariant_of-result

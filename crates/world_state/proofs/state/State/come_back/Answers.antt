@@ -5,7 +5,7 @@ use Rattle.world_state.specs.contracts.state.State.{the_view}
 use Rattle.world_state.specs.Worlds.{setting_in, world_in}
 use Rattle.world_state.proofs.KeptWorlds.{client-within}
 use Rattle.world_state.proofs.ChangedClients.{slot-is}
-use Rattle.world_state.proofs.Became.{known_as}
+use Rattle.world_state.proofs.lemmas.Became.{known_as}
 use Rattle.world_state.proofs.ClientSlots.{slot-client, slot-crashed}
 use Rattle.world_state.proofs.ReturnedClients.{back-kept, back-uses, back-became}
 use Rattle.world_state.proofs.state.State.come_back.Goals as goal

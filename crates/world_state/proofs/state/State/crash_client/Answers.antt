@@ -9,7 +9,7 @@ use Rattle.world_state.proofs.SettledUses.{left-is, may-leave, crash-uses}
 use Rattle.world_state.specs.Worlds.{world_in}
 use Rattle.world_state.specs.contracts.state.State.{the_view}
 use Rattle.world_state.proofs.KeptWorlds.{raised, with_client_slot}
-use Rattle.world_state.proofs.Became.{known_as}
+use Rattle.world_state.proofs.lemmas.Became.{known_as}
 use Rattle.world_state.proofs.ClientSlots.{update-known, world-client_slot, slot-lying, slot-client, slot-task, client_slot-there}
 use Rattle.world_state.proofs.state.State.crash_client.Goals as goal
 

@@ -3,7 +3,7 @@ use Rattle.protocol.specs.Count.{update}
 use Rattle.world_state.specs.contracts.state.State.{the_view}
 use Rattle.world_state.specs.Worlds.{world_in}
 use Rattle.world_state.proofs.KeptWorlds.{raised}
-use Rattle.world_state.proofs.Became.{known_as}
+use Rattle.world_state.proofs.lemmas.Became.{known_as}
 use Rattle.world_state.proofs.NodeSlots.{within, node_slot-there, with_node_slot, slot-lying, world-crashed}
 use Rattle.world_state.proofs.state.State.crash_node.Goals as goal
 

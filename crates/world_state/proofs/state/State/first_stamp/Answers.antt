@@ -4,7 +4,7 @@ use Rattle.world_state.specs.Worlds.{setting_in}
 use Rattle.world_state.proofs.state.State.first_stamp.Goals as goal
 use Rattle.wire_forms.specs.declared.first.First.{First}
 use Rattle.protocol.specs.Instance.{setting}
-use Rattle.protocol.proofs.Firsts.{first_stamp_is}
+use Rattle.protocol.proofs.lemmas.Firsts.{first_stamp_is}
 
 -- src/play.rt:175:5
 pub returns : goal.returns

@@ -9,7 +9,7 @@ use Rattle.world_state.specs.Worlds.{setting_in, world_in}
 use Rattle.world_state.specs.Changes.{accepts_in, handles}
 use Rattle.world_state.specs.contracts.state.State.{the_view}
 use Rattle.world_state.proofs.KeptWorlds.{raised}
-use Rattle.world_state.proofs.Became.{known_as}
+use Rattle.world_state.proofs.lemmas.Became.{known_as}
 use Rattle.world_state.proofs.NodeSlots.{within, node_slot-there, node_slots_versions, node_slots_same, with_node_slot, slot-lying, world-handled, accepts-node_slot, accepted-more, view-same}
 use Rattle.world_state.proofs.state.State.give.Goals as goal
 

@@ -6,7 +6,7 @@ use Rattle.std.specs.Prelude.{slice_get, slice_index_or}
 use Rattle.protocol.specs.Seen.{client_at, new_client}
 use Rattle.world_state.specs.Worlds.{setting_in, world_in}
 use Rattle.world_state.specs.Changes.{client_in, IsAnswer}
-use Rattle.world_state.proofs.Became.{and_then}
+use Rattle.world_state.proofs.lemmas.Became.{and_then}
 use Rattle.world_state.proofs.HeardEffects.{Fits, slot-fits, may-apply, heard-applied}
 use Rattle.world_state.proofs.state.State.hear.Goals as goal
 

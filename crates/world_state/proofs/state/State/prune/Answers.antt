@@ -8,7 +8,7 @@ use Rattle.node_core.specs.Seen.{SeenNode}
 use Rattle.world_state.specs.Worlds.{setting_in, world_in}
 use Rattle.world_state.specs.contracts.state.State.{the_view}
 use Rattle.world_state.proofs.KeptWorlds.{raised}
-use Rattle.world_state.proofs.Became.{is_this, known_as, passed}
+use Rattle.world_state.proofs.lemmas.Became.{is_this, known_as, passed}
 use Rattle.world_state.proofs.NodeSlots.{within, node_slot-there, node_slots_versions, node_slots_same, with_node_slot, slot-lying, world-versions, versions-there, view-same, held_after_err}
 use Rattle.world_state.proofs.state.State.prune.Goals as goal
 

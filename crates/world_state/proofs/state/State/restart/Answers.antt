@@ -3,7 +3,7 @@ use Rattle.protocol.specs.World.{only_place}
 use Rattle.world_state.specs.contracts.state.State.{the_view}
 use Rattle.world_state.specs.Worlds.{setting_in, world_in}
 use Rattle.world_state.proofs.KeptWorlds.{raised}
-use Rattle.world_state.proofs.Became.{known_as}
+use Rattle.world_state.proofs.lemmas.Became.{known_as}
 use Rattle.world_state.proofs.NodeSlots.{within, node_slot-there, node_slots_same, with_node_slot, slot-lying, view-same, held_after_err}
 use Rattle.world_state.proofs.state.State.restart.Goals as goal
 

@@ -2,7 +2,7 @@ use Rattle.std.proofs.Common.{refl}
 use Rattle.protocol.specs.World.{sent}
 use Rattle.world_state.specs.contracts.state.State.{the_view}
 use Rattle.world_state.specs.Worlds.{setting_in, world_in}
-use Rattle.world_state.proofs.Became.{known_as}
+use Rattle.world_state.proofs.lemmas.Became.{known_as}
 use Rattle.world_state.proofs.state.State.send.Goals as goal
 
 pub returns-clause-ok : goal.returns-clause-ok

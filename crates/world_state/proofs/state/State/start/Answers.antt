@@ -6,7 +6,7 @@ use Rattle.world_state.specs.Worlds.{setting_in, world_in}
 use Rattle.world_state.specs.Changes.{client_in}
 use Rattle.world_state.proofs.KeptWorlds.{client-within}
 use Rattle.world_state.proofs.ClientSlots.{slot-client, slot-crashed}
-use Rattle.world_state.proofs.Became.{known_as}
+use Rattle.world_state.proofs.lemmas.Became.{known_as}
 use Rattle.world_state.proofs.StartedOperations.{new_task, begun-kept, begun-uses, begun-became}
 use Rattle.world_state.proofs.BlockUses.{use-few}
 use Rattle.protocol.specs.Seen.{client_at}

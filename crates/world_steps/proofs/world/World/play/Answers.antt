@@ -7,7 +7,7 @@ use Rattle.world_steps.specs.Reached.{IsReached}
 use Rattle.world_steps.proofs.world.World.play.Goals as goal
 use Rattle.world_steps.specs.declared.refusal.StepRefusal.TheVariants as StepRefusals
 use Rattle.std.proofs.lemmas.Result.{on_ok_weaker}
-use Rattle.world_state.proofs.Became.{same_setting}
+use Rattle.world_state.proofs.lemmas.Became.{same_setting}
 use Rattle.world_steps.proofs.Reached.{still_reached}
 
 pub invariant_of-self : goal.invariant_of-self

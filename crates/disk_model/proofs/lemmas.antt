@@ -1,0 +1,3 @@
+-- What proofs of other crates may cite.
+pub mod Crash
+pub mod Past

@@ -1,0 +1,6 @@
+-- What proofs of other crates may cite.
+pub mod Accepted
+pub mod Clusters
+pub mod Tables
+pub mod Texts
+pub mod Fine

@@ -1,0 +1,3 @@
+-- What proofs of other crates may cite.
+pub mod Standing
+pub mod PlanLaws

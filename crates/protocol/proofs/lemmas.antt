@@ -1,0 +1,26 @@
+-- What proofs of other crates may cite.
+pub mod Counting
+pub mod Order
+pub mod Highest
+pub mod Lists
+pub mod Tests
+pub mod Replacing
+pub mod Strings
+pub mod Parts
+pub mod Given
+pub mod Keeping
+pub mod Forming
+pub mod Sending
+pub mod Rounds
+pub mod Entries
+pub mod Keys
+pub mod Playing
+pub mod Marks
+pub mod Starts
+pub mod Counts
+pub mod Kept
+pub mod Theorem
+pub mod SpentLies
+pub mod Seeing
+pub mod Firsts
+pub mod Cluster
