@@ -1,6 +1,6 @@
 use Rattle.std.proofs.Common.{◌≡◌, ◌≤◌, ℕ, List, ◌+◌, ◌++◌, ◌∙◌, ap, arith, length, take, length-append}
 use Rattle.std.proofs.lemmas.List.{take-append-le, length-take}
-use Rattle.outside_io.proofs.Known.{Consumes-then, gave_more}
+use Rattle.outside_io.proofs.lemmas.Known.{Consumes-then, gave_more}
 use Rattle.outside_io.proofs.reading.read_all.Goals as goal
 
 room_left : (have wanted count given room : ℕ) (xs : List ℕ) → count ≤ room → count ≡ given → room ≡ length (take wanted xs) → have + wanted ≤ 4194305 → have + given ≤ 4194305

@@ -1,5 +1,5 @@
 use Rattle.std.proofs.Common.{◌∙◌}
-use Rattle.outside_io.proofs.Known.{adds_more, adds_prefix, within}
+use Rattle.outside_io.proofs.lemmas.Known.{adds_more, adds_prefix, within}
 use Rattle.outside_io.proofs.writing.write_all.Goals as goal
 
 pub returns-in_err-at-clause-prefix : goal.returns-in_err-at-clause-prefix

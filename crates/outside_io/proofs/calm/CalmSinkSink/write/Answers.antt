@@ -1,5 +1,5 @@
 use Rattle.std.proofs.Common.{refl}
-use Rattle.outside_io.proofs.Known.{adds_told}
+use Rattle.outside_io.proofs.lemmas.Known.{adds_told}
 use Rattle.outside_io.proofs.calm.CalmSinkSink.write.Goals as goal
 
 pub returns-clause-bytes : goal.returns-clause-bytes
