@@ -15,28 +15,50 @@ pub enum Word {
     Refused,
 }
 
+/// Each word, in the order of their declaration.
+const WORDS: [Word; 12] = [
+    Word::Ask,
+    Word::Answer,
+    Word::Time,
+    Word::Read,
+    Word::Write,
+    Word::All,
+    Word::AtMost,
+    Word::Below,
+    Word::Found,
+    Word::Nothing,
+    Word::Ack,
+    Word::Refused,
+];
+
 impl Word {
     ghost use Rattle.std.specs.Prelude.{◌≡◌};
-    ghost use Rattle.message_texts.specs.Words.{word_of};
+    ghost use Rattle.message_texts.specs.Words.{word_of, word_text};
 
     /// The word that a field spells.
     pub fn of(field: &[u8]) -> Option<Word>
         ensures { result ≡ word_of field.now }
     {
-        match field {
-            b"ask" => Some(Word::Ask),
-            b"answer" => Some(Word::Answer),
-            b"time" => Some(Word::Time),
-            b"read" => Some(Word::Read),
-            b"write" => Some(Word::Write),
-            b"all" => Some(Word::All),
-            b"atmost" => Some(Word::AtMost),
-            b"below" => Some(Word::Below),
-            b"found" => Some(Word::Found),
-            b"nothing" => Some(Word::Nothing),
-            b"ack" => Some(Word::Ack),
-            b"refused" => Some(Word::Refused),
-            _ => None,
+        WORDS.iter().find(|word| field == word.text()).copied()
+    }
+
+    /// How the word is spelled.
+    fn text(self) -> &'static [u8]
+        ensures { result.now ≡ word_text self }
+    {
+        match self {
+            Word::Ask => b"ask",
+            Word::Answer => b"answer",
+            Word::Time => b"time",
+            Word::Read => b"read",
+            Word::Write => b"write",
+            Word::All => b"all",
+            Word::AtMost => b"atmost",
+            Word::Below => b"below",
+            Word::Found => b"found",
+            Word::Nothing => b"nothing",
+            Word::Ack => b"ack",
+            Word::Refused => b"refused",
         }
     }
 }
