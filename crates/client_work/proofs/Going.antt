@@ -8,7 +8,7 @@ use Rattle.wire_forms.specs.declared.op.Op.{Op}
 use Rattle.block_device.specs.declared.steps.BlockStep.{BlockStep}
 use Rattle.protocol.specs.Messages.{Message}
 use Rattle.journals.specs.declared.desk.Way.{Way}
-use Rattle.journals.specs.declared.desk.Way.TheVariants.{Call as ByCall, Drop as ByDrop, Hold as ByHold}
+use Rattle.journals.specs.declared.desk.Way.TheVariants.{Call as ByCall, Lose as ByLose, Hold as ByHold}
 use Rattle.journals.specs.declared.desk.DeskAct.{DeskAct}
 use Rattle.journals.specs.declared.desk.DeskAct.TheVariants.{Start, Crash, Call}
 use Rattle.journals.specs.declared.desk.DeskEntry.{DeskEntry}
@@ -172,16 +172,16 @@ counts_more w es n way way' ask reply w' below up h c = subst (λ (x : ClientWor
 way_on : (drops holds before : ℕ) → way_of (drops - before) (holds - (before - drops)) 0 ≡ way_of drops holds before
 way_on drops holds before = at (nat_lt before drops) refl (nat_lt before (drops + holds)) refl
   where
-    at : (b : Bool) → nat_lt before drops ≡ b → (b' : Bool) → nat_lt before (drops + holds) ≡ b' → way_of (drops - before) (holds - (before - drops)) 0 ≡ cond b ByDrop (cond b' ByHold ByCall)
-    at true e b' f = let g : nat_lt 0 (drops - before) ≡ true = grind (arith, nat_tests) in ap (λ (x : Bool). cond x ByDrop (cond (nat_lt 0 (drops - before + (holds - (before - drops)))) ByHold ByCall)) g
+    at : (b : Bool) → nat_lt before drops ≡ b → (b' : Bool) → nat_lt before (drops + holds) ≡ b' → way_of (drops - before) (holds - (before - drops)) 0 ≡ cond b ByLose (cond b' ByHold ByCall)
+    at true e b' f = let g : nat_lt 0 (drops - before) ≡ true = grind (arith, nat_tests) in ap (λ (x : Bool). cond x ByLose (cond (nat_lt 0 (drops - before + (holds - (before - drops)))) ByHold ByCall)) g
     at false e true f =
         let g : nat_lt 0 (drops - before) ≡ false = grind (arith, nat_tests) in
         let h : nat_lt 0 (drops - before + (holds - (before - drops))) ≡ true = grind (arith, nat_tests) in
-        ap (λ (x : Bool). cond x ByDrop (cond (nat_lt 0 (drops - before + (holds - (before - drops)))) ByHold ByCall)) g ∙ ap (λ (x : Bool). cond x ByHold ByCall) h
+        ap (λ (x : Bool). cond x ByLose (cond (nat_lt 0 (drops - before + (holds - (before - drops)))) ByHold ByCall)) g ∙ ap (λ (x : Bool). cond x ByHold ByCall) h
     at false e false f =
         let g : nat_lt 0 (drops - before) ≡ false = grind (arith, nat_tests) in
         let h : nat_lt 0 (drops - before + (holds - (before - drops))) ≡ false = grind (arith, nat_tests) in
-        ap (λ (x : Bool). cond x ByDrop (cond (nat_lt 0 (drops - before + (holds - (before - drops)))) ByHold ByCall)) g ∙ ap (λ (x : Bool). cond x ByHold ByCall) h
+        ap (λ (x : Bool). cond x ByLose (cond (nat_lt 0 (drops - before + (holds - (before - drops)))) ByHold ByCall)) g ∙ ap (λ (x : Bool). cond x ByHold ByCall) h
 
 pub way_is : (w : ClientWorker) (es : List DeskEntry) (node : ℕ) (way : Way) (w' : ClientWorker) → node < w.plan.value.config.n → Counts w es → HasCounted w node way w'
     → way ≡ way_of (drops w.plan.value.rules w.client node) (holds w.plan.value.rules w.client node) (times (asks_of node) es)
@@ -195,7 +195,7 @@ way_is w es node way w' below h c =
 held_some : (drops holds : ℕ) → way_of drops holds 0 ≡ ByHold → 0 < holds
 held_some drops holds e = at (nat_lt 0 drops) (nat_lt 0 (drops + holds)) refl refl e
   where
-    at : (b c : Bool) → nat_lt 0 drops ≡ b → nat_lt 0 (drops + holds) ≡ c → cond b ByDrop (cond c ByHold ByCall) ≡ ByHold → 0 < holds
+    at : (b c : Bool) → nat_lt 0 drops ≡ b → nat_lt 0 (drops + holds) ≡ c → cond b ByLose (cond c ByHold ByCall) ≡ ByHold → 0 < holds
     at true c x y e = absurd (cc)
     at false true x y e = grind (arith, nat_tests)
     at false false x y e = absurd (cc)

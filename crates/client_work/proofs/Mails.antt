@@ -13,7 +13,7 @@ use Rattle.protocol.proofs.lemmas.Cluster.{cluster_valid}
 use Rattle.protocol.proofs.lemmas.Forming.{sum_formed, all_collect}
 use Rattle.event_lines.specs.Lines.{IsValue}
 use Rattle.plan_words.specs.declared.fault.Fault.{Fault}
-use Rattle.plan_words.specs.declared.fault.Fault.TheVariants.{LiarNode, LiarSound, LiarMix, LiarFlood, CrashNode, CrashClient, Drop, Hold}
+use Rattle.plan_words.specs.declared.fault.Fault.TheVariants.{LiarNode, LiarSound, LiarMix, LiarFlood, CrashNode, CrashClient, Lose, Hold}
 use Rattle.plan_words.specs.Plans.{IsFault}
 use Rattle.plan_followed.specs.Asked.{messages, messages_by}
 use Rattle.client_work.specs.Tasks.{IsSendable}
@@ -85,7 +85,7 @@ module _ (config : Numbers) (v : IsValid config) (c : ℕ) where
   rule_sendable (LiarNode node rule) h = tt
   rule_sendable (CrashNode node n) h = tt
   rule_sendable (CrashClient client n) h = tt
-  rule_sendable (Drop client node n) h = tt
+  rule_sendable (Lose client node n) h = tt
   rule_sendable (Hold client node n) h = tt
 
   rules_sendable : (rules : List Fault) → AllByRecursion (IsFault config) rules → AllByRecursion (IsSendable config c) (messages config rules c)

@@ -4,7 +4,7 @@ use Rattle.std.specs.List.{AllByRecursion, IsDistinct}
 use Rattle.std.proofs.lemmas.Bool.Decides.{nat_tests}
 use Rattle.std.proofs.lemmas.List.Sums.{sum_by-cons}
 use Rattle.plan_words.specs.declared.fault.Fault.{Fault}
-use Rattle.plan_words.specs.declared.fault.Fault.TheVariants.{LiarNode, LiarSound, LiarMix, LiarFlood, CrashNode, CrashClient, Drop, Hold}
+use Rattle.plan_words.specs.declared.fault.Fault.TheVariants.{LiarNode, LiarSound, LiarMix, LiarFlood, CrashNode, CrashClient, Lose, Hold}
 use Rattle.plan_words.specs.Named.{dropped_pairs, held_pairs, pair_eq}
 use Rattle.plan_followed.specs.Asked.{drops, drops_by, holds, holds_by}
 use Rattle.client_work.proofs.Folding.{from_place}
@@ -21,7 +21,7 @@ no_drops c i (LiarMix client block time value other count ∷ rules) h = no_drop
 no_drops c i (LiarFlood client block time value other count ∷ rules) h = no_drops c i rules h
 no_drops c i (CrashNode node count ∷ rules) h = no_drops c i rules h
 no_drops c i (CrashClient client count ∷ rules) h = no_drops c i rules h
-no_drops c i (Drop client node count ∷ rules) h = sum_by-cons (drops_by c i) (Drop client node count) rules ∙ nothing ((c == client) && (i == node)) count (drops rules c i) h.0 (no_drops c i rules h.1)
+no_drops c i (Lose client node count ∷ rules) h = sum_by-cons (drops_by c i) (Lose client node count) rules ∙ nothing ((c == client) && (i == node)) count (drops rules c i) h.0 (no_drops c i rules h.1)
 no_drops c i (Hold client node count ∷ rules) h = no_drops c i rules h
 
 no_holds : (c i : ℕ) (rules : List Fault) → AllByRecursion (λ p. pair_eq (c, i) p ≡ false) (held_pairs rules) → holds rules c i ≡ 0
@@ -32,7 +32,7 @@ no_holds c i (LiarMix client block time value other count ∷ rules) h = no_hold
 no_holds c i (LiarFlood client block time value other count ∷ rules) h = no_holds c i rules h
 no_holds c i (CrashNode node count ∷ rules) h = no_holds c i rules h
 no_holds c i (CrashClient client count ∷ rules) h = no_holds c i rules h
-no_holds c i (Drop client node count ∷ rules) h = no_holds c i rules h
+no_holds c i (Lose client node count ∷ rules) h = no_holds c i rules h
 no_holds c i (Hold client node count ∷ rules) h = sum_by-cons (holds_by c i) (Hold client node count) rules ∙ nothing ((c == client) && (i == node)) count (holds rules c i) h.0 (no_holds c i rules h.1)
 
 -- what is left of the rules after one that drops asks of the client to the node drops none of them
@@ -45,7 +45,7 @@ drops_once c i (LiarFlood client block time value other count) rules l h = absur
 drops_once c i (CrashNode node count) rules l h = absurd (omega arith)
 drops_once c i (CrashClient client count) rules l h = absurd (omega arith)
 drops_once c i (Hold client node count) rules l h = absurd (omega arith)
-drops_once c i (Drop client node count) rules l h = no_drops c i rules (at (eqb c client) refl (eqb i node) refl l)
+drops_once c i (Lose client node count) rules l h = no_drops c i rules (at (eqb c client) refl (eqb i node) refl l)
   where
     at : (b : Bool) → eqb c client ≡ b → (b' : Bool) → eqb i node ≡ b' → 0 < cond (b && b') count 0 → AllByRecursion (λ p. pair_eq (c, i) p ≡ false) (dropped_pairs rules)
     at true e true f m =
@@ -64,7 +64,7 @@ holds_once c i (LiarMix client block time value other count) rules l h = absurd 
 holds_once c i (LiarFlood client block time value other count) rules l h = absurd (omega arith)
 holds_once c i (CrashNode node count) rules l h = absurd (omega arith)
 holds_once c i (CrashClient client count) rules l h = absurd (omega arith)
-holds_once c i (Drop client node count) rules l h = absurd (omega arith)
+holds_once c i (Lose client node count) rules l h = absurd (omega arith)
 holds_once c i (Hold client node count) rules l h = no_holds c i rules (at (eqb c client) refl (eqb i node) refl l)
   where
     at : (b : Bool) → eqb c client ≡ b → (b' : Bool) → eqb i node ≡ b' → 0 < cond (b && b') count 0 → AllByRecursion (λ p. pair_eq (c, i) p ≡ false) (held_pairs rules)
@@ -84,7 +84,7 @@ drops_rest (LiarMix client block time value other count) rules h = h
 drops_rest (LiarFlood client block time value other count) rules h = h
 drops_rest (CrashNode node count) rules h = h
 drops_rest (CrashClient client count) rules h = h
-drops_rest (Drop client node count) rules h = h.1
+drops_rest (Lose client node count) rules h = h.1
 drops_rest (Hold client node count) rules h = h
 
 pub holds_rest : (rule : Fault) (rules : List Fault) → IsDistinct pair_eq (held_pairs (rule ∷ rules)) → IsDistinct pair_eq (held_pairs rules)
@@ -95,7 +95,7 @@ holds_rest (LiarMix client block time value other count) rules h = h
 holds_rest (LiarFlood client block time value other count) rules h = h
 holds_rest (CrashNode node count) rules h = h
 holds_rest (CrashClient client count) rules h = h
-holds_rest (Drop client node count) rules h = h
+holds_rest (Lose client node count) rules h = h
 holds_rest (Hold client node count) rules h = h.1
 
 -- ---- from rule to rule

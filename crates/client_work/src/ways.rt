@@ -52,7 +52,7 @@ fn drops_by(rule: &Fault, client: u32, node: u8) -> u64
     ensures { result ≡ drops_in client node rule.now }
 {
     match rule {
-        Fault::Drop {
+        Fault::Lose {
             client: c,
             node: i,
             count,

@@ -155,7 +155,7 @@ fn first_way(ways: &Ways) -> Way
     ensures { result ≡ way_of ways.now.drops ways.now.holds 0 }
 {
     if ways.drops > 0 {
-        Way::Drop
+        Way::Lose
     } else if ways.holds > 0 {
         Way::Hold
     } else {

@@ -11,7 +11,7 @@ use Rattle.event_clock.specs.Passes.{ClockId}
 use Rattle.receipt_lock.specs.Turns.{Begins, new_entries, placed_from}
 use Rattle.receipt_lock.specs.Chits.{Holder as Chit, took, gave, found_list}
 use Rattle.journals.specs.declared.desk.Way.{Way}
-use Rattle.journals.specs.declared.desk.Way.TheVariants.{Call as ByCall, Drop, Hold}
+use Rattle.journals.specs.declared.desk.Way.TheVariants.{Call as ByCall, Lose, Hold}
 use Rattle.journals.specs.declared.node.NodeAct.{NodeAct}
 use Rattle.locked_nodes.specs.declared.answers.CellRefusal.{CellRefusal}
 use Rattle.locked_nodes.specs.declared.charter.Charter.{Charter}
@@ -31,7 +31,7 @@ on_shard slot node block is (Answers reply) on = absurd on
 
 pub is_whole : (slot : Slot) (way : Way) → (way ≡ Hold → slot.shards ≡ 1) → IsWhole slot.shards way
 is_whole slot ByCall may = tt
-is_whole slot Drop may = tt
+is_whole slot Lose may = tt
 is_whole slot Hold may = may refl
 
 -- whoever takes a cell knows its charter

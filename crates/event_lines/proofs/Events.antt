@@ -13,9 +13,9 @@ use Rattle.line_forms.proofs.lemmas.Tables.{gives_same}
 use Rattle.event_lines.specs.declared.line.ReplayLine.{ReplayLine}
 use Rattle.event_lines.specs.Forms.{rest_cause, line_cause, event_cause}
 use Rattle.event_lines.specs.Lines.{IsEventLine, IsSpelled, event_text}
-use Rattle.event_lines.specs.Words.{Word, word_text, words, word_of}
+use Rattle.event_lines.specs.Words.{LineWord, word_text, words, word_of}
 
-found : (field : List ℕ) (ws : List Word) (word : Word) → find (λ w. bytes_eq field (word_text w)) ws ≡ Some word → field ≡ word_text word
+found : (field : List ℕ) (ws : List LineWord) (word : LineWord) → find (λ w. bytes_eq field (word_text w)) ws ≡ Some word → field ≡ word_text word
 found field [] word h = absurd cc
 found field (w ∷ ws) word h =
     elim (cases_Bool (bytes_eq field (word_text w))) [
@@ -27,14 +27,14 @@ found field (w ∷ ws) word h =
     ]
 
 -- the word is spelled so
-word_read : (field : List ℕ) (word : Word) → word_of field ≡ Some word → field ≡ word_text word
+word_read : (field : List ℕ) (word : LineWord) → word_of field ≡ Some word → field ≡ word_text word
 word_read field word h = found field words word h
 
-pub line_read : (c : Numbers) (line first : List ℕ) (rest : List (List ℕ)) (word : Word) (r : Result ReplayLine LineRefusal) → fields_of line ≡ first ∷ rest → word_of first ≡ Some word
+pub line_read : (c : Numbers) (line first : List ℕ) (rest : List (List ℕ)) (word : LineWord) (r : Result ReplayLine LineRefusal) → fields_of line ≡ first ∷ rest → word_of first ≡ Some word
     → Gives (IsSpelled c (word_text word ∷ rest)) (rest_cause c (Some word) rest) r → Gives (λ l. IsEventLine c l × (event_text l ≡ line)) (event_cause c line) r
 unfolding event_cause
 line_read c line first rest word r fields is h =
-    let cause : event_cause c line ≡ rest_cause c (Some word) rest = ap (line_cause c) fields ∙ ap (λ (o : Option Word). rest_cause c o rest) is in
+    let cause : event_cause c line ≡ rest_cause c (Some word) rest = ap (line_cause c) fields ∙ ap (λ (o : Option LineWord). rest_cause c o rest) is in
     let text : line ≡ line_of_fields (word_text word ∷ rest) = line_from_fields line (word_text word ∷ rest) (fields ∙ ap (λ (f : List ℕ). f ∷ rest) (word_read first word is)) in
     gives_same (IsSpelled c (word_text word ∷ rest)) (λ (l : ReplayLine). IsEventLine c l × (event_text l ≡ line)) (rest_cause c (Some word) rest) (event_cause c line) r
     (λ l s. (s.0, ap line_of_fields s.1 ∙ sym text)) cause h

@@ -11,10 +11,10 @@ use Rattle.line_forms.specs.Kinds.Kind.{word, value, bytes}
 use Rattle.line_forms.specs.declared.cause.Cause.{Cause}
 use Rattle.line_forms.specs.declared.cause.Cause.TheVariants.{UnknownWord, WrongCount, BadMessage}
 use Rattle.event_lines.specs.Messages.{Part, ask_forms, answer_forms, are_of}
-use Rattle.event_lines.specs.Words.{Form, Speech, Word, word_of}
+use Rattle.event_lines.specs.Words.{Form, Speech, LineWord, word_of}
 use Rattle.event_lines.specs.declared.word.Form.TheVariants.{Write, Read, Resend, Call, Give, Hear, Lost, Crash, False, Sound, Mix, Prune, Back, Restart, Put, Get, Next}
 use Rattle.event_lines.specs.declared.word.Speech.TheVariants.{Lie, Tell, Poke}
-use Rattle.event_lines.specs.declared.word.Word.TheVariants.{Form as Fields, Speech as Message}
+use Rattle.event_lines.specs.declared.word.LineWord.TheVariants.{Form as Fields, Speech as Message}
 
 -- ---- what may follow a word
 
@@ -70,7 +70,7 @@ abbrev pub message_cause : List (List Part) → List (List ℕ) → Option Cause
 message_cause forms fields = first_of ((is_empty fields, WrongCount) ∷ (not (are_of forms fields), BadMessage) ∷ [])
 
 -- what is wrong with the fields after a word
-abbrev pub rest_cause : Numbers → Option Word → List (List ℕ) → Option Cause
+abbrev pub rest_cause : Numbers → Option LineWord → List (List ℕ) → Option Cause
 rest_cause c None fields = Some UnknownWord
 rest_cause c (Some (Fields form)) fields = fields_cause (forms_of c form) fields
 rest_cause c (Some (Message speech)) fields = message_cause (messages_of speech) fields

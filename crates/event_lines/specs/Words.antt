@@ -5,8 +5,8 @@ pub use Rattle.event_lines.specs.declared.word.Form.{Form}
 use Rattle.event_lines.specs.declared.word.Form.TheVariants.{Write, Read, Resend, Call, Give, Hear, Lost, Crash, False, Sound, Mix, Prune, Back, Restart, Put, Get, Next}
 pub use Rattle.event_lines.specs.declared.word.Speech.{Speech}
 use Rattle.event_lines.specs.declared.word.Speech.TheVariants.{Lie, Tell, Poke}
-pub use Rattle.event_lines.specs.declared.word.Word.{Word}
-use Rattle.event_lines.specs.declared.word.Word.TheVariants.{Form as Fields, Speech as Message}
+pub use Rattle.event_lines.specs.declared.word.LineWord.{LineWord}
+use Rattle.event_lines.specs.declared.word.LineWord.TheVariants.{Form as Fields, Speech as Message}
 
 -- how a word is spelled
 abbrev pub form_text : Form → List ℕ
@@ -33,11 +33,11 @@ speech_text Lie = codes "lie"
 speech_text Tell = codes "tell"
 speech_text Poke = codes "poke"
 
-abbrev pub word_text : Word → List ℕ
+abbrev pub word_text : LineWord → List ℕ
 word_text (Fields form) = form_text form
 word_text (Message speech) = speech_text speech
 
-abbrev pub words : List Word
+abbrev pub words : List LineWord
 words =
     Fields Write
     ∷ Fields Read
@@ -62,5 +62,5 @@ words =
     ∷ []
 
 -- the word that is spelled so
-abbrev pub word_of : List ℕ → Option Word
+abbrev pub word_of : List ℕ → Option LineWord
 word_of field = find (λ word. bytes_eq field (word_text word)) words

@@ -14,7 +14,7 @@ ghost use Rattle.event_lines.specs.Words.{form_text};
 use crate::forms;
 use crate::line::ReplayLine;
 use crate::message::read_speech;
-use crate::word::{Form, Word};
+use crate::word::{Form, LineWord};
 use line_forms::{Cause, LineRefusal, has_empty};
 use lists::NoMemory;
 use quorum_rules::Config;
@@ -39,9 +39,9 @@ pub fn read_event(alloc: Global, config: &Config, line: &[u8]) -> Result<ReplayL
         (event_cause config.now line.now) result }
 {
     let (word, rest) = first_word(line);
-    match Word::of(word) {
-        Some(Word::Form(form)) => read_form(alloc, config, form, rest),
-        Some(Word::Speech(speech)) => read_speech(alloc, speech, rest),
+    match LineWord::of(word) {
+        Some(LineWord::Form(form)) => read_form(alloc, config, form, rest),
+        Some(LineWord::Speech(speech)) => read_speech(alloc, speech, rest),
         None => Err(LineRefusal::Cause(Cause::UnknownWord)),
     }
 }

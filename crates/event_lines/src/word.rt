@@ -40,6 +40,7 @@ pub enum Form {
 impl Form {
     ghost use Rattle.std.specs.Prelude.{◌≡◌};
     ghost use Rattle.event_lines.specs.Rests.{field_count};
+    ghost use Rattle.event_lines.specs.Words.{form_text};
 
     /// How many fields follow the word.
     pub fn count(self) -> usize
@@ -52,6 +53,31 @@ impl Form {
             Form::Write | Form::False | Form::Put | Form::Get => 3,
             Form::Sound => 5,
             Form::Mix => 6,
+        }
+    }
+
+    /// How the word is spelled.
+    fn text(self) -> &'static [u8]
+        ensures { result.now ≡ form_text self }
+    {
+        match self {
+            Form::Write => b"write",
+            Form::Read => b"read",
+            Form::Resend => b"resend",
+            Form::Call => b"call",
+            Form::Give => b"give",
+            Form::Hear => b"hear",
+            Form::Lost => b"lost",
+            Form::Crash => b"crash",
+            Form::False => b"false",
+            Form::Sound => b"sound",
+            Form::Mix => b"mix",
+            Form::Prune => b"prune",
+            Form::Back => b"back",
+            Form::Restart => b"restart",
+            Form::Put => b"put",
+            Form::Get => b"get",
+            Form::Next => b"next",
         }
     }
 }
@@ -67,43 +93,71 @@ pub enum Speech {
     Poke,
 }
 
+impl Speech {
+    ghost use Rattle.std.specs.Prelude.{◌≡◌};
+    ghost use Rattle.event_lines.specs.Words.{speech_text};
+
+    /// How the word is spelled.
+    fn text(self) -> &'static [u8]
+        ensures { result.now ≡ speech_text self }
+    {
+        match self {
+            Speech::Lie => b"lie",
+            Speech::Tell => b"tell",
+            Speech::Poke => b"poke",
+        }
+    }
+}
+
 /// The word that an event line begins with.
 #[derive(Clone, Copy)]
-pub enum Word {
+pub enum LineWord {
     Form(Form),
     Speech(Speech),
 }
 
-impl Word {
+/// Each word, in the order of their declaration.
+const WORDS: [LineWord; 20] = [
+    LineWord::Form(Form::Write),
+    LineWord::Form(Form::Read),
+    LineWord::Form(Form::Resend),
+    LineWord::Form(Form::Call),
+    LineWord::Form(Form::Give),
+    LineWord::Form(Form::Hear),
+    LineWord::Form(Form::Lost),
+    LineWord::Form(Form::Crash),
+    LineWord::Form(Form::False),
+    LineWord::Form(Form::Sound),
+    LineWord::Form(Form::Mix),
+    LineWord::Form(Form::Prune),
+    LineWord::Form(Form::Back),
+    LineWord::Form(Form::Restart),
+    LineWord::Form(Form::Put),
+    LineWord::Form(Form::Get),
+    LineWord::Form(Form::Next),
+    LineWord::Speech(Speech::Lie),
+    LineWord::Speech(Speech::Tell),
+    LineWord::Speech(Speech::Poke),
+];
+
+impl LineWord {
     ghost use Rattle.std.specs.Prelude.{◌≡◌};
-    ghost use Rattle.event_lines.specs.Words.{word_of};
+    ghost use Rattle.event_lines.specs.Words.{word_of, word_text};
 
     /// The word that a field spells.
-    pub fn of(field: &[u8]) -> Option<Word>
+    pub fn of(field: &[u8]) -> Option<LineWord>
         ensures { result ≡ word_of field.now }
     {
-        match field {
-            b"write" => Some(Word::Form(Form::Write)),
-            b"read" => Some(Word::Form(Form::Read)),
-            b"resend" => Some(Word::Form(Form::Resend)),
-            b"call" => Some(Word::Form(Form::Call)),
-            b"give" => Some(Word::Form(Form::Give)),
-            b"hear" => Some(Word::Form(Form::Hear)),
-            b"lost" => Some(Word::Form(Form::Lost)),
-            b"crash" => Some(Word::Form(Form::Crash)),
-            b"false" => Some(Word::Form(Form::False)),
-            b"sound" => Some(Word::Form(Form::Sound)),
-            b"mix" => Some(Word::Form(Form::Mix)),
-            b"prune" => Some(Word::Form(Form::Prune)),
-            b"back" => Some(Word::Form(Form::Back)),
-            b"restart" => Some(Word::Form(Form::Restart)),
-            b"put" => Some(Word::Form(Form::Put)),
-            b"get" => Some(Word::Form(Form::Get)),
-            b"next" => Some(Word::Form(Form::Next)),
-            b"lie" => Some(Word::Speech(Speech::Lie)),
-            b"tell" => Some(Word::Speech(Speech::Tell)),
-            b"poke" => Some(Word::Speech(Speech::Poke)),
-            _ => None,
+        WORDS.iter().find(|word| field == word.text()).copied()
+    }
+
+    /// How the word is spelled.
+    fn text(self) -> &'static [u8]
+        ensures { result.now ≡ word_text self }
+    {
+        match self {
+            LineWord::Form(form) => form.text(),
+            LineWord::Speech(speech) => speech.text(),
         }
     }
 }

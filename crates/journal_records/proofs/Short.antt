@@ -23,7 +23,7 @@ use Rattle.event_lines.specs.Messages.{is_ask}
 use Rattle.event_lines.specs.Lines.{IsValue}
 use Rattle.text_lines.specs.Fields as text
 use Rattle.plan_words.specs.declared.fault.Fault.{Fault}
-use Rattle.plan_words.specs.declared.fault.Fault.TheVariants.{LiarNode, LiarSound, LiarMix, LiarFlood, CrashNode, CrashClient, Drop, Hold}
+use Rattle.plan_words.specs.declared.fault.Fault.TheVariants.{LiarNode, LiarSound, LiarMix, LiarFlood, CrashNode, CrashClient, Lose, Hold}
 use Rattle.plan_words.specs.Plans.{IsFault}
 use Rattle.journals.specs.declared.desk.Way.{Way}
 use Rattle.journals.specs.declared.desk.DeskEntry.{DeskEntry}
@@ -153,7 +153,7 @@ module _ (c : Numbers) (good : IsValid (setting c)) (few : c.n ≤ 16) (short : 
       (λ i l. mix_short (setting c) good few short client i block (time - z) value other (is_block c value h.3) (is_block c other h.4) (omega (arith, l)))))
   rule_short (CrashNode node count) h = tt
   rule_short (CrashClient k count) h = tt
-  rule_short (Drop k node count) h = tt
+  rule_short (Lose k node count) h = tt
   rule_short (Hold k node count) h = tt
 
   pub messages_short : (rules : List Fault) → AllByRecursion (IsFault c) rules → AllByRecursion IsShortAsk (messages c rules client)

@@ -266,7 +266,7 @@ fn act_of(ask: Message, met: Met) -> NodeAct {
 fn way_of(met: Met) -> Way {
     match met {
         Met::Held => Way::Hold,
-        Met::Dropped => Way::Drop,
+        Met::Dropped => Way::Lose,
         _ => Way::Call,
     }
 }

@@ -5,7 +5,7 @@ use Rattle.protocol.specs.Messages.{Message}
 use Rattle.liar_rules.specs.Answers.{answer_to}
 use Rattle.journals.specs.declared.desk.DeskAct.TheVariants.{Call as CallAct}
 use Rattle.journals.specs.declared.desk.Way.{Way}
-use Rattle.journals.specs.declared.desk.Way.TheVariants.{Call, Drop, Hold}
+use Rattle.journals.specs.declared.desk.Way.TheVariants.{Call, Lose, Hold}
 use Rattle.journals.specs.declared.node.Nature.TheVariants.{Honest, Lying as Lies}
 use Rattle.journals.specs.declared.node.Silence.TheVariants.{Crashed}
 use Rattle.journals.specs.declared.node.NodeAct.TheVariants.{Silent, CrashedAt, LateLost}
@@ -25,7 +25,7 @@ lied_called ask (Some reply) = record { cause = refl; told = refl }
 
 module _ (nature : Nature) (s : NodeState) where
   called : (way : Way) (ask : Message) → IsCalled way ask (act s nature way ask)
-  called Drop ask = record { cause = refl; told = refl }
+  called Lose ask = record { cause = refl; told = refl }
   called Hold ask = record { cause = refl; told = refl }
   called Call ask = at s.crashed (is_spent s.crash_after) nature
     where

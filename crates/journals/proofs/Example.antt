@@ -20,7 +20,7 @@ use Rattle.journals.specs.declared.node.NodeAct.TheVariants.{Answered, Lied, Sil
 use Rattle.journals.specs.declared.node.Nature.TheVariants.{Honest, Lying as Lies}
 use Rattle.journals.specs.declared.node.Silence.TheVariants.{Crashed, Dropped, Held, Lying}
 use Rattle.journals.specs.declared.desk.DeskAct.TheVariants.{Start, Crash, Call}
-use Rattle.journals.specs.declared.desk.Way.TheVariants.{Call as ByCall, Drop as ByDrop, Hold as ByHold}
+use Rattle.journals.specs.declared.desk.Way.TheVariants.{Call as ByCall, Lose as ByLose, Hold as ByHold}
 use Rattle.journals.specs.Acts.{NodeAct, NodeEntry, NodeState, new_state, act, late_act, after, after_all, can_prune, IsAct, NodeKept}
 use Rattle.journals.specs.Desks.{DeskEntry, new_desk, desk_after_all, DeskKept}
 use Rattle.journals.specs.Steps.{side}
@@ -114,7 +114,7 @@ never_prunes : can_prune lasting (Lies Old) ≡ false
 never_prunes = refl
 
 -- a drop and a hold reach no node, whatever it is
-drops : act of_one (Lies Old) ByDrop ask ≡ Silent ask Dropped
+drops : act of_one (Lies Old) ByLose ask ≡ Silent ask Dropped
 drops = refl
 
 holds : (after of_one (act of_one Honest ByHold ask)).late ≡ ask ∷ []

@@ -10,7 +10,7 @@ use Rattle.protocol.specs.Instance.{setting}
 use Rattle.node_core.specs.Seen.{SeenNode, new_node, with_versions, versions_in, reply_of, after_of}
 use Rattle.liar_rules.specs.Answers.{answer_to}
 use Rattle.journals.specs.declared.desk.Way.{Way}
-use Rattle.journals.specs.declared.desk.Way.TheVariants.{Call, Drop, Hold}
+use Rattle.journals.specs.declared.desk.Way.TheVariants.{Call, Lose, Hold}
 pub use Rattle.journals.specs.declared.node.Nature.{Nature}
 use Rattle.journals.specs.declared.node.Nature.TheVariants.{Honest, Lying as Lies}
 pub use Rattle.journals.specs.declared.node.Silence.{Silence}
@@ -76,7 +76,7 @@ module _ (s : NodeState) where
   -- what a node does with an ask that comes this way; the call that comes when its count is used up crashes it
   abbrev pub act : Nature → Way → Message → NodeAct
   act nature Call ask = if s.crashed then Silent ask Crashed else (if is_spent s.crash_after then CrashedAt ask false else answers nature ask)
-  act nature Drop ask = Silent ask Dropped
+  act nature Lose ask = Silent ask Dropped
   act nature Hold ask = Silent ask Held
 
   -- what a node does with a held ask that comes late
@@ -128,7 +128,7 @@ pub data Cause : Type 0 where
 
 -- the way of an ask that a node is silent to
 abbrev pub way_of : Silence → Way
-way_of Dropped = Drop
+way_of Dropped = Lose
 way_of Held = Hold
 way_of Crashed = Call
 way_of Lying = Call

@@ -5,7 +5,7 @@ use Rattle.std.specs.declared.option.Option.TheVariants.{None, Some}
 use Rattle.protocol.specs.Messages.{Message}
 use Rattle.liar_rules.specs.Answers.{answer_to}
 use Rattle.journals.specs.declared.desk.Way.{Way}
-use Rattle.journals.specs.declared.desk.Way.TheVariants.{Call, Drop, Hold}
+use Rattle.journals.specs.declared.desk.Way.TheVariants.{Call, Lose, Hold}
 use Rattle.journals.specs.declared.node.Nature.{Nature}
 use Rattle.journals.specs.declared.node.Nature.TheVariants.{Honest, Lying as Lies}
 use Rattle.journals.specs.declared.node.Silence.TheVariants.{Crashed}
@@ -21,7 +21,7 @@ lied_cause ask (Some reply) = refl
 
 module _ (nature : Nature) (s : NodeState) (ask : Message) where
   act_cause : (way : Way) → cause_of (act s nature way ask) ≡ Comes way ask
-  act_cause Drop = refl
+  act_cause Lose = refl
   act_cause Hold = refl
   act_cause Call = at s.crashed (is_spent s.crash_after) nature
     where

@@ -10,7 +10,7 @@ use Rattle.quorum_rules.specs.Limits.{Numbers}
 use Rattle.protocol.specs.Messages.{Message}
 use Rattle.liar_rules.specs.Answers.{answer_to}
 use Rattle.journals.specs.declared.desk.Way.{Way}
-use Rattle.journals.specs.declared.desk.Way.TheVariants.{Call, Drop, Hold}
+use Rattle.journals.specs.declared.desk.Way.TheVariants.{Call, Lose, Hold}
 use Rattle.journals.specs.declared.node.Nature.{Nature}
 use Rattle.journals.specs.declared.node.Nature.TheVariants.{Honest, Lying as Lies}
 use Rattle.journals.specs.declared.node.Silence.{Silence}
@@ -61,7 +61,7 @@ module _ (s : NodeState) where
   handles_goes (Lies rule) ask up = inr (up, refl)
 
   act_goes : (nature : Nature) (way : Way) (ask : Message) → GoesNow nature s (act s nature way ask)
-  act_goes nature Drop ask = tt
+  act_goes nature Lose ask = tt
   act_goes nature Hold ask = tt
   act_goes nature Call ask = at s.crashed (is_spent s.crash_after) refl refl
     where

@@ -17,7 +17,7 @@ use Rattle.protocol.specs.Instance.{setting}
 use Rattle.node_core.specs.Seen.{SeenNode, versions_in, with_versions, reply_of, after_of}
 use Rattle.liar_rules.specs.Answers.{answer_to}
 use Rattle.journals.specs.declared.desk.Way.{Way}
-use Rattle.journals.specs.declared.desk.Way.TheVariants.{Call, Drop, Hold}
+use Rattle.journals.specs.declared.desk.Way.TheVariants.{Call, Lose, Hold}
 use Rattle.journals.specs.declared.node.Nature.{Nature}
 use Rattle.journals.specs.declared.node.Nature.TheVariants.{Honest, Lying as Lies}
 use Rattle.journals.specs.declared.node.Silence.{Silence}
@@ -153,7 +153,7 @@ module _ (shards shard : ℕ) (s t : NodeState) (alike : AreAlike shards shard s
   same_call (Lies rule) m own = ap (λ c. lied m (answer_to c rule m m.body)) alike.nodes.config
 
   same_act : (nature : Nature) (way : Way) (m : Message) → IsShare shard shards m.body → act t nature way m ≡ act s nature way m
-  same_act nature Drop m own = refl
+  same_act nature Lose m own = refl
   same_act nature Hold m own = refl
   same_act nature Call m own = call_is nature t m alike.calm.1 ∙ same_call nature m own ∙ sym (call_is nature s m alike.calm.0)
 

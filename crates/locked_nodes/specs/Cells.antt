@@ -6,7 +6,7 @@ use Rattle.protocol.specs.Messages.{Message, Body}
 use Rattle.wire_forms.specs.declared.message.Body.TheVariants.{Ask as Asks, Answer as Answers}
 use Rattle.event_clock.specs.Passes.{Holder, Sight, drew, met, with_sight}
 use Rattle.journals.specs.declared.desk.Way.{Way}
-use Rattle.journals.specs.declared.desk.Way.TheVariants.{Call, Drop, Hold}
+use Rattle.journals.specs.declared.desk.Way.TheVariants.{Call, Lose, Hold}
 use Rattle.journals.specs.declared.node.Nature.{Nature}
 use Rattle.journals.specs.declared.node.Nature.TheVariants.{Honest, Lying as Lies}
 use Rattle.journals.specs.declared.node.Answer.{Answer}
@@ -37,7 +37,7 @@ IsShare shard shards (Answers reply) = ⊥
 -- a hold needs a node with one cell: what is held back comes again in the order in which the whole node held it
 abbrev pub IsWhole : ℕ → Way → Type 0
 IsWhole shards Call = Unit {0}
-IsWhole shards Drop = Unit {0}
+IsWhole shards Lose = Unit {0}
 IsWhole shards Hold = shards ≡ 1
 
 -- an ask to this node, on a block of the cell's shard

@@ -125,7 +125,7 @@ impl State {
     {
         match way {
             Way::Call => self.call(nature, ask),
-            Way::Drop => quiet(ask, Silence::Dropped),
+            Way::Lose => quiet(ask, Silence::Dropped),
             Way::Hold => self.hold(ask),
         }
     }

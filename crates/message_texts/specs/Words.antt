@@ -1,11 +1,11 @@
 -- The words of messages' texts.
 use Rattle.std.specs.Prelude.{ℕ, List, [], ◌∷◌, codes, find, Option}
 use Rattle.std.specs.Str.{bytes_eq}
-use Rattle.message_texts.specs.declared.word.Word.{Word}
-use Rattle.message_texts.specs.declared.word.Word.TheVariants.{Ask, Answer, Time, Read, Write, All, AtMost, Below, Found, Nothing, Ack, Refused}
+use Rattle.message_texts.specs.declared.word.MessageWord.{MessageWord}
+use Rattle.message_texts.specs.declared.word.MessageWord.TheVariants.{Ask, Answer, Time, Read, Write, All, AtMost, Below, Found, Nothing, Ack, Refused}
 
 -- how a word is spelled
-abbrev pub word_text : Word → List ℕ
+abbrev pub word_text : MessageWord → List ℕ
 word_text Ask = codes "ask"
 word_text Answer = codes "answer"
 word_text Time = codes "time"
@@ -19,9 +19,9 @@ word_text Nothing = codes "nothing"
 word_text Ack = codes "ack"
 word_text Refused = codes "refused"
 
-abbrev pub words : List Word
+abbrev pub words : List MessageWord
 words = Ask ∷ Answer ∷ Time ∷ Read ∷ Write ∷ All ∷ AtMost ∷ Below ∷ Found ∷ Nothing ∷ Ack ∷ Refused ∷ []
 
 -- the word that is spelled so
-abbrev pub word_of : List ℕ → Option Word
+abbrev pub word_of : List ℕ → Option MessageWord
 word_of field = find (λ word. bytes_eq field (word_text word)) words

@@ -11,7 +11,7 @@ ghost use Rattle.message_texts.specs.Texts.{Spells, IsDigest, IsStamp, IsSum, Is
 
 use crate::piece::longest;
 use crate::refusal::TextRefusal;
-use crate::word::Word;
+use crate::word::MessageWord;
 use cross_sum::{Bytes, CrossSum, Hash};
 use hex::FromHex;
 use lists::NoMemory;
@@ -134,10 +134,10 @@ fn bound(fields: &[&[u8]]) -> Option<Bound>
     ensures { Spells IsBound bound_fields (texts fields.now) result }
 {
     let (first, rest) = fields.split_first()?;
-    match Word::of(first)? {
-        Word::All => alone(Bound::All, rest),
-        Word::AtMost => Some(Bound::AtMost(stamp(only(rest)?)?)),
-        Word::Below => Some(Bound::Below(stamp(only(rest)?)?)),
+    match MessageWord::of(first)? {
+        MessageWord::All => alone(Bound::All, rest),
+        MessageWord::AtMost => Some(Bound::AtMost(stamp(only(rest)?)?)),
+        MessageWord::Below => Some(Bound::Below(stamp(only(rest)?)?)),
         _ => None,
     }
 }
@@ -148,10 +148,10 @@ fn request(alloc: Global, fields: &[&[u8]]) -> Result<Option<Request>, NoMemory>
     let Some((first, rest)) = fields.split_first() else {
         return Ok(None);
     };
-    match Word::of(first) {
-        Some(Word::Time) => Ok(alone(Request::Time, rest)),
-        Some(Word::Read) => Ok(bound(rest).map(Request::Read)),
-        Some(Word::Write) => Ok(version(alloc, rest)?.map(Request::Write)),
+    match MessageWord::of(first) {
+        Some(MessageWord::Time) => Ok(alone(Request::Time, rest)),
+        Some(MessageWord::Read) => Ok(bound(rest).map(Request::Read)),
+        Some(MessageWord::Write) => Ok(version(alloc, rest)?.map(Request::Write)),
         _ => Ok(None),
     }
 }
@@ -204,12 +204,12 @@ fn reply(alloc: Global, fields: &[&[u8]]) -> Result<Option<Reply>, NoMemory>
     let Some((first, rest)) = fields.split_first() else {
         return Ok(None);
     };
-    match Word::of(first) {
-        Some(Word::Time) => Ok(time_is(rest)),
-        Some(Word::Found) => Ok(version(alloc, rest)?.map(Reply::Found)),
-        Some(Word::Nothing) => Ok(alone(Reply::Nothing, rest)),
-        Some(Word::Ack) => Ok(alone(Reply::Ack, rest)),
-        Some(Word::Refused) => Ok(refused(rest)),
+    match MessageWord::of(first) {
+        Some(MessageWord::Time) => Ok(time_is(rest)),
+        Some(MessageWord::Found) => Ok(version(alloc, rest)?.map(Reply::Found)),
+        Some(MessageWord::Nothing) => Ok(alone(Reply::Nothing, rest)),
+        Some(MessageWord::Ack) => Ok(alone(Reply::Ack, rest)),
+        Some(MessageWord::Refused) => Ok(refused(rest)),
         _ => Ok(None),
     }
 }
@@ -218,9 +218,9 @@ fn body(alloc: Global, word: &[u8], fields: &[&[u8]]) -> Result<Option<Body>, No
     ensures { IfOk result (Spells IsBody (λ body.
         word_of body ∷ body_fields body) (word.now ∷ texts fields.now)) }
 {
-    match Word::of(word) {
-        Some(Word::Ask) => Ok(ask(alloc, fields)?.map(Body::Ask)),
-        Some(Word::Answer) => Ok(reply(alloc, fields)?.map(Body::Answer)),
+    match MessageWord::of(word) {
+        Some(MessageWord::Ask) => Ok(ask(alloc, fields)?.map(Body::Ask)),
+        Some(MessageWord::Answer) => Ok(reply(alloc, fields)?.map(Body::Answer)),
         _ => Ok(None),
     }
 }

@@ -1,6 +1,6 @@
 /// The words of messages' texts.
 #[derive(Clone, Copy)]
-pub enum Word {
+pub enum MessageWord {
     Ask,
     Answer,
     Time,
@@ -16,27 +16,27 @@ pub enum Word {
 }
 
 /// Each word, in the order of their declaration.
-const WORDS: [Word; 12] = [
-    Word::Ask,
-    Word::Answer,
-    Word::Time,
-    Word::Read,
-    Word::Write,
-    Word::All,
-    Word::AtMost,
-    Word::Below,
-    Word::Found,
-    Word::Nothing,
-    Word::Ack,
-    Word::Refused,
+const WORDS: [MessageWord; 12] = [
+    MessageWord::Ask,
+    MessageWord::Answer,
+    MessageWord::Time,
+    MessageWord::Read,
+    MessageWord::Write,
+    MessageWord::All,
+    MessageWord::AtMost,
+    MessageWord::Below,
+    MessageWord::Found,
+    MessageWord::Nothing,
+    MessageWord::Ack,
+    MessageWord::Refused,
 ];
 
-impl Word {
+impl MessageWord {
     ghost use Rattle.std.specs.Prelude.{◌≡◌};
     ghost use Rattle.message_texts.specs.Words.{word_of, word_text};
 
     /// The word that a field spells.
-    pub fn of(field: &[u8]) -> Option<Word>
+    pub fn of(field: &[u8]) -> Option<MessageWord>
         ensures { result ≡ word_of field.now }
     {
         WORDS.iter().find(|word| field == word.text()).copied()
@@ -47,18 +47,18 @@ impl Word {
         ensures { result.now ≡ word_text self }
     {
         match self {
-            Word::Ask => b"ask",
-            Word::Answer => b"answer",
-            Word::Time => b"time",
-            Word::Read => b"read",
-            Word::Write => b"write",
-            Word::All => b"all",
-            Word::AtMost => b"atmost",
-            Word::Below => b"below",
-            Word::Found => b"found",
-            Word::Nothing => b"nothing",
-            Word::Ack => b"ack",
-            Word::Refused => b"refused",
+            MessageWord::Ask => b"ask",
+            MessageWord::Answer => b"answer",
+            MessageWord::Time => b"time",
+            MessageWord::Read => b"read",
+            MessageWord::Write => b"write",
+            MessageWord::All => b"all",
+            MessageWord::AtMost => b"atmost",
+            MessageWord::Below => b"below",
+            MessageWord::Found => b"found",
+            MessageWord::Nothing => b"nothing",
+            MessageWord::Ack => b"ack",
+            MessageWord::Refused => b"refused",
         }
     }
 }

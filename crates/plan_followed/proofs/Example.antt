@@ -23,7 +23,7 @@ use Rattle.plan_words.specs.declared.plan.Plan.{Plan}
 use Rattle.journals.specs.declared.node.NodeAct.TheVariants.{Answered, Silent, Pruned}
 use Rattle.journals.specs.declared.node.Silence.TheVariants.{Held}
 use Rattle.journals.specs.declared.desk.DeskAct.TheVariants.{Start, Crash, Call}
-use Rattle.journals.specs.declared.desk.Way.TheVariants.{Call as ByCall, Drop as ByDrop, Hold as ByHold}
+use Rattle.journals.specs.declared.desk.Way.TheVariants.{Call as ByCall, Lose as ByLose, Hold as ByHold}
 use Rattle.journals.specs.declared.desk.DeskEntry.{DeskEntry}
 use Rattle.journals.specs.Desks.{DeskState, Ended, new_desk}
 use Rattle.plan_followed.specs.Asked.{steps_for, first_phases}
@@ -109,7 +109,7 @@ not_next_node h = at h.passed h.is h.answered
     at (suc k) is answered = absurd (let no : false ≡ true = answered 0 (omega arith) in cc)
 
 -- the ways of the first five asks where one is dropped and two are held
-ways : way_of 1 2 0 ≡ ByDrop × way_of 1 2 1 ≡ ByHold × way_of 1 2 2 ≡ ByHold × way_of 1 2 3 ≡ ByCall
+ways : way_of 1 2 0 ≡ ByLose × way_of 1 2 1 ≡ ByHold × way_of 1 2 2 ≡ ByHold × way_of 1 2 3 ≡ ByCall
 ways = (refl, refl, refl, refl)
 
 -- a hold in the place of a call

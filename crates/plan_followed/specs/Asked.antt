@@ -13,7 +13,7 @@ use Rattle.protocol.specs.Messages.{Message}
 use Rattle.protocol.specs.Instance.{setting}
 use Rattle.protocol.specs.Lines.{sound_ask, mix_ask}
 use Rattle.plan_words.specs.declared.fault.Fault.{Fault}
-use Rattle.plan_words.specs.declared.fault.Fault.TheVariants.{LiarNode, LiarSound, LiarMix, LiarFlood, CrashNode, CrashClient, Drop, Hold}
+use Rattle.plan_words.specs.declared.fault.Fault.TheVariants.{LiarNode, LiarSound, LiarMix, LiarFlood, CrashNode, CrashClient, Lose, Hold}
 use Rattle.plan_words.specs.declared.job.Job.{Job}
 use Rattle.plan_words.specs.declared.job.Job.TheVariants.{Block, Device, Phase}
 use Rattle.journals.specs.declared.node.Nature.{Nature}
@@ -49,7 +49,7 @@ first_phases (suc k) (Device client op ∷ work) = Device client op ∷ first_ph
 
 -- how many of the client's asks to the node are dropped
 abbrev pub drops_by : ℕ → ℕ → Fault → ℕ
-drops_by c i (Drop client node count) = if (c == client) && (i == node) then count else 0
+drops_by c i (Lose client node count) = if (c == client) && (i == node) then count else 0
 drops_by c i _ = 0
 
 abbrev pub drops : List Fault → ℕ → ℕ → ℕ

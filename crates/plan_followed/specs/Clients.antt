@@ -16,7 +16,7 @@ use Rattle.protocol.specs.Instance.{setting}
 use Rattle.protocol.specs.Seen.{SeenTask, has_answered}
 use Rattle.plan_words.specs.declared.plan.Plan.{Plan}
 use Rattle.journals.specs.declared.desk.Way.{Way}
-use Rattle.journals.specs.declared.desk.Way.TheVariants.{Call as ByCall, Drop as ByDrop, Hold as ByHold}
+use Rattle.journals.specs.declared.desk.Way.TheVariants.{Call as ByCall, Lose as ByLose, Hold as ByHold}
 use Rattle.journals.specs.declared.desk.DeskAct.TheVariants.{Start, Call}
 use Rattle.journals.specs.declared.desk.DeskAct.{DeskAct}
 use Rattle.journals.specs.declared.desk.DeskEntry.{DeskEntry}
@@ -100,7 +100,7 @@ pub record IsNext (n : ℕ) (task : Option SeenTask) (from node : ℕ) : Type 0 
 
 -- the way of an ask to a node that was asked so often: the first asks are dropped, and the next ones held
 abbrev pub way_of : ℕ → ℕ → ℕ → Way
-way_of drops holds before = if nat_lt before drops then ByDrop else (if nat_lt before (drops + holds) then ByHold else ByCall)
+way_of drops holds before = if nat_lt before drops then ByLose else (if nat_lt before (drops + holds) then ByHold else ByCall)
 
 -- ---- one client
 

@@ -9,7 +9,7 @@ use Rattle.quorum_rules.specs.Limits.{Numbers}
 use Rattle.wire_forms.specs.declared.op.Op.TheVariants as ops
 use Rattle.wire_forms.specs.declared.device.DeviceOp.TheVariants as commands
 use Rattle.plan_words.specs.declared.fault.Fault.{Fault}
-use Rattle.plan_words.specs.declared.fault.Fault.TheVariants.{LiarNode, LiarSound, LiarMix, LiarFlood, CrashNode, CrashClient, Drop, Hold}
+use Rattle.plan_words.specs.declared.fault.Fault.TheVariants.{LiarNode, LiarSound, LiarMix, LiarFlood, CrashNode, CrashClient, Lose, Hold}
 use Rattle.plan_words.specs.declared.job.Job.{Job}
 use Rattle.plan_words.specs.declared.job.Job.TheVariants.{Block, Device, Phase}
 use Rattle.plan_words.specs.Plans.{IsFault, IsJob}
@@ -32,7 +32,7 @@ rule_back c (LiarMix k b t v w n) h = rw (client_back k h.0) refl
 rule_back c (LiarFlood k b t v w n) h = rw (client_back k h.0) refl
 rule_back c (CrashNode i n) h = rw (node_back c i h.0) refl
 rule_back c (CrashClient k n) h = rw (client_back k h.0) refl
-rule_back c (Drop k i n) h = rw (client_back k h.0, node_back c i h.1) refl
+rule_back c (Lose k i n) h = rw (client_back k h.0, node_back c i h.1) refl
 rule_back c (Hold k i n) h = rw (client_back k h.0, node_back c i h.1) refl
 
 job_back : (c : Numbers) (j : Job) → IsJob c j → marks_in c (line_fields (Work j)) ≡ job_marks c j
@@ -61,7 +61,7 @@ one_sided c (Rule (LiarMix k b t v w n)) = inr refl
 one_sided c (Rule (LiarFlood k b t v w n)) = inr refl
 one_sided c (Rule (CrashNode i n)) = inl refl
 one_sided c (Rule (CrashClient k n)) = inl refl
-one_sided c (Rule (Drop k i n)) = inl refl
+one_sided c (Rule (Lose k i n)) = inl refl
 one_sided c (Rule (Hold k i n)) = inl refl
 one_sided c (Work j) = inl refl
 

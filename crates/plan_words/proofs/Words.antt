@@ -10,10 +10,10 @@ use Rattle.line_forms.specs.declared.refusal.LineRefusal.{LineRefusal}
 use Rattle.line_forms.proofs.lemmas.Tables.{gives_same}
 use Rattle.event_lines.specs.Forms.{fields_cause}
 use Rattle.plan_words.specs.declared.line.PlanLine.{PlanLine}
-use Rattle.plan_words.specs.Forms.{Word, word_text, words, word_of, forms_of, rest_cause, line_cause}
+use Rattle.plan_words.specs.Forms.{PlanWord, word_text, words, word_of, forms_of, rest_cause, line_cause}
 use Rattle.plan_words.specs.Lines.{IsSpelled}
 
-found : (field : List ℕ) (ws : List Word) (word : Word) → find (λ w. bytes_eq field (word_text w)) ws ≡ Some word → field ≡ word_text word
+found : (field : List ℕ) (ws : List PlanWord) (word : PlanWord) → find (λ w. bytes_eq field (word_text w)) ws ≡ Some word → field ≡ word_text word
 found field [] word h = absurd cc
 found field (w ∷ ws) word h =
     elim (cases_Bool (bytes_eq field (word_text w))) [
@@ -25,12 +25,12 @@ found field (w ∷ ws) word h =
     ]
 
 -- the word is spelled so
-pub word_read : (field : List ℕ) (word : Word) → word_of field ≡ Some word → field ≡ word_text word
+pub word_read : (field : List ℕ) (word : PlanWord) → word_of field ≡ Some word → field ≡ word_text word
 word_read field word h = found field words word h
 
 -- a line that was read from its word and the fields behind it
-pub word_cause : (c : Numbers) (first : List ℕ) (rest : List (List ℕ)) (word : Word) (r : Result PlanLine LineRefusal) → word_of first ≡ Some word
+pub word_cause : (c : Numbers) (first : List ℕ) (rest : List (List ℕ)) (word : PlanWord) (r : Result PlanLine LineRefusal) → word_of first ≡ Some word
     → Gives (IsSpelled c (word_text word ∷ rest)) (fields_cause (forms_of c rest word) rest) r → Gives (IsSpelled c (first ∷ rest)) (line_cause c (first ∷ rest)) r
 word_cause c first rest word r is h =
     gives_same (IsSpelled c (word_text word ∷ rest)) (IsSpelled c (first ∷ rest)) _ _ r
-    (λ l s. (s.0, s.1 ∙ ap (λ (f : List ℕ). f ∷ rest) (sym (word_read first word is)))) (ap (λ (o : Option Word). rest_cause c o rest) is) h
+    (λ l s. (s.0, s.1 ∙ ap (λ (f : List ℕ). f ∷ rest) (sym (word_read first word is)))) (ap (λ (o : Option PlanWord). rest_cause c o rest) is) h

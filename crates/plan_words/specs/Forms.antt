@@ -8,15 +8,15 @@ use Rattle.line_forms.specs.Kinds.Kind.{word, value, bytes}
 use Rattle.line_forms.specs.declared.cause.Cause.{Cause}
 use Rattle.line_forms.specs.declared.cause.Cause.TheVariants.{UnknownWord}
 use Rattle.event_lines.specs.Forms.{fields_cause}
-pub use Rattle.plan_words.specs.declared.word.Word.{Word}
-use Rattle.plan_words.specs.declared.word.Word.TheVariants.{Liar, Crash, Drop, Hold, Write, Read, Put, Get, Phase}
+pub use Rattle.plan_words.specs.declared.word.PlanWord.{PlanWord}
+use Rattle.plan_words.specs.declared.word.PlanWord.TheVariants.{Liar, Crash, Lose, Hold, Write, Read, Put, Get, Phase}
 
 -- ---- words
 
-abbrev pub word_text : Word → List ℕ
+abbrev pub word_text : PlanWord → List ℕ
 word_text Liar = codes "liar"
 word_text Crash = codes "crash"
-word_text Drop = codes "drop"
+word_text Lose = codes "drop"
 word_text Hold = codes "hold"
 word_text Write = codes "write"
 word_text Read = codes "read"
@@ -24,11 +24,11 @@ word_text Put = codes "put"
 word_text Get = codes "get"
 word_text Phase = codes "phase"
 
-abbrev pub words : List Word
-words = Liar ∷ Crash ∷ Drop ∷ Hold ∷ Write ∷ Read ∷ Put ∷ Get ∷ Phase ∷ []
+abbrev pub words : List PlanWord
+words = Liar ∷ Crash ∷ Lose ∷ Hold ∷ Write ∷ Read ∷ Put ∷ Get ∷ Phase ∷ []
 
 -- the word that is spelled so
-abbrev pub word_of : List ℕ → Option Word
+abbrev pub word_of : List ℕ → Option PlanWord
 word_of field = find (λ w. bytes_eq field (word_text w)) words
 
 abbrev pub only : List ℕ → Kind
@@ -75,10 +75,10 @@ abbrev pub between : Numbers → List Kind
 between c = client ∷ node c.n ∷ count_to 1000 ∷ []
 
 -- the fields after a word: those of one of these forms, which their fixed words tell apart
-abbrev pub forms_of : Numbers → List (List ℕ) → Word → List (List Kind)
+abbrev pub forms_of : Numbers → List (List ℕ) → PlanWord → List (List Kind)
 forms_of c fields Liar = node_form c ∷ sound_form c ∷ mix_form c ∷ flood_form c (number_at 4 fields) ∷ []
 forms_of c fields Crash = crash_node_form c ∷ crash_client_form ∷ []
-forms_of c fields Drop = between c ∷ []
+forms_of c fields Lose = between c ∷ []
 forms_of c fields Hold = between c ∷ []
 forms_of c fields Write = (client ∷ block c.blocks ∷ value c.size ∷ []) ∷ []
 forms_of c fields Read = (client ∷ block c.blocks ∷ []) ∷ []
@@ -88,7 +88,7 @@ forms_of c fields Phase = [] ∷ []
 
 -- ---- what is wrong with a line by itself
 
-abbrev pub rest_cause : Numbers → Option Word → List (List ℕ) → Option Cause
+abbrev pub rest_cause : Numbers → Option PlanWord → List (List ℕ) → Option Cause
 rest_cause c None fields = Some UnknownWord
 rest_cause c (Some w) fields = fields_cause (forms_of c fields w) fields
 

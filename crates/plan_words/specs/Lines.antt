@@ -9,7 +9,7 @@ use Rattle.wire_forms.specs.declared.device.DeviceOp.{DeviceOp}
 use Rattle.wire_forms.specs.declared.device.DeviceOp.TheVariants.{Get, Put}
 use Rattle.event_lines.specs.Lines.{rule_text}
 use Rattle.plan_words.specs.declared.fault.Fault.{Fault}
-use Rattle.plan_words.specs.declared.fault.Fault.TheVariants.{LiarNode, LiarSound, LiarMix, LiarFlood, CrashNode, CrashClient, Drop, Hold}
+use Rattle.plan_words.specs.declared.fault.Fault.TheVariants.{LiarNode, LiarSound, LiarMix, LiarFlood, CrashNode, CrashClient, Lose, Hold}
 use Rattle.plan_words.specs.declared.job.Job.{Job}
 use Rattle.plan_words.specs.declared.job.Job.TheVariants.{Block, Device, Phase}
 use Rattle.plan_words.specs.Plans.{IsFault, IsJob}
@@ -28,7 +28,7 @@ rule_fields (LiarMix client block time value other count) = codes "liar" ∷ cod
 rule_fields (LiarFlood client block time value other count) = codes "liar" ∷ codes "client" ∷ decimal client ∷ codes "flood" ∷ decimal block ∷ decimal time ∷ value_text value ∷ value_text other ∷ decimal count ∷ []
 rule_fields (CrashNode node count) = codes "crash" ∷ codes "node" ∷ decimal node ∷ decimal count ∷ []
 rule_fields (CrashClient client count) = codes "crash" ∷ codes "client" ∷ decimal client ∷ decimal count ∷ []
-rule_fields (Drop client node count) = codes "drop" ∷ decimal client ∷ decimal node ∷ decimal count ∷ []
+rule_fields (Lose client node count) = codes "drop" ∷ decimal client ∷ decimal node ∷ decimal count ∷ []
 rule_fields (Hold client node count) = codes "hold" ∷ decimal client ∷ decimal node ∷ decimal count ∷ []
 
 abbrev pub op_fields : ℕ → Op → List (List ℕ)

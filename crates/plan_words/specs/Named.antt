@@ -5,7 +5,7 @@ use Rattle.std.specs.Ordering.{nat_cmp}
 use Rattle.std.specs.BTreeSet.{insert_key}
 use Rattle.wire_forms.specs.Liars.{Liars}
 use Rattle.plan_words.specs.declared.fault.Fault.{Fault}
-use Rattle.plan_words.specs.declared.fault.Fault.TheVariants.{LiarNode, LiarSound, LiarMix, LiarFlood, CrashNode, CrashClient, Drop, Hold}
+use Rattle.plan_words.specs.declared.fault.Fault.TheVariants.{LiarNode, LiarSound, LiarMix, LiarFlood, CrashNode, CrashClient, Lose, Hold}
 use Rattle.plan_words.specs.declared.job.Job.{Job}
 use Rattle.plan_words.specs.declared.job.Job.TheVariants.{Block, Device, Phase}
 
@@ -45,7 +45,7 @@ crashing_client _ = None
 -- the client that a rule makes crash, or whose asks it drops or holds
 abbrev pub troubled_client : Fault → Option ℕ
 troubled_client (CrashClient client count) = Some client
-troubled_client (Drop client node count) = Some client
+troubled_client (Lose client node count) = Some client
 troubled_client (Hold client node count) = Some client
 troubled_client _ = None
 
@@ -73,7 +73,7 @@ clients rules work = lying_clients rules ++ asking_clients rules work
 
 -- the client and the node between which a rule drops asks
 abbrev pub dropped_pair : Fault → Option (ℕ × ℕ)
-dropped_pair (Drop client node count) = Some (client, node)
+dropped_pair (Lose client node count) = Some (client, node)
 dropped_pair _ = None
 
 -- the client and the node between which a rule holds asks

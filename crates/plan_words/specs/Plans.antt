@@ -14,7 +14,7 @@ use Rattle.event_lines.specs.Lines.{IsNode, IsBlock, IsValue}
 use Rattle.block_device.specs.Ranges.{fault_of}
 use Rattle.block_device.specs.Steps.{steps_of}
 use Rattle.plan_words.specs.declared.fault.Fault.{Fault}
-use Rattle.plan_words.specs.declared.fault.Fault.TheVariants.{LiarNode, LiarSound, LiarMix, LiarFlood, CrashNode, CrashClient, Drop, Hold}
+use Rattle.plan_words.specs.declared.fault.Fault.TheVariants.{LiarNode, LiarSound, LiarMix, LiarFlood, CrashNode, CrashClient, Lose, Hold}
 use Rattle.plan_words.specs.declared.job.Job.{Job}
 use Rattle.plan_words.specs.declared.job.Job.TheVariants.{Block, Device, Phase}
 use Rattle.plan_words.specs.declared.plan.Plan.{Plan}
@@ -29,7 +29,7 @@ IsFault c (LiarMix client block time value other count) = IsClientNumber client 
 IsFault c (LiarFlood client block time value other count) = IsClientNumber client × IsBlock c block × (time < 2 ^ 64) × IsValue c value × IsValue c other × (count ≤ 250) × (count ≤ time)
 IsFault c (CrashNode node count) = IsNode c node × (count ≤ 1000)
 IsFault c (CrashClient client count) = IsClientNumber client × (count ≤ 1000)
-IsFault c (Drop client node count) = IsClientNumber client × IsNode c node × (count ≤ 1000)
+IsFault c (Lose client node count) = IsClientNumber client × IsNode c node × (count ≤ 1000)
 IsFault c (Hold client node count) = IsClientNumber client × IsNode c node × (count ≤ 1000)
 
 abbrev pub IsOp : Numbers → Op → Type 0

@@ -47,7 +47,7 @@ pub enum Fault {
         count: u64,
     },
     /// The first `count` asks of the client to the node are lost.
-    Drop {
+    Lose {
         client: u32,
         node: u8,
         count: u64,
@@ -115,7 +115,7 @@ impl Fault {
     {
         match self {
             Fault::CrashClient { client, .. }
-            | Fault::Drop { client, .. }
+            | Fault::Lose { client, .. }
             | Fault::Hold { client, .. } => Some(*client),
             _ => None,
         }
@@ -126,7 +126,7 @@ impl Fault {
         ensures { result ≡ dropped_pair self.now }
     {
         match self {
-            Fault::Drop { client, node, .. } => Some((*client, *node)),
+            Fault::Lose { client, node, .. } => Some((*client, *node)),
             _ => None,
         }
     }

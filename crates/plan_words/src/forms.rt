@@ -12,7 +12,7 @@ ghost use Rattle.plan_words.specs.Lines.{IsSpelled};
 
 use crate::line::PlanLine;
 use crate::numbers::{client_and_count, node_and_count, read_asks};
-use crate::word::Word;
+use crate::word::PlanWord;
 use crate::{Fault, Job};
 use event_lines::{client_and_block, client_and_u64, is_client};
 use line_forms::{Cause, LineRefusal, any_value, has_empty, value_of_len};
@@ -24,7 +24,7 @@ use wire_forms::{DeviceOp, Op};
 /// The line of a crash, from the fields behind its word.
 pub fn crash(config: &Config, fields: &[&[u8]]) -> Result<PlanLine, LineRefusal>
     ensures { Gives (IsSpelled config.now (codes "crash" ∷ texts fields.now))
-        (fields_cause (forms_of config.now (texts fields.now) Word.Crash) (texts fields.now))
+        (fields_cause (forms_of config.now (texts fields.now) PlanWord.Crash) (texts fields.now))
         result }
 {
     let Some((what, rest)) = fields.split_first() else {
@@ -70,11 +70,11 @@ pub fn dropping(
 ) -> Result<PlanLine, LineRefusal>
     requires { has_empty_field (client.now ∷ node.now ∷ count.now ∷ []) ≡ false }
     ensures { Gives (IsSpelled config.now (codes "drop" ∷ client.now ∷ node.now ∷ count.now ∷ []))
-        (fields_cause (forms_of config.now (client.now ∷ node.now ∷ count.now ∷ []) Word.Drop)
+        (fields_cause (forms_of config.now (client.now ∷ node.now ∷ count.now ∷ []) PlanWord.Lose)
         (client.now ∷ node.now ∷ count.now ∷ [])) result }
 {
     let asks = read_asks(config, client, node, count)?;
-    Ok(PlanLine::Rule(Fault::Drop {
+    Ok(PlanLine::Rule(Fault::Lose {
         client: asks.client,
         node: asks.node,
         count: asks.count,
@@ -89,7 +89,7 @@ pub fn holding(
 ) -> Result<PlanLine, LineRefusal>
     requires { has_empty_field (client.now ∷ node.now ∷ count.now ∷ []) ≡ false }
     ensures { Gives (IsSpelled config.now (codes "hold" ∷ client.now ∷ node.now ∷ count.now ∷ []))
-        (fields_cause (forms_of config.now (client.now ∷ node.now ∷ count.now ∷ []) Word.Hold)
+        (fields_cause (forms_of config.now (client.now ∷ node.now ∷ count.now ∷ []) PlanWord.Hold)
         (client.now ∷ node.now ∷ count.now ∷ [])) result }
 {
     let asks = read_asks(config, client, node, count)?;
@@ -109,7 +109,7 @@ pub fn write(
 ) -> Result<PlanLine, LineRefusal>
     requires { has_empty_field (client.now ∷ block.now ∷ value.now ∷ []) ≡ false }
     ensures { Gives (IsSpelled config.now (codes "write" ∷ client.now ∷ block.now ∷ value.now ∷ []))
-        (fields_cause (forms_of config.now (client.now ∷ block.now ∷ value.now ∷ []) Word.Write)
+        (fields_cause (forms_of config.now (client.now ∷ block.now ∷ value.now ∷ []) PlanWord.Write)
         (client.now ∷ block.now ∷ value.now ∷ [])) result }
 {
     let (client, block) = client_and_block(config, client, block)?;
@@ -123,7 +123,7 @@ pub fn write(
 pub fn read(config: &Config, client: &[u8], block: &[u8]) -> Result<PlanLine, LineRefusal>
     requires { has_empty_field (client.now ∷ block.now ∷ []) ≡ false }
     ensures { Gives (IsSpelled config.now (codes "read" ∷ client.now ∷ block.now ∷ []))
-        (fields_cause (forms_of config.now (client.now ∷ block.now ∷ []) Word.Read)
+        (fields_cause (forms_of config.now (client.now ∷ block.now ∷ []) PlanWord.Read)
         (client.now ∷ block.now ∷ [])) result }
 {
     let (client, block) = client_and_block(config, client, block)?;
@@ -142,7 +142,7 @@ pub fn put(
     requires { has_empty_field (client.now ∷ offset.now ∷ bytes.now ∷ []) ≡ false }
     ensures { (c : Numbers)
         → Gives (IsSpelled c (codes "put" ∷ client.now ∷ offset.now ∷ bytes.now ∷ []))
-        (fields_cause (forms_of c (client.now ∷ offset.now ∷ bytes.now ∷ []) Word.Put)
+        (fields_cause (forms_of c (client.now ∷ offset.now ∷ bytes.now ∷ []) PlanWord.Put)
         (client.now ∷ offset.now ∷ bytes.now ∷ [])) result }
 {
     let (client, offset) = client_and_u64(client, offset)?;
@@ -157,7 +157,7 @@ pub fn get(client: &[u8], offset: &[u8], length: &[u8]) -> Result<PlanLine, Line
     requires { has_empty_field (client.now ∷ offset.now ∷ length.now ∷ []) ≡ false }
     ensures { (c : Numbers)
         → Gives (IsSpelled c (codes "get" ∷ client.now ∷ offset.now ∷ length.now ∷ []))
-        (fields_cause (forms_of c (client.now ∷ offset.now ∷ length.now ∷ []) Word.Get)
+        (fields_cause (forms_of c (client.now ∷ offset.now ∷ length.now ∷ []) PlanWord.Get)
         (client.now ∷ offset.now ∷ length.now ∷ [])) result }
 {
     let client = number_u32(client).ok_or(Cause::BadNumber)?;

@@ -13,7 +13,7 @@ ghost use Rattle.plan_words.specs.Lines.{IsSpelled};
 use crate::Fault;
 use crate::line::PlanLine;
 use crate::numbers::{Forged, read_flood, read_forged};
-use crate::word::Word;
+use crate::word::PlanWord;
 use event_lines::is_node;
 use line_forms::{Cause, LineRefusal, has_empty, two_values, value_of_len};
 use quorum_rules::Config;
@@ -24,7 +24,7 @@ use wire_forms::Rule;
 /// The line of a liar, from the fields behind its word.
 pub fn liar(alloc: Global, config: &Config, fields: &[&[u8]]) -> Result<PlanLine, LineRefusal>
     ensures { Gives (IsSpelled config.now (codes "liar" ∷ texts fields.now))
-        (fields_cause (forms_of config.now (texts fields.now) Word.Liar) (texts fields.now))
+        (fields_cause (forms_of config.now (texts fields.now) PlanWord.Liar) (texts fields.now))
         result }
 {
     let Some((what, rest)) = fields.split_first() else {
@@ -93,7 +93,7 @@ fn node_by_rule(config: &Config, node: &[u8], rule: &[u8]) -> Result<PlanLine, L
 
 fn liar_client(alloc: Global, config: &Config, fields: &[&[u8]]) -> Result<PlanLine, LineRefusal>
     ensures { Gives (IsSpelled config.now (codes "liar" ∷ codes "client" ∷ texts fields.now))
-        (fields_cause (forms_of config.now (codes "client" ∷ texts fields.now) Word.Liar)
+        (fields_cause (forms_of config.now (codes "client" ∷ texts fields.now) PlanWord.Liar)
         (codes "client" ∷ texts fields.now)) result }
 {
     if fields.len() < 2 {

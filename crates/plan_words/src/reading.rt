@@ -13,7 +13,7 @@ ghost use Rattle.plan_words.specs.Lines.{IsPlanLine, IsSpelled, line_text};
 
 use crate::liars::liar;
 use crate::line::PlanLine;
-use crate::word::Word;
+use crate::word::PlanWord;
 use crate::{Job, forms};
 use line_forms::{Cause, LineRefusal, has_empty};
 use quorum_rules::Config;
@@ -40,7 +40,7 @@ fn line_in(alloc: Global, config: &Config, fields: &[&[u8]]) -> Result<PlanLine,
     let Some((first, rest)) = fields.split_first() else {
         return Err(LineRefusal::Cause(Cause::UnknownWord));
     };
-    match Word::of(first) {
+    match PlanWord::of(first) {
         Some(word) => read_rest(alloc, config, word, rest),
         None => Err(LineRefusal::Cause(Cause::UnknownWord)),
     }
@@ -50,22 +50,22 @@ fn line_in(alloc: Global, config: &Config, fields: &[&[u8]]) -> Result<PlanLine,
 fn read_rest(
     alloc: Global,
     config: &Config,
-    word: Word,
+    word: PlanWord,
     fields: &[&[u8]],
 ) -> Result<PlanLine, LineRefusal>
     ensures { Gives (IsSpelled config.now (word_text word ∷ texts fields.now))
         (fields_cause (forms_of config.now (texts fields.now) word) (texts fields.now)) result }
 {
     match word {
-        Word::Liar => liar(alloc, config, fields),
-        Word::Crash => forms::crash(config, fields),
-        Word::Drop => read_drop(config, fields),
-        Word::Hold => read_hold(config, fields),
-        Word::Write => read_write(alloc, config, fields),
-        Word::Read => read_read(config, fields),
-        Word::Put => read_put(alloc, fields),
-        Word::Get => read_get(fields),
-        Word::Phase => read_phase(fields),
+        PlanWord::Liar => liar(alloc, config, fields),
+        PlanWord::Crash => forms::crash(config, fields),
+        PlanWord::Lose => read_drop(config, fields),
+        PlanWord::Hold => read_hold(config, fields),
+        PlanWord::Write => read_write(alloc, config, fields),
+        PlanWord::Read => read_read(config, fields),
+        PlanWord::Put => read_put(alloc, fields),
+        PlanWord::Get => read_get(fields),
+        PlanWord::Phase => read_phase(fields),
     }
 }
 

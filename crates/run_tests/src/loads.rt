@@ -36,7 +36,7 @@ fn are_two_faults(rules: &[Fault]) -> bool {
                 node: 4,
                 rule: Rule::Bad,
             },
-            Fault::Drop {
+            Fault::Lose {
                 client: 1,
                 node: 1,
                 count: 2,

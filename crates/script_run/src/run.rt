@@ -63,7 +63,7 @@ fn lines_before(liars: &Liars) -> u64
     ensures is { result ≡ 2 + length liars.now.nodes + length liars.now.clients }
     ensures small { result ≤ 1258 }
 {
-    2 + liars.nodes() as u64 + clients_of(liars)
+    2 + liars.node_count() as u64 + clients_of(liars)
 }
 
 /// How many clients are declared lying.

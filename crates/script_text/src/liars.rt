@@ -133,7 +133,7 @@ fn refuse_again(config: &Config, liars: &Liars, declared: Declared) -> Result<()
     let most = config.b() as usize;
     match declared {
         Declared::Node(node) if liars.node(node) => Err(Cause::Twice),
-        Declared::Node(_) if liars.nodes() >= most => Err(Cause::TooManyLiars),
+        Declared::Node(_) if liars.node_count() >= most => Err(Cause::TooManyLiars),
         Declared::Client(client) if liars.client(client) => Err(Cause::Twice),
         _ => Ok(()),
     }

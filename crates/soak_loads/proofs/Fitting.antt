@@ -16,7 +16,7 @@ use Rattle.wire_forms.specs.Liars.{Liars, IsClientNumber}
 use Rattle.wire_forms.specs.declared.rule.Rule.TheVariants.{Bad}
 use Rattle.wire_forms.specs.declared.op.Op.TheVariants.{Read, Write}
 use Rattle.plan_words.specs.declared.fault.Fault.{Fault}
-use Rattle.plan_words.specs.declared.fault.Fault.TheVariants.{LiarNode, Drop, Hold}
+use Rattle.plan_words.specs.declared.fault.Fault.TheVariants.{LiarNode, Lose, Hold}
 use Rattle.plan_words.specs.declared.job.Job.{Job}
 use Rattle.plan_words.specs.declared.plan.Plan.{Plan}
 use Rattle.plan_words.specs.Named.{clients, asking_clients, lying_clients, lying_nodes, faulty_nodes, troubled_client, job_client, is_phase, is_flood, liars_of}
@@ -39,7 +39,7 @@ valid = record {
 
 -- the rules, by whether there is a second client
 abbrev rules_by : Bool → List Fault
-rules_by b = LiarNode 4 Bad ∷ Drop 1 1 2 ∷ (if b then Hold 2 2 3 ∷ [] else [])
+rules_by b = LiarNode 4 Bad ∷ Lose 1 1 2 ∷ (if b then Hold 2 2 3 ∷ [] else [])
 
 each_rule : (b : Bool) → AllByRecursion (IsFault cluster) (rules_by b)
 each_rule b = (node 4 (omega arith), ((client 1 (omega arith) (omega arith), node 1 (omega arith), omega arith), by b))

@@ -11,7 +11,7 @@ use Rattle.wire_forms.specs.declared.op.Op.TheVariants.{Read, Write}
 use Rattle.protocol.specs.Seen.{block_of}
 use Rattle.soak_loads.specs.Plain.{deeds_of}
 use Rattle.plan_words.specs.declared.fault.Fault.{Fault}
-use Rattle.plan_words.specs.declared.fault.Fault.TheVariants.{LiarNode, Drop, Hold}
+use Rattle.plan_words.specs.declared.fault.Fault.TheVariants.{LiarNode, Lose, Hold}
 use Rattle.plan_words.specs.declared.job.Job.{Job}
 use Rattle.plan_words.specs.declared.job.Job.TheVariants.{Block, Device, Phase}
 use Rattle.plan_words.specs.Named.{liars_of}
@@ -22,7 +22,7 @@ use Rattle.soak_loads.specs.Loads.{IsByOwner, HasOwners, OwnersAreDone, OwnersAr
 
 -- the rules, by whether there is a second client
 abbrev rules_by : Bool → List Fault
-rules_by b = LiarNode 4 Bad ∷ Drop 1 1 2 ∷ (if b then Hold 2 2 3 ∷ [] else [])
+rules_by b = LiarNode 4 Bad ∷ Lose 1 1 2 ∷ (if b then Hold 2 2 3 ∷ [] else [])
 
 reliable_by : (b : Bool) (c : ℕ) → (has_number (liars_of (rules_by b)).clients c ≡ false) × (client_crash (rules_by b) c ≡ None)
 reliable_by true c = (refl, refl)

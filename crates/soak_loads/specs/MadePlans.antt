@@ -9,7 +9,7 @@ use Rattle.wire_forms.specs.declared.rule.Rule.TheVariants.{Bad}
 use Rattle.wire_forms.specs.declared.op.Op.{Op}
 use Rattle.wire_forms.specs.declared.op.Op.TheVariants.{Read, Write}
 use Rattle.plan_words.specs.declared.fault.Fault.{Fault}
-use Rattle.plan_words.specs.declared.fault.Fault.TheVariants.{LiarNode, Drop, Hold}
+use Rattle.plan_words.specs.declared.fault.Fault.TheVariants.{LiarNode, Lose, Hold}
 use Rattle.plan_words.specs.declared.job.Job.{Job}
 use Rattle.plan_words.specs.declared.job.Job.TheVariants.{Block}
 use Rattle.plan_words.specs.declared.plan.Plan.{Plan}
@@ -21,7 +21,7 @@ cluster = record { edition = One; n = 5; t = 1; b = 1; qc = 3; m = 2; size = 512
 
 -- node 4 damages what it tells; client 1's first two asks of node 1 are lost, and client 2's first three of node 2 are held back
 abbrev pub rules_of : ℕ → List Fault
-rules_of clients = LiarNode 4 Bad ∷ Drop 1 1 2 ∷ (if nat_le 2 clients then Hold 2 2 3 ∷ [] else [])
+rules_of clients = LiarNode 4 Bad ∷ Lose 1 1 2 ∷ (if nat_le 2 clients then Hold 2 2 3 ∷ [] else [])
 
 -- the generator of a number: its state, and stream 1
 abbrev pub generator : ℕ → Lcg

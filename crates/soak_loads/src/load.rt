@@ -62,7 +62,7 @@ fn rules_of(alloc: Global, clients: u32) -> Result<PlanRules, NoMemory>
         node: 4,
         rule: Rule::Bad,
     })?;
-    rules.push(Fault::Drop {
+    rules.push(Fault::Lose {
         client: 1,
         node: 1,
         count: 2,

@@ -95,7 +95,7 @@ fn tells_all(cell: &mut NodeCell, clock: &Clock, caller: &mut Pass) -> bool
     ensures caller { caller.new.clock ≡ caller.old.clock }
 {
     let held = tells(cell, clock, caller, Way::Hold, 0, Some(Silence::Held));
-    let dropped = tells(cell, clock, caller, Way::Drop, 1, Some(Silence::Dropped));
+    let dropped = tells(cell, clock, caller, Way::Lose, 1, Some(Silence::Dropped));
     let answered = tells(cell, clock, caller, Way::Call, 2, None);
     let crashed = tells(cell, clock, caller, Way::Call, 3, Some(Silence::Crashed));
     held && dropped && answered && crashed

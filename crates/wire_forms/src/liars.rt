@@ -2,7 +2,7 @@ ghost use Rattle.std.specs.Prelude.{◌≡◌, [], length, OnOk, OnErr, Ok};
 ghost use Rattle.std.specs.Ordering.{nat_cmp};
 ghost use Rattle.std.specs.BTreeSet.{insert_key};
 
-use lists::NoMemory;
+use lists::{Copied, NoMemory};
 use std::alloc::Global;
 use std::collections::BTreeSet;
 use std::marker::Model;
@@ -75,10 +75,19 @@ impl Liars {
     }
 
     /// How many nodes are declared lying.
-    pub fn nodes(&self) -> usize
+    pub fn node_count(&self) -> usize
         ensures count { result ≡ length self.now.nodes }
         ensures ascending { IsAscending self.now.nodes }
     {
         self.nodes.len()
+    }
+}
+
+impl Copied for Liars {
+    fn copy(&self) -> Result<Liars, NoMemory> {
+        Ok(Liars {
+            nodes: self.nodes.clone()?,
+            clients: self.clients.clone()?,
+        })
     }
 }

@@ -21,7 +21,7 @@ use Rattle.client_core.specs.Clients.{ClientView, hears}
 use Rattle.event_clock.specs.Passes.{Holder, met, heeded}
 use Rattle.liar_rules.specs.Answers.{answer_to}
 use Rattle.journals.specs.declared.desk.Way.{Way}
-use Rattle.journals.specs.declared.desk.Way.TheVariants.{Call as ByCall, Drop, Hold}
+use Rattle.journals.specs.declared.desk.Way.TheVariants.{Call as ByCall, Lose, Hold}
 use Rattle.journals.specs.declared.desk.DeskAct.{DeskAct}
 use Rattle.journals.specs.declared.desk.DeskAct.TheVariants.{Start, Crash, Call}
 use Rattle.journals.specs.declared.desk.DeskEntry.{DeskEntry}
@@ -144,7 +144,7 @@ called_side s nature ask false false = answers_side s nature ask
 
 pub act_side : (s : NodeState) (nature : Nature) (way : Way) (ask : Message) → side (act s nature way ask) ≡ Some (ask.client, Call way ask (reply_in (answer_of (act s nature way ask))))
 act_side s nature ByCall ask = called_side s nature ask s.crashed (is_spent s.crash_after)
-act_side s nature Drop ask = refl
+act_side s nature Lose ask = refl
 act_side s nature Hold ask = refl
 
 -- a cell's list with one more entry begins as it was

@@ -20,10 +20,10 @@ use Rattle.event_lines.specs.declared.line.ReplayLine.{ReplayLine}
 use Rattle.event_lines.specs.declared.line.ReplayLine.TheVariants as replay
 use Rattle.wire_forms.specs.Liars.{IsClientNumber}
 use Rattle.event_lines.specs.Lines.{IsNode, IsBlock, IsEventLine, event_fields, event_text, rule_text}
-use Rattle.event_lines.specs.Words.{Form, Speech, Word, word_of}
+use Rattle.event_lines.specs.Words.{Form, Speech, LineWord, word_of}
 use Rattle.event_lines.specs.declared.word.Form.TheVariants.{Write, Read, Resend, Call, Give, Hear, Lost, Crash, False, Sound, Mix, Prune, Back, Restart, Put, Get, Next}
 use Rattle.event_lines.specs.declared.word.Speech.TheVariants.{Lie, Tell, Poke}
-use Rattle.event_lines.specs.declared.word.Word.TheVariants.{Form as Fields, Speech as Spoken}
+use Rattle.event_lines.specs.declared.word.LineWord.TheVariants.{Form as Fields, Speech as Spoken}
 use Rattle.event_lines.proofs.lemmas.Accepted.{event_apart}
 
 -- ---- what fields spell, by their place
@@ -64,7 +64,7 @@ speech_of Lie m = replay.Plain (lines.Lie m)
 speech_of Tell m = replay.Plain (lines.Tell m)
 speech_of Poke m = replay.Plain (lines.Poke m)
 
-abbrev word_in : Option Word → Message → List (List ℕ) → ReplayLine
+abbrev word_in : Option LineWord → Message → List (List ℕ) → ReplayLine
 word_in None m fields = replay.Next 0
 word_in (Some (Fields form)) m fields = form_in form fields
 word_in (Some (Spoken speech)) m fields = speech_of speech m

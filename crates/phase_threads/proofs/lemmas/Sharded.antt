@@ -24,7 +24,7 @@ use Rattle.locked_nodes.specs.Slots.{slot_of, slots_of}
 use Rattle.locked_nodes.specs.Shards.{IsJournal, IsShardOf, AreShards, AreJoined, block_in, block_for, is_of_shard, OneCell, SeveralCells, SeveralCalm}
 use Rattle.phase_threads.specs.Standing.{node_journal}
 use Rattle.plan_words.specs.declared.fault.Fault.{Fault}
-use Rattle.plan_words.specs.declared.fault.Fault.TheVariants.{LiarNode, LiarSound, LiarMix, LiarFlood, CrashNode, CrashClient, Drop, Hold}
+use Rattle.plan_words.specs.declared.fault.Fault.TheVariants.{LiarNode, LiarSound, LiarMix, LiarFlood, CrashNode, CrashClient, Lose, Hold}
 use Rattle.plan_words.specs.declared.plan.Plan.{Plan}
 use Rattle.plan_followed.specs.Asked.{nature, crash_after, crash_after_by, holds, holds_by}
 use Rattle.plan_followed.specs.Nodes.{node_after}
@@ -42,7 +42,7 @@ no_crash i (LiarSound client block time value count) rest e = refl
 no_crash i (LiarMix client block time value other count) rest e = refl
 no_crash i (LiarFlood client block time value other count) rest e = refl
 no_crash i (CrashClient client count) rest e = refl
-no_crash i (Drop client node count) rest e = refl
+no_crash i (Lose client node count) rest e = refl
 no_crash i (Hold client node count) rest e = refl
 
 no_crashes : (i : ℕ) (rules : List Fault) → list_any (needs_whole i) rules ≡ false → filter_map (crash_after_by i) rules ≡ []
@@ -65,7 +65,7 @@ some_hold c i (LiarMix client block time value other count) l = absurd (omega (a
 some_hold c i (LiarFlood client block time value other count) l = absurd (omega (arith, l))
 some_hold c i (CrashNode node count) l = absurd (omega (arith, l))
 some_hold c i (CrashClient client count) l = absurd (omega (arith, l))
-some_hold c i (Drop client node count) l = absurd (omega (arith, l))
+some_hold c i (Lose client node count) l = absurd (omega (arith, l))
 
 some_holds : (c i : ℕ) (rules : List Fault) → 0 < holds rules c i → list_any (needs_whole i) rules ≡ true
 some_holds c i [] l = absurd (omega (arith, l))

@@ -9,7 +9,7 @@ use Rattle.quorum_rules.specs.Limits.{Numbers}
 use Rattle.wire_forms.specs.Liars.{has_number, IsClientNumber}
 use Rattle.protocol.specs.Instance.{IsCluster}
 use Rattle.plan_words.specs.declared.fault.Fault.{Fault}
-use Rattle.plan_words.specs.declared.fault.Fault.TheVariants.{LiarNode, LiarSound, LiarMix, LiarFlood, CrashNode, CrashClient, Drop, Hold}
+use Rattle.plan_words.specs.declared.fault.Fault.TheVariants.{LiarNode, LiarSound, LiarMix, LiarFlood, CrashNode, CrashClient, Lose, Hold}
 use Rattle.plan_words.specs.declared.job.Job.{Job}
 use Rattle.plan_words.specs.declared.job.Job.TheVariants.{Block, Device, Phase as PhaseEnd}
 use Rattle.plan_words.specs.declared.plan.Plan.{Plan}
@@ -55,7 +55,7 @@ troubled_there c (LiarMix client block time value other count) k h e = absurd (c
 troubled_there c (LiarFlood client block time value other count) k h e = absurd (cc)
 troubled_there c (CrashNode node count) k h e = absurd (cc)
 troubled_there c (CrashClient client count) k h e = some_same client k e h.0
-troubled_there c (Drop client node count) k h e = some_same client k e h.0
+troubled_there c (Lose client node count) k h e = some_same client k e h.0
 troubled_there c (Hold client node count) k h e = some_same client k e h.0
 
 pub worker_there : (c : Numbers) (job : Job) (k : ℕ) → IsJob c job → job_client job ≡ Some k → IsClientNumber k

@@ -14,7 +14,7 @@ use Rattle.wire_forms.specs.Liars.{has_number, IsClientNumber}
 use Rattle.protocol.specs.Count.{count}
 use Rattle.protocol.proofs.lemmas.Counting.{count_named}
 use Rattle.plan_words.specs.declared.fault.Fault.{Fault}
-use Rattle.plan_words.specs.declared.fault.Fault.TheVariants.{LiarNode, LiarSound, LiarMix, LiarFlood, CrashNode, CrashClient, Drop, Hold}
+use Rattle.plan_words.specs.declared.fault.Fault.TheVariants.{LiarNode, LiarSound, LiarMix, LiarFlood, CrashNode, CrashClient, Lose, Hold}
 use Rattle.plan_words.specs.declared.plan.Plan.{Plan}
 use Rattle.plan_words.specs.Named.{lying_node, lying_nodes, faulty_nodes, lying_client, lying_clients, ascending}
 use Rattle.plan_words.specs.Plans.{IsFault, Fits}
@@ -82,7 +82,7 @@ lying_is (LiarMix client block time value other count ∷ rs) i = lying_is rs i
 lying_is (LiarFlood client block time value other count ∷ rs) i = lying_is rs i
 lying_is (CrashNode node count ∷ rs) i = lying_is rs i
 lying_is (CrashClient client count ∷ rs) i = lying_is rs i
-lying_is (Drop client node count ∷ rs) i = lying_is rs i
+lying_is (Lose client node count ∷ rs) i = lying_is rs i
 lying_is (Hold client node count ∷ rs) i = lying_is rs i
 
 -- no rule of these makes the node lie or crash
@@ -97,7 +97,7 @@ free_lasts (LiarMix client block time value other count ∷ rs) i h = free_lasts
 free_lasts (LiarFlood client block time value other count ∷ rs) i h = free_lasts rs i h
 free_lasts (CrashNode node count ∷ rs) i h = rw h.0 (free_lasts rs i h.1)
 free_lasts (CrashClient client count ∷ rs) i h = free_lasts rs i h
-free_lasts (Drop client node count ∷ rs) i h = free_lasts rs i h
+free_lasts (Lose client node count ∷ rs) i h = free_lasts rs i h
 free_lasts (Hold client node count ∷ rs) i h = free_lasts rs i h
 
 free_is_true : (rules : List Fault) (i : ℕ) → IsFree i rules → has_number (lying_nodes rules) i ≡ false
@@ -108,7 +108,7 @@ free_is_true (LiarMix client block time value other count ∷ rs) i h = free_is_
 free_is_true (LiarFlood client block time value other count ∷ rs) i h = free_is_true rs i h
 free_is_true (CrashNode node count ∷ rs) i h = free_is_true rs i h.1
 free_is_true (CrashClient client count ∷ rs) i h = free_is_true rs i h
-free_is_true (Drop client node count ∷ rs) i h = free_is_true rs i h
+free_is_true (Lose client node count ∷ rs) i h = free_is_true rs i h
 free_is_true (Hold client node count ∷ rs) i h = free_is_true rs i h
 
 liars_last : (rules : List Fault) (i : ℕ) → IsDistinct nat_eq (faulty_nodes rules) → has_number (lying_nodes rules) i ≡ true → crash_after rules i ≡ None
@@ -128,7 +128,7 @@ liars_last (CrashNode node count ∷ rs) i h lies = elim (eqb_tells i node) [
   | inr other ↦ rw other.0 (liars_last rs i (IsDistinct-tail nat_eq node (faulty_nodes rs) h) lies)
 ]
 liars_last (CrashClient client count ∷ rs) i h lies = liars_last rs i h lies
-liars_last (Drop client node count ∷ rs) i h lies = liars_last rs i h lies
+liars_last (Lose client node count ∷ rs) i h lies = liars_last rs i h lies
 liars_last (Hold client node count ∷ rs) i h lies = liars_last rs i h lies
 
 -- ---- plans that fit
@@ -150,7 +150,7 @@ node_there c (LiarMix client block time value other count) i h e = absurd (cc)
 node_there c (LiarFlood client block time value other count) i h e = absurd (cc)
 node_there c (CrashNode node count) i h e = absurd (cc)
 node_there c (CrashClient client count) i h e = absurd (cc)
-node_there c (Drop client node count) i h e = absurd (cc)
+node_there c (Lose client node count) i h e = absurd (cc)
 node_there c (Hold client node count) i h e = absurd (cc)
 
 pub some_same : (a b : ℕ) → ◌≡◌ {A = Option ℕ} (Some a) (Some b) → IsClientNumber a → IsClientNumber b
@@ -163,7 +163,7 @@ liar_there c (LiarMix client block time value other count) k h e = some_same cli
 liar_there c (LiarFlood client block time value other count) k h e = some_same client k e h.0
 liar_there c (CrashNode node count) k h e = absurd (cc)
 liar_there c (CrashClient client count) k h e = absurd (cc)
-liar_there c (Drop client node count) k h e = absurd (cc)
+liar_there c (Lose client node count) k h e = absurd (cc)
 liar_there c (Hold client node count) k h e = absurd (cc)
 
 few_lie : (plan : Plan) → Fits plan → length plan.liars.nodes ≤ plan.config.b

@@ -12,7 +12,7 @@ use Rattle.line_forms.specs.Kinds.{client, node, block, any_u64, count_to}
 use Rattle.line_forms.specs.Kinds.Kind.{value, bytes}
 use Rattle.event_lines.specs.Lines.{rule_text}
 use Rattle.plan_words.specs.declared.fault.Fault.{Fault}
-use Rattle.plan_words.specs.declared.fault.Fault.TheVariants.{LiarNode, LiarSound, LiarMix, LiarFlood, CrashNode, CrashClient, Drop, Hold}
+use Rattle.plan_words.specs.declared.fault.Fault.TheVariants.{LiarNode, LiarSound, LiarMix, LiarFlood, CrashNode, CrashClient, Lose, Hold}
 use Rattle.plan_words.specs.declared.job.Job.{Job}
 use Rattle.plan_words.specs.declared.job.Job.TheVariants.{Block, Device, Phase}
 use Rattle.plan_words.specs.Plans.{IsFault, IsJob}
@@ -72,7 +72,7 @@ rule_fine c (CrashNode i n) v h =
     crash_node_cause c (decimal i ∷ decimal n ∷ []) ∙ fine (crash_node_form c) (codes "node" ∷ decimal i ∷ decimal n ∷ []) (a_word (codes "node") refl refl, (a_node c i h.0, (a_count 1000 n h.1 (omega arith), tt)))
 rule_fine c (CrashClient k n) v h =
     crash_client_cause c (decimal k ∷ decimal n ∷ []) ∙ fine crash_client_form (codes "client" ∷ decimal k ∷ decimal n ∷ []) (a_word (codes "client") refl refl, (a_client k h.0, (a_count 1000 n h.1 (omega arith), tt)))
-rule_fine c (Drop k i n) v h =
+rule_fine c (Lose k i n) v h =
     one_form (between c) (decimal k ∷ decimal i ∷ decimal n ∷ []) ∙ fine (between c) (decimal k ∷ decimal i ∷ decimal n ∷ []) (a_client k h.0, (a_node c i h.1, (a_count 1000 n h.2 (omega arith), tt)))
 rule_fine c (Hold k i n) v h =
     one_form (between c) (decimal k ∷ decimal i ∷ decimal n ∷ []) ∙ fine (between c) (decimal k ∷ decimal i ∷ decimal n ∷ []) (a_client k h.0, (a_node c i h.1, (a_count 1000 n h.2 (omega arith), tt)))

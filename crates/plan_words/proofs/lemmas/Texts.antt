@@ -17,7 +17,7 @@ use Rattle.wire_forms.specs.Liars.{IsClientNumber}
 use Rattle.event_lines.specs.Lines.{IsNode, IsBlock, rule_text}
 use Rattle.event_lines.proofs.lemmas.Lacking.{line_lacks_newline, other_byte}
 use Rattle.plan_words.specs.declared.fault.Fault.{Fault}
-use Rattle.plan_words.specs.declared.fault.Fault.TheVariants.{LiarNode, LiarSound, LiarMix, LiarFlood, CrashNode, CrashClient, Drop, Hold}
+use Rattle.plan_words.specs.declared.fault.Fault.TheVariants.{LiarNode, LiarSound, LiarMix, LiarFlood, CrashNode, CrashClient, Lose, Hold}
 use Rattle.plan_words.specs.declared.job.Job.{Job}
 use Rattle.plan_words.specs.declared.job.Job.TheVariants.{Block, Device, Phase}
 use Rattle.plan_words.specs.Plans.{IsFault, IsJob, IsOp, IsCommand}
@@ -70,7 +70,7 @@ module _ (mark : ℕ) (some : 0 < mark) (low : mark < 46) where
       (high_lacks (codes "liar") refl, (high_lacks (codes "client") refl, (client_lacks k h.0, (high_lacks (codes "flood") refl, (block_lacks c b h.1, (number_lacks t h.2, (value_lacks v, (value_lacks w, (number_lacks n (omega arith), tt)))))))))
   rule_line_lacks c (CrashNode i n) h s = let few : n ≤ 1000 = h.1 in (high_lacks (codes "crash") refl, (high_lacks (codes "node") refl, (node_lacks c i h.0, (number_lacks n (omega arith), tt))))
   rule_line_lacks c (CrashClient k n) h s = let few : n ≤ 1000 = h.1 in (high_lacks (codes "crash") refl, (high_lacks (codes "client") refl, (client_lacks k h.0, (number_lacks n (omega arith), tt))))
-  rule_line_lacks c (Drop k i n) h s = let few : n ≤ 1000 = h.2 in (high_lacks (codes "drop") refl, (client_lacks k h.0, (node_lacks c i h.1, (number_lacks n (omega arith), tt))))
+  rule_line_lacks c (Lose k i n) h s = let few : n ≤ 1000 = h.2 in (high_lacks (codes "drop") refl, (client_lacks k h.0, (node_lacks c i h.1, (number_lacks n (omega arith), tt))))
   rule_line_lacks c (Hold k i n) h s = let few : n ≤ 1000 = h.2 in (high_lacks (codes "hold") refl, (client_lacks k h.0, (node_lacks c i h.1, (number_lacks n (omega arith), tt))))
 
   op_lacks : (c : Numbers) (k : ℕ) (op : Op) → IsClientNumber k → IsOp c op → AllLack mark (op_fields k op)
@@ -99,7 +99,7 @@ some_first (Rules (LiarMix k b t v w n)) = (_, _, refl)
 some_first (Rules (LiarFlood k b t v w n)) = (_, _, refl)
 some_first (Rules (CrashNode i n)) = (_, _, refl)
 some_first (Rules (CrashClient k n)) = (_, _, refl)
-some_first (Rules (Drop k i n)) = (_, _, refl)
+some_first (Rules (Lose k i n)) = (_, _, refl)
 some_first (Rules (Hold k i n)) = (_, _, refl)
 some_first (Work (Block k (ops.Read b))) = (_, _, refl)
 some_first (Work (Block k (ops.Write b v))) = (_, _, refl)

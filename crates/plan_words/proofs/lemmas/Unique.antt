@@ -12,14 +12,14 @@ use Rattle.wire_forms.specs.declared.device.DeviceOp.TheVariants as commands
 use Rattle.wire_forms.specs.Liars.{IsClientNumber}
 use Rattle.event_lines.specs.Lines.{IsNode, IsBlock, rule_text}
 use Rattle.plan_words.specs.declared.fault.Fault.{Fault}
-use Rattle.plan_words.specs.declared.fault.Fault.TheVariants.{LiarNode, LiarSound, LiarMix, LiarFlood, CrashNode, CrashClient, Drop, Hold}
+use Rattle.plan_words.specs.declared.fault.Fault.TheVariants.{LiarNode, LiarSound, LiarMix, LiarFlood, CrashNode, CrashClient, Lose, Hold}
 use Rattle.plan_words.specs.declared.job.Job.{Job}
 use Rattle.plan_words.specs.declared.job.Job.TheVariants.{Block, Device, Phase}
 use Rattle.plan_words.specs.Plans.{IsFault, IsJob}
 use Rattle.plan_words.specs.declared.line.PlanLine.{PlanLine}
 use Rattle.plan_words.specs.declared.line.PlanLine.TheVariants.{Rule as Rules, Work}
-use Rattle.plan_words.specs.Forms.{Word, word_of, field_at, number_at, value_at}
-use Rattle.plan_words.specs.declared.word.Word.TheVariants as words
+use Rattle.plan_words.specs.Forms.{PlanWord, word_of, field_at, number_at, value_at}
+use Rattle.plan_words.specs.declared.word.PlanWord.TheVariants as words
 use Rattle.plan_words.specs.Lines.{IsPlanLine, line_fields, line_text}
 use Rattle.plan_words.proofs.lemmas.Texts.{fields_back}
 use Rattle.event_lines.proofs.lemmas.Unique.{u64_back, value_back}
@@ -41,11 +41,11 @@ liar_in fs = if bytes_eq (field_at 1 fs) (codes "node") then LiarNode (number_at
 abbrev crash_in : List (List ℕ) → Fault
 crash_in fs = if bytes_eq (field_at 1 fs) (codes "node") then CrashNode (number_at 2 fs) (number_at 3 fs) else CrashClient (number_at 2 fs) (number_at 3 fs)
 
-abbrev word_in : Option Word → List (List ℕ) → PlanLine
+abbrev word_in : Option PlanWord → List (List ℕ) → PlanLine
 word_in None fs = Work Phase
 word_in (Some words.Liar) fs = Rules (liar_in fs)
 word_in (Some words.Crash) fs = Rules (crash_in fs)
-word_in (Some words.Drop) fs = Rules (Drop (number_at 1 fs) (number_at 2 fs) (number_at 3 fs))
+word_in (Some words.Lose) fs = Rules (Lose (number_at 1 fs) (number_at 2 fs) (number_at 3 fs))
 word_in (Some words.Hold) fs = Rules (Hold (number_at 1 fs) (number_at 2 fs) (number_at 3 fs))
 word_in (Some words.Write) fs = Work (Block (number_at 1 fs) (ops.Write (number_at 2 fs) (value_at 3 fs)))
 word_in (Some words.Read) fs = Work (Block (number_at 1 fs) (ops.Read (number_at 2 fs)))
@@ -85,7 +85,7 @@ fault_back c (LiarMix k b t v w n) s h = rw (client_back k h.0, block_back c b h
 fault_back c (LiarFlood k b t v w n) s h = rw (client_back k h.0, block_back c b h.1, u64_back t h.2, value_back v h.3.bytes, value_back w h.4.bytes, count_back n 250 h.5 (omega arith)) refl
 fault_back c (CrashNode i n) s h = rw (node_back c i h.0, count_back n 1000 h.1 (omega arith)) refl
 fault_back c (CrashClient k n) s h = rw (client_back k h.0, count_back n 1000 h.1 (omega arith)) refl
-fault_back c (Drop k i n) s h = rw (client_back k h.0, node_back c i h.1, count_back n 1000 h.2 (omega arith)) refl
+fault_back c (Lose k i n) s h = rw (client_back k h.0, node_back c i h.1, count_back n 1000 h.2 (omega arith)) refl
 fault_back c (Hold k i n) s h = rw (client_back k h.0, node_back c i h.1, count_back n 1000 h.2 (omega arith)) refl
 
 job_back : (c : Numbers) (j : Job) → IsJob c j → line_in (line_fields (Work j)) ≡ Work j

@@ -1,6 +1,6 @@
 use Rattle.std.proofs.Common.{sym}
 use Rattle.event_lines.specs.Rests.{fields_after}
-use Rattle.event_lines.specs.declared.word.Word.TheVariants.{Form, Speech}
+use Rattle.event_lines.specs.declared.word.LineWord.TheVariants.{Form, Speech}
 use Rattle.event_lines.proofs.Events.{line_read}
 use Rattle.event_lines.proofs.event.read_event.Goals as goal
 

@@ -1,8 +1,8 @@
 use Rattle.plan_words.proofs.FormCauses.{one_form}
 use Rattle.plan_words.proofs.reading.read_rest.Goals as goal
 
-pub returns-in-Drop : goal.returns-in-Drop
-returns-in-Drop c = rw (c.in-Drop.is, one_form) c.read_drop.ensures
+pub returns-in-Lose : goal.returns-in-Lose
+returns-in-Lose c = rw (c.in-Lose.is, one_form) c.read_drop.ensures
 
 pub returns-in-Hold : goal.returns-in-Hold
 returns-in-Hold c = rw (c.in-Hold.is, one_form) c.read_hold.ensures
