@@ -16,7 +16,7 @@ use Rattle.text_lines.proofs.lemmas.Values.{value_of-some, value_of-text}
 use Rattle.stamp_order.specs.declared.Stamp.{Stamp}
 use Rattle.message_texts.specs.Texts.{IsBytes, IsDigest, IsStamp, IsSum, IsFragment, stamp_text, sum_text}
 use Rattle.message_texts.proofs.lemmas.Digits.{low_encoded, sum_of_digits}
-use Rattle.message_texts.proofs.lemmas.Spelling.{are_bytes, are_all_bytes, joined, stamp_parts, length-flat, fragment_spelled}
+use Rattle.message_texts.proofs.lemmas.Spelling.{are_bytes, are_all_bytes, text_from_parts_at, stamp_parts, length-flat, fragment_spelled}
 use Rattle.event_lines.specs.Messages.{is_digest, is_stamp, is_value}
 
 -- ---- what a part spells
@@ -66,7 +66,7 @@ stamp_spelled field h = by_parts (parts_at 46 field) refl h
         let d = digest_spelled digits all.1 in (
           record { time = n.0; client = k.0; verifier = d.0 },
           record { time = n.1; client = k.1; verifier = d.1 },
-          joined 46 field (time ∷ client ∷ digits ∷ []) e
+          text_from_parts_at 46 field (time ∷ client ∷ digits ∷ []) e
               ∙ ap (λ (x : List ℕ). x ++ 46 ∷ (client ++ 46 ∷ digits)) n.2
               ∙ ap (λ (x : List ℕ). decimal n.0 ++ 46 ∷ (x ++ 46 ∷ digits)) k.2
               ∙ ap (λ (x : List ℕ). decimal n.0 ++ 46 ∷ (decimal k.0 ++ 46 ∷ x)) d.2

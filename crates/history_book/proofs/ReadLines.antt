@@ -16,7 +16,7 @@ use Rattle.line_forms.specs.Tables.{first_of}
 use Rattle.line_forms.specs.Texts.{IsFault, IsFaultless, ReadsTo, end_causes, ended}
 use Rattle.line_forms.specs.declared.cause.Cause.{Cause}
 use Rattle.line_forms.specs.declared.cause.Cause.TheVariants.{Empty, MissingLine, UnknownWord}
-use Rattle.line_forms.proofs.lemmas.Texts.{reads_none, reads_on, line_fault, end_fault, needed, cut_short, read_all, text_read}
+use Rattle.line_forms.proofs.lemmas.Texts.{reads_none, reads_on, line_fault, end_fault, end_causes-ended, cut_short, read_all, text_read}
 use Rattle.history_making.proofs.lemmas.EntryOrders.{then_less}
 use Rattle.history_making.proofs.lemmas.Fronts.{slice_get-take}
 use Rattle.history_book.proofs.Words.{differs_from_number}
@@ -230,7 +230,7 @@ ends_here [] number [] is unended = ap (λ (n : ℕ). Some (ended (missing_at n)
 ends_here [] number (c ∷ rest) is unended = refl
 ends_here (l ∷ lines) number rest is unended =
     let other : eqb number 1 ≡ false = (let n = is in grind arith) in
-    needed report l lines rest unended ∙ ap (λ (b : Bool). Some (ended (if b then Empty else MissingLine) rest)) (sym other)
+    end_causes-ended report l lines rest unended ∙ ap (λ (b : Bool). Some (ended (if b then Empty else MissingLine) rest)) (sym other)
 
 pub no_line : (text : List ℕ) (entries : List EntryRecord) (spent : List SpentRecord) (rest : List ℕ) (number : ℕ) → Told text entries spent rest → number ≡ length (told_lines entries spent) + 1 → parts_of rest ≡ rest ∷ [] → IsFault report text number (ended (missing_at number) rest)
 no_line text entries spent rest number h is parts =

@@ -9,7 +9,7 @@ use Rattle.std.proofs.lemmas.List.Elements.{All-head, All-tail, All-append, All-
 use Rattle.std.proofs.lemmas.Fmt.{decimal_is_IsNumeral, decimal-digits_value, first_decimal, decimal_digit}
 use Rattle.std.proofs.lemmas.Str.Parse.{digits_value-take-le, digit_from_value}
 use Rattle.text_lines.specs.Fields.{number_of}
-use Rattle.text_lines.proofs.lemmas.Numbers.{own, number_of-some, number_of-decimal}
+use Rattle.text_lines.proofs.lemmas.Numbers.{IsNumeralModel-decimal, number_of-some, number_of-decimal}
 use Rattle.message_texts.specs.declared.piece.Piece.TheVariants.{Byte, Number, Digits}
 use Rattle.message_texts.specs.Longest.{Begins, IsLongest}
 use Rattle.message_texts.specs.Pieces.{is_low_digit, IsPiece, is_fillable}
@@ -55,7 +55,7 @@ front_number m p v lt e some =
           let sum = length-append p v in omega arith
       | inr positive ↦ let above = first_decimal m (omega arith) lt in absurd (omega arith)
     ] in
-    let same : decimal (digits_value 10 p) ≡ p = decimal-digits_value own p digits some alone (omega arith) in
+    let same : decimal (digits_value 10 p) ≡ p = decimal-digits_value IsNumeralModel-decimal p digits some alone (omega arith) in
     (digits_value 10 p, value, sym same)
   where
     at_front : (x y : List ℕ) → 0 < length x → get_or (x ++ y) 0 0 ≡ get_or x 0 0

@@ -15,7 +15,7 @@ use Rattle.line_forms.specs.Heads.{IsOfScripts, header, head_lines, cluster_fiel
 use Rattle.line_forms.specs.declared.cause.Cause.{Cause}
 use Rattle.line_forms.specs.declared.cause.Cause.TheVariants.{BadValue, UnknownWord, MissingLine}
 use Rattle.line_forms.proofs.lemmas.Accepted.{numbers_back}
-use Rattle.line_forms.proofs.lemmas.Texts.{reads_on, line_fault, end_fault, needed, cut_short, read_all, text_read}
+use Rattle.line_forms.proofs.lemmas.Texts.{reads_on, line_fault, end_fault, end_causes-ended, cut_short, read_all, text_read}
 use Rattle.script_text.specs.Sum.{IsSum, value_form, value_fields, sum_lines, sum_text, sum_script}
 use Rattle.lists.proofs.lemmas.Tests.{not_zero}
 
@@ -45,7 +45,7 @@ value_here c line v known = ap (λ (k : Numbers). form_cause (value_form k.size)
 -- there is no value line
 pub no_value_line : (text : List ℕ) (c : Numbers) (at : ℕ) (rest : List ℕ) → HeadRead text c at rest → parts_of rest ≡ rest ∷ [] → IsFault sum_script text 3 (ended MissingLine rest)
 no_value_line text c at rest h e =
-    end_fault sum_script text (head_lines c) rest (ended MissingLine rest) h.reads e (needed sum_script (header c.edition) (line_of_fields (cluster_fields c) ∷ []) rest refl)
+    end_fault sum_script text (head_lines c) rest (ended MissingLine rest) h.reads e (end_causes-ended sum_script (header c.edition) (line_of_fields (cluster_fields c) ∷ []) rest refl)
 
 -- the value line has a cause
 pub value_fault : (text : List ℕ) (c : Numbers) (at : ℕ) (rest line after : List ℕ) (len : ℕ) (cause : Cause) → HeadRead text c at rest → parts_of rest ≡ line ∷ parts_of after → len ≡ c.size → form_cause (value_form len) (fields_of line) ≡ Some cause → IsFault sum_script text 3 cause

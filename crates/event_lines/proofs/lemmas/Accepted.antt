@@ -26,13 +26,13 @@ use Rattle.event_lines.specs.Messages.{Part, are_of}
 use Rattle.event_lines.proofs.lemmas.Lacking.{event_lacks}
 use Rattle.event_lines.proofs.Messages.{any_fits, ask_fits, answer_fits}
 use Rattle.lists.proofs.lemmas.Tests.{not_zero}
-use Rattle.line_forms.proofs.lemmas.Fine.{AreFine, none_passes, fine, a_number, a_client, a_u64, some_bytes, Fine}
+use Rattle.line_forms.proofs.lemmas.Fine.{AreFine, none_passes, form_cause-none, Fine-number, Fine-client, Fine-u64, Fine-bytes, Fine}
 
 with_words : (b : Bool) (x y : Option Cause) → b ≡ false → x ≡ None → (if not b then x else y) ≡ None
 with_words b x y e h = rw e h
 
 only_form : (form : List Kind) (fields : List (List ℕ)) → AreFine form fields → fields_cause (form ∷ []) fields ≡ None
-only_form form fields h = with_words (some_field is_other_word form fields) (form_cause form fields) (Some UnknownWord) (none_passes is_other_word (λ kind field f. f.words) form fields h) (fine form fields h)
+only_form form fields h = with_words (some_field is_other_word form fields) (form_cause form fields) (Some UnknownWord) (none_passes is_other_word (λ kind field f. f.words) form fields h) (form_cause-none form fields h)
 
 late_form : (edition : Edition) (form : List Kind) (fields : List (List ℕ)) → edition ≢ One → AreFine form fields → fields_cause (since_two edition form) fields ≡ None
 late_form One form fields late h = absurd (late refl)
@@ -41,14 +41,14 @@ late_form Three form fields late h = only_form form fields h
 
 -- ---- fields
 
-pub a_node : (c : Numbers) (n : ℕ) → IsNode c n → Fine (node c.n) (decimal n)
-a_node c n h = a_number (2 ^ 8) 0 c.n n (lit≤ tt) h.typed (omega arith) h.there
+pub Fine-node : (c : Numbers) (n : ℕ) → IsNode c n → Fine (node c.n) (decimal n)
+Fine-node c n h = Fine-number (2 ^ 8) 0 c.n n (lit≤ tt) h.typed (omega arith) h.there
 
-pub a_block : (c : Numbers) (n : ℕ) → IsBlock c n → Fine (block c.blocks) (decimal n)
-a_block c n h = a_number (2 ^ 32) 0 c.blocks n (lit≤ tt) h.typed (omega arith) h.there
+pub Fine-block : (c : Numbers) (n : ℕ) → IsBlock c n → Fine (block c.blocks) (decimal n)
+Fine-block c n h = Fine-number (2 ^ 32) 0 c.blocks n (lit≤ tt) h.typed (omega arith) h.there
 
-pub a_value : (c : Numbers) (v : List ℕ) → IsValue c v → Fine (value c.size) (value_text v)
-a_value c v h = record {
+pub Fine-value : (c : Numbers) (v : List ℕ) → IsValue c v → Fine (value c.size) (value_text v)
+Fine-value c v h = record {
   words = refl;
   full = not_zero (length (value_text v)) (omega arith);
   numbers = refl;
@@ -71,40 +71,40 @@ spoken : (forms : List (List Part)) (field : List ℕ) (fields : List (List ℕ)
 spoken forms field fields h = rw h refl
 
 plain_fine : (c : Numbers) (l : Line) → IsEventLine c (Plain l) → line_cause c (event_fields (Plain l)) ≡ None
-plain_fine c (Write k b v) h = only_form (client ∷ block c.blocks ∷ value c.size ∷ []) (decimal k ∷ decimal b ∷ value_text v ∷ []) (a_client k h.0, (a_block c b h.1, (a_value c v h.2, tt)))
-plain_fine c (Read k b) h = only_form (client ∷ block c.blocks ∷ []) (decimal k ∷ decimal b ∷ []) (a_client k h.0, (a_block c b h.1, tt))
-plain_fine c (Resend k) h = only_form (client ∷ []) (decimal k ∷ []) (a_client k h, tt)
-plain_fine c (Call k i) h = only_form (client ∷ node c.n ∷ []) (decimal k ∷ decimal i ∷ []) (a_client k h.0, (a_node c i h.1, tt))
-plain_fine c (Give i m) h = only_form (node c.n ∷ any_u64 ∷ []) (decimal i ∷ decimal m ∷ []) (a_node c i h.0, (a_u64 m h.1, tt))
-plain_fine c (Hear k m) h = only_form (client ∷ any_u64 ∷ []) (decimal k ∷ decimal m ∷ []) (a_client k h.0, (a_u64 m h.1, tt))
-plain_fine c (Lost k i) h = only_form (client ∷ node c.n ∷ []) (decimal k ∷ decimal i ∷ []) (a_client k h.0, (a_node c i h.1, tt))
-plain_fine c (CrashNode i) h = fine (word (codes "node" ∷ []) ∷ node c.n ∷ []) (codes "node" ∷ decimal i ∷ []) (a_word (codes "node") refl refl, (a_node c i h, tt))
-plain_fine c (CrashClient k) h = fine (word (codes "client" ∷ []) ∷ client ∷ []) (codes "client" ∷ decimal k ∷ []) (a_word (codes "client") refl refl, (a_client k h, tt))
+plain_fine c (Write k b v) h = only_form (client ∷ block c.blocks ∷ value c.size ∷ []) (decimal k ∷ decimal b ∷ value_text v ∷ []) (Fine-client k h.0, (Fine-block c b h.1, (Fine-value c v h.2, tt)))
+plain_fine c (Read k b) h = only_form (client ∷ block c.blocks ∷ []) (decimal k ∷ decimal b ∷ []) (Fine-client k h.0, (Fine-block c b h.1, tt))
+plain_fine c (Resend k) h = only_form (client ∷ []) (decimal k ∷ []) (Fine-client k h, tt)
+plain_fine c (Call k i) h = only_form (client ∷ node c.n ∷ []) (decimal k ∷ decimal i ∷ []) (Fine-client k h.0, (Fine-node c i h.1, tt))
+plain_fine c (Give i m) h = only_form (node c.n ∷ any_u64 ∷ []) (decimal i ∷ decimal m ∷ []) (Fine-node c i h.0, (Fine-u64 m h.1, tt))
+plain_fine c (Hear k m) h = only_form (client ∷ any_u64 ∷ []) (decimal k ∷ decimal m ∷ []) (Fine-client k h.0, (Fine-u64 m h.1, tt))
+plain_fine c (Lost k i) h = only_form (client ∷ node c.n ∷ []) (decimal k ∷ decimal i ∷ []) (Fine-client k h.0, (Fine-node c i h.1, tt))
+plain_fine c (CrashNode i) h = form_cause-none (word (codes "node" ∷ []) ∷ node c.n ∷ []) (codes "node" ∷ decimal i ∷ []) (a_word (codes "node") refl refl, (Fine-node c i h, tt))
+plain_fine c (CrashClient k) h = form_cause-none (word (codes "client" ∷ []) ∷ client ∷ []) (codes "client" ∷ decimal k ∷ []) (a_word (codes "client") refl refl, (Fine-client k h, tt))
 plain_fine c (Lie m) h = rw (any_fits m h) refl
 plain_fine c (Tell m) h = rw (answer_fits m h.0 h.1) refl
 plain_fine c (Poke m) h = rw (ask_fits m h.0 h.1) refl
-plain_fine c (False k i r) h = only_form (client ∷ node c.n ∷ rule ∷ []) (decimal k ∷ decimal i ∷ rule_text r ∷ []) (a_client k h.0, (a_node c i h.1, (a_rule r h.2, tt)))
+plain_fine c (False k i r) h = only_form (client ∷ node c.n ∷ rule ∷ []) (decimal k ∷ decimal i ∷ rule_text r ∷ []) (Fine-client k h.0, (Fine-node c i h.1, (a_rule r h.2, tt)))
 plain_fine c (Sound k i b t v) h =
     only_form (client ∷ node c.n ∷ block c.blocks ∷ any_u64 ∷ value c.size ∷ []) (decimal k ∷ decimal i ∷ decimal b ∷ decimal t ∷ value_text v ∷ [])
-    (a_client k h.0, (a_node c i h.1, (a_block c b h.2, (a_u64 t h.3, (a_value c v h.4, tt)))))
+    (Fine-client k h.0, (Fine-node c i h.1, (Fine-block c b h.2, (Fine-u64 t h.3, (Fine-value c v h.4, tt)))))
 plain_fine c (Mix k i b t v w) h =
     only_form (client ∷ node c.n ∷ block c.blocks ∷ any_u64 ∷ value c.size ∷ value c.size ∷ []) (decimal k ∷ decimal i ∷ decimal b ∷ decimal t ∷ value_text v ∷ value_text w ∷ [])
-    (a_client k h.0, (a_node c i h.1, (a_block c b h.2, (a_u64 t h.3, (a_value c v h.4, (a_value c w h.5, tt))))))
-plain_fine c (Prune i b) h = only_form (node c.n ∷ block c.blocks ∷ []) (decimal i ∷ decimal b ∷ []) (a_node c i h.0, (a_block c b h.1, tt))
+    (Fine-client k h.0, (Fine-node c i h.1, (Fine-block c b h.2, (Fine-u64 t h.3, (Fine-value c v h.4, (Fine-value c w h.5, tt))))))
+plain_fine c (Prune i b) h = only_form (node c.n ∷ block c.blocks ∷ []) (decimal i ∷ decimal b ∷ []) (Fine-node c i h.0, (Fine-block c b h.1, tt))
 plain_fine c (Back k) h =
     let fields = codes "client" ∷ decimal k ∷ [] in
     let form = word (codes "client" ∷ []) ∷ client ∷ [] in
-    late_form c.edition form fields h.0 (a_word (codes "client") refl refl, (a_client k h.1, tt))
+    late_form c.edition form fields h.0 (a_word (codes "client") refl refl, (Fine-client k h.1, tt))
 plain_fine c (Restart i) h =
     let fields = codes "node" ∷ decimal i ∷ [] in
     let form = word (codes "node" ∷ []) ∷ node c.n ∷ [] in
-    late_form c.edition form fields h.0 (a_word (codes "node") refl refl, (a_node c i h.1, tt))
+    late_form c.edition form fields h.0 (a_word (codes "node") refl refl, (Fine-node c i h.1, tt))
 
 pub line_fine : (c : Numbers) (l : ReplayLine) → IsEventLine c l → line_cause c (event_fields l) ≡ None
 line_fine c (Plain l) h = plain_fine c l h
-line_fine c (Put k o v) h = only_form (client ∷ any_u64 ∷ bytes ∷ []) (decimal k ∷ decimal o ∷ value_text v ∷ []) (a_client k h.0, (a_u64 o h.1, (some_bytes v h.2, tt)))
-line_fine c (Get k o n) h = only_form (client ∷ any_u64 ∷ any_u64 ∷ []) (decimal k ∷ decimal o ∷ decimal n ∷ []) (a_client k h.0, (a_u64 o h.1, (a_u64 n h.2, tt)))
-line_fine c (Next k) h = only_form (client ∷ []) (decimal k ∷ []) (a_client k h, tt)
+line_fine c (Put k o v) h = only_form (client ∷ any_u64 ∷ bytes ∷ []) (decimal k ∷ decimal o ∷ value_text v ∷ []) (Fine-client k h.0, (Fine-u64 o h.1, (Fine-bytes v h.2, tt)))
+line_fine c (Get k o n) h = only_form (client ∷ any_u64 ∷ any_u64 ∷ []) (decimal k ∷ decimal o ∷ decimal n ∷ []) (Fine-client k h.0, (Fine-u64 o h.1, (Fine-u64 n h.2, tt)))
+line_fine c (Next k) h = only_form (client ∷ []) (decimal k ∷ []) (Fine-client k h, tt)
 
 some_word : (c : Numbers) (l : ReplayLine) → IsEventLine c l → (first : List ℕ) × (rest : List (List ℕ)) × (event_fields l ≡ first ∷ rest)
 some_word c l h = by_fields (event_fields l) refl (line_fine c l h)

@@ -13,7 +13,7 @@ use Rattle.text_lines.proofs.lemmas.Joined.{parts-joined, part_before, Lacks-app
 use Rattle.line_forms.specs.Kinds.{has_empty_field}
 use Rattle.line_forms.specs.Texts.{ReadsTo}
 use Rattle.line_forms.specs.Heads.{Body, IsOfScripts, script, header, edition_of, head_lines, head_text, cluster_fields, cluster_cause, config_cause, numbers_at, numbers_in, u32_of, is_no_u32}
-use Rattle.line_forms.proofs.lemmas.Clusters.{spelled}
+use Rattle.line_forms.proofs.lemmas.Clusters.{cluster_spelled}
 use Rattle.line_forms.proofs.Heads.{edition_back, header_read, head_read, head_apart}
 use Rattle.lists.proofs.lemmas.Tests.{not_zero}
 
@@ -69,7 +69,7 @@ pub cluster_accepted : (c : Numbers) → IsValid c → cluster_cause c.edition (
 cluster_accepted c v =
     let ns = in_order c in
     let h = small c v in
-    let s = spelled c.edition (codes "cluster") (map decimal ns) ns refl refl (none_empty ns h) (none_bad ns h) (all_read ns h) in
+    let s = cluster_spelled c.edition (codes "cluster") (map decimal ns) ns refl refl (none_empty ns h) (none_bad ns h) (all_read ns h) in
     ap (cluster_cause c.edition) (cluster_apart c v) ∙ s.cause ∙ no_config_cause c v
 
 fields_lack : (fields : List (List ℕ)) (first : List ℕ) → AllLack 10 (first ∷ fields) → Lacks 10 (line_of_fields (first ∷ fields))

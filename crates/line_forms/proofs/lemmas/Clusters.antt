@@ -75,11 +75,11 @@ pub record Spelled (edition : Edition) (word : List ℕ) (fields : List (List �
   pub cause : cluster_cause edition (word ∷ fields) ≡ config_cause c
   pub text : cluster_fields c ≡ word ∷ fields
 
-pub spelled : (edition : Edition) (word : List ℕ) (fields : List (List ℕ)) (xs : List ℕ) → word ≡ codes "cluster" → length fields ≡ 7 → has_empty_field fields ≡ false → list_any is_no_u32 fields ≡ false → xs ≡ map u32_of fields → Spelled edition word fields (numbers_at edition xs)
-spelled edition word (a ∷ b ∷ c ∷ d ∷ e ∷ f ∷ g ∷ []) xs is len full good read =
+pub cluster_spelled : (edition : Edition) (word : List ℕ) (fields : List (List ℕ)) (xs : List ℕ) → word ≡ codes "cluster" → length fields ≡ 7 → has_empty_field fields ≡ false → list_any is_no_u32 fields ≡ false → xs ≡ map u32_of fields → Spelled edition word fields (numbers_at edition xs)
+cluster_spelled edition word (a ∷ b ∷ c ∷ d ∷ e ∷ f ∷ g ∷ []) xs is len full good read =
     let fields = a ∷ b ∷ c ∷ d ∷ e ∷ f ∷ g ∷ [] in
     rw read (record {
       cause = rw (is, full, good, none_outside fields) refl;
       text = rw is (ap (λ (fs : List (List ℕ)). codes "cluster" ∷ fs) (all_back fields good));
     })
-spelled edition word _ xs is len full good read = absurd (omega arith)
+cluster_spelled edition word _ xs is len full good read = absurd (omega arith)

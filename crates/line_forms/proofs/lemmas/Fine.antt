@@ -33,11 +33,11 @@ none_passes test never [] (field ∷ fields) h = absurd h
 none_passes test never (kind ∷ form) [] h = absurd h
 none_passes test never (kind ∷ form) (field ∷ fields) h = rw (never kind field h.0) (none_passes test never form fields h.1)
 
-pub as_many : (form : List Kind) (fields : List (List ℕ)) → AreFine form fields → length fields ≡ length form
-as_many [] [] h = refl
-as_many [] (field ∷ fields) h = absurd h
-as_many (kind ∷ form) [] h = absurd h
-as_many (kind ∷ form) (field ∷ fields) h = ap (λ (n : ℕ). suc n) (as_many form fields h.1)
+pub length-fine : (form : List Kind) (fields : List (List ℕ)) → AreFine form fields → length fields ≡ length form
+length-fine [] [] h = refl
+length-fine [] (field ∷ fields) h = absurd h
+length-fine (kind ∷ form) [] h = absurd h
+length-fine (kind ∷ form) (field ∷ fields) h = ap (λ (n : ℕ). suc n) (length-fine form fields h.1)
 
 pub none_empty : (form : List Kind) (fields : List (List ℕ)) → AreFine form fields → has_empty_field fields ≡ false
 none_empty [] [] h = refl
@@ -45,11 +45,11 @@ none_empty [] (field ∷ fields) h = absurd h
 none_empty (kind ∷ form) [] h = absurd h
 none_empty (kind ∷ form) (field ∷ fields) h = rw (h.0.full) (none_empty form fields h.1)
 
-pub fine : (form : List Kind) (fields : List (List ℕ)) → AreFine form fields → form_cause form fields ≡ None
-fine form fields h =
+pub form_cause-none : (form : List Kind) (fields : List (List ℕ)) → AreFine form fields → form_cause form fields ≡ None
+form_cause-none form fields h =
     rw (
       none_passes is_other_word (λ kind field f. f.words) form fields h,
-      eq-eqb (length fields) (length form) (as_many form fields h),
+      eq-eqb (length fields) (length form) (length-fine form fields h),
       none_empty form fields h,
       none_passes is_bad_number (λ kind field f. f.numbers) form fields h,
       none_passes is_outside (λ kind field f. f.inside) form fields h,
@@ -59,8 +59,8 @@ fine form fields h =
 pub in_range : (from end n : ℕ) → from ≤ n → n < end → not (leb from n && ltb n end) ≡ false
 in_range from end n a b = grind (arith, nat_tests)
 
-pub a_number : (limit from end n : ℕ) → limit ≤ 2 ^ 64 → n < limit → from ≤ n → n < end → Fine (number limit from end) (decimal n)
-a_number limit from end n small lt low high =
+pub Fine-number : (limit from end n : ℕ) → limit ≤ 2 ^ 64 → n < limit → from ≤ n → n < end → Fine (number limit from end) (decimal n)
+Fine-number limit from end n small lt low high =
     let is = number_of-decimal limit n small lt in record {
       words = refl;
       full = not_zero (length (decimal n)) (decimal_nonempty n (omega arith));
@@ -69,14 +69,14 @@ a_number limit from end n small lt low high =
       values = refl;
     }
 
-pub a_client : (n : ℕ) → IsClientNumber n → Fine client (decimal n)
-a_client n h = a_number (2 ^ 32) 1 1001 n (lit≤ tt) (omega arith) h.0 (omega arith)
+pub Fine-client : (n : ℕ) → IsClientNumber n → Fine client (decimal n)
+Fine-client n h = Fine-number (2 ^ 32) 1 1001 n (lit≤ tt) (omega arith) h.0 (omega arith)
 
-pub a_u64 : (n : ℕ) → n < 2 ^ 64 → Fine any_u64 (decimal n)
-a_u64 n h = a_number (2 ^ 64) 0 (2 ^ 64) n (lit≤ tt) h (omega arith) h
+pub Fine-u64 : (n : ℕ) → n < 2 ^ 64 → Fine any_u64 (decimal n)
+Fine-u64 n h = Fine-number (2 ^ 64) 0 (2 ^ 64) n (lit≤ tt) h (omega arith) h
 
-pub some_bytes : (v : List ℕ) → IsBytes v → Fine bytes (value_text v)
-some_bytes v h = record {
+pub Fine-bytes : (v : List ℕ) → IsBytes v → Fine bytes (value_text v)
+Fine-bytes v h = record {
   words = refl;
   full = not_zero (length (value_text v)) (omega arith);
   numbers = refl;

@@ -87,9 +87,9 @@ pub end_fault : (g : Grammar) (text : List ℕ) (ls : List (List ℕ)) (rest : L
 end_fault g text ls rest c r e h = fault_here g text ls rest c r (end_here g ls rest e ∙ h)
 
 -- a text may not end after some lines: it is cut, or a line is missing
-pub needed : (g : Grammar) (l : List ℕ) (ls : List (List ℕ)) (rest : List ℕ) → g.may_end (l ∷ ls) ≡ false → first_of (end_causes g (l ∷ ls) rest) ≡ Some (ended MissingLine rest)
-needed g l ls [] h = rw h refl
-needed g l ls (c ∷ rest) h = refl
+pub end_causes-ended : (g : Grammar) (l : List ℕ) (ls : List (List ℕ)) (rest : List ℕ) → g.may_end (l ∷ ls) ≡ false → first_of (end_causes g (l ∷ ls) rest) ≡ Some (ended MissingLine rest)
+end_causes-ended g l ls [] h = rw h refl
+end_causes-ended g l ls (c ∷ rest) h = refl
 
 -- a line without a newline at the end
 pub cut_short : (g : Grammar) (l : List ℕ) (ls : List (List ℕ)) (rest : List ℕ) (missing : Cause) → rest ≢ [] → first_of (end_causes g (l ∷ ls) rest) ≡ Some (ended missing rest)

@@ -85,8 +85,8 @@ hash_spelled digits (Err d) low e =
 
 -- ---- stamps
 
-pub joined : (mark : ℕ) (t : List ℕ) (ps : List (List ℕ)) → parts_at mark t ≡ ps → t ≡ join_with_byte mark ps
-joined mark t ps e = sym (join_with_byte-slice_split mark t) ∙ ap (join_with_byte mark) e
+pub text_from_parts_at : (mark : ℕ) (t : List ℕ) (ps : List (List ℕ)) → parts_at mark t ≡ ps → t ≡ join_with_byte mark ps
+text_from_parts_at mark t ps e = sym (join_with_byte-slice_split mark t) ∙ ap (join_with_byte mark) e
 
 -- what is cut at a mark
 pub cut_at : (mark : ℕ) (t a r : List ℕ) → parts_at mark t ≡ a ∷ parts_at mark r → t ≡ a ++ mark ∷ r
@@ -95,7 +95,7 @@ cut_at mark t a r e = by_parts (parts_at mark r) refl
     by_parts : (ps : List (List ℕ)) → parts_at mark r ≡ ps → t ≡ a ++ mark ∷ r
     by_parts [] is = absurd (some_part mark r is)
     by_parts (p ∷ ps) is =
-        joined mark t (a ∷ p ∷ ps) (e ∙ ap (λ (x : List (List ℕ)). a ∷ x) is) ∙ ap (λ (x : List ℕ). a ++ mark ∷ x) (sym (joined mark r (p ∷ ps) is))
+        text_from_parts_at mark t (a ∷ p ∷ ps) (e ∙ ap (λ (x : List (List ℕ)). a ∷ x) is) ∙ ap (λ (x : List ℕ). a ++ mark ∷ x) (sym (text_from_parts_at mark r (p ∷ ps) is))
 
 pub stamp_parts : (s : Stamp) → IsStamp s → parts_at 46 (stamp_text s) ≡ decimal s.time ∷ decimal s.client ∷ encode_lower s.verifier ∷ []
 stamp_parts s h =
@@ -127,7 +127,7 @@ module _ (field : List ℕ) where
       last_if s h is =
           let r = rest_if s h is in
           let both : client ∷ parts_at 46 digits ≡ decimal s.client ∷ encode_lower s.verifier ∷ [] = sym second ∙ r.1 in
-          (r.0, (cc), joined 46 digits (encode_lower s.verifier ∷ []) (cc))
+          (r.0, (cc), text_from_parts_at 46 digits (encode_lower s.verifier ∷ []) (cc))
 
       pub stamp_time_spelled : number_of (2 ^ 64) time ≡ None → Spells IsStamp stamp_text field None
       stamp_time_spelled e = λ s h is.

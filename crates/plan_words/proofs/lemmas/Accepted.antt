@@ -22,13 +22,13 @@ use Rattle.plan_words.specs.Forms.{only, any_rule, number_at, node_form, sound_f
 use Rattle.plan_words.specs.Lines.{IsPlanLine, line_fields}
 use Rattle.plan_words.proofs.FormCauses.{node_cause, sound_cause, mix_cause, flood_cause, one_form, crash_node_cause, crash_client_cause}
 use Rattle.event_lines.proofs.lemmas.Unique.{u64_back}
-use Rattle.line_forms.proofs.lemmas.Fine.{fine, a_number, a_client, a_u64, some_bytes, Fine}
-use Rattle.event_lines.proofs.lemmas.Accepted.{a_node, a_block, a_value}
+use Rattle.line_forms.proofs.lemmas.Fine.{form_cause-none, Fine-number, Fine-client, Fine-u64, Fine-bytes, Fine}
+use Rattle.event_lines.proofs.lemmas.Accepted.{Fine-node, Fine-block, Fine-value}
 
 -- ---- fields
 
 a_count : (most n : ℕ) → n ≤ most → most < 2 ^ 64 → Fine (count_to most) (decimal n)
-a_count most n h small = a_number (2 ^ 64) 0 (most + 1) n (lit≤ tt) (omega arith) (omega arith) (omega arith)
+a_count most n h small = Fine-number (2 ^ 64) 0 (most + 1) n (lit≤ tt) (omega arith) (omega arith) (omega arith)
 
 a_rule : (r : Rule) → Fine any_rule (rule_text r)
 a_rule Silent = record { words = refl; full = refl; numbers = refl; inside = refl; values = refl }
@@ -47,48 +47,48 @@ in_flood n t a b = omega arith
 rule_fine : (c : Numbers) (f : Fault) → IsValid c → IsFault c f → line_cause c (line_fields (Rules f)) ≡ None
 rule_fine c (LiarNode i r) v h =
     let rest = decimal i ∷ rule_text r ∷ [] in
-    node_cause c rest (number_at 4 (codes "node" ∷ rest)) ∙ fine (node_form c) (codes "node" ∷ rest) (a_word (codes "node") refl refl, (a_node c i h, (a_rule r, tt)))
+    node_cause c rest (number_at 4 (codes "node" ∷ rest)) ∙ form_cause-none (node_form c) (codes "node" ∷ rest) (a_word (codes "node") refl refl, (Fine-node c i h, (a_rule r, tt)))
 rule_fine c (LiarSound k b t x n) v h =
     let rest = decimal k ∷ codes "sound" ∷ decimal b ∷ decimal t ∷ value_text x ∷ decimal n ∷ [] in
     let top = v.nodes.1 in
     sound_cause c rest (number_at 4 (codes "client" ∷ rest)) refl
-    ∙ fine (sound_form c) (codes "client" ∷ rest)
-    (a_word (codes "client") refl refl, (a_client k h.0, (a_word (codes "sound") refl refl, (a_block c b h.1, (a_u64 t h.2, (a_value c x h.3, (a_count c.n n h.4 (omega arith), tt)))))))
+    ∙ form_cause-none (sound_form c) (codes "client" ∷ rest)
+    (a_word (codes "client") refl refl, (Fine-client k h.0, (a_word (codes "sound") refl refl, (Fine-block c b h.1, (Fine-u64 t h.2, (Fine-value c x h.3, (a_count c.n n h.4 (omega arith), tt)))))))
 rule_fine c (LiarMix k b t x y n) v h =
     let rest = decimal k ∷ codes "mix" ∷ decimal b ∷ decimal t ∷ value_text x ∷ value_text y ∷ decimal n ∷ [] in
     let top = v.nodes.1 in
     mix_cause c rest (number_at 4 (codes "client" ∷ rest)) refl
-    ∙ fine (mix_form c) (codes "client" ∷ rest)
-    (a_word (codes "client") refl refl, (a_client k h.0, (a_word (codes "mix") refl refl, (a_block c b h.1, (a_u64 t h.2, (a_value c x h.3, (a_value c y h.4, (a_count c.n n h.5 (omega arith), tt))))))))
+    ∙ form_cause-none (mix_form c) (codes "client" ∷ rest)
+    (a_word (codes "client") refl refl, (Fine-client k h.0, (a_word (codes "mix") refl refl, (Fine-block c b h.1, (Fine-u64 t h.2, (Fine-value c x h.3, (Fine-value c y h.4, (a_count c.n n h.5 (omega arith), tt))))))))
 rule_fine c (LiarFlood k b t x y n) v h =
     let rest = decimal k ∷ codes "flood" ∷ decimal b ∷ decimal t ∷ value_text x ∷ value_text y ∷ decimal n ∷ [] in
     let time = number_at 4 (codes "client" ∷ rest) in
     let is : time ≡ t = u64_back t h.2 in
     let few : n ≤ min 250 time = rw is (in_flood n t h.5 h.6) in
     flood_cause c rest time refl
-    ∙ fine (flood_form c time) (codes "client" ∷ rest)
-    (a_word (codes "client") refl refl, (a_client k h.0, (a_word (codes "flood") refl refl, (a_block c b h.1, (a_u64 t h.2, (a_value c x h.3, (a_value c y h.4, (a_count (min 250 time) n few (omega arith), tt))))))))
+    ∙ form_cause-none (flood_form c time) (codes "client" ∷ rest)
+    (a_word (codes "client") refl refl, (Fine-client k h.0, (a_word (codes "flood") refl refl, (Fine-block c b h.1, (Fine-u64 t h.2, (Fine-value c x h.3, (Fine-value c y h.4, (a_count (min 250 time) n few (omega arith), tt))))))))
 rule_fine c (CrashNode i n) v h =
-    crash_node_cause c (decimal i ∷ decimal n ∷ []) ∙ fine (crash_node_form c) (codes "node" ∷ decimal i ∷ decimal n ∷ []) (a_word (codes "node") refl refl, (a_node c i h.0, (a_count 1000 n h.1 (omega arith), tt)))
+    crash_node_cause c (decimal i ∷ decimal n ∷ []) ∙ form_cause-none (crash_node_form c) (codes "node" ∷ decimal i ∷ decimal n ∷ []) (a_word (codes "node") refl refl, (Fine-node c i h.0, (a_count 1000 n h.1 (omega arith), tt)))
 rule_fine c (CrashClient k n) v h =
-    crash_client_cause c (decimal k ∷ decimal n ∷ []) ∙ fine crash_client_form (codes "client" ∷ decimal k ∷ decimal n ∷ []) (a_word (codes "client") refl refl, (a_client k h.0, (a_count 1000 n h.1 (omega arith), tt)))
+    crash_client_cause c (decimal k ∷ decimal n ∷ []) ∙ form_cause-none crash_client_form (codes "client" ∷ decimal k ∷ decimal n ∷ []) (a_word (codes "client") refl refl, (Fine-client k h.0, (a_count 1000 n h.1 (omega arith), tt)))
 rule_fine c (Lose k i n) v h =
-    one_form (between c) (decimal k ∷ decimal i ∷ decimal n ∷ []) ∙ fine (between c) (decimal k ∷ decimal i ∷ decimal n ∷ []) (a_client k h.0, (a_node c i h.1, (a_count 1000 n h.2 (omega arith), tt)))
+    one_form (between c) (decimal k ∷ decimal i ∷ decimal n ∷ []) ∙ form_cause-none (between c) (decimal k ∷ decimal i ∷ decimal n ∷ []) (Fine-client k h.0, (Fine-node c i h.1, (a_count 1000 n h.2 (omega arith), tt)))
 rule_fine c (Hold k i n) v h =
-    one_form (between c) (decimal k ∷ decimal i ∷ decimal n ∷ []) ∙ fine (between c) (decimal k ∷ decimal i ∷ decimal n ∷ []) (a_client k h.0, (a_node c i h.1, (a_count 1000 n h.2 (omega arith), tt)))
+    one_form (between c) (decimal k ∷ decimal i ∷ decimal n ∷ []) ∙ form_cause-none (between c) (decimal k ∷ decimal i ∷ decimal n ∷ []) (Fine-client k h.0, (Fine-node c i h.1, (a_count 1000 n h.2 (omega arith), tt)))
 
 job_fine : (c : Numbers) (j : Job) → IsJob c j → line_cause c (line_fields (Work j)) ≡ None
 job_fine c (Block k (ops.Read b)) h =
-    one_form (client ∷ block c.blocks ∷ []) (decimal k ∷ decimal b ∷ []) ∙ fine (client ∷ block c.blocks ∷ []) (decimal k ∷ decimal b ∷ []) (a_client k h.0, (a_block c b h.1, tt))
+    one_form (client ∷ block c.blocks ∷ []) (decimal k ∷ decimal b ∷ []) ∙ form_cause-none (client ∷ block c.blocks ∷ []) (decimal k ∷ decimal b ∷ []) (Fine-client k h.0, (Fine-block c b h.1, tt))
 job_fine c (Block k (ops.Write b x)) h =
     one_form (client ∷ block c.blocks ∷ value c.size ∷ []) (decimal k ∷ decimal b ∷ value_text x ∷ [])
-    ∙ fine (client ∷ block c.blocks ∷ value c.size ∷ []) (decimal k ∷ decimal b ∷ value_text x ∷ []) (a_client k h.0, (a_block c b h.1.0, (a_value c x h.1.1, tt)))
+    ∙ form_cause-none (client ∷ block c.blocks ∷ value c.size ∷ []) (decimal k ∷ decimal b ∷ value_text x ∷ []) (Fine-client k h.0, (Fine-block c b h.1.0, (Fine-value c x h.1.1, tt)))
 job_fine c (Device k (commands.Get o n)) h =
     one_form (client ∷ any_u64 ∷ any_u64 ∷ []) (decimal k ∷ decimal o ∷ decimal n ∷ [])
-    ∙ fine (client ∷ any_u64 ∷ any_u64 ∷ []) (decimal k ∷ decimal o ∷ decimal n ∷ []) (a_client k h.0, (a_u64 o h.1.0, (a_u64 n h.1.1, tt)))
+    ∙ form_cause-none (client ∷ any_u64 ∷ any_u64 ∷ []) (decimal k ∷ decimal o ∷ decimal n ∷ []) (Fine-client k h.0, (Fine-u64 o h.1.0, (Fine-u64 n h.1.1, tt)))
 job_fine c (Device k (commands.Put o x)) h =
     one_form (client ∷ any_u64 ∷ bytes ∷ []) (decimal k ∷ decimal o ∷ value_text x ∷ [])
-    ∙ fine (client ∷ any_u64 ∷ bytes ∷ []) (decimal k ∷ decimal o ∷ value_text x ∷ []) (a_client k h.0, (a_u64 o h.1.0, (some_bytes x h.1.1, tt)))
+    ∙ form_cause-none (client ∷ any_u64 ∷ bytes ∷ []) (decimal k ∷ decimal o ∷ value_text x ∷ []) (Fine-client k h.0, (Fine-u64 o h.1.0, (Fine-bytes x h.1.1, tt)))
 job_fine c Phase h = refl
 
 pub line_fine : (c : Numbers) (l : PlanLine) → IsValid c → IsPlanLine c l → line_cause c (line_fields l) ≡ None

@@ -7,7 +7,7 @@ use Rattle.quorum_rules.specs.Limits.{Numbers, IsValid}
 use Rattle.text_lines.specs.Lines.{texts}
 use Rattle.line_forms.specs.Kinds.{has_empty_field}
 use Rattle.line_forms.specs.Heads.{cluster_fields}
-use Rattle.line_forms.proofs.lemmas.Clusters.{wrong_count, bad_number, spelled}
+use Rattle.line_forms.proofs.lemmas.Clusters.{wrong_count, bad_number, cluster_spelled}
 use Rattle.line_forms.specs.declared.cause.Cause.TheVariants.{BadNumber}
 use Rattle.line_forms.proofs.lemmas.Tables.{gives_same, gives_cause}
 use Rattle.line_forms.proofs.cluster.config_in.Goals as goal
@@ -42,5 +42,5 @@ returns c =
     let is : word ≡ codes "cluster" = (bytes_eq-Decides word (codes "cluster")).0 (rw c.as_slice.ensures at (not-false _ (sym c.if-ne.ensures))) in
     let len : length fields ≡ 7 = length-map c.in-Some.fields.now _ ∙ c.if-fields-ne7.false in
     let ok = c.in_ok-read_numbers.ensures in
-    let s = spelled c.args.edition word fields c.read_numbers.new.numbers is len (sym c.if-has_empty.ensures) ok.ok ok.numbers in
+    let s = cluster_spelled c.args.edition word fields c.read_numbers.new.numbers is len (sym c.if-has_empty.ensures) ok.ok ok.numbers in
     rw split (gives_same (λ config. (config ≡ _) × IsValid config) _ _ _ c.config_of.result (λ config h. (ap (λ (k : Numbers). k.edition) h.0, ap cluster_fields h.0 ∙ s.text, h.1)) s.cause c.config_of.ensures)
