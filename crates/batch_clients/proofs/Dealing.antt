@@ -2,7 +2,8 @@
 use Rattle.std.proofs.Common.{◌≡◌, ◌⊎◌, ℕ, zero, suc, ◌+◌, ◌<◌, ◌≤◌, List, [], ◌∷◌, ◌++◌, length, refl, sym, ap, subst, ◌∙◌, arith, inl, inr, length-append}
 use Rattle.std.specs.Prelude.{slice_get, slice_set}
 use Rattle.std.specs.declared.option.Option.TheVariants.{Some}
-use Rattle.lists.proofs.lemmas.Members.{get_new, slice_get-push, set_at, within}
+use Rattle.std.proofs.lemmas.Option.{slice_get_within}
+use Rattle.lists.proofs.lemmas.Members.{get_new, slice_get-push, set_at}
 use Rattle.protocol.specs.Count.{collect}
 use Rattle.protocol.specs.Messages.{Ask, Message, IsAsk}
 use Rattle.wire_forms.specs.declared.Body.TheVariants.{Ask as Asks}
@@ -71,7 +72,7 @@ module _ (s : Setting) (client : ℕ) (t : SeenTask) where
       let one = outstanding s client (task_at 0 t) in
       let count = length_collect s.n one in
       from_places (mail s client (task_at 0 t)) 0 (omega (arith, count)) (λ j m there.
-      let lt = within (collect s.n (λ i. Some (one i))) j m there in
+      let lt = slice_get_within (collect s.n (λ i. Some (one i))) j m there in
       let e : Some m ≡ Some (one j) = sym there ∙ get_collect s.n one j (omega (arith, lt, count)) in
       let same : m ≡ one j = cc in
       same ∙ ap one (omega arith))

@@ -7,6 +7,7 @@ use Rattle.std.specs.Set.{unique_keys}
 use Rattle.std.proofs.lemmas.List.{length-map}
 use Rattle.std.proofs.lemmas.List.Sums.{sum_by-cons}
 use Rattle.std.proofs.lemmas.List.Elements.{All-contains}
+use Rattle.std.proofs.lemmas.Option.{slice_get_within}
 use Rattle.quorum_rules.specs.Limits.{Numbers}
 use Rattle.wire_forms.specs.Liars.{Liars, has_number}
 use Rattle.block_device.specs.declared.steps.BlockStep.{BlockStep}
@@ -44,7 +45,7 @@ use Rattle.journal_records.proofs.Completing.{follows}
 use Rattle.journal_records.proofs.Places.{desk_below}
 use Rattle.journal_records.proofs.Rounds.{rounds_told}
 use Rattle.journal_records.proofs.Totals.{total, total_is, total_count, total_append, total_within, AreDifferent, once_there}
-use Rattle.lists.proofs.lemmas.Members.{Contains-map, Contains-map_cases, Contains-rest, Contains-head, where_all, at_place, within}
+use Rattle.lists.proofs.lemmas.Members.{Contains-map, Contains-map_cases, Contains-rest, Contains-head, where_all, at_place}
 
 -- ---- a client starts no more operations than the plan has
 
@@ -86,7 +87,7 @@ module _ (plan : Plan) (j : Journals) (drawn : ℕ) (h : AreOfPlan plan j drawn)
       let goes : GoesByPlan plan c kth.before kth.entry.act = (follows plan j drawn h c right).acts kth.before kth.rest kth.entry kth.split in
       let start : IsNextStart plan c (steps_for plan.config c plan.work) kth.before (Start kth.op) =
       subst (λ (a : DeskAct). IsNextStart plan c (steps_for plan.config c plan.work) kth.before a) kth.starts goes.start in
-      let inside = within (steps_for plan.config c plan.work) (times starts kth.before) start.0 start.1 in
+      let inside = slice_get_within (steps_for plan.config c plan.work) (times starts kth.before) start.0 start.1 in
       let place : times starts kth.before ≡ m = started_count kth.before ∙ kth.place in
       omega (arith, inside, place)
 

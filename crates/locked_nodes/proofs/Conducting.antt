@@ -6,6 +6,7 @@ use Rattle.std.specs.List.{flat_map}
 use Rattle.std.proofs.lemmas.Bool.Decides.{eqb_tells}
 use Rattle.std.proofs.lemmas.List.{append-nil}
 use Rattle.std.proofs.lemmas.List.Sums.{sum_by-cons}
+use Rattle.std.proofs.Math.Bool.{or-false}
 use Rattle.quorum_rules.specs.Limits.{Numbers}
 use Rattle.protocol.specs.Messages.{Message}
 use Rattle.liar_rules.specs.Answers.{answer_to}
@@ -23,7 +24,6 @@ use Rattle.journals.specs.Acts.{NodeState, Cause, new_state, act, late_act, answ
 use Rattle.journals.specs.Acts.Cause.{Comes, ComesLate, Prunes}
 use Rattle.locked_nodes.specs.Conduct.{serves, served_in, crashes, has_crashed, held_by, held, came_late, IsUp, TellsByRule, IsSilence, GoesByConduct, EntriesGo, HeldComeAgain}
 use Rattle.locked_nodes.proofs.Keeping.{after_all_keeps}
-use Rattle.lists.proofs.lemmas.Tests.{or_false}
 
 -- ---- what a node does in a state
 
@@ -115,13 +115,13 @@ or_assoc true b c = refl
 or_assoc false b c = refl
 
 after_crashed : (s : NodeState) (a : NodeAct) → (after s a).crashed ≡ (s.crashed || crashes a)
-after_crashed s (Answered ask reply) = sym (or_false s.crashed)
-after_crashed s (Lied ask reply) = sym (or_false s.crashed)
-after_crashed s (Silent ask why) = (held_crashed s ask why).0 ∙ sym (or_false s.crashed)
+after_crashed s (Answered ask reply) = sym (or-false s.crashed)
+after_crashed s (Lied ask reply) = sym (or-false s.crashed)
+after_crashed s (Silent ask why) = (held_crashed s ask why).0 ∙ sym (or-false s.crashed)
 after_crashed s (CrashedAt ask late) = sym (or_true s.crashed)
-after_crashed s (Delivered ask reply) = sym (or_false s.crashed)
-after_crashed s (LateLost ask) = sym (or_false s.crashed)
-after_crashed s (Pruned block stamp) = sym (or_false s.crashed)
+after_crashed s (Delivered ask reply) = sym (or-false s.crashed)
+after_crashed s (LateLost ask) = sym (or-false s.crashed)
+after_crashed s (Pruned block stamp) = sym (or-false s.crashed)
 
 no_less : (o : Option ℕ) → o ≡ count_after o 0
 no_less None = refl
@@ -145,7 +145,7 @@ count_twice None m k = refl
 count_twice (Some n) m k = ap (λ x. Some x) (omega arith)
 
 all_crashed : (s : NodeState) (es : List NodeEntry) → (after_all s es).crashed ≡ (s.crashed || has_crashed es)
-all_crashed s [] = sym (or_false s.crashed)
+all_crashed s [] = sym (or-false s.crashed)
 all_crashed s (e ∷ es) = all_crashed (after s e.act) es ∙ ap (λ b. b || has_crashed es) (after_crashed s e.act) ∙ or_assoc s.crashed (crashes e.act) (has_crashed es)
 
 served_more : (e : NodeEntry) (es : List NodeEntry) → served_in (e ∷ es) ≡ cond (serves e.act) 1 0 + served_in es

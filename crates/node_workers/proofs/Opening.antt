@@ -3,6 +3,7 @@ use Rattle.std.proofs.Common.{◌≡◌, ℕ, ◌+◌, ◌<◌, List, [], ◌∷
 use Rattle.std.specs.declared.option.Option.TheVariants.{Some}
 use Rattle.std.specs.Prelude.{◌⊎◌, slice_get, All}
 use Rattle.std.proofs.lemmas.List.{reverse-append, reverse-reverse, map-append}
+use Rattle.std.proofs.lemmas.Option.{slice_get_within}
 use Rattle.crews.specs.Crews.{Beside}
 use Rattle.crews.proofs.lemmas.Places.{same_at, get_snoc}
 use Rattle.event_clock.specs.Passes.{ClockId}
@@ -18,7 +19,7 @@ use Rattle.node_workers.specs.Posts.{nodes_in, clients_in}
 use Rattle.phase_threads.specs.Hands.{AreDealt}
 use Rattle.node_workers.specs.Hands.{AreNewPutters, AreSpread}
 use Rattle.node_workers.specs.Opened.{IsAnswerBox}
-use Rattle.lists.proofs.lemmas.Members.{all_at, slice_get-seam, at_place, within}
+use Rattle.lists.proofs.lemmas.Members.{all_at, slice_get-seam, at_place}
 
 -- each item of the second list is so to the one of the first list at its place
 pub record UpTo {X Y : Type 0} (R : ℕ → X → Y → Type 0) (xs : List X) (ys : List Y) : Type 0 where
@@ -84,15 +85,15 @@ module _ {T P : Type 0} (count : ℕ) where
 
     got : (i : ℕ) (hand : List (Putting T P)) → slice_get new i ≡ Some hand → Got i hand
     got i hand at =
-        let lt = within new i hand at in
+        let lt = slice_get_within new i hand at in
         let was = at_place hands i (omega (arith, lt, dealt.count)) in
         let own = made.each i (omega (arith, lt, dealt.count, so.count)) in
         record { was = was.0; there = was.1; is = dealt.each i was.0 hand (new_putter box.inbox i) was.1 at own }
 
     each_of : (i k : ℕ) (hand : List (Putting T P)) (p : Putting T P) (b : Taking T P) (g : Got i hand) → (slice_get g.was k ≡ Some p) ⊎ ((k ≡ length g.was) × (p ≡ new_putter box.inbox i)) → (slice_get boxes k ≡ Some b) ⊎ ((k ≡ length boxes) × (b ≡ box)) → p ≡ new_putter b.inbox i
     each_of i k hand p b g (inl x) (inl y) = so.each i k g.was p b g.there x y
-    each_of i k hand p b g (inl x) (inr y) = absurd (let lt = within g.was k p x in let n = so.full i g.was g.there in let e = y.0 in omega (arith, lt, n, e))
-    each_of i k hand p b g (inr x) (inl y) = absurd (let lt = within boxes k b y in let n = so.full i g.was g.there in let e = x.0 in omega (arith, lt, n, e))
+    each_of i k hand p b g (inl x) (inr y) = absurd (let lt = slice_get_within g.was k p x in let n = so.full i g.was g.there in let e = y.0 in omega (arith, lt, n, e))
+    each_of i k hand p b g (inr x) (inl y) = absurd (let lt = slice_get_within boxes k b y in let n = so.full i g.was g.there in let e = x.0 in omega (arith, lt, n, e))
     each_of i k hand p b g (inr x) (inr y) = x.1 ∙ ap (λ (z : Taking T P). new_putter z.inbox i) (sym y.1)
 
     each_in : (i k : ℕ) (hand : List (Putting T P)) (p : Putting T P) (b : Taking T P) → Got i hand → slice_get hand k ≡ Some p → slice_get (boxes ++ box ∷ []) k ≡ Some b → p ≡ new_putter b.inbox i

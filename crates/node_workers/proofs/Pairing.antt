@@ -6,7 +6,7 @@ use Rattle.std.specs.Prelude.{◌⊎◌, slice_get, nat_eq, All}
 use Rattle.std.specs.List.{Contains, filter}
 use Rattle.std.proofs.lemmas.List.Elements.{Contains-append_left, Contains-append_right, Contains-append_cases}
 use Rattle.std.proofs.lemmas.Bool.Decides.{eqb_tells}
-use Rattle.std.proofs.lemmas.Option.{same_Some}
+use Rattle.std.proofs.lemmas.Option.{same_Some, slice_get_within}
 use Rattle.inboxes.specs.Sides.{took, items_from}
 use Rattle.journals.specs.declared.node.NodeEntry.{NodeEntry}
 use Rattle.journals.specs.declared.desk.DeskAct.{DeskAct}
@@ -26,7 +26,7 @@ use Rattle.node_serving.specs.Workers.{AnswerPutter, Tells, TellsOf, WasTold, Ha
 use Rattle.node_serving.proofs.lemmas.Answering.{none_in}
 use Rattle.phase_threads.specs.Standing.{HasSideIn, HasSideOn, PairsStand}
 use Rattle.crews.proofs.lemmas.Places.{same_at, right_of, left_of}
-use Rattle.lists.proofs.lemmas.Members.{place_of, all_at, at_place, within, Contains-slice_get}
+use Rattle.lists.proofs.lemmas.Members.{place_of, all_at, at_place, Contains-slice_get}
 use Rattle.inboxes.proofs.lemmas.SenderWords.{true_here}
 use Rattle.desk_keys.proofs.lemmas.Mailing.{same_told}
 
@@ -140,7 +140,7 @@ module _ (clients : List ℕ) (cells now : List CellView) (rows : List (List Ans
 
   on_later_at : (k c n : ℕ) (act : DeskAct) (s : HasSideOn olds c n act) → slice_get olds k ≡ Some s.desk → HasSideOn news c n act
   on_later_at k c n act s was =
-      let mail = at_place mails k (subst (λ (m : ℕ). k < m) phase.desks (within olds k s.desk was)) in
+      let mail = at_place mails k (subst (λ (m : ℕ). k < m) phase.desks (slice_get_within olds k s.desk was)) in
       let new = right_of (IsHeard clients olds rows) mails news k mail.0 phase.heard mail.1 in
       side_heard k c n act s mail.0 new.0 was new.1 new.2
 
@@ -160,7 +160,7 @@ module _ (clients : List ℕ) (cells now : List CellView) (rows : List (List Ans
 
   in_later_at : (k c : ℕ) (e : DeskEntry) (s : HasSideIn cells c e) → slice_get cells k ≡ Some s.cell → HasSideIn now c e
   in_later_at k c e s was =
-      let row = at_place rows k (subst (λ (m : ℕ). k < m) phase.all (within cells k s.cell was)) in
+      let row = at_place rows k (subst (λ (m : ℕ). k < m) phase.all (slice_get_within cells k s.cell was)) in
       let new = right_of (IsServed clients cells) rows now k row.0 phase.served row.1 in
       side_served k c e s row.0 new.0 was new.1 new.2
 
@@ -181,7 +181,7 @@ module _ (clients : List ℕ) (cells now : List CellView) (rows : List (List Ans
 
   told_on : (k : ℕ) (row : List AnswerPutter) (n : NodeEntry) (c : ℕ) (act : DeskAct) → slice_get rows k ≡ Some row → side n.act ≡ Some (c, act) → WasTold clients row n → HasSideOn news c n.number act
   told_on k row n c act here is w =
-      let mail = at_place mails w.seat (subst (λ (m : ℕ). w.seat < m) phase.seats (within clients w.seat w.answer.ask.client w.client)) in
+      let mail = at_place mails w.seat (subst (λ (m : ℕ). w.seat < m) phase.seats (slice_get_within clients w.seat w.answer.ask.client w.client)) in
       let desk = right_of (IsHeard clients olds rows) mails news w.seat mail.0 phase.heard mail.1 in
       told_at k row n c act w mail.0 desk.0 here is desk.1 desk.2
 
@@ -225,7 +225,7 @@ module _ (clients : List ℕ) (cells now : List CellView) (rows : List (List Ans
   heard_at : (seat : ℕ) (mail : ByMail) (d : DeskView) (e : DeskEntry) → IsHeard clients olds rows seat mail d → (a : HasAnswer (took mail.answers) e) (row : List AnswerPutter) (cell : CellView) → slice_get rows a.from ≡ Some row → slice_get now a.from ≡ Some cell
       → IsServed clients cells a.from row cell → HasSideIn now d.id e
   heard_at seat mail d e heard a row cell here at served =
-      let lt = within clients seat d.id heard.client in
+      let lt = slice_get_within clients seat d.id heard.client in
       let n = served.count in
       let m = served.answered.same.count in
       let first = at_place served.first seat (omega (arith, lt, n)) in

@@ -5,6 +5,7 @@ use Rattle.std.specs.declared.option.Option.TheVariants.{None, Some}
 use Rattle.std.specs.Prelude.{slice_get, All, IsSome}
 use Rattle.std.specs.List.{AllZip}
 use Rattle.std.proofs.lemmas.List.{length-map}
+use Rattle.std.proofs.lemmas.Option.{slice_get_within}
 use Rattle.quorum_rules.specs.Limits.{Numbers}
 use Rattle.crews.specs.Crews.{Beside}
 use Rattle.crews.proofs.lemmas.Places.{same_at, all_from, all_zip, get_map, map_get, right_of, left_of}
@@ -29,7 +30,7 @@ use Rattle.node_workers.specs.Opened.{IsAnswerBox, IsWorkerOf, IsClientOf, ids_o
 use Rattle.node_workers.specs.Posts.{IsReady, HasDone, HasAll, HasTakenAll, seat_of}
 use Rattle.node_workers.specs.Closed.{IsOfMail, HasAllOf}
 use Rattle.node_workers.proofs.Pairing.{IsServed, IsHeard, Phase, pairs_stand}
-use Rattle.lists.proofs.lemmas.Members.{all_at, at_place, within}
+use Rattle.lists.proofs.lemmas.Members.{all_at, at_place}
 use Rattle.phase_threads.proofs.lemmas.Phasing.{desks_of}
 
 abbrev pub mail_floor : ClockId → List (Taking Answered ClientPlace) → List Slot → FloorView
@@ -64,7 +65,7 @@ module _ {T : Type 0} (config : Numbers) (of : ClockId) (row : List CellView) (s
 
   putter_at : (k : ℕ) (cell : CellView) (w : WorkerView) (i : ℕ) (answer_putter : AnswerPutter) → IsWorkerOf of (ids_of seats) rows k cell w → slice_get w.answers i ≡ Some answer_putter → PutterAt k i answer_putter
   putter_at k cell w i answer_putter worker at =
-      let lt = within w.answers i answer_putter at in
+      let lt = slice_get_within w.answers i answer_putter at in
       let n = o.answer_putters.full k w.answers worker.answer_putters in
       let box = at_place boxes i (omega (arith, lt, n)) in
       let seat = left_of (IsAnswerBox of (length row)) seats boxes i box.0 o.answers box.1 in
@@ -319,7 +320,7 @@ module _ {T : Type 0} (config : Numbers) (of : ClockId) (row : List CellView) (s
 
         heard_at : (i : ℕ) (m : ByMail) (y : KeysView × T) → slice_get mails i ≡ Some m → MailAt i m y → IsHeard (ids_of seats) (desks_of seats) (map (λ (v : WorkerView). v.sents) ends) i m y.0.desk
         heard_at i m y at mail =
-            let lt = within lasts i y mail.there in
+            let lt = slice_get_within lasts i y mail.there in
             let s = at_place seats i (omega (arith, lt, count_lasts)) in
             heard_by i m s.0 y at s.1 mail
 

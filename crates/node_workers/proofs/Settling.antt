@@ -2,6 +2,7 @@
 use Rattle.std.proofs.Common.{◌≡◌, ℕ, zero, suc, ◌≤◌, ◌<◌, List, [], ◌∷◌, ◌++◌, length, length-append, refl, sym, ap, subst, ◌∙◌, arith, inl, inr}
 use Rattle.std.specs.declared.option.Option.TheVariants.{Some}
 use Rattle.std.specs.Prelude.{◌⊎◌, slice_get}
+use Rattle.std.proofs.lemmas.Option.{slice_get_within}
 use Rattle.crews.specs.Crews.{Beside}
 use Rattle.crews.proofs.lemmas.Places.{same_at}
 use Rattle.inboxes.specs.Sides.{Taking}
@@ -10,7 +11,7 @@ use Rattle.node_serving.specs.declared.answered.ClientPlace.{ClientPlace}
 use Rattle.desk_keys.specs.declared.mail.ByMail.{ByMail}
 use Rattle.node_serving.specs.Workers.{AnswerPutter}
 use Rattle.node_workers.specs.Closed.{IsOfMail, HasAllOf}
-use Rattle.lists.proofs.lemmas.Members.{get_left, slice_get-seam, within}
+use Rattle.lists.proofs.lemmas.Members.{get_left, slice_get-seam}
 
 -- a way by mail, with this taker of its answers
 abbrev pub with_answers : ByMail → Taking Answered ClientPlace → ByMail
@@ -25,7 +26,7 @@ pub record AreSettledFrom (mails : List ByMail) (row left : List AnswerPutter) :
   pub done : (k : ℕ) (m : ByMail) (s : AnswerPutter) → length left ≤ k → slice_get mails k ≡ Some m → slice_get row k ≡ Some s → HasAllOf k m s
 
 pub none_settled : (mails : List ByMail) (row : List AnswerPutter) → AreSettledFrom mails row row
-none_settled mails row = record { rest = λ k s at. at; done = λ k m s le at here. absurd (let lt = within row k s here in omega (arith, lt, le)) }
+none_settled mails row = record { rest = λ k s at. at; done = λ k m s le at here. absurd (let lt = slice_get_within row k s here in omega (arith, lt, le)) }
 
 pub all_settled : (mails : List ByMail) (row left : List AnswerPutter) → Beside IsOfMail mails row → AreSettledFrom mails row left → left ≡ [] → Beside HasAllOf mails row
 all_settled mails row left own s none = record { count = own.count; each = λ k m x at here. s.done k m x (let e = ap length none in omega (arith, e)) at here }
@@ -35,7 +36,7 @@ module _ (mails : List ByMail) (row left less : List AnswerPutter) (x : AnswerPu
   here = s.rest (length less) x (ap (λ l. slice_get l (length less)) is ∙ slice_get-seam less x [])
 
   pub next_within : length less < length mails
-  next_within = let lt = within row (length less) x here in omega (arith, lt, own.count)
+  next_within = let lt = slice_get_within row (length less) x here in omega (arith, lt, own.count)
 
   pub next_own : (m : ByMail) → slice_get mails (length less) ≡ Some m → x.inbox ≡ m.answers.inbox
   next_own m at = own.each (length less) m x at here

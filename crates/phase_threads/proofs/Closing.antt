@@ -3,12 +3,13 @@ use Rattle.std.proofs.Common.{◌≡◌, ◌≢◌, ℕ, zero, suc, ◌+◌, ◌
 use Rattle.std.specs.declared.option.Option.TheVariants.{None, Some}
 use Rattle.std.specs.Prelude.{◌⊎◌, All, slice_get, slice_set, reverse}
 use Rattle.std.proofs.lemmas.List.{reverse-append, reverse-reverse}
+use Rattle.std.proofs.lemmas.Option.{slice_get_within}
 use Rattle.receipt_lock.specs.Chits.{Holder as Chit, Deposit}
 use Rattle.locked_nodes.specs.declared.charter.Item.{Item}
 use Rattle.crews.specs.Crews.{Beside}
 use Rattle.phase_threads.specs.Phased.{AreTaken, AreChitsOf}
 use Rattle.crews.proofs.lemmas.Places.{same_at, all_from, get_snoc, get_set, get_map, map_get, right_of, left_of}
-use Rattle.lists.proofs.lemmas.Members.{all_at, slice_get-seam, at_place, within}
+use Rattle.lists.proofs.lemmas.Members.{all_at, slice_get-seam, at_place}
 
 -- lists that end alike
 tail_same : {A : Type 0} (a b x y : A) (xs ys : List A) → a ∷ (xs ++ x ∷ []) ≡ b ∷ (ys ++ y ∷ []) → xs ++ x ∷ [] ≡ ys ++ y ∷ []
@@ -64,13 +65,13 @@ module _ (hands now : List (List (Chit Item))) (first : List (Deposit Item)) (v 
         (sym one.0, y.1 ∙ ap (λ z. Some z) one.1, ap (λ (z : Chit Item). z.vault) (sym one.1) ∙ y.2)
 
     new_at : (i : ℕ) (h : List (Chit Item)) → slice_get hands i ≡ Some h → (g : List (Chit Item)) × (slice_get new i ≡ Some g)
-    new_at i h at = let lt = within hands i h at in at_place new i (omega (arith, lt, without.count, taken.count))
+    new_at i h at = let lt = slice_get_within hands i h at in at_place new i (omega (arith, lt, without.count, taken.count))
 
     chit_at : (i : ℕ) (h : List (Chit Item)) → slice_get hands i ≡ Some h → (x : Chit Item) × (slice_get chits i ≡ Some x)
-    chit_at i h at = let lt = within hands i h at in at_place chits i (omega (arith, lt, without.count, taken.all))
+    chit_at i h at = let lt = slice_get_within hands i h at in at_place chits i (omega (arith, lt, without.count, taken.all))
 
     hand_at : (i : ℕ) (x : Chit Item) → slice_get chits i ≡ Some x → (h : List (Chit Item)) × (slice_get hands i ≡ Some h)
-    hand_at i x at = let lt = within chits i x at in at_place hands i (omega (arith, lt, without.count, taken.all))
+    hand_at i x at = let lt = slice_get_within chits i x at in at_place hands i (omega (arith, lt, without.count, taken.all))
 
     pub without_more : AreWithout (length first + 1) hands new
     without_more = record {
@@ -104,7 +105,7 @@ AreWhole i old hands = (k : ℕ) (was : List (Chit Item)) → i ≤ k → slice_
 module _ (old hands : List (List (Chit Item))) (chits : List (Chit Item)) (i : ℕ) (hand now : List (Chit Item)) (x : Chit Item) (given : HaveGiven i old hands chits) (whole : AreWhole i old hands) (count : length chits ≡ i) (at : slice_get hands i ≡ Some hand)
     (popped : hand ≡ now ++ x ∷ []) where
   given_at : (k : ℕ) (w n : List (Chit Item)) (y : Chit Item) → k < i + 1 → slice_get old k ≡ Some w → ((k ≡ i) × (n ≡ now)) ⊎ ((k ≢ i) × (slice_get hands k ≡ Some n)) → (slice_get chits k ≡ Some y) ⊎ ((k ≡ length chits) × (y ≡ x)) → w ≡ n ++ y ∷ []
-  given_at k w n y lt was (inl p) (inl q) = absurd (let few = within chits k y q in omega (arith, few, count, p.0))
+  given_at k w n y lt was (inl p) (inl q) = absurd (let few = slice_get_within chits k y q in omega (arith, few, count, p.0))
   given_at k w n y lt was (inl p) (inr q) =
       let there : slice_get old i ≡ Some w = subst (λ m. slice_get old m ≡ Some w) p.0 was in
       same_at old i w hand there (whole i hand (omega arith) at) ∙ popped ∙ (λ j. sym p.1 j ++ sym q.1 j ∷ [])
@@ -126,4 +127,4 @@ pub has_chit : (old hands : List (List (Chit Item))) (i : ℕ) (hand : List (Chi
 has_chit old hands i hand some whole at = all_at (λ (h : List (Chit Item)). 0 < length h) old i hand some (whole i hand (omega arith) at)
 
 pub all_given : (old hands : List (List (Chit Item))) (chits : List (Chit Item)) (n : ℕ) → length hands ≡ length old → length chits ≡ n → n ≡ length old → HaveGiven n old hands chits → AreTaken old hands chits
-all_given old hands chits n count all is given = record { count = count; all = all ∙ is; each = λ k was now x a b c. given k was now x (let lt = within old k was a in omega (arith, lt, is)) a b c }
+all_given old hands chits n count all is given = record { count = count; all = all ∙ is; each = λ k was now x a b c. given k was now x (let lt = slice_get_within old k was a in omega (arith, lt, is)) a b c }

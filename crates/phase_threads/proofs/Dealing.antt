@@ -2,9 +2,10 @@
 use Rattle.std.proofs.Common.{◌≡◌, ◌≢◌, ℕ, ◌+◌, ◌≤◌, ◌<◌, List, [], ◌∷◌, ◌++◌, length, length-set, length-append, refl, sym, ap, ◌∙◌, arith, inl, inr}
 use Rattle.std.specs.declared.option.Option.TheVariants.{Some}
 use Rattle.std.specs.Prelude.{◌⊎◌, All, slice_get, slice_set}
+use Rattle.std.proofs.lemmas.Option.{slice_get_within}
 use Rattle.crews.proofs.lemmas.Places.{all_from, same_at, get_set}
 use Rattle.phase_threads.specs.Hands.{AreDealt}
-use Rattle.lists.proofs.lemmas.Members.{all_at, at_place, get_left, slice_get-seam, within}
+use Rattle.lists.proofs.lemmas.Members.{all_at, at_place, get_left, slice_get-seam}
 
 -- the things from this place on are dealt
 pub record AreDealtFrom {A : Type 0} (old : List (List A)) (things : List A) (hands : List (List A)) (left : List A) : Type 0 where
@@ -19,7 +20,7 @@ module _ {A : Type 0} where
   none_dealt hands things all = record {
     count = refl;
     all = all;
-    dealt = λ k was now x le a b d. absurd (let lt = within things k x d in omega (arith, lt, le));
+    dealt = λ k was now x le a b d. absurd (let lt = slice_get_within things k x d in omega (arith, lt, le));
     whole = λ k now lt at. at;
     rest = λ k x at. at;
   }
@@ -30,7 +31,7 @@ module _ {A : Type 0} where
   pub next_within : (old hands : List (List A)) (things left less : List A) (x : A) → AreDealtFrom old things hands left → left ≡ less ++ x ∷ [] → length less < length hands
   next_within old hands things left less x d is =
       let at = d.rest (length less) x (ap (λ l. slice_get l (length less)) is ∙ slice_get-seam less x []) in
-      let lt = within things (length less) x at in
+      let lt = slice_get_within things (length less) x at in
       omega (arith, lt, d.count, d.all)
 
   module _ (old hands : List (List A)) (things left less : List A) (x : A) (hand : List A) (d : AreDealtFrom old things hands left) (is : left ≡ less ++ x ∷ []) (at : slice_get hands (length less) ≡ Some hand) where
@@ -66,7 +67,7 @@ module _ {A : Type 0} where
   dealt_alike old new things hand x dealt count same alike =
       all_from (λ (h : List A). h ≡ hand ++ x ∷ []) new
       (λ k now at.
-      let lt = within new k now at in
+      let lt = slice_get_within new k now at in
       let was = at_place old k (omega (arith, lt, dealt.count)) in
       let thing = at_place things k (omega (arith, lt, dealt.count, count)) in
       let is = all_at (λ (h : List A). h ≡ hand) old k was.0 same was.1 in

@@ -4,6 +4,7 @@ use Rattle.std.specs.declared.option.Option.TheVariants.{Some}
 use Rattle.std.specs.Prelude.{◌⊎◌, false, slice_get, reverse}
 use Rattle.std.specs.List.{Contains}
 use Rattle.std.proofs.lemmas.List.Elements.{Contains-append_left}
+use Rattle.std.proofs.lemmas.Option.{slice_get_within}
 use Rattle.receipt_lock.specs.Turns.{Begins}
 use Rattle.receipt_lock.specs.Chits.{Holder as Chit, Deposit, VaultId}
 use Rattle.receipt_lock.specs.Receipts.{IsReceipt}
@@ -21,7 +22,7 @@ use Rattle.phase_threads.specs.Standing.{HasSideIn, HasSideOn, PairsStand, HasWo
 use Rattle.crews.specs.Crews.{Beside}
 use Rattle.phase_threads.specs.Phased.{IsVaultOf, IsClosed}
 use Rattle.crews.proofs.lemmas.Places.{same_at, get_map, map_get, right_of, left_of}
-use Rattle.lists.proofs.lemmas.Members.{place_of, within, Contains-slice_get}
+use Rattle.lists.proofs.lemmas.Members.{place_of, Contains-slice_get}
 
 -- a cell's entries are those of its list, but for the head
 in_items : (cell : CellView) (p : ℕ) (n : NodeEntry) → slice_get (items cell) p ≡ Some (Entry n) → Contains cell.journal n
@@ -116,7 +117,7 @@ module _ (count : ℕ) (cells now : List CellView) (vaults : List (Deposit Item)
   -- an entry that a chit left stands on the chit's desk
   on_chit : (cell : CellView) (k : ℕ) (v : Deposit Item) (n : NodeEntry) (p c : ℕ) (act : DeskAct) (closed : IsClosed hands k v cell) → slice_get (items cell) p ≡ Some (Entry n) → length v.id.begun ≤ p → side n.act ≡ Some (c, act) → HasSideOn news c n.number act
   on_chit cell k v n p c act closed at after is =
-      let receipt = closed.one p after (within (items cell) p (Entry n) at) in
+      let receipt = closed.one p after (slice_get_within (items cell) p (Entry n) at) in
       let same : receipt.entry ≡ Entry n = same_at (items cell) p receipt.entry (Entry n) receipt.stands at in
       let chit = receipt.there.0 in
       let hand = left_of (λ i h x. slice_get (reverse h) k ≡ Some x) hands closed.chits receipt.chit chit closed.of receipt.there.1 in

@@ -12,6 +12,7 @@ use Rattle.std.proofs.lemmas.Cmp.{nat_eq_equiv}
 use Rattle.std.proofs.lemmas.List.{append-nil}
 use Rattle.std.proofs.lemmas.List.Folds.{list_any-append}
 use Rattle.std.proofs.lemmas.List.Sums.{sum_by_push}
+use Rattle.std.proofs.Math.Bool.{or-false}
 use Rattle.quorum_rules.specs.Limits.{Numbers}
 use Rattle.plan_words.specs.Named.{pair_eq}
 use Rattle.plan_words.specs.Plans.{step_limit}
@@ -23,7 +24,6 @@ use Rattle.plan_text.specs.Sets.{IsAdded}
 use Rattle.plan_text.proofs.Sets.{has_more, nat_tie, pair_tie, pair_laws, more_named, more_length, distinct_more, len_is}
 use Rattle.plan_text.proofs.Causes.{IsFree, no_cause}
 use Rattle.lists.proofs.lemmas.Members.{all_push}
-use Rattle.lists.proofs.lemmas.Tests.{or_false}
 
 none_of_four : (a b c d : Bool) → (((a || b) || c) || d) ≡ false → (a ≡ false) × (b ≡ false) × (c ≡ false) × (d ≡ false)
 none_of_four true b c d h = absurd cc
@@ -100,7 +100,7 @@ apart_more lying asking (Some x) None one p q h k is =
     ap (λ ks. is_member nat_eq ks k) (append-nil asking)
     ∙ elim (or_cases (is_member nat_eq lying k) (nat_eq k x || false) (sym (list_any-append (nat_eq k) lying (x ∷ [])) ∙ is)) [
       | inl before ↦ h k before
-      | inr now ↦ ap (is_member nat_eq asking) (eqb-true k x (sym (or_false (nat_eq k x)) ∙ now)) ∙ p
+      | inr now ↦ ap (is_member nat_eq asking) (eqb-true k x (sym (or-false (nat_eq k x)) ∙ now)) ∙ p
     ]
 apart_more lying asking (Some x) (Some y) one p q h k is = elim one [ inl e ↦ absurd cc | inr e ↦ absurd cc ]
 

@@ -5,9 +5,9 @@ use Rattle.std.specs.Prelude.{◌⊎◌, All, slice_get, slice_set}
 use Rattle.std.specs.List.{AllZip}
 use Rattle.std.proofs.Math.Seq.{take-append_seam}
 use Rattle.std.proofs.lemmas.List.Elements.{All-nil, All-push}
-use Rattle.std.proofs.lemmas.Option.{slice_get-get_or, get_or_from_slice_get}
+use Rattle.std.proofs.lemmas.Option.{slice_get-get_or, get_or_from_slice_get, slice_get_within}
 use Rattle.crews.specs.Crews.{Beside}
-use Rattle.lists.proofs.lemmas.Members.{nil_of, all_at, slice_get-seam, at_place, within}
+use Rattle.lists.proofs.lemmas.Members.{nil_of, all_at, slice_get-seam, at_place}
 
 pub at_head : {A : Type 0} (x y : A) (xs : List A) → slice_get (x ∷ xs) 0 ≡ Some y → x ≡ y
 at_head x y xs at = cc
@@ -46,8 +46,8 @@ module _ {X Y : Type 0} (R : ℕ → X → Y → Type 0) where
   push_each : (xs : List X) (ys : List Y) (x : X) (y : Y) (i : ℕ) (a : X) (b : Y) → Beside R xs ys → R (length xs) x y
       → (slice_get xs i ≡ Some a) ⊎ ((i ≡ length xs) × (a ≡ x)) → (slice_get ys i ≡ Some b) ⊎ ((i ≡ length ys) × (b ≡ y)) → R i a b
   push_each xs ys x y i a b beside is (inl p) (inl q) = beside.each i a b p q
-  push_each xs ys x y i a b beside is (inl p) (inr q) = absurd (let lt = within xs i a p in omega (arith, lt, beside.count, q.0))
-  push_each xs ys x y i a b beside is (inr p) (inl q) = absurd (let lt = within ys i b q in omega (arith, lt, beside.count, p.0))
+  push_each xs ys x y i a b beside is (inl p) (inr q) = absurd (let lt = slice_get_within xs i a p in omega (arith, lt, beside.count, q.0))
+  push_each xs ys x y i a b beside is (inr p) (inl q) = absurd (let lt = slice_get_within ys i b q in omega (arith, lt, beside.count, p.0))
   push_each xs ys x y i a b beside is (inr p) (inr q) = subst (λ k. R k a b) (sym p.0) (subst (λ u. R (length xs) u b) (sym p.1) (subst (λ u. R (length xs) x u) (sym q.1) is))
 
   pub push_beside : (xs : List X) (ys : List Y) (x : X) (y : Y) → Beside R xs ys → R (length xs) x y → Beside R (xs ++ x ∷ []) (ys ++ y ∷ [])
@@ -58,13 +58,13 @@ module _ {X Y : Type 0} (R : ℕ → X → Y → Type 0) where
 
   pub right_of : (xs : List X) (ys : List Y) (i : ℕ) (x : X) → Beside R xs ys → slice_get xs i ≡ Some x → (y : Y) × (slice_get ys i ≡ Some y) × R i x y
   right_of xs ys i x beside at =
-      let lt = within xs i x at in
+      let lt = slice_get_within xs i x at in
       let y = at_place ys i (omega (arith, lt, beside.count)) in
       (y.0, y.1, beside.each i x y.0 at y.1)
 
   pub left_of : (xs : List X) (ys : List Y) (i : ℕ) (y : Y) → Beside R xs ys → slice_get ys i ≡ Some y → (x : X) × (slice_get xs i ≡ Some x) × R i x y
   left_of xs ys i y beside at =
-      let lt = within ys i y at in
+      let lt = slice_get_within ys i y at in
       let x = at_place xs i (omega (arith, lt, beside.count)) in
       (x.0, x.1, beside.each i x.0 y x.1 at)
 
@@ -132,7 +132,7 @@ pub made_beside : {A : Type 0} (R : ℕ → A → A → Type 0) (S : A → A →
 made_beside R S old new count made gives = record {
   count = sym count;
   each = λ i x y a b.
-      let lt = within old i x a in
+      let lt = slice_get_within old i x a in
       let s : S (get_or old i x) (get_or new i x) = made i x lt in
       gives i x y (subst (λ u. S u y) (get_or_from_slice_get old i x x a) (subst (S (get_or old i x)) (get_or_from_slice_get new i y x b) s));
 }

@@ -123,9 +123,6 @@ at_place [] i lt = absurd (omega arith)
 at_place (x ∷ xs) zero lt = (x, refl)
 at_place (x ∷ xs) (suc i) lt = at_place xs i (omega arith)
 
-pub within : {A : Type 0} (xs : List A) (i : ℕ) (x : A) → slice_get xs i ≡ Some x → i < length xs
-within xs i x at = slice_get_within xs i x at
-
 pub Contains-slice_get : {A : Type 0} (xs : List A) (k : ℕ) (x : A) → slice_get xs k ≡ Some x → Contains xs x
 Contains-slice_get xs k x at = (k, slice_get_within xs k x at, get_or_from_slice_get xs k x x at)
 

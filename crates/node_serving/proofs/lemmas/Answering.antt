@@ -7,6 +7,7 @@ use Rattle.std.specs.Prelude.{◌⊎◌, Bool, true, false, nat_eq, slice_get, s
 use Rattle.std.specs.List.{Contains, filter}
 use Rattle.std.proofs.lemmas.List.{map-append}
 use Rattle.std.proofs.lemmas.List.Elements.{filter-append, Contains-append_left, Contains-append_right, Contains-append_cases, Contains-push, Contains-push_cases}
+use Rattle.std.proofs.lemmas.Option.{slice_get_within}
 use Rattle.crews.specs.Crews.{Beside}
 use Rattle.crews.proofs.lemmas.Places.{same_at, get_set, left_of}
 use Rattle.inboxes.specs.Sides.{put_more, took, took_in}
@@ -30,7 +31,7 @@ use Rattle.client_desks.proofs.lemmas.Desking.{act_side, late_side, told_reply}
 use Rattle.node_serving.specs.declared.asked.Asked.{Asked}
 use Rattle.node_serving.specs.declared.answered.Answered.{Answered}
 use Rattle.node_serving.specs.Workers.{AnswerPutter, WorkerView, clients_of, CanServe, IsPutterTo, Tells, WasTold, TellsOf, IsSamePutter, HasAnswered, HasMet, asks_from, asks_told, AreAnswered}
-use Rattle.lists.proofs.lemmas.Members.{set_at, at_place, within}
+use Rattle.lists.proofs.lemmas.Members.{set_at, at_place}
 
 set_elsewhere : {A : Type 0} (xs : List A) (k i : ℕ) (x y : A) → i ≢ k → slice_get xs i ≡ Some x → slice_get (slice_set xs k y) i ≡ Some x
 set_elsewhere [] k i x y apart at = absurd cc
@@ -201,12 +202,12 @@ pub new_answer_putters : (of : ClockId) (clients : List ℕ) (answer_putters : L
 new_answer_putters of clients answer_putters to seat answer_putter at = (putter_at of clients answer_putters seat answer_putter to at).2.new
 
 pub seat_within : (of : ClockId) (clients : List ℕ) (old : CellView) (first : List AnswerPutter) (now : CellView) (answer_putters : List AnswerPutter) → Beside (IsPutterTo of) clients first → HasAnswered clients old first now answer_putters → (seat id : ℕ) → slice_get clients seat ≡ Some id → seat < length answer_putters
-seat_within of clients old first now answer_putters to so seat id at = let lt = within clients seat id at in omega (arith, lt, to.count, so.same.count)
+seat_within of clients old first now answer_putters to so seat id at = let lt = slice_get_within clients seat id at in omega (arith, lt, to.count, so.same.count)
 
 pub putter_of : (of : ClockId) (clients : List ℕ) (old : CellView) (first : List AnswerPutter) (now : CellView) (answer_putters : List AnswerPutter) → Beside (IsPutterTo of) clients first → HasAnswered clients old first now answer_putters → (seat id : ℕ) (answer_putter : AnswerPutter) → slice_get clients seat ≡ Some id → slice_get answer_putters seat ≡ Some answer_putter
     → (answer_putter.inbox.place.clock.value ≡ of) × (answer_putter.inbox.place.client ≡ id)
 putter_of of clients old first now answer_putters to so seat id answer_putter at here =
-    let lt = within answer_putters seat answer_putter here in
+    let lt = slice_get_within answer_putters seat answer_putter here in
     let was = at_place first seat (omega (arith, lt, so.same.count)) in
     let same = (so.same.each seat was.0 answer_putter was.1 here).inbox in
     let is = to.each seat id was.0 at was.1 in

@@ -9,6 +9,7 @@ use Rattle.std.proofs.lemmas.Bool.Decides.{eqb_tells}
 use Rattle.std.proofs.lemmas.List.Elements.{All-from_recursion}
 use Rattle.std.proofs.lemmas.Map.Views.{All-insert_key}
 use Rattle.std.proofs.lemmas.Map.Keys.{IsDistinct-head, IsDistinct-tail}
+use Rattle.std.proofs.Math.Bool.{or-false}
 use Rattle.quorum_rules.specs.Limits.{Numbers}
 use Rattle.wire_forms.specs.Liars.{has_number, IsClientNumber}
 use Rattle.protocol.specs.Count.{count}
@@ -21,7 +22,7 @@ use Rattle.plan_words.specs.Plans.{IsFault, Fits}
 use Rattle.journals.specs.Steps.{is_lying}
 use Rattle.plan_followed.specs.Asked.{nature, crash_after}
 use Rattle.plan_followed.specs.Laws.{OfPlans, HasConduct, HasLiars, HasCluster}
-use Rattle.lists.proofs.lemmas.Tests.{or_swapped, or_twice, or_false}
+use Rattle.lists.proofs.lemmas.Tests.{or_swapped, or_twice}
 use Rattle.lists.proofs.lemmas.Orders.{inserted}
 
 -- ---- numbers in ascending order, each once
@@ -58,7 +59,7 @@ all_all P [] xs h a = a
 all_all P (k ∷ ks) xs h a = all_all P ks (insert_key nat_cmp xs k) h.1 (All-insert_key nat_cmp k P xs a h.0)
 
 has_ascending : (ks : List ℕ) (q : ℕ) → has_number (ascending ks) q ≡ has_number ks q
-has_ascending ks q = has_all ks [] q ∙ or_false (has_number ks q)
+has_ascending ks q = has_all ks [] q ∙ or-false (has_number ks q)
 
 length_ascending : (ks : List ℕ) → length (ascending ks) ≤ length ks
 length_ascending ks = omega (arith, length_all ks [])
