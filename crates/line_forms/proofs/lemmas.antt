@@ -4,3 +4,4 @@ pub mod Clusters
 pub mod Tables
 pub mod Texts
 pub mod Fine
+pub mod Words
