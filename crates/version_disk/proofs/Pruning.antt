@@ -1,9 +1,8 @@
 -- One block more is pruned, of many.
-use Rattle.std.proofs.Common.{◌≡◌, ℕ, zero, suc, ◌+◌, ◌≤◌, ◌<◌, Bool, true, false, cond, List, [], ◌∷◌, ◌++◌, ◌*◌, length, map, take, drop, get_or, sym, ◌∙◌, ap, subst, arith, length-append}
+use Rattle.std.proofs.Common.{◌≡◌, ℕ, zero, suc, ◌+◌, ◌≤◌, ◌<◌, Bool, true, false, cond, List, [], ◌∷◌, ◌++◌, length, take, drop, get_or, sym, ◌∙◌, ap, subst, arith, length-append}
 use Rattle.std.proofs.lemmas.List.{append-nil, map-append, take_more, drop_more, take_at, drop_at}
 use Rattle.std.specs.Prelude.{All}
 use Rattle.quorum_rules.specs.Limits.{Numbers}
-use Rattle.stamp_order.specs.declared.Stamp.{Stamp}
 use Rattle.node_core.specs.Seen.{SeenNode}
 use Rattle.slot_disk.specs.Slots.{Slot, prune_slot, body_of, body_len, pieces_of, Fits}
 use Rattle.version_disk.specs.Batches.{AreWritten, prune_slots}

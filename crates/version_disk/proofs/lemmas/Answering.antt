@@ -23,7 +23,7 @@ use Rattle.version_disk.specs.Undone.{taken_back, undone, IsLater}
 use Rattle.version_disk.specs.Batches.{IsBatchOf}
 use Rattle.version_disk.specs.declared.batch.Added.{Added}
 use Rattle.version_disk.specs.declared.batch.Batch.{Batch}
-use Rattle.version_disk.proofs.Accepting.{version_after, version_slots, version_good}
+use Rattle.version_disk.proofs.Accepting.{version_slots, version_good}
 
 -- one deed more, at the end
 pub deeds_push : (node : SeenNode) (deeds : List Deed) (deed : Deed) → after_deeds node (deeds ++ deed ∷ []) ≡ after_deed (after_deeds node deeds) deed

@@ -1,8 +1,4 @@
-use Rattle.std.proofs.Common.{◌≡◌, ℕ, List, length, sym, ◌∙◌, ap, subst, arith}
-use Rattle.node_core.specs.Seen.{SeenNode}
-use Rattle.version_disk.specs.Kept.{IsKept}
-use Rattle.version_disk.specs.Batches.{AreWritten, IsFrom}
-use Rattle.version_disk.specs.Deeds.{answering, slots_by_all}
+use Rattle.version_disk.specs.Deeds.{answering}
 use Rattle.version_disk.proofs.Many.{undone_yet}
 use Rattle.version_disk.proofs.batch.add_all.Goals as goal
 

@@ -1,9 +1,6 @@
-use Rattle.std.proofs.Common.{◌≡◌, ◌≤◌, ℕ, ◌+◌, ◌-◌, ◌*◌, List, ◌++◌, length, get_or, sym, ◌∙◌, ap, arith}
-use Rattle.std.specs.Prelude.{OnOk}
+use Rattle.std.proofs.Common.{◌≤◌, ℕ, ◌+◌, ◌-◌, ◌*◌, List, length, get_or, sym, ◌∙◌, ap, arith}
 use Rattle.std.proofs.lemmas.Result.{on_ok_weaker}
 use Rattle.slot_disk.specs.Slots.{body_len}
-use Rattle.version_disk.specs.Held.{played, held, slots_of}
-use Rattle.version_disk.specs.Kept.{IsKept}
 use Rattle.version_disk.specs.Deeds.{slots_by_deeds}
 use Rattle.version_disk.proofs.Many.{good_there, deeds_any_moment, deeds_kept, deeds_done, none_any_moment, none_kept, none_are_done, on_ok_both}
 use Rattle.version_disk.proofs.Keeping.{length-pieces_of, last_of_pieces}

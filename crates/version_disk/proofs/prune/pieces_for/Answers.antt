@@ -1,4 +1,4 @@
-use Rattle.std.proofs.Common.{◌≡◌, ◌∷◌, [], ◌++◌, List, ℕ, length, ◌∙◌, ap, sym}
+use Rattle.std.proofs.Common.{[], ◌++◌, List, ℕ, ◌∙◌, ap}
 use Rattle.version_disk.specs.declared.prune.Prune.{Prune}
 use Rattle.version_disk.proofs.Pruning.{pieces_more, fitting_more}
 use Rattle.version_disk.proofs.prune.pieces_for.Goals as goal

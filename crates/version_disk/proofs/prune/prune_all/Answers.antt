@@ -1,4 +1,4 @@
-use Rattle.std.proofs.Common.{sym, subst}
+use Rattle.std.proofs.Common.{subst}
 use Rattle.quorum_rules.specs.Limits.{Numbers}
 use Rattle.version_disk.specs.Batches.{prune_slots}
 use Rattle.version_disk.specs.Compacted.{AreFitting}

@@ -1,4 +1,4 @@
-use Rattle.std.proofs.Common.{◌≡◌, ◌+◌, ℕ, [], length, sym, ◌∙◌, ap, arith}
+use Rattle.std.proofs.Common.{◌≡◌, ◌+◌, ℕ, [], length, ◌∙◌, ap, arith}
 use Rattle.quorum_rules.specs.Limits.{Numbers}
 use Rattle.slot_disk.specs.Slots.{body_len}
 use Rattle.version_disk.specs.declared.prune.Prune.{Prune}
