@@ -1,3 +1,4 @@
 pub mod lemmas
 mod Fitting
 mod Doing
+mod Cut

@@ -1,5 +1,5 @@
 -- Ranges of a device's bytes. Block k has `size` bytes, at the places from k * size on.
-use Rattle.std.specs.Prelude.{ℕ, ◌+◌, ◌-◌, ◌*◌, min, max, Bool, ◌&&◌, ◌==◌, nat_lt, nat_le, if◌then◌else◌, List, length, Option}
+use Rattle.std.specs.Prelude.{ℕ, ◌+◌, ◌-◌, ◌*◌, ◌<◌, ◌≤◌, min, max, Bool, ◌&&◌, ◌==◌, nat_lt, nat_le, if◌then◌else◌, List, length, Option}
 use Rattle.std.specs.declared.option.Option.TheVariants.{None, Some}
 use Rattle.std.specs.List.{slice_range, filter, range_with_len}
 use Rattle.quorum_rules.specs.Limits.{Numbers}
@@ -33,9 +33,21 @@ is_touched size start len k = nat_lt (max start (k * size)) (min (start + len) (
 unfoldable pub is_covered : ℕ → ℕ → ℕ → ℕ → Bool
 is_covered size start len k = nat_le start (k * size) && nat_le ((k + 1) * size) (start + len)
 
--- the blocks of which a command's range has a byte, ascending
+-- the range ends within the device, and has a byte of block k
+pub record Reaches (c : Numbers) (start len k : ℕ) : Type 0 where
+  pub some : 0 < len
+  pub below : k * c.size < start + len
+  pub above : start < (k + 1) * c.size
+  pub within : start + len ≤ c.size * c.blocks
+  pub there : k < c.blocks
+
+-- the blocks of which a range has a byte, ascending
+abbrev pub touched_by : Numbers → ℕ → ℕ → List ℕ
+touched_by c start len = filter (is_touched c.size start len) (range_with_len 0 c.blocks)
+
+-- those of a command's range
 unfoldable pub touched : Numbers → DeviceOp → List ℕ
-touched c op = filter (is_touched c.size (start_of op) (len_of op)) (range_with_len 0 c.blocks)
+touched c op = touched_by c (start_of op) (len_of op)
 
 -- those of the bytes from start on that are bytes of block k
 unfoldable pub bytes_in : ℕ → ℕ → List ℕ → ℕ → List ℕ

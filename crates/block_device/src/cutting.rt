@@ -1,7 +1,8 @@
-ghost use Rattle.std.specs.Prelude.{◌≡◌, ◌+◌, ◌*◌, ◌≤◌, ◌<◌, ◌↔◌, ◌++◌, IfOk, OnOk, IsErrOf, All, None, Some, length};
-ghost use Rattle.block_device.specs.Ranges.{start_of, len_of, fault_of};
+ghost use Rattle.std.specs.Prelude.{◌≡◌, ◌≤◌, ◌↔◌, ◌++◌, IfOk, OnOk, IsErrOf, All, None, Some, length};
+ghost use Rattle.block_device.specs.Ranges.{start_of, len_of, fault_of, Reaches};
 ghost use Rattle.block_device.specs.Steps.{put_steps, steps_in, steps_of, Fits};
 
+use crate::pieces::{blocks_of, device_len, piece_of};
 use crate::refusal::DeviceRefusal;
 use crate::steps::{BlockStep, BlockSteps};
 use cross_sum::Bytes;
@@ -18,7 +19,7 @@ pub fn range_fault(config: &Config, op: &DeviceOp) -> Option<DeviceFault>
 {
     let start = start_of(op);
     let len = len_of(op);
-    let end = len_of_device(config);
+    let end = device_len(config);
     if start > end || len > end - start {
         return Some(DeviceFault::PastEnd);
     }
@@ -52,12 +53,10 @@ fn steps_of(alloc: Global, config: &Config, op: &DeviceOp) -> Result<BlockSteps,
     requires { fault_of config.now op.now ≡ None }
     ensures { IfOk result (λ steps. steps ≡ steps_of config.now op.now) }
 {
-    let size = u64::from(config.size());
-    let start = start_of(op);
-    let last = start + len_of(op) - 1;
+    let blocks = blocks_of(config, start_of(op), len_of(op));
     let mut steps = BlockSteps::new(alloc);
-    for block in start / size..last / size + 1 {
-        add_steps(&mut steps, config, op, block as u32)?;
+    for block in blocks.first..blocks.end {
+        add_steps(&mut steps, config, op, block)?;
     }
     Ok(steps)
 }
@@ -67,19 +66,17 @@ pub fn step_count(config: &Config, op: &DeviceOp) -> u64
     requires { fault_of config.now op.now ≡ None }
     ensures { result ≡ length (steps_of config.now op.now) }
 {
-    let size = u64::from(config.size());
-    let start = start_of(op);
-    let last = start + len_of(op) - 1;
+    let blocks = blocks_of(config, start_of(op), len_of(op));
     let mut count = 0;
-    for touched in start / size..last / size + 1 {
-        count += step_count_in(config, op, touched as u32);
+    for touched in blocks.first..blocks.end {
+        count += step_count_in(config, op, touched);
     }
     count
 }
 
 /// How many steps a command has in one block.
 fn step_count_in(config: &Config, op: &DeviceOp, block: u32) -> u64
-    requires { fault_of config.now op.now ≡ None }
+    requires { Reaches config.now (start_of op.now) (len_of op.now) block }
     ensures count { result ≡ length (steps_in config.now.size op.now block) }
     ensures few { result ≤ 2 }
 {
@@ -91,18 +88,12 @@ fn step_count_in(config: &Config, op: &DeviceOp, block: u32) -> u64
 
 /// How many steps a put has in one block.
 fn put_step_count(config: &Config, start: u64, bytes: &Bytes, block: u32) -> u64
-    requires { start + length bytes.now ≤ config.now.size * config.now.blocks }
+    requires { Reaches config.now start (length bytes.now) block }
     ensures count { result ≡ length (put_steps config.now.size start bytes.now block) }
     ensures few { result ≤ 2 }
 {
-    let size = u64::from(config.size());
-    let first = u64::from(block) * size;
-    let after = first + size;
-    let end = start + bytes.len() as u64;
-    if start <= first && after <= end {
-        return 1;
-    }
-    2
+    let piece = piece_of(config, start, bytes.len() as u64, block);
+    if piece.is_whole(config.size()) { 1 } else { 2 }
 }
 
 /// Adds the steps of a command in one block.
@@ -112,9 +103,7 @@ fn add_steps(
     op: &DeviceOp,
     block: u32,
 ) -> Result<(), NoMemory>
-    requires fault { fault_of config.now op.now ≡ None }
-    requires before_end { block * config.now.size < start_of op.now + len_of op.now }
-    requires after_start { start_of op.now < (block + 1) * config.now.size }
+    requires { Reaches config.now (start_of op.now) (len_of op.now) block }
     ensures { OnOk result (steps.new ≡ steps.old ++ steps_in config.now.size op.now block) }
 {
     match op {
@@ -131,27 +120,19 @@ fn add_put_steps(
     bytes: &Bytes,
     block: u32,
 ) -> Result<(), NoMemory>
-    requires within { start + length bytes.now ≤ config.now.size * config.now.blocks }
-    requires before_end { block * config.now.size < start + length bytes.now }
-    requires after_start { start < (block + 1) * config.now.size }
+    requires { Reaches config.now start (length bytes.now) block }
     ensures { OnOk result (steps.new
         ≡ steps.old ++ put_steps config.now.size start bytes.now block) }
 {
-    let size = u64::from(config.size());
-    let first = u64::from(block) * size;
-    let after = first + size;
-    let end = start + bytes.len() as u64;
-    let from = first.saturating_sub(start) as usize;
-    let to = (after.min(end) - start) as usize;
-    let part = Bytes::of(steps.allocator(), &bytes.as_slice()[from..to])?;
-    if start <= first && after <= end {
+    let piece = piece_of(config, start, bytes.len() as u64, block);
+    let part = Bytes::of(steps.allocator(), &bytes.as_slice()[piece.from..piece.to])?;
+    if piece.is_whole(config.size()) {
         return steps.push(BlockStep::Whole { block, value: part });
     }
-    let at = start.saturating_sub(first) as u32;
     steps.push(BlockStep::Read { block })?;
     steps.push(BlockStep::Merge {
         block,
-        at,
+        at: piece.at as u32,
         bytes: part,
     })
 }
@@ -173,12 +154,4 @@ fn len_of(op: &DeviceOp) -> u64
         DeviceOp::Get { length, .. } => *length,
         DeviceOp::Put { bytes, .. } => bytes.len() as u64,
     }
-}
-
-/// How many bytes the device has.
-fn len_of_device(config: &Config) -> u64
-    ensures is { result ≡ config.now.size * config.now.blocks }
-    ensures small { result ≤ 1073741824 }
-{
-    u64::from(config.size()) * u64::from(config.blocks())
 }

@@ -7,6 +7,7 @@
 mod cutting;
 pub mod laws;
 mod merging;
+mod pieces;
 mod queue;
 mod refusal;
 mod steps;
@@ -14,6 +15,7 @@ mod steps;
 pub use cutting::{commands, range_fault, step_count};
 pub use line_forms::DeviceFault;
 pub use merging::merge;
+pub use pieces::{Blocks, Piece, blocks_of, device_len, piece_of};
 pub use queue::Command;
 pub use refusal::DeviceRefusal;
 pub use steps::{BlockStep, BlockSteps};

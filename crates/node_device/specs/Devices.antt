@@ -1,5 +1,5 @@
 -- What contracts see of a device over nodes.
-use Rattle.std.specs.Prelude.{◌≡◌, ℕ, ◌+◌, Bool, true, List}
+use Rattle.std.specs.Prelude.{◌≡◌, ℕ, ◌+◌, List}
 use Rattle.std.specs.declared.option.Option.TheVariants.{None}
 use Rattle.quorum_rules.specs.Limits.{Numbers, IsValid}
 use Rattle.stamp_order.specs.declared.Stamp.{Stamp}
@@ -9,13 +9,12 @@ use Rattle.node_core.specs.Seen.{SeenNode, versions_in, with_versions}
 use Rattle.client_core.specs.Clients.{ClientView}
 use Rattle.node_device.specs.Held.{Held, IsHeld, held_of, the_client}
 
--- a device: the cluster's numbers, its blocks, the client's life and how many operations it has, and whether none was cut off
+-- a device: the cluster's numbers, its blocks, and the client's life and how many operations it has
 pub record SeenDevice : Type 0 where
   pub config : Numbers
   pub held : List Held
   pub life : ℕ
   pub started : ℕ
-  pub whole : Bool
 
 -- the client is idle, and the nodes hold the blocks
 pub record IsReady (c : Numbers) (nodes : List SeenNode) (client : ClientView) : Type 0 where
@@ -24,10 +23,6 @@ pub record IsReady (c : Numbers) (nodes : List SeenNode) (client : ClientView) :
   pub id : client.id ≡ the_client
   pub idle : client.seen.task ≡ None
   pub held : IsHeld c nodes (held_of c nodes)
-
--- a device is ready as long as no operation was cut off
-abbrev pub IsDevice : Numbers → List SeenNode → ClientView → Bool → Type 0
-IsDevice c nodes client whole = whole ≡ true → IsReady c nodes client
 
 -- the client has done one more operation, by which the nodes hold these blocks
 pub record HasDone (old new : ClientView) (nodes : List SeenNode) (held : List Held) : Type 0 where

@@ -1,4 +1,4 @@
-ghost use Rattle.std.specs.Prelude.{◌≡◌, ◌<◌, ◌-◌, ◌+◌, ◌^◌, true, false, map, replicate, slice_set, IfOk, OnOk, OnErr};
+ghost use Rattle.std.specs.Prelude.{◌≡◌, ◌<◌, ◌-◌, ◌+◌, ◌^◌, map, replicate, slice_set, IfOk, OnOk, OnErr};
 ghost use Rattle.quorum_rules.specs.Limits.{wait_of};
 ghost use Rattle.std.specs.List.{All};
 ghost use Rattle.protocol.specs.Setting.{IsBlock};
@@ -22,18 +22,18 @@ const CLIENT: u32 = 1;
 
 /// Blocks that are kept by nodes in the same process, and read and written by one client, one operation after the other.
 /// Contracts see the cluster's numbers, each block with the time of its latest write, the client's life and how many
-/// operations it has, and whether no operation was cut off for want of memory. A device on which one was cut off is of no use any more.
+/// operations it has. An operation that is cut off for want of memory leaves nothing that is of use: so reads and writes take the
+/// device, and give it back where they end.
 #[derive(Drop)]
 pub struct NodeDevice {
     config: Config,
     nodes: Vec<Node>,
     client: Client,
-    whole: bool,
 }
 
 impl Model for NodeDevice {
     ghost use Rattle.node_device.specs.Held.{held_of};
-    ghost use Rattle.node_device.specs.Devices.{SeenDevice, IsDevice};
+    ghost use Rattle.node_device.specs.Devices.{SeenDevice, IsReady};
 
     ghost Value = { SeenDevice };
 
@@ -42,10 +42,9 @@ impl Model for NodeDevice {
       held = held_of d.config d.nodes.items;
       life = d.client.seen.life;
       started = d.client.seen.started;
-      whole = d.whole;
     } };
 
-    ghost invariant = { λ d. IsDevice d.config d.nodes.items d.client d.whole };
+    ghost invariant = { λ d. IsReady d.config d.nodes.items d.client };
 }
 
 impl NodeDevice {
@@ -57,7 +56,6 @@ impl NodeDevice {
               held = replicate config.now.blocks (unwritten config.now);
               life = 0;
               started = 0;
-              whole = true;
             }) }
     {
         let mut nodes = Vec::new(alloc);
@@ -68,7 +66,6 @@ impl NodeDevice {
             config: *config,
             nodes,
             client: Client::new(alloc, config, CLIENT)?,
-            whole: true,
         })
     }
 
@@ -80,39 +77,49 @@ impl NodeDevice {
     }
 
     /// Reads a block.
-    pub fn read(&mut self, block: u32) -> Result<Bytes, NoMemory>
-        requires whole { self.old.whole ≡ true }
-        requires block { block < self.old.config.blocks }
-        requires fresh { self.old.started < 2 ^ 32 - 1 }
-        ensures value { IfOk result (λ value.
-            value ≡ (held_at self.old.config self.old.held block).value) }
-        ensures ok { OnOk result (self.new ≡ record self.old { started = self.old.started + 1 }) }
-        ensures err { OnErr result (self.new.whole ≡ false) }
+    pub fn read(self, block: u32) -> Result<(NodeDevice, Bytes), NoMemory>
+        requires block { block < self.config.blocks }
+        requires fresh { self.started < 2 ^ 32 - 1 }
+        ensures value { IfOk result (λ done. done.1 ≡ (held_at self.config self.held block).value) }
+        ensures device { IfOk result (λ done. done.0
+            ≡ record self { started = self.started + 1 }) }
     {
-        self.whole = false;
-        let value = read(&mut self.nodes, &mut self.client, block)?;
-        self.whole = true;
-        Ok(value)
+        let NodeDevice {
+            config,
+            mut nodes,
+            mut client,
+        } = self;
+        let value = read(&mut nodes, &mut client, block)?;
+        let device = NodeDevice {
+            config,
+            nodes,
+            client,
+        };
+        Ok((device, value))
     }
 
     /// Writes a block.
-    pub fn write(&mut self, block: u32, value: Bytes) -> Result<(), NoMemory>
-        requires whole { self.old.whole ≡ true }
-        requires block { block < self.old.config.blocks }
-        requires value { IsBlock (setting self.old.config) value }
-        requires fresh { self.old.started < 2 ^ 32 - 1 }
-        requires time { (held_at self.old.config self.old.held block).time < 2 ^ 64 - 1 }
-        ensures ok { OnOk result (self.new ≡ record self.old {
-          held = slice_set self.old.held block
-              (rewritten (held_at self.old.config self.old.held block) value);
-          started = self.old.started + 1;
+    pub fn write(self, block: u32, value: Bytes) -> Result<NodeDevice, NoMemory>
+        requires block { block < self.config.blocks }
+        requires value { IsBlock (setting self.config) value }
+        requires fresh { self.started < 2 ^ 32 - 1 }
+        requires time { (held_at self.config self.held block).time < 2 ^ 64 - 1 }
+        ensures { IfOk result (λ device. device ≡ record self {
+          held = slice_set self.held block (rewritten (held_at self.config self.held block) value);
+          started = self.started + 1;
         }) }
-        ensures err { OnErr result (self.new.whole ≡ false) }
     {
-        self.whole = false;
-        write(&mut self.nodes, &mut self.client, block, value)?;
-        self.whole = true;
-        Ok(())
+        let NodeDevice {
+            config,
+            mut nodes,
+            mut client,
+        } = self;
+        write(&mut nodes, &mut client, block, value)?;
+        Ok(NodeDevice {
+            config,
+            nodes,
+            client,
+        })
     }
 
     /// Puts a client of a later life in the place of the present one.
@@ -126,7 +133,6 @@ impl NodeDevice {
 
     /// The version that a node which is asked finds of a block: that of the block's latest write.
     pub fn held(&self, node: u8, block: u32) -> Result<Version, NoMemory>
-        requires whole { self.now.whole ≡ true }
         requires node { node < wait_of self.now.config }
         requires block { block < self.now.config.blocks }
         ensures { IfOk result (λ v. v ≡ version_of self.now.config node

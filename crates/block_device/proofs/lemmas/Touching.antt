@@ -105,6 +105,11 @@ untouched_if size start len k = (
   λ h. le-ltb (max start (k * size)) (min (start + len) ((k + 1) * size)) (omega arith),
 )
 
+-- a range without a byte touches none
+pub touched_none : (size start len blocks : ℕ) → len ≡ 0 → filter (is_touched size start len) (range_with_len 0 blocks) ≡ []
+unfolding is_touched
+touched_none size start len blocks none = filter_none (is_touched size start len) 0 blocks (λ k low high. le-ltb (max start (k * size)) (min (start + len) ((k + 1) * size)) (omega arith))
+
 -- block k is one from that of the first byte to that of the last
 pub record IsBetween (size start len k : ℕ) : Type 0 where
   pub from : start / size ≤ k

@@ -1,55 +1,48 @@
-use Rattle.std.proofs.Common.{◌≡◌, ◌+◌, ◌-◌, ◌*◌, ◌<◌, ◌⊎◌, ◌++◌, ◌∷◌, [], min, inl, inr, length, take, drop, OnOk, ap, subst, sym, ◌∙◌, arith}
+use Rattle.std.proofs.Common.{◌≡◌, ◌∙◌, ◌-◌, ◌*◌, ◌++◌, ◌∷◌, [], OnOk, length, slice_range, ap, subst, sym}
 use Rattle.std.proofs.lemmas.List.{append_assoc}
-use Rattle.block_device.specs.Ranges.{bytes_in}
+use Rattle.block_device.specs.declared.pieces.Piece.{Piece}
 use Rattle.block_device.specs.declared.steps.BlockStep.TheVariants.{Read, Whole, Merge}
-use Rattle.block_device.proofs.lemmas.Merges.{put_whole, put_partly, bytes_in-cut}
+use Rattle.block_device.specs.Pieces.{piece_in}
+use Rattle.block_device.specs.Ranges.{bytes_in}
+use Rattle.block_device.proofs.Cut.{piece_bytes, put_by_whole, put_by_part}
 use Rattle.block_device.proofs.cutting.add_put_steps.Goals as goal
-use Rattle.block_device.proofs.cutting.add_put_steps.Goals.{else-start-first-via-then-start-first+else-after-end, else-start-first-via-else-start-first}
 
-pub returns-then-after-end : goal.returns-then-after-end
-returns-then-after-end c =
-    let size = c.args.config.now.size in
+pub returns-then-is_whole : goal.returns-then-is_whole
+returns-then-is_whole c =
+    let config = c.args.config.now in
     let start = c.args.start in
     let bytes = c.args.bytes.now in
     let k = c.args.block in
-    let first : c.from.result * c.from-size.result ≡ k * size = cc in
-    let one : c.from-size.result ≡ size = cc in
-    let count : c.len.result ≡ length bytes = cc in
-    let from : c.saturating_sub-from.result ≡ k * size - start = omega arith in
-    let to : c.min.result - start ≡ min ((k + 1) * size) (start + length bytes) - start = omega arith in
-    let held : c.in_ok-part.part ≡ bytes_in size start bytes k =
+    let is : c.piece_of-piece.result ≡ piece_in config.size start (length bytes) k = cc in
+    let whole = c.is_whole.ensures.0 c.if-is_whole.true in
+    let held : c.in_ok-part.part ≡ bytes_in config.size start bytes k =
     c.in_ok-part.ensures
-    ∙ ap (λ z. take (c.min.result - start - c.saturating_sub-from.result) (drop c.saturating_sub-from.result z)) c.as_slice.ensures.value
-    ∙ bytes_in-cut size start bytes k c.saturating_sub-from.result (c.min.result - start) from to in
-    let steps = ap (λ z. Whole k z ∷ []) held ∙ sym (put_whole size start bytes k (omega arith) (omega arith)) in
+    ∙ ap (λ z. slice_range z c.piece_of-piece.result.from c.piece_of-piece.result.to) c.as_slice.ensures.value
+    ∙ ap (λ (p : Piece). slice_range bytes p.from p.to) is
+    ∙ piece_bytes config start bytes k c.requires in
+    let steps = ap (λ z. Whole k z ∷ []) held ∙ sym (put_by_whole config start bytes k c.requires (sym (ap (λ (p : Piece). p.at) is) ∙ whole.0) (sym (ap (λ (p : Piece). p.end) is) ∙ whole.1 ∙ c.size.ensures.is)) in
     subst (λ z. OnOk c.push.result (c.push.new.self ≡ c.args.steps.now ++ z)) steps c.push.ensures.ok
 
 pub returns : goal.returns
 returns c =
-    let size = c.args.config.now.size in
+    let config = c.args.config.now in
     let start = c.args.start in
     let bytes = c.args.bytes.now in
     let k = c.args.block in
-    let first : c.from.result * c.from-size.result ≡ k * size = cc in
-    let one : c.from-size.result ≡ size = cc in
-    let count : c.len.result ≡ length bytes = cc in
-    let from : c.saturating_sub-from.result ≡ k * size - start = omega arith in
-    let to : c.min.result - start ≡ min ((k + 1) * size) (start + length bytes) - start = omega arith in
-    let at : c.saturating_sub-at.result ≡ start - k * size = omega arith in
-    let held : c.in_ok-part.part ≡ bytes_in size start bytes k =
+    let is : c.piece_of-piece.result ≡ piece_in config.size start (length bytes) k = cc in
+    let held : c.in_ok-part.part ≡ bytes_in config.size start bytes k =
     c.in_ok-part.ensures
-    ∙ ap (λ z. take (c.min.result - start - c.saturating_sub-from.result) (drop c.saturating_sub-from.result z)) c.as_slice.ensures.value
-    ∙ bytes_in-cut size start bytes k c.saturating_sub-from.result (c.min.result - start) from to in
-    let partly : (k * size < start) ⊎ (start + length bytes < (k + 1) * size) =
-    elim c.else-start-first.branch [
-      | else-start-first-via-then-start-first+else-after-end w ↦ inr (omega arith)
-      | else-start-first-via-else-start-first w ↦ inl (omega arith)
-    ] in
+    ∙ ap (λ z. slice_range z c.piece_of-piece.result.from c.piece_of-piece.result.to) c.as_slice.ensures.value
+    ∙ ap (λ (p : Piece). slice_range bytes p.from p.to) is
+    ∙ piece_bytes config start bytes k c.requires in
+    let at : c.piece_of-piece.result.at ≡ start - k * config.size = ap (λ (p : Piece). p.at) is in
+    let apart = put_by_part config start bytes k c.requires
+    (λ w. let all = c.is_whole.ensures.1 (ap (λ (p : Piece). p.at) is ∙ w.0, ap (λ (p : Piece). p.end) is ∙ w.1 ∙ sym c.size.ensures.is) in let none = c.if-is_whole.false in cc) in
     let steps =
-    ap (λ z. Read k ∷ Merge k c.saturating_sub-at.result z ∷ []) held
-    ∙ ap (λ z. Read k ∷ Merge k z (bytes_in size start bytes k) ∷ []) at
-    ∙ sym (put_partly size start bytes k partly) in
-    let two = append_assoc c.args.steps.now (Read k ∷ []) (Merge k c.saturating_sub-at.result c.in_ok-part.part ∷ []) in
+    ap (λ z. Read k ∷ Merge k c.piece_of-piece.result.at z ∷ []) held
+    ∙ ap (λ z. Read k ∷ Merge k z (bytes_in config.size start bytes k) ∷ []) at
+    ∙ sym apart in
+    let two = append_assoc c.args.steps.now (Read k ∷ []) (Merge k c.piece_of-piece.result.at c.in_ok-part.part ∷ []) in
     subst (λ z. OnOk c.push-3.result (c.push-3.new.self ≡ z))
-    (ap (λ z. z ++ Merge k c.saturating_sub-at.result c.in_ok-part.part ∷ []) c.in_ok-push.ensures.ok ∙ two ∙ ap (λ z. c.args.steps.now ++ z) steps)
+    (ap (λ z. z ++ Merge k c.piece_of-piece.result.at c.in_ok-part.part ∷ []) c.in_ok-push.ensures.ok ∙ two ∙ ap (λ z. c.args.steps.now ++ z) steps)
     c.push-3.ensures.ok

@@ -1,32 +1,20 @@
-use Rattle.std.proofs.Common.{◌≡◌, ◌+◌, ◌*◌, ◌<◌, ◌⊎◌, inl, inr, length, ap, sym, arith}
+use Rattle.std.proofs.Common.{◌≡◌, ◌∙◌, length, ap, sym}
 use Rattle.block_device.specs.declared.steps.BlockStep.{BlockStep}
-use Rattle.block_device.proofs.lemmas.Merges.{put_whole, put_partly}
+use Rattle.block_device.specs.declared.pieces.Piece.{Piece}
+use Rattle.block_device.specs.Pieces.{piece_in}
+use Rattle.block_device.proofs.Cut.{put_by_whole, put_by_part}
 use Rattle.block_device.proofs.cutting.put_step_count.Goals as goal
-use Rattle.block_device.proofs.cutting.put_step_count.Goals.{else-start-first-via-then-start-first+else-after-end, else-start-first-via-else-start-first}
 
-pub returns-then-after-end-clause-count : goal.returns-then-after-end-clause-count
-returns-then-after-end-clause-count c =
-    let size = c.args.config.now.size in
-    let start = c.args.start in
-    let bytes = c.args.bytes.now in
-    let k = c.args.block in
-    let first : c.from.result * c.from-size.result ≡ k * size = cc in
-    let one : c.from-size.result ≡ size = cc in
-    let count : c.len.result ≡ length bytes = cc in
-    sym (ap (length {A = BlockStep}) (put_whole size start bytes k (omega arith) (omega arith)))
+pub returns-then-is_whole-clause-count : goal.returns-then-is_whole-clause-count
+returns-then-is_whole-clause-count c =
+    let config = c.args.config.now in
+    let is : c.piece_of-piece.result ≡ piece_in config.size c.args.start (length c.args.bytes.now) c.args.block = cc in
+    let whole = c.is_whole.ensures.0 c.if-is_whole.true in
+    sym (ap (length {A = BlockStep}) (put_by_whole config c.args.start c.args.bytes.now c.args.block c.requires (sym (ap (λ (p : Piece). p.at) is) ∙ whole.0) (sym (ap (λ (p : Piece). p.end) is) ∙ whole.1 ∙ c.size.ensures.is)))
 
-pub returns-clause-count : goal.returns-clause-count
-returns-clause-count c =
-    let size = c.args.config.now.size in
-    let start = c.args.start in
-    let bytes = c.args.bytes.now in
-    let k = c.args.block in
-    let first : c.from.result * c.from-size.result ≡ k * size = cc in
-    let one : c.from-size.result ≡ size = cc in
-    let count : c.len.result ≡ length bytes = cc in
-    let partly : (k * size < start) ⊎ (start + length bytes < (k + 1) * size) =
-    elim c.else-start-first.branch [
-      | else-start-first-via-then-start-first+else-after-end w ↦ inr (omega arith)
-      | else-start-first-via-else-start-first w ↦ inl (omega arith)
-    ] in
-    sym (ap (length {A = BlockStep}) (put_partly size start bytes k partly))
+pub returns-else-is_whole-clause-count : goal.returns-else-is_whole-clause-count
+returns-else-is_whole-clause-count c =
+    let config = c.args.config.now in
+    let is : c.piece_of-piece.result ≡ piece_in config.size c.args.start (length c.args.bytes.now) c.args.block = cc in
+    sym (ap (length {A = BlockStep}) (put_by_part config c.args.start c.args.bytes.now c.args.block c.requires
+    (λ w. let all = c.is_whole.ensures.1 (ap (λ (p : Piece). p.at) is ∙ w.0, ap (λ (p : Piece). p.end) is ∙ w.1 ∙ sym c.size.ensures.is) in let none = c.if-is_whole.false in cc)))

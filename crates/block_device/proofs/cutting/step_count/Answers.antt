@@ -1,20 +1,19 @@
-use Rattle.std.proofs.Common.{◌≡◌, ◌+◌, ◌-◌, ◌/◌, List, ℕ, [], ◌∷◌, ◌++◌, length, ap, sym, ◌∙◌, arith, length-append}
+use Rattle.std.proofs.Common.{◌≡◌, ◌+◌, ◌-◌, List, ℕ, [], ◌∷◌, ◌++◌, length, ap, sym, ◌∙◌, arith, length-append}
 use Rattle.std.specs.List.{flat_map, range_with_len}
 use Rattle.std.proofs.lemmas.List.Concat.{flat_map-append}
 use Rattle.std.proofs.lemmas.List.{append-nil}
-use Rattle.block_device.specs.Ranges.{start_of, len_of, touched}
+use Rattle.block_device.specs.Ranges.{start_of, len_of, touched, touched_by}
 use Rattle.block_device.specs.Steps.{steps_in}
 use Rattle.block_device.specs.declared.steps.BlockStep.{BlockStep}
-use Rattle.block_device.proofs.lemmas.Touching.{IsWithin, within_if, range_more, touched_range, first_before_last}
+use Rattle.block_device.proofs.lemmas.Touching.{range_more}
 use Rattle.block_device.proofs.cutting.step_count.Goals as goal
 
 pub loop-touched-preserved : goal.loop-touched-preserved
 loop-touched-preserved c =
     let size = c.args.config.now.size in
     let op = c.args.op.now in
-    let first = start_of op / size in
+    let first = c.blocks_of-blocks.result.first in
     let block = c.loop-touched.touched in
-    let begun : c.start_of-start.result / c.from-size.result ≡ first = cc in
     let low = c.loop-touched.auto.touched in
     let n : block + 1 - first ≡ block - first + 1 = omega arith in
     let range : range_with_len first (block + 1 - first) ≡ range_with_len first (block - first) ++ block ∷ [] =
@@ -32,16 +31,12 @@ loop-touched-preserved c =
 pub returns : goal.returns
 unfolding touched
 returns c =
-    let size = c.args.config.now.size in
+    let config = c.args.config.now in
     let op = c.args.op.now in
-    let first = start_of op / size in
-    let last = (start_of op + len_of op - 1) / size in
+    let blocks = c.blocks_of-blocks.result in
     let block = c.loop-touched.touched in
-    let within : IsWithin size c.args.config.now.blocks (start_of op) (len_of op) = within_if c.args.config.now op c.requires in
-    let begun : c.start_of-start.result / c.from-size.result ≡ first = cc in
-    let ended : (c.start_of-start.result + c.len_of.result - 1) / c.from-size.result ≡ last = cc in
-    let order = first_before_last size (start_of op) (len_of op) within.sized within.some in
-    let done : block ≡ last + 1 = let far = c.loop-touched.auto.touched-end (omega arith) in omega arith in
-    c.loop-touched.invariant.counted
-    ∙ ap (λ (ks : List ℕ). length (flat_map (steps_in size op) ks))
-    (sym (touched_range size c.args.config.now.blocks (start_of op) (len_of op) (block - first) within.sized within.some within.end (omega arith)))
+    let order = c.blocks_of-blocks.ensures.order in
+    let done : block ≡ blocks.end = let far = c.loop-touched.auto.touched-end order in omega arith in
+    let count : block - blocks.first ≡ blocks.end - blocks.first = omega arith in
+    let range : touched_by config (start_of op) (len_of op) ≡ range_with_len blocks.first (block - blocks.first) = cc in
+    c.loop-touched.invariant.counted ∙ ap (λ (ks : List ℕ). length (flat_map (steps_in config.size op) ks)) (sym range)

@@ -13,7 +13,7 @@ invariant_of-result c =
     let all : c.loop-number.number ≡ c.args.config.now.n = omega (arith, c.n-number-end.ensures.is) in
     let valid = c.n-number-end.ensures.valid in
     let is = new_held c.args.config.now valid c.loop-number.nodes.items (rw all at c.loop-number.invariant) in
-    λ _. rw c.in_ok-new-2.ensures (record { valid = valid; config = refl; id = refl; idle = refl; held = rw (held_is c.args.config.now valid c.loop-number.nodes.items _ is) is })
+    rw c.in_ok-new-2.ensures (record { valid = valid; config = refl; id = refl; idle = refl; held = rw (held_is c.args.config.now valid c.loop-number.nodes.items _ is) is })
 
 pub returns : goal.returns
 returns c =
