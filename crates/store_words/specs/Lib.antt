@@ -1,0 +1,4 @@
+pub mod Words
+pub mod Causes
+pub mod Lines
+pub mod Statuses
