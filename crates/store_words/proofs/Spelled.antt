@@ -16,6 +16,9 @@ texts_length words = length-map words string_bytes
 pub spelled : (word : List ℕ) (n : ℕ) → number_of (2 ^ 32) word ≡ Some n → word ≡ decimal n
 spelled word n e = (number_of-some (2 ^ 32) word n e).0
 
+pub number_fits : (word : List ℕ) (n : ℕ) → number_of (2 ^ 32) word ≡ Some n → n < 2 ^ 32
+number_fits word n e = (number_of-some (2 ^ 32) word n e).1
+
 -- the words from the second on, and from the eighth on
 abbrev pub behind_one : List (String Global) → List (String Global)
 behind_one words = take (length words - 1) (drop 1 words)

@@ -1,5 +1,5 @@
 -- What words ask for: a command's own words, and the directories behind them.
-use Rattle.std.specs.Prelude.{◌≡◌, ◌≤◌, ◌<◌, ℕ, List, [], ◌∷◌, ◌++◌, length, map, codes, decimal, string_bytes}
+use Rattle.std.specs.Prelude.{◌≡◌, ◌≤◌, ◌<◌, ◌^◌, ℕ, List, [], ◌∷◌, ◌++◌, length, map, codes, decimal, string_bytes}
 use Rattle.std.specs.declared.string.String.{String}
 use Rattle.std.specs.declared.alloc.Global.{Global}
 use Rattle.quorum_rules.specs.declared.Edition.TheVariants.{Three}
@@ -39,7 +39,7 @@ IsOf (Create c) count = IsCreated c count
 IsOf Serve count = 1 ≤ count
 IsOf Status count = 1 ≤ count
 IsOf Scrub count = 1 ≤ count
-IsOf (Renew node) count = node < count
+IsOf (Renew node) count = (node < count) × (node < 2 ^ 32)
 
 -- the words are those of the command, and behind them the directories
 pub record Asks (words : List (List ℕ)) (command : Command) (folders : List (List ℕ)) : Type 0 where
@@ -54,4 +54,4 @@ pub record Creates (words : List (List ℕ)) (c : Numbers) (folders : List (List
 -- the words behind `renew` are the number of a directory, and directories
 pub record Renews (words : List (List ℕ)) (node : ℕ) (folders : List (List ℕ)) : Type 0 where
   pub spelled : words ≡ decimal node ∷ folders
-  pub count : node < length folders
+  pub count : IsOf (Renew node) (length folders)

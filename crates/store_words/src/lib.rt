@@ -2,6 +2,7 @@
 #![tactic(auto)]
 
 pub mod down;
+pub mod laws;
 pub mod lines;
 pub mod refusal;
 pub mod status;
