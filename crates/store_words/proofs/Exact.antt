@@ -25,7 +25,7 @@ create_none c folders is =
     let third : numbers Three c.n c.t c.b c.qc c.m c.size c.blocks ≡ c = ap (λ e. numbers e c.n c.t c.b c.qc c.m c.size c.blocks) (sym is.edition) in
     let none : fault (numbers Three c.n c.t c.b c.qc c.m c.size c.blocks) ≡ None = ap fault third ∙ none_of_valid c v in
     rw (reads c.n (omega arith), reads c.t (omega arith), reads c.b (omega arith), reads c.qc (omega arith), reads c.m (omega arith), reads c.size (omega arith), reads c.blocks (omega arith))
-        (ap (λ f. cluster_cause f (length folders == c.n)) none ∙ ap counted each)
+    (ap (λ f. cluster_cause f (length folders == c.n)) none ∙ ap counted each)
 
 renew_none : (node : ℕ) (folders : List (List ℕ)) → IsOf (Renew node) (length folders) → renew_cause (decimal node ∷ folders) ≡ None
 renew_none node folders is = rw (reads node is.1, lt-ltb node (length folders) is.0) refl

@@ -85,3 +85,10 @@ bytes_text bytes = decimal bytes.was ++ (codes " bytes before, " ++ (decimal byt
 abbrev pub scrub_text : ScrubLine → List ℕ
 scrub_text (Scrubbed node found bytes) = codes "node " ++ (decimal node ++ (codes " up " ++ (found_text found ++ (codes ", " ++ bytes_text bytes))))
 scrub_text (WasDown node) = codes "node " ++ decimal node ++ codes " down"
+
+-- with the end of the line
+abbrev pub node_line : NodeLine → List ℕ
+node_line line = node_text line ++ codes "\n"
+
+abbrev pub scrub_line : ScrubLine → List ℕ
+scrub_line line = scrub_text line ++ codes "\n"

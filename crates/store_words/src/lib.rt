@@ -9,7 +9,7 @@ pub mod status;
 pub mod words;
 
 pub use down::Down;
-pub use lines::{Found, JournalBytes, NodeLine, ScrubLine};
+pub use lines::{Found, JournalBytes, NodeLine, ScrubLine, write_nodes, write_scrubbed};
 pub use refusal::{BadWords, Refusal};
 pub use status::Status;
 pub use words::{Asked, Command, read_words};

@@ -1,8 +1,11 @@
-ghost use Rattle.std.specs.Prelude.{Some};
-ghost use Rattle.store_words.specs.Lines.{node_text, found_text, bytes_text, scrub_text};
+ghost use Rattle.std.specs.Prelude.{Some, OnOk};
+ghost use Rattle.std.specs.List.{flat_map};
+ghost use Rattle.std.specs.Io.KnownBytes.{Appends};
+ghost use Rattle.store_words.specs.Lines.{node_line, scrub_line, node_text, found_text, bytes_text, scrub_text};
 
 use crate::down::Down;
-use std::fmt;
+use std::io::Write;
+use std::{fmt, io};
 
 /// What `status` says of a node, counted from 0.
 #[derive(Clone, Copy, Debug, PartialEq, Eq)]
@@ -14,7 +17,10 @@ pub enum NodeLine {
         bytes: u64,
     },
     /// It is down.
-    Down { node: usize, why: Down },
+    Down {
+        node: usize,
+        why: Down,
+    },
 }
 
 impl fmt::Display for NodeLine {
@@ -84,7 +90,9 @@ pub enum ScrubLine {
         bytes: JournalBytes,
     },
     /// It is down.
-    Down { node: usize },
+    Down {
+        node: usize,
+    },
 }
 
 impl fmt::Display for ScrubLine {
@@ -96,4 +104,24 @@ impl fmt::Display for ScrubLine {
             ScrubLine::Down { node } => write!(f, "node {node} down"),
         }
     }
+}
+
+/// Writes the lines of `status`.
+pub fn write_nodes<W: Write>(to: &mut W, lines: &[NodeLine]) -> io::Result<()>
+    ensures { OnOk result (Appends (W.contents to.old) (W.contents to.new) (flat_map node_line lines.now)) }
+{
+    for line in lines {
+        writeln!(to, "{line}")?;
+    }
+    Ok(())
+}
+
+/// Writes the lines of `scrub`.
+pub fn write_scrubbed<W: Write>(to: &mut W, lines: &[ScrubLine]) -> io::Result<()>
+    ensures { OnOk result (Appends (W.contents to.old) (W.contents to.new) (flat_map scrub_line lines.now)) }
+{
+    for line in lines {
+        writeln!(to, "{line}")?;
+    }
+    Ok(())
 }

@@ -45,6 +45,10 @@ impl Status {
     pub fn of_scrub(lacking: bool) -> Status
         ensures { result ≡ status_of_scrub lacking }
     {
-        if lacking { Status::Mended } else { Status::Done }
+        if lacking {
+            Status::Mended
+        } else {
+            Status::Done
+        }
     }
 }

@@ -14,7 +14,7 @@ returns-then-folders-n-clause-cause c =
     let t = seven_texts c.args.words.now _ _ _ _ _ _ _ c.n-item.is c.t-item.is c.b-item.is c.qc-item.is c.m-item.is c.size-item.is c.blocks-item.is c.in-len7-up.len_at_least in
     let n : c.n.result ≡ value_of c.as_str.result.now = c.n.ensures.is ∙ ap (λ z. z.n) c.in_ok-config.ensures.is in
     let other = ne_eqb (length (texts (behind_seven c.args.words.now))) (value_of c.as_str.result.now)
-        (λ same. c.if-folders-n.true (sym (texts_length (behind_seven c.args.words.now)) ∙ same ∙ sym n)) in
+    (λ same. c.if-folders-n.true (sym (texts_length (behind_seven c.args.words.now)) ∙ same ∙ sym n)) in
     rw (t, ← c.as_str.ensures.value, ← c.as_str-2.ensures.value, ← c.as_str-3.ensures.value, ← c.as_str-4.ensures.value, ← c.as_str-5.ensures.value, ← c.as_str-6.ensures.value, ← c.as_str-7.ensures.value) (c.in_ok-config.ensures.well _ ∙ ap counted other)
 
 pub returns-clause-cause : goal.returns-clause-cause
@@ -22,5 +22,5 @@ returns-clause-cause c =
     let t = seven_texts c.args.words.now _ _ _ _ _ _ _ c.n-item.is c.t-item.is c.b-item.is c.qc-item.is c.m-item.is c.size-item.is c.blocks-item.is c.in-len7-up.len_at_least in
     let n : c.n.result ≡ value_of c.as_str.result.now = c.n.ensures.is ∙ ap (λ z. z.n) c.in_ok-config.ensures.is in
     let same = eq-eqb (length (texts (behind_seven c.args.words.now))) (value_of c.as_str.result.now)
-        (texts_length (behind_seven c.args.words.now) ∙ c.if-folders-n.false ∙ n) in
+    (texts_length (behind_seven c.args.words.now) ∙ c.if-folders-n.false ∙ n) in
     rw (t, ← c.as_str.ensures.value, ← c.as_str-2.ensures.value, ← c.as_str-3.ensures.value, ← c.as_str-4.ensures.value, ← c.as_str-5.ensures.value, ← c.as_str-6.ensures.value, ← c.as_str-7.ensures.value) (c.in_ok-config.ensures.well _ ∙ ap counted same)
