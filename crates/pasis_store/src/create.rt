@@ -1,17 +1,17 @@
 use crate::folder::{path_in, write_folder};
-use crate::{DONE, FAILED};
 use cluster_file::Membership;
 use quorum_rules::Config;
 use std::fs;
 use std::io::{self, ErrorKind, Read};
+use store_words::Status;
 
 /// Makes a store: each directory is made, or is empty, and gets its two files. Where one can't be made, what was made is taken away.
-pub fn create(rt: &HostRuntime, config: &Config, folders: &[String]) -> u8 {
+pub fn create(rt: &HostRuntime, config: &Config, folders: &[String]) -> Status {
     match new_id(rt) {
         Ok(id) => create_all(rt, config, folders, id),
         Err(error) => {
             let _ = eprintln!(rt; "pasis_store: no random bytes: {error}");
-            FAILED
+            Status::Failed
         }
     }
 }
@@ -23,7 +23,7 @@ fn new_id(rt: &HostRuntime) -> io::Result<[u8; 16]> {
     Ok(id)
 }
 
-fn create_all(rt: &HostRuntime, config: &Config, folders: &[String], id: [u8; 16]) -> u8 {
+fn create_all(rt: &HostRuntime, config: &Config, folders: &[String], id: [u8; 16]) -> Status {
     let mut made = Vec::new(rt.alloc());
     let mut node = 0;
     for folder in folders {
@@ -39,11 +39,11 @@ fn create_all(rt: &HostRuntime, config: &Config, folders: &[String], id: [u8; 16
         if let Err(error) = done {
             let _ = eprintln!(rt; "pasis_store: {folder}: {error}");
             unmake_all(rt, folders, &made);
-            return FAILED;
+            return Status::Failed;
         }
         node = node.saturating_add(1);
     }
-    DONE
+    Status::Done
 }
 
 fn unmake_all(rt: &HostRuntime, folders: &[String], made: &[bool]) {

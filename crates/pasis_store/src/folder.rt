@@ -1,7 +1,6 @@
 //! A node's directory: its file `cluster`, and its file `journal`.
 ghost use Rattle.std.specs.Prelude.{◌≡◌, ◌<◌};
 
-use crate::down::Down;
 use cluster_file::{Membership, MembershipRefusal};
 use file_disk::{FileDisk, FileRefusal, Opening};
 use lists::NoMemory;
@@ -9,6 +8,7 @@ use std::alloc::Global;
 use std::fs::{self, File};
 use std::io::{self, ErrorKind, Write};
 use store_device::Store;
+use store_words::Down;
 use text_lines::Text;
 use version_disk::{OpenRefusal, StoredNode};
 
@@ -43,7 +43,7 @@ pub fn membership_of(rt: &HostRuntime, folder: &str) -> Result<Membership, Down>
     match Membership::read(rt.alloc(), text.as_slice()) {
         Ok(membership) => Ok(membership),
         Err(MembershipRefusal::NoMemory) => Err(Down::NoMemory),
-        Err(MembershipRefusal::BadLine(line)) => Err(Down::BadCluster(line)),
+        Err(MembershipRefusal::BadLine(line)) => Err(Down::BadLine(line)),
     }
 }
 

@@ -1,4 +1,4 @@
-use crate::{DONE, FAILED};
+use store_words::Status;
 
 const HELP: &str = "\
 pasis_store keeps a block device on directories: each block lies in fragments in N of them.
@@ -13,17 +13,17 @@ pasis_store --help | --version
 ";
 
 /// Prints the words.
-pub fn help(rt: &HostRuntime) -> u8 {
+pub fn help(rt: &HostRuntime) -> Status {
     match print!(rt; "{HELP}") {
-        Ok(()) => DONE,
-        Err(_) => FAILED,
+        Ok(()) => Status::Done,
+        Err(_) => Status::Failed,
     }
 }
 
 /// Prints the version.
-pub fn version(rt: &HostRuntime) -> u8 {
+pub fn version(rt: &HostRuntime) -> Status {
     match println!(rt; "pasis_store 1") {
-        Ok(()) => DONE,
-        Err(_) => FAILED,
+        Ok(()) => Status::Done,
+        Err(_) => Status::Failed,
     }
 }

@@ -3,7 +3,6 @@
 
 mod compacting;
 mod create;
-mod down;
 mod folder;
 mod groups;
 mod help;
@@ -14,62 +13,55 @@ mod scrub;
 mod serve;
 mod status;
 mod upkeep;
-mod words;
 
 use std::alloc::Global;
 use std::env::{self, Args};
 use std::process::ExitCode;
 use std::thread::Threads;
-use words::{BadWords, Words, words_in};
-
-/// The statuses that the program ends with: all went well and was well.
-pub const DONE: u8 = 0;
-/// Something was mended, or some nodes are down, and no more than may be.
-pub const MENDED: u8 = 1;
-/// The words are wrong.
-pub const BAD_WORDS: u8 = 2;
-/// The system failed, or the client did.
-pub const FAILED: u8 = 3;
-/// More nodes are down than may be, or a block couldn't be read or restored.
-pub const TOO_FEW: u8 = 4;
+use store_words::{Asked, Command, Refusal, Status, read_words};
 
 fn main(rt: HostRuntime) -> ExitCode {
-    ExitCode::from(status_of(&rt, &rt))
-}
-
-fn status_of<T: Threads + Sync>(rt: &HostRuntime, threads: &T) -> u8 {
-    match asked(rt) {
-        Ok(words) => done(rt, threads, words),
+    let status = match done(&rt, &rt) {
+        Ok(status) => status,
         Err(refusal) => {
             // a line that can't be printed changes nothing of the exit status
-            let _ = eprintln!(rt; "pasis_store: {refusal}; pasis_store --help tells the words");
-            BAD_WORDS
+            let _ = eprintln!(rt; "{refusal}");
+            refusal.status()
         }
+    };
+    ExitCode::from(status.number())
+}
+
+// Does what the words of the command line ask for.
+fn done<T: Threads + Sync>(rt: &HostRuntime, threads: &T) -> Result<Status, Refusal> {
+    let words = words_of(rt)?;
+    let Asked { command, folders } = match read_words(&words) {
+        Ok(asked) => asked,
+        Err(why) => return Err(Refusal::BadWords(why)),
+    };
+    match command {
+        Command::Help => Ok(help::help(rt)),
+        Command::Version => Ok(help::version(rt)),
+        Command::Create(config) => Ok(create::create(rt, &config, folders)),
+        Command::Serve => serve::serve(rt, threads, folders),
+        Command::Status => status::status(rt, folders),
+        Command::Scrub => scrub::scrub(rt, threads, folders),
+        Command::Renew(node) => renew::renew(rt, threads, node, folders),
     }
 }
 
-// What the words of the command line ask for.
-fn asked(rt: &HostRuntime) -> Result<Words, BadWords> {
+// The words of the command line, after the program's name.
+fn words_of(rt: &HostRuntime) -> Result<Vec<String>, Refusal> {
     match env::args(rt) {
-        Ok(arguments) => words_in(rt.alloc(), after_name(rt.alloc(), arguments)?),
-        Err(_) => Err(BadWords::NoText),
+        Ok(arguments) => after_name(rt.alloc(), arguments),
+        Err(_) => Err(Refusal::NoText),
     }
 }
 
-// The arguments after the program's name.
-fn after_name(alloc: Global, mut arguments: Args) -> Result<Vec<String>, BadWords> {
+fn after_name(alloc: Global, mut arguments: Args) -> Result<Vec<String>, Refusal> {
     let _name = arguments.next();
-    Ok(arguments.collect(alloc)?)
-}
-
-fn done<T: Threads + Sync>(rt: &HostRuntime, threads: &T, words: Words) -> u8 {
-    match words {
-        Words::Help => help::help(rt),
-        Words::Version => help::version(rt),
-        Words::Create { config, folders } => create::create(rt, &config, &folders),
-        Words::Serve { folders } => serve::serve(rt, threads, &folders),
-        Words::Status { folders } => status::status(rt, &folders),
-        Words::Scrub { folders } => scrub::scrub(rt, threads, &folders),
-        Words::Renew { node, folders } => renew::renew(rt, threads, node, &folders),
+    match arguments.collect(alloc) {
+        Ok(words) => Ok(words),
+        Err(_) => Err(Refusal::NoMemory),
     }
 }

@@ -1,12 +1,12 @@
 //! The nodes of a store, opened from their directories.
 ghost use Rattle.std.specs.Prelude.{◌≡◌};
 
-use crate::down::Down;
 use crate::folder::{FileStore, membership_of, seat_folder};
 use cluster_file::Membership;
 use lists::NoMemory;
 use quorum_rules::Config;
 use store_device::Store;
+use store_words::Down;
 
 /// What a directory tells, or why it tells nothing.
 pub type Told = Result<Membership, Down>;

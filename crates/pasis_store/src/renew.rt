@@ -1,9 +1,8 @@
 use crate::create::{is_empty, make, unmake};
 use crate::folder::{FileStore, open_journal, sync_folder};
 use crate::nodes::Nodes;
-use crate::opening::{no_memory, open_well};
+use crate::opening::open_well;
 use crate::scrub::scrub;
-use crate::{DONE, FAILED, MENDED, TOO_FEW};
 use cluster_file::Membership;
 use lists::NoMemory;
 use std::fs;
@@ -11,24 +10,38 @@ use std::io::{self, ErrorKind};
 use std::path::Path;
 use std::thread::Threads;
 use store_care::fill_disk;
+use store_words::{Refusal, Status};
 
 /// Gives a node, whose directory is empty or gone, a new one, and scrubs the store. The new directory is made beside its place, filled with what
 /// the other nodes hold, and only then put there: until then the node is down.
-pub fn renew<T: Threads + Sync>(rt: &HostRuntime, threads: &T, node: u8, folders: &[String]) -> u8 {
-    let Some(folder) = folders.get(usize::from(node)) else {
-        return FAILED;
+pub fn renew<T: Threads + Sync>(
+    rt: &HostRuntime,
+    threads: &T,
+    node: u32,
+    folders: &[String],
+) -> Result<Status, Refusal> {
+    let (Some(folder), Ok(number)) = (folders.get(node as usize), u8::try_from(node)) else {
+        return Err(Refusal::NoStore {
+            folders: folders.len(),
+        });
     };
     if let Err(error) = is_vacant(rt, folder.as_str()) {
-        let _ = eprintln!(rt; "pasis_store: {folder}: {error}");
-        return FAILED;
+        return Ok(failed(rt, folder.as_str(), error));
     }
-    match renewed(rt, threads, node, without_slashes(folder.as_str()), folders) {
-        Ok(()) => match scrub(rt, threads, folders) {
-            DONE => MENDED,
-            status => status,
+    let folder = without_slashes(folder.as_str());
+    match renewed(rt, threads, number, folder, folders)? {
+        Status::Done => match scrub(rt, threads, folders)? {
+            Status::Done => Ok(Status::Mended),
+            status => Ok(status),
         },
-        Err(status) => status,
+        status => Ok(status),
     }
+}
+
+// Tells what the system said of a path.
+fn failed(rt: &HostRuntime, path: &str, error: io::Error) -> Status {
+    let _ = eprintln!(rt; "pasis_store: {path}: {error}");
+    Status::Failed
 }
 
 // A directory that a new one may take the place of: it is empty, or isn't there.
@@ -60,11 +73,11 @@ fn renewed<T: Threads + Sync>(
     number: u8,
     folder: &str,
     folders: &[String],
-) -> Result<(), u8> {
+) -> Result<Status, Refusal> {
     let Nodes { mut store, id, .. } = open_well(rt, folders)?;
     let config = *store.config();
     let Ok(beside) = format!(in rt.alloc(); "{folder}.new") else {
-        return Err(no_memory(rt));
+        return Err(Refusal::NoMemory);
     };
     // What an earlier call left there, if it was cut off, is taken away.
     unmake(rt, beside.as_str(), true);
@@ -74,20 +87,26 @@ fn renewed<T: Threads + Sync>(
         id,
     };
     if let Err(error) = make(rt, beside.as_str(), &membership) {
-        let _ = eprintln!(rt; "pasis_store: {beside}: {error}");
-        return Err(FAILED);
+        return Ok(failed(rt, beside.as_str(), error));
     }
-    let status = filled(rt, threads, number, beside.as_str(), &mut store);
-    if status != DONE {
+    let filled = filled(rt, threads, number, beside.as_str(), &mut store);
+    if !matches!(filled, Ok(Status::Done)) {
         unmake(rt, beside.as_str(), true);
-        return Err(status);
+        return filled;
     }
-    match fs::rename(rt, beside.as_str(), folder) {
-        Ok(()) => Ok(sync_parent(rt, folder)),
+    Ok(put_in_place(rt, beside.as_str(), folder))
+}
+
+// Puts a directory in the place of another one, which is empty or isn't there.
+fn put_in_place(rt: &HostRuntime, beside: &str, folder: &str) -> Status {
+    match fs::rename(rt, beside, folder) {
+        Ok(()) => {
+            sync_parent(rt, folder);
+            Status::Done
+        }
         Err(error) => {
-            let _ = eprintln!(rt; "pasis_store: {folder}: {error}");
-            unmake(rt, beside.as_str(), true);
-            Err(FAILED)
+            unmake(rt, beside, true);
+            failed(rt, folder, error)
         }
     }
 }
@@ -103,30 +122,23 @@ fn sync_parent(rt: &HostRuntime, path: &str) {
     }
 }
 
-// Fills the new directory of a node. Gives the status to end with.
+// Fills the new directory of a node.
 fn filled<T: Threads + Sync>(
     rt: &HostRuntime,
     threads: &T,
     number: u8,
     folder: &str,
     store: &mut FileStore,
-) -> u8 {
+) -> Result<Status, Refusal> {
     let disk = match open_journal(rt, folder) {
         Ok(disk) => disk,
         Err(why) => {
             let _ = eprintln!(rt; "pasis_store: {folder}: {why}");
-            return FAILED;
+            return Ok(Status::Failed);
         }
     };
-    match fill_disk(threads, rt.alloc(), store, number, disk) {
-        Ok(filled) if filled.missed == 0 => DONE,
-        Ok(filled) => {
-            let _ = eprintln!(rt;
-                "pasis_store: {} blocks couldn't be read or kept",
-                filled.missed
-            );
-            TOO_FEW
-        }
-        Err(NoMemory) => no_memory(rt),
+    match fill_disk(threads, rt.alloc(), store, number, disk)?.missed {
+        0 => Ok(Status::Done),
+        blocks => Err(Refusal::Unread { blocks }),
     }
 }

@@ -1,56 +1,44 @@
 use crate::compacting::compact_due;
 use crate::folder::FileStore;
 use crate::groups::{Group, group_count, group_of};
-use crate::opening::{no_memory, open_store};
-use crate::{DONE, FAILED, MENDED, TOO_FEW};
+use crate::opening::open_store;
 use lists::NoMemory;
-use std::io;
+use std::alloc::Global;
 use std::thread::Threads;
 use store_care::{Care, NodeTally, prune_due};
+use store_words::{Found, JournalBytes, Refusal, ScrubLine, Status, write_scrubbed};
 
 /// How many versions a node keeps of a block that isn't pruned: the first, and one more.
 const MOST_VERSIONS: usize = 2;
 
 /// Reads every block, restores every node that is up, prunes and compacts, and tells of each node what was found.
-pub fn scrub<T: Threads + Sync>(rt: &HostRuntime, threads: &T, folders: &[String]) -> u8 {
-    match open_store(rt, folders) {
-        Ok(mut store) => scrub_store(rt, threads, folders, &mut store),
-        Err(status) => status,
-    }
-}
-
-fn scrub_store<T: Threads + Sync>(
+pub fn scrub<T: Threads + Sync>(
     rt: &HostRuntime,
     threads: &T,
     folders: &[String],
-    store: &mut FileStore,
-) -> u8 {
-    let looked = lens(rt, store).and_then(|before| Ok((before, look_at_all(rt, threads, store)?)));
-    let (before, care) = match looked {
-        Ok(looked) => looked,
-        Err(NoMemory) => return no_memory(rt),
-    };
-    compact_due(rt, folders, store);
-    if tell_all(rt, store, &before, &care).is_err() {
-        return FAILED;
+) -> Result<Status, Refusal> {
+    let mut store = open_store(rt, folders)?;
+    let before = lens(rt.alloc(), &store)?;
+    let care = look_at_all(rt, threads, &mut store)?;
+    compact_due(rt, folders, &mut store);
+    let lines = lines_of(rt.alloc(), &mut store, &before, &care)?;
+    if write_scrubbed(&mut rt.stdout(), &lines).is_err() {
+        return Ok(Status::Failed);
     }
-    if care.failed > 0 {
-        let _ = eprintln!(rt;
-            "pasis_store: {} blocks couldn't be read or written again",
-            care.failed
-        );
-        return TOO_FEW;
-    }
-    if care.tallies.iter().any(|tally| tally.is_lacking()) {
-        MENDED
-    } else {
-        DONE
+    match care.failed {
+        0 => Ok(Status::of_scrub(is_lacking(&care.tallies))),
+        blocks => Err(Refusal::Unread { blocks }),
     }
 }
 
+// Whether some node didn't hold what was read.
+fn is_lacking(tallies: &[NodeTally]) -> bool {
+    tallies.iter().any(|tally| tally.is_lacking())
+}
+
 // How long each node's journal is; 0 where none sits there.
-fn lens(rt: &HostRuntime, store: &FileStore) -> Result<Vec<u64>, NoMemory> {
-    let mut lens = Vec::new(rt.alloc());
+fn lens(alloc: Global, store: &FileStore) -> Result<Vec<u64>, NoMemory> {
+    let mut lens = Vec::new(alloc);
     for seat in 0..store.config().n() as usize {
         lens.push(len(store, seat))?;
     }
@@ -96,39 +84,32 @@ fn look_at<T: Threads + Sync>(
     Ok(())
 }
 
-fn tell_all(
-    rt: &HostRuntime,
+// A line for each node.
+fn lines_of(
+    alloc: Global,
     store: &mut FileStore,
     before: &[u64],
     care: &Care,
-) -> io::Result<()> {
-    for (seat, tally) in care.tallies.iter().enumerate() {
-        if store.is_up(seat) {
-            let after = len(store, seat);
-            tell(
-                rt,
-                seat,
-                tally,
-                before.get(seat).copied().unwrap_or(0),
-                after,
-            )?;
-        } else {
-            println!(rt; "node {seat} down")?;
-        }
+) -> Result<Vec<ScrubLine>, NoMemory> {
+    let mut lines = Vec::new(alloc);
+    for (node, tally) in care.tallies.iter().enumerate() {
+        let was = before.get(node).copied().unwrap_or(0);
+        lines.push(line_of(store, node, was, tally))?;
     }
-    Ok(())
+    Ok(lines)
 }
 
-fn tell(
-    rt: &HostRuntime,
-    seat: usize,
-    tally: &NodeTally,
-    before: u64,
-    after: u64,
-) -> io::Result<()> {
-    let stale = tally.older;
-    println!(rt;
-        "node {seat} up {stale} stale, {} false, {} unfinished, {} restored, {before} bytes before, {after} after",
-        tally.wrong, tally.newer, tally.restored
-    )
+fn line_of(store: &mut FileStore, node: usize, was: u64, tally: &NodeTally) -> ScrubLine {
+    if !store.is_up(node) {
+        return ScrubLine::Down { node };
+    }
+    let found = Found {
+        stale: tally.older,
+        wrong: tally.wrong,
+        unfinished: tally.newer,
+        restored: tally.restored,
+    };
+    let is = len(store, node);
+    let bytes = JournalBytes { was, is };
+    ScrubLine::Up { node, found, bytes }
 }

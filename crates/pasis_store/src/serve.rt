@@ -1,24 +1,25 @@
 use crate::folder::FileStore;
 use crate::opening::open_store;
 use crate::upkeep::Upkeep;
-use crate::{DONE, FAILED};
 use outside_io::{Sink, Source, StdSink, StdSource};
 use std::thread::Threads;
 use store_front::{Session, SessionEnd};
+use store_words::{Refusal, Status};
 
 /// Serves the device over standard input and output.
-pub fn serve<T: Threads + Sync>(rt: &HostRuntime, threads: &T, folders: &[String]) -> u8 {
-    let mut store = match open_store(rt, folders) {
-        Ok(store) => store,
-        Err(status) => return status,
-    };
+pub fn serve<T: Threads + Sync>(
+    rt: &HostRuntime,
+    threads: &T,
+    folders: &[String],
+) -> Result<Status, Refusal> {
+    let mut store = open_store(rt, folders)?;
     let mut source = StdSource::new(rt.stdin());
     let mut sink = StdSink::new(rt.stdout());
     match serve_store(rt, threads, folders, &mut store, &mut source, &mut sink) {
-        Ok(()) => DONE,
+        Ok(()) => Ok(Status::Done),
         Err(end) => {
             let _ = eprintln!(rt; "pasis_store: {}", told(&end));
-            FAILED
+            Ok(Status::Failed)
         }
     }
 }

@@ -1,59 +1,57 @@
 ghost use Rattle.std.specs.Prelude.{◌≡◌};
 
-use crate::down::Down;
 use crate::folder::FileStore;
 use crate::nodes::Nodes;
-use crate::opening::{count_down, found_nodes, no_memory};
-use crate::{DONE, FAILED, MENDED, TOO_FEW};
+use crate::opening::{count_down, found_nodes};
 use lists::NoMemory;
-use std::io;
+use std::alloc::Global;
 use store_care::later_versions;
+use store_words::{Down, NodeLine, Refusal, Status, write_nodes};
 
 /// Tells of each node whether it is up.
-pub fn status(rt: &HostRuntime, folders: &[String]) -> u8 {
-    match found_nodes(rt, folders) {
-        Ok(nodes) => tell_all(rt, nodes),
-        Err(status) => status,
-    }
-}
-
-fn tell_all(rt: &HostRuntime, nodes: Nodes) -> u8 {
+pub fn status(rt: &HostRuntime, folders: &[String]) -> Result<Status, Refusal> {
     let Nodes {
         mut store,
         down,
         ..
-    } = nodes;
-    for (seat, why) in down.iter().enumerate() {
-        let versions = match later_versions(&mut store, seat) {
-            Ok(versions) => versions,
-            Err(NoMemory) => return no_memory(rt),
-        };
-        if tell(rt, &store, seat, versions, why).is_err() {
-            return FAILED;
-        }
-    }
-    match count_down(&down) {
-        0 => DONE,
-        count if count <= u64::from(store.config().t()) => MENDED,
-        _ => TOO_FEW,
+    } = found_nodes(rt, folders)?;
+    let lines = lines_of(rt.alloc(), &mut store, &down)?;
+    match write_nodes(&mut rt.stdout(), &lines) {
+        Ok(()) => Ok(Status::of_down(count_down(&down), store.config().t())),
+        Err(_) => Ok(Status::Failed),
     }
 }
 
-fn tell(
-    rt: &HostRuntime,
-    store: &FileStore,
-    seat: usize,
-    versions: u64,
-    why: &Option<Down>,
-) -> io::Result<()> {
-    match (why, store.node(seat)) {
-        (None, Some(node)) => {
-            println!(rt;
-                "node {seat} up {versions} versions, {} bytes",
-                node.journal_len().now
-            )
-        }
-        (Some(why), _) => println!(rt; "node {seat} down: {why}"),
-        (None, None) => println!(rt; "node {seat} down: {}", Down::Gone),
+// A line for each node.
+fn lines_of(
+    alloc: Global,
+    store: &mut FileStore,
+    down: &[Option<Down>],
+) -> Result<Vec<NodeLine>, NoMemory>
+    ensures { store.new ≡ store.old }
+{
+    let mut lines = Vec::new(alloc);
+    for (node, why) in down.iter().enumerate() {
+        lines.push(line_of(store, node, *why)?)?;
+    }
+    Ok(lines)
+}
+
+// The line of a node that is down for this reason, or for none.
+fn line_of(store: &mut FileStore, node: usize, why: Option<Down>) -> Result<NodeLine, NoMemory>
+    ensures { store.new ≡ store.old }
+{
+    let versions = later_versions(store, node)?;
+    match (why, store.node(node)) {
+        (Some(why), _) => Ok(NodeLine::Down { node, why }),
+        (None, Some(seated)) => Ok(NodeLine::Up {
+            node,
+            versions,
+            bytes: seated.journal_len().now,
+        }),
+        (None, None) => Ok(NodeLine::Down {
+            node,
+            why: Down::Gone,
+        }),
     }
 }

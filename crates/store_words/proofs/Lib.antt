@@ -1,0 +1,3 @@
+pub mod Spelled
+pub mod Exact
+pub mod Told
