@@ -1,1 +1,2 @@
+mod Pruning
 mod Rising

@@ -17,6 +17,14 @@ use std::thread::{Threads, for_each_mut};
 use version_disk::{OpenRefusal, Prune, StoredNode};
 
 impl<D: Disk> Store<D> {
+    /// From now on the nodes write in so many threads at once at most, and not each in a thread of its own. On disks whose syncs take no time
+    /// one is best.
+    pub fn set_threads(&mut self, threads: usize)
+        ensures { self.new ≡ self.old }
+    {
+        self.threads = threads;
+    }
+
     /// The cluster's numbers.
     pub fn config(&self) -> &Config
         ensures { result.now ≡ self.now.config }
@@ -53,8 +61,7 @@ impl<D: Disk> Store<D> {
         self.seats.get_mut(seat)?.node.take()
     }
 
-    /// Has each node that is up prune blocks, each by a stamp that a read of it gave, while nothing is under way; the nodes at once, each in a
-    /// thread of its own. One that finds no memory or no room for that stays as it is.
+    /// Has each node that is up prune blocks, each by a stamp that a read of it gave, while nothing is under way; the nodes at once. One that finds no memory or no room for that stays as it is.
     pub fn prune_all<R: Threads + Sync>(&mut self, rt: &R, prunes: &[Prune])
     where
         D: Send,
@@ -66,8 +73,8 @@ impl<D: Disk> Store<D> {
         // block's prune leaves of that. A node that isn't up stays as it is.
         ensures pruned { HasPruned D.pending D.seen D.moment D.left_since prunes.now self.old self.new }
     {
-        let Store { seats, .. } = self;
-        prune_each(rt, seats, prunes);
+        let Store { seats, threads, .. } = self;
+        prune_each(rt, *threads, seats, prunes);
     }
 }
 
@@ -123,8 +130,13 @@ fn nobody<D: Disk + Drop>(
     Ok(nodes)
 }
 
-/// Has each node that is up prune the blocks.
-fn prune_each<D: Disk + Send, R: Threads + Sync>(rt: &R, seats: &mut [Seat<D>], prunes: &[Prune])
+/// Has each node that is up prune the blocks, in so many threads at most.
+fn prune_each<D: Disk + Send, R: Threads + Sync>(
+    rt: &R,
+    threads: usize,
+    seats: &mut [Seat<D>],
+    prunes: &[Prune],
+)
     requires blocks { (i : ℕ) (d : _) → i < length seats.old
         → HasBlocks prunes.now (slice_index_or seats.old i d).node }
     ensures count { length seats.new ≡ length seats.old }
@@ -132,14 +144,10 @@ fn prune_each<D: Disk + Send, R: Threads + Sync>(rt: &R, seats: &mut [Seat<D>], 
         → TriesIn D.pending D.seen prunes.now D.moment D.left_since
         (slice_index_or seats.old i d).node (slice_index_or seats.new i d).node }
 {
-    let threads = seats.len();
-    if threads == 0 {
-        return;
-    }
     for_each_mut(
         rt,
         seats,
-        threads,
+        threads.max(1),
         &|_: usize, seat: &mut Seat<D>|
             requires { HasBlocks prunes.now seat.old.node }
             ensures { TriesIn D.pending D.seen prunes.entry.now D.moment D.left_since
