@@ -22,7 +22,7 @@ use Rattle.block_lives.specs.Lives.{Turn as BlockTurn, Takes as TakesThere, Take
 use Rattle.block_lives.specs.Lives.Turn.{Pruned as PrunedThere}
 use Rattle.store_device.specs.Stores.{Nodes}
 use Rattle.store_device.specs.Told.{AreDone, cluster, kept_of}
-use Rattle.store_device.specs.Lives.{Turn, Moment, turn_of, batch_on, turn_on, moment_on, life_on, prunable_after, first_nodes, prune_on, IsPruned, ArePruned, Takes, TakesAll, IsLife}
+use Rattle.store_device.specs.Lives.{Turn, Moment, turn_of, batch_on, turn_on, moment_on, life_on, prunable_after, first_nodes, prune_on, IsPruned, Takes, TakesAll, IsLife}
 use Rattle.store_device.specs.Lives.Turn.{Performed, Pruned, Changed}
 
 shorter : {X Y : Type 0} (f : X → Option Y) (xs : List X) → length (filter_map f xs) ≤ length xs

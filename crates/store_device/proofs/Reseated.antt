@@ -8,12 +8,11 @@ use Rattle.std.proofs.lemmas.List.{length-set, length-map, length-replicate, map
 use Rattle.std.proofs.Math.Seq.{take-append_seam}
 use Rattle.lists.proofs.lemmas.Members.{at_place, all_of}
 use Rattle.quorum_rules.specs.Limits.{Numbers, IsValid}
-use Rattle.stamp_order.specs.declared.Stamp.{Stamp}
 use Rattle.protocol.specs.Messages.{Version}
 use Rattle.protocol.specs.Nodes.{pruned}
 use Rattle.protocol.specs.Instance.{setting}
 use Rattle.disk_model.specs.Crash.{Pending, MayLeave}
-use Rattle.node_core.specs.Seen.{SeenNode, versions_in, with_versions}
+use Rattle.node_core.specs.Seen.{SeenNode, versions_in}
 use Rattle.version_disk.specs.Held.{held}
 use Rattle.version_disk.specs.Stored.{Stored}
 use Rattle.version_disk.specs.Deeds.{Prunes, after_deed, after_deeds, pruning}
