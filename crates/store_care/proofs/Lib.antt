@@ -1,2 +1,2 @@
-mod Pruning
+mod PrunedBlocks
 mod Rising

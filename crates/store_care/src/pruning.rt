@@ -1,6 +1,6 @@
-ghost use Rattle.std.specs.Prelude.{◌≡◌, ◌+◌, ◌-◌, ◌≤◌, ◌<◌, length, IfOk, OnOk};
+ghost use Rattle.std.specs.Prelude.{◌≡◌, ◌+◌, ◌-◌, ◌≤◌, ◌<◌, ◌++◌, length, option_map, IfOk, OnOk};
 ghost use Rattle.store_care.specs.Batches.{AreBelow};
-ghost use Rattle.store_care.specs.Prunes.{prunes_by};
+ghost use Rattle.store_care.specs.Prunes.{prune_at, prunes_by};
 
 use crate::blocks::{add, block_of};
 use client_core::Outcome;
@@ -43,14 +43,32 @@ fn prunes_by(
 {
     let mut prunes = Vec::new(alloc);
     for (k, op) in reads.iter().enumerate() {
-        if let Some(Some(Outcome::Gave { stamp, .. })) = outcomes.get(k) {
+        add_prune(&mut prunes, op, outcomes.get(k))?;
+    }
+    Ok(prunes)
+}
+
+// Adds the prune that a read allows which ended so, if that is known.
+fn add_prune(
+    prunes: &mut Vec<Prune>,
+    op: &Op,
+    outcome: Option<&Option<Outcome>>,
+) -> Result<(), NoMemory>
+    ensures { OnOk result (prunes.new.items ≡ prunes.old.items
+        ++ prune_at op.now (option_map (λ o. o.now) outcome.entry)) }
+{
+    match outcome {
+        Some(Some(Outcome::Gave { stamp, .. })) => {
             prunes.push(Prune {
                 block: block_of(op),
                 stamp: *stamp,
             })?;
+            Ok(())
+        }
+        Some(Some(Outcome::Wrote(_) | Outcome::Spent | Outcome::Outvoted(_)) | None) | None => {
+            Ok(())
         }
     }
-    Ok(prunes)
 }
 
 // Reads of those of the blocks of which some node that is up keeps more than so many versions.

@@ -419,12 +419,7 @@ fn note(failing: &mut [Option<u32>], node: u32, call: u32) {
 }
 
 // The prunes of these blocks, by the stamps that reads gave.
-fn prunes_of(
-    alloc: Global,
-    blocks: &[Block],
-    first: u32,
-    end: u32,
-) -> Result<Vec<Prune>, NoMemory>
+fn prunes_of(alloc: Global, blocks: &[Block], first: u32, end: u32) -> Result<Vec<Prune>, NoMemory>
     ensures there { IfOk result (λ prunes. All (λ p. p.block < end) prunes.items) }
     ensures apart { IfOk result (λ prunes. ArePrunesApart prunes.items) }
 {
