@@ -28,6 +28,7 @@ const MOST_PHASES: u64 = 1_000_000;
 pub(crate) fn go_on<D: Disk + Send, R: Threads + Sync>(
     rt: &R,
     alloc: Global,
+    threads: usize,
     seats: &mut [Seat<D>],
     batch: &mut Batch,
     asks: Asks,
@@ -48,7 +49,7 @@ pub(crate) fn go_on<D: Disk + Send, R: Threads + Sync>(
     operations();
     let mut asks = asks;
     while batch.asking() > 0 && batch.phases() < MOST_PHASES {
-        asks = go_through(rt, alloc, seats, batch, asks)?;
+        asks = go_through(rt, alloc, threads, seats, batch, asks)?;
     }
     Ok(())
 }
@@ -57,6 +58,7 @@ pub(crate) fn go_on<D: Disk + Send, R: Threads + Sync>(
 fn go_through<D: Disk + Send, R: Threads + Sync>(
     rt: &R,
     alloc: Global,
+    threads: usize,
     seats: &mut [Seat<D>],
     batch: &mut Batch,
     asks: Asks,
@@ -79,7 +81,7 @@ fn go_through<D: Disk + Send, R: Threads + Sync>(
         (map (λ a. a.items) asks.items)) }
 {
     hand_out(seats, asks);
-    work(rt, seats);
+    work(rt, threads, seats);
     let answers = gather(alloc, seats)?;
     batch.hear(answers)
 }
@@ -88,6 +90,7 @@ fn go_through<D: Disk + Send, R: Threads + Sync>(
 pub(crate) fn carry_out<D: Disk + Send, R: Threads + Sync>(
     rt: &R,
     alloc: Global,
+    threads: usize,
     config: &Config,
     idle: &Client,
     seats: &mut [Seat<D>],
@@ -110,6 +113,6 @@ pub(crate) fn carry_out<D: Disk + Send, R: Threads + Sync>(
     operations();
     form_ops(config, ops);
     let (mut batch, asks) = Batch::begin(alloc, config, idle, ops)?;
-    go_on(rt, alloc, seats, &mut batch, asks)?;
+    go_on(rt, alloc, threads, seats, &mut batch, asks)?;
     batch.into_ends()
 }
