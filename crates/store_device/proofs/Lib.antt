@@ -15,3 +15,5 @@ pub mod LifeLaws
 pub mod LifeReads
 pub mod LifeCalls
 pub mod Calling
+pub mod Rooms
+pub mod Coming

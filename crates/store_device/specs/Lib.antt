@@ -5,3 +5,4 @@ pub mod Working
 pub mod Lives
 pub mod Seating
 pub mod Calls
+pub mod Answered

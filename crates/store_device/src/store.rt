@@ -1,4 +1,5 @@
-ghost use Rattle.std.specs.Prelude.{◌≡◌, ◌≤◌, All, length, IfOk};
+ghost use Rattle.std.specs.Prelude.{◌≡◌, ◌≤◌, true, is_some, All, length, IfOk};
+ghost use Rattle.std.specs.List.{AllByRecursion};
 ghost use Rattle.std.specs.Option.{option_map};
 ghost use Rattle.std.specs.Result.{result_ok};
 ghost use Rattle.wire_forms.specs.Ops.{Fits};
@@ -6,6 +7,7 @@ ghost use Rattle.store_device.specs.Stores.{IsStore};
 ghost use Rattle.store_device.specs.Told.{AreApart};
 ghost use Rattle.store_device.specs.Going.{store_of};
 ghost use Rattle.store_device.specs.Calls.{HasPerformed};
+ghost use Rattle.store_device.specs.Answered.{AreFew, IsEnough};
 
 use crate::phase::carry_out;
 use crate::seat::{Seat, seat_all};
@@ -74,7 +76,8 @@ impl<D: Disk> Store<D> {
 
     /// Reads and writes blocks, each by a client of its own, in step: in each phase the nodes that write do so at once, in threads.
     /// Gives how each operation ended, in order; None where too few nodes answered, or where it had not ended after a million phases:
-    /// then a write may have taken place or not. So it may where no memory was found, and then nothing is told of any of them.
+    /// then a write may have taken place or not. So it may where no memory was found, by the caller or by a node that is up, and then
+    /// nothing is told of any of them.
     pub fn perform<R: Threads + Sync>(
         &mut self,
         rt: &R,
@@ -89,6 +92,11 @@ impl<D: Disk> Store<D> {
         // told; the store is still one of its cluster, on disks that have what its nodes keep.
         ensures performed { HasPerformed D.pending D.seen D.moment D.left_since ops.now
             (option_map (λ outcomes. outcomes.items) (result_ok result)) self.old self.new }
+        // Where at least n-t nodes are up then and have room for a slot for each operation, and nodes keep fewer than some 499,000 versions
+        // of each block, every operation came to its end.
+        ensures answered { IfOk result (λ outcomes. AreFew self.old ops.now
+            → IsEnough D.seen D.most (length ops.now) self.new
+            → AllByRecursion (λ outcome. is_some outcome ≡ true) outcomes.items) }
         ensures config { self.new.config ≡ self.old.config }
     {
         let Store {
