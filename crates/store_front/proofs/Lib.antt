@@ -1,4 +1,10 @@
+pub mod Answering
+pub mod Asking
+pub mod Hearing
 pub mod Reaching
 pub mod Replying
 pub mod Rounding
+pub mod Serving
+pub mod Touching
 pub mod Valuing
+pub mod Waiting
