@@ -4,3 +4,4 @@ pub mod Told
 pub mod Working
 pub mod Lives
 pub mod Seating
+pub mod Calls
