@@ -8,7 +8,7 @@ use Rattle.quorum_rules.specs.Limits.{Numbers}
 use Rattle.nbd_front.specs.Sessions.{IsRequest}
 use Rattle.store_device.specs.Stores.{SeenStore}
 use Rattle.store_front.specs.declared.round.Asked.{Asked}
-use Rattle.store_front.specs.Calls.{Call, Leads}
+use Rattle.store_device.specs.Calls.{Call, Leads}
 use Rattle.store_front.specs.Asking.{asked_in, told_in, IsFront}
 use Rattle.store_front.specs.Rounds.{AreSeparate, AreTogether, Exchange, IsExchange, IsBegun, IsAsked, calls_of, bytes_of, requests_of, reads_for, writes_for}
 use Rattle.store_front.specs.Values.{given_by, wrote_by, value_at, is_in, found_in, written_in}

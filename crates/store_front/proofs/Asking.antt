@@ -1,6 +1,7 @@
 -- Calls of a store that go on, and what they asked.
-use Rattle.std.proofs.Common.{◌≡◌, ◌<◌, ℕ, ◌+◌, ◌-◌, ◌≤◌, ⊤, List, [], ◌∷◌, ◌++◌, length, take, drop, map, refl, sym, ap, ◌∙◌, subst, arith, Option, Some, None, append_assoc, take-append-drop}
-use Rattle.std.specs.List.{AllByRecursion, flat_map, zip, slice_range}
+use Rattle.std.proofs.Common.{◌≡◌, ◌<◌, ℕ, ◌+◌, ◌-◌, ◌≤◌, List, [], ◌∷◌, ◌++◌, length, take, drop, map, refl, sym, ap, ◌∙◌, subst, arith, Option, Some, None, append_assoc, take-append-drop}
+use Rattle.std.specs.Bool.{⊤}
+use Rattle.std.specs.List.{AllByRecursion, flat_map, zip}
 use Rattle.std.proofs.lemmas.List.{append-nil, take_all}
 use Rattle.std.proofs.lemmas.Grind.{flat_map-append}
 use Rattle.std.proofs.Math.Seq.{take-add, take-length}
@@ -10,8 +11,8 @@ use Rattle.wire_forms.specs.declared.op.Op.{Op}
 use Rattle.wire_forms.specs.declared.op.Op.TheVariants.{Read, Write}
 use Rattle.protocol.specs.Operations.{Outcome}
 use Rattle.store_device.specs.Stores.{SeenStore}
-use Rattle.store_front.specs.Calls.{Deed, Call, IsCall, Leads}
-use Rattle.store_front.specs.Calls.Deed.{Performs, Prunes}
+use Rattle.store_device.specs.Calls.{Deed, Call, IsCall, Leads}
+use Rattle.store_device.specs.Calls.Deed.{Performs, Prunes}
 use Rattle.store_front.specs.Asking.{asked_by, told_by, asked_in, told_in, IsFront}
 use Rattle.store_front.specs.Values.{found_with, written_with, found_in, written_in, write_of}
 

@@ -1,5 +1,6 @@
 pub mod Answering
 pub mod Asking
+pub mod Ending
 pub mod Hearing
 pub mod Reaching
 pub mod Replying

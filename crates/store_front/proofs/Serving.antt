@@ -15,9 +15,9 @@ use Rattle.nbd_front.specs.Sessions.{IsRequest, HasTaken, end_as}
 use Rattle.nbd_front.specs.declared.ending.SessionEnd.{SessionEnd}
 use Rattle.nbd_front.specs.declared.ending.SessionEnd.TheVariants.{NoMemory, ReadFault, WriteFault, BadMagic, CutRequest, TooManyRequests}
 use Rattle.store_device.specs.Stores.{SeenStore}
-use Rattle.store_front.specs.Calls.{Leads}
+use Rattle.store_device.specs.Calls.{Leads}
 use Rattle.store_front.specs.Asking.{IsFront}
-use Rattle.store_front.specs.Rounds.{Exchange, IsExchange, calls_of, reads_for, writes_for}
+use Rattle.store_front.specs.Rounds.{Exchange, IsExchange, IsBegun, calls_of, reads_for, writes_for}
 use Rattle.store_front.specs.Values.{given_by}
 use Rattle.store_front.specs.Replies.{text_of, IsDone, IsCutOff, ServesRound}
 use Rattle.store_front.specs.Sessions.{told_place, requests_in, calls_in, replies_in, HasReadOn, HasLost, EndsWait, IsEnd, IsSession}
@@ -80,6 +80,32 @@ module _ {D : Type 0} (pending : D → Pending) (seen : D → List ℕ) (moment 
       calls = refl;
     },
   )
+
+  -- ---- one round
+  module _ (input : List ℕ) (old new : SeenStore D) (requests : List (List ℕ)) (len : ℕ) (fits : len ≤ length input) (front : take len input ≡ concat requests) where
+    -- memory was wanting for it
+    pub begun_cut : (round : Exchange D) → round.requests ≡ requests → IsBegun c round → Leads pending seen moment left_since old (calls_of round) new
+        → IsCutOff pending seen moment left_since c input old new round
+    begun_cut round same is calls = record {
+      is = is;
+      front = (drop len input, sym (take-append-drop len input) ∙ ap (λ z. z ++ drop len input) (front ∙ ap concat (sym same)));
+      calls = calls;
+    }
+
+    -- it was done
+    pub all_done : (round : Exchange D) → round.requests ≡ requests → IsExchange c round → Leads pending seen moment left_since old (calls_of round) new
+        → IsDone pending seen moment left_since c input len old new round
+    all_done round same is calls = record { is = is; fits = fits; front = front ∙ ap concat (sym same); calls = calls }
+
+  module _ (input : List ℕ) (old new : SeenStore D) (taken taken_after : Option (List ℕ)) (result : Result ℕ SessionEnd) where
+    abbrev Serves : Type 0
+    Serves = ServesRound pending seen moment left_since c input old new taken taken_after result
+
+    pub no_memory : result ≡ Err NoMemory → (round : Exchange D) → IsCutOff pending seen moment left_since c input old new round → taken_after ≡ taken → Serves
+    no_memory is round cut same = rw is (round, cut, adds_same taken taken taken_after [] (adds_none taken) same)
+
+    pub no_sink : result ≡ Err WriteFault → (round : Exchange D) (len : ℕ) → IsDone pending seen moment left_since c input len old new round → TakesPrefix taken taken_after (text_of c round) → Serves
+    no_sink is round len done prefix = rw is (round, len, done, prefix)
 
   -- what a session has come to after rounds
   pub record HasServed (old now : SeenStore D) (count place : ℕ) (input : List ℕ) (left left_now taken taken_now : Option (List ℕ)) : Type 0 where

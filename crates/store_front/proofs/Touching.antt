@@ -83,7 +83,7 @@ touched_still c old new r more h k there = (knows_still old new r.kind k more (h
 
 -- ---- what a request touches
 nothing_below : (k : ℕ) → (nat_le 0 k && nat_lt k 0) ≡ true → ⊥
-nothing_below k h = let l = ltb-true k 0 (and_parts _ _ h).1 in omega (arith, l)
+nothing_below k h = let l : k < 0 = ltb-true k 0 (and_parts (nat_le 0 k) (nat_lt k 0) h).1 in omega (arith, l)
 
 pub touches_low : (c : Numbers) (r : Request) (k : ℕ) → touches c r k ≡ true → r.kind ≤ 1
 touches_low c r k h = by_served (is_served c r) refl

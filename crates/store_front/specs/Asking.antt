@@ -6,8 +6,8 @@ use Rattle.disk_model.specs.Crash.{Pending}
 use Rattle.wire_forms.specs.declared.op.Op.{Op}
 use Rattle.protocol.specs.Operations.{Outcome}
 use Rattle.store_device.specs.Stores.{SeenStore}
-use Rattle.store_front.specs.Calls.{Deed, Call, Leads}
-use Rattle.store_front.specs.Calls.Deed.{Performs, Prunes}
+use Rattle.store_device.specs.Calls.{Deed, Call, Leads}
+use Rattle.store_device.specs.Calls.Deed.{Performs, Prunes}
 
 -- the operations that the store was asked to perform in a call
 abbrev pub asked_by : Deed → List Op

@@ -1,6 +1,5 @@
 pub mod Asking
 pub mod Blocks
-pub mod Calls
 pub mod Inputs
 pub mod Replies
 pub mod Rounds

@@ -12,7 +12,7 @@ use Rattle.nbd_front.specs.Sessions.{read_kind}
 use Rattle.nbd_front.specs.declared.ending.SessionEnd.{SessionEnd}
 use Rattle.nbd_front.specs.declared.ending.SessionEnd.TheVariants.{NoMemory, ReadFault, WriteFault, BadMagic, CutRequest, TooManyRequests}
 use Rattle.store_device.specs.Stores.{SeenStore}
-use Rattle.store_front.specs.Calls.{Leads}
+use Rattle.store_device.specs.Calls.{Leads}
 use Rattle.store_front.specs.Asking.{IsFront}
 use Rattle.store_front.specs.Blocks.{blocks_of, piece_of}
 use Rattle.store_front.specs.Rounds.{Exchange, IsExchange, IsBegun, calls_of}

@@ -15,7 +15,7 @@ use Rattle.nbd_front.specs.Sessions.{read_kind, IsRequest}
 use Rattle.store_front.specs.declared.round.Asked.{Asked}
 use Rattle.store_front.specs.declared.round.Round.{Round}
 use Rattle.store_front.specs.Blocks.{blocks_of, piece_of, touches}
-use Rattle.store_front.specs.Calls.{Call}
+use Rattle.store_device.specs.Calls.{Call}
 use Rattle.store_front.specs.Asking.{asked_in, IsFront}
 use Rattle.store_front.specs.Values.{given_by, with_values, write_of}
 

@@ -1,7 +1,7 @@
 -- A whole session: the greeting, and then rounds of requests and their replies, by what the store told.
 use Rattle.std.specs.Prelude.{◌≡◌, ◌≢◌, ◌⊎◌, ⊤, ℕ, ◌-◌, ◌*◌, ◌^◌, ◌<◌, ◌≤◌, min, Bool, true, false, List, [], ◌++◌, length, Option, Result, Ok, Err}
 use Rattle.std.specs.Io.KnownBytes.{Consumes, IsAtEnd}
-use Rattle.std.specs.List.{AllByRecursion, concat, flat_map}
+use Rattle.std.specs.List.{All, AllByRecursion, concat, flat_map}
 use Rattle.quorum_rules.specs.Limits.{Numbers}
 use Rattle.disk_model.specs.Crash.{Pending}
 use Rattle.nbd_front.specs.Requests.{request_magic, magic_of}
@@ -10,7 +10,7 @@ use Rattle.nbd_front.specs.Sessions.{IsRequest, IsLeave, IsPart, HasTaken, end_a
 use Rattle.nbd_front.specs.declared.ending.SessionEnd.{SessionEnd}
 use Rattle.nbd_front.specs.declared.ending.SessionEnd.TheVariants.{NoMemory, ReadFault, WriteFault, BadMagic, CutRequest, TooManyRequests}
 use Rattle.store_device.specs.Stores.{SeenStore}
-use Rattle.store_front.specs.Calls.{Call, Leads}
+use Rattle.store_device.specs.Calls.{Call, Leads}
 use Rattle.store_front.specs.Asking.{IsFront}
 use Rattle.store_front.specs.Rounds.{Exchange, IsExchange, calls_of}
 use Rattle.store_front.specs.Replies.{text_of, IsCutOff}
@@ -105,3 +105,23 @@ module _ {D : Type 0} where
       pub calls : Leads pending seen moment left_since old (calls_in rounds) store
       pub left_store : LeavesStore result c rest store new
       pub said : HasTaken (end_as result) (greeting (c.size * c.blocks) ++ replies_in c rounds) taken taken_after
+
+-- ---- what an input says of its end
+
+-- how a session ends that meets no fault and finds memory, by what stands in its input behind whole requests of so many bytes
+abbrev pub IsRest : Result Unit SessionEnd → ℕ → List ℕ → Type 0
+IsRest (Ok done) place rest = BeginsWithLeave rest ⊎ (rest ≡ [])
+IsRest (Err (BadMagic at)) place rest = (at ≡ told_place place) × (4 ≤ length rest) × (magic_of rest ≢ request_magic)
+IsRest (Err (CutRequest at)) place rest = (at ≡ told_place place) × (0 < length rest) × IsPart rest
+IsRest (Err ReadFault) place rest = ⊥
+IsRest (Err WriteFault) place rest = ⊥
+IsRest (Err NoMemory) place rest = ⊥
+IsRest (Err TooManyRequests) place rest = ⊥
+
+-- the input is that of a session that ends so
+pub record EndsSo (result : Result Unit SessionEnd) (input : List ℕ) : Type 0 where
+  pub requests : List (List ℕ)
+  pub rest : List ℕ
+  pub whole : All IsRequest requests
+  pub told : input ≡ concat requests ++ rest
+  pub last : IsRest result (length (concat requests)) rest

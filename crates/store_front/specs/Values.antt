@@ -11,7 +11,7 @@ use Rattle.wire_forms.specs.declared.op.Op.TheVariants.{Read, Write}
 use Rattle.protocol.specs.Operations.{Outcome}
 use Rattle.run_words.specs.declared.outcome.Outcome.TheVariants.{Wrote, Gave}
 use Rattle.quorum_rules.specs.Limits.{Numbers}
-use Rattle.store_front.specs.Calls.{Call}
+use Rattle.store_device.specs.Calls.{Call}
 use Rattle.store_front.specs.Asking.{told_in}
 
 -- a block of the cluster, and a value of its length

@@ -2,7 +2,7 @@
 ghost use Rattle.std.specs.Prelude.{◌≡◌, ◌<◌, All, IfOk, OnErr, List};
 ghost use Rattle.store_front.specs.Rounds.{Exchange, IsAsked, IsBegun, IsExchange, AreSeparate, calls_of, blocks_read, requests_of};
 ghost use Rattle.std.specs.List.{AllPairs};
-ghost use Rattle.store_front.specs.Calls.{Leads};
+ghost use Rattle.store_device.specs.Calls.{Leads};
 ghost use Rattle.store_front.specs.Replies.{text_of};
 
 use crate::operations::{read_blocks, write_blocks};

@@ -8,7 +8,7 @@ ghost use Rattle.std.specs.Option.{option_copied};
 ghost use Rattle.quorum_rules.specs.Limits.{Numbers};
 ghost use Rattle.wire_forms.specs.Ops.{Fits};
 ghost use Rattle.store_device.specs.Told.{AreApart};
-ghost use Rattle.store_front.specs.Calls.{Call, Leads};
+ghost use Rattle.store_device.specs.Calls.{Call, Leads};
 ghost use Rattle.store_front.specs.Asking.{asked_in, told_in, IsFront};
 ghost use Rattle.store_front.specs.Values.{read_of, write_of, AreBlocks, found_with, found_in, written_with, written_in};
 
@@ -196,7 +196,8 @@ pub(crate) fn write_blocks<D: Disk + Send, R: Threads + Sync>(
     requires values { AreBlocks store.old.config values }
     requires blocks { AreBlocks store.old.config done.old.found }
     ensures config { store.new.config ≡ store.old.config }
-    ensures found { OnOk result (done.new.found ≡ done.old.found) }
+    ensures found { OnOk result (done.new.found.entries ≡ done.old.found.entries) }
+    ensures blocks { OnOk result (AreBlocks store.old.config done.new.found) }
     ensures calls { (calls : List (Call D))
         × Leads D.pending D.seen D.moment D.left_since store.old calls store.new
         × IsFront (asked_in calls) (map write_of values.entries)

@@ -103,11 +103,19 @@ impl Touched {
         ensures known { OnOk result (Knows self.new request.now.kind block) }
         ensures count { OnOk result (self.new.count ≡ self.old.count) }
     {
-        let piece = piece_of(config, request, block);
-        let needs = request.kind == READ || piece.to - piece.from < config.size() as usize;
         add_if(&mut self.written, request.kind == WRITE, block)?;
-        add_if(&mut self.read, needs, block)
+        add_if(&mut self.read, needs_read(config, request, block), block)?;
+        Ok(())
     }
+}
+
+/// Whether a block is to be read for a request: it reads it, or writes only a part of it.
+fn needs_read(config: &Config, request: &Request, block: u32) -> bool
+    requires { Reaches config.now request.now block }
+    ensures { result ≡ needs config.now request.now block }
+{
+    let piece = piece_of(config, request, block);
+    request.kind == READ || piece.to - piece.from < config.size() as usize
 }
 
 /// Adds a block to a set where it belongs there.

@@ -1,11 +1,11 @@
 //! A whole session: the greeting, and then rounds of requests and replies.
-ghost use Rattle.std.specs.Prelude.{◌≡◌, ◌≢◌, ◌⊎◌, ◌↔◌, ◌≤◌, ◌<◌, ◌*◌, ◌+◌, [], Ok, Err, true, false, length, drop, IsTrue, OnOk, OnErr, IfOk, IfErr, IsErrOf};
+ghost use Rattle.std.specs.Prelude.{◌≡◌, ◌≢◌, ◌⊎◌, ◌↔◌, ◌≤◌, ◌<◌, ◌*◌, ◌+◌, ℕ, List, [], Some, Result, Ok, Err, true, false, length, drop, IsTrue, OnOk, OnErr, IfOk, IfErr, IsErrOf};
 ghost use Rattle.outside_io.specs.Causes.{Rose};
 ghost use Rattle.outside_io.specs.Written.{Adds, AllFlushed, TakesPrefix};
 ghost use Rattle.nbd_front.specs.Replies.{greeting};
 ghost use Rattle.nbd_front.specs.Sessions.{IsPart};
 ghost use Rattle.store_front.specs.Replies.{ServesRound};
-ghost use Rattle.store_front.specs.Sessions.{EndsWait, IsSession, told_place};
+ghost use Rattle.store_front.specs.Sessions.{EndsSo, EndsWait, IsSession, told_place};
 
 use crate::answer::answer;
 use crate::blocks::device_len;
@@ -130,9 +130,15 @@ pub fn serve<D: Disk + Send, S: Source, K: Sink, R: Threads + Sync>(
     ensures calm_source { result ≢ Err SessionEnd.ReadFault
         → S.faults source.new ≡ S.faults source.old }
     ensures calm_sink { result ≢ Err SessionEnd.WriteFault → K.faults sink.new ≡ K.faults sink.old }
+    // where there is memory, an input that meets no fault is served to its end, and that is how it says
+    ensures complete { (input : List ℕ) (end : Result Unit SessionEnd)
+        → S.left source.old ≡ Some input → EndsSo end input
+        → (Rose S.last (S.faults source.old) (S.faults source.new) → ⊥)
+        → (Rose K.last (K.faults sink.old) (K.faults sink.new) → ⊥)
+        → (result ≡ end) ⊎ ((result ≡ Err SessionEnd.NoMemory) ⊎ (result ≡ Err SessionEnd.TooManyRequests)) }
 {
     let mut session = Session::begin(alloc, store, sink)?;
-    for _ in 0..u64::MAX {
+    for _round in 0..u64::MAX {
         if !session.wait(source)? {
             return Ok(());
         }

@@ -100,7 +100,7 @@ fn value_of(
     requires writes { asked.now.request.kind ≡ write_kind }
     requires old { IfSome old (λ value. length value.now ≡ config.now.size) }
     ensures value { IfOk result (λ value. value
-        ≡ value_after config.now asked.now.bytes.now block (option_copied old)) }
+        ≡ value_after config.now asked.now.bytes.now block (option_copied old.entry)) }
     ensures sized { IfOk result (λ value. IfSome value (λ bytes. length bytes ≡ config.now.size)) }
 {
     let piece = piece_of(config, &asked.request, block);

@@ -1,4 +1,4 @@
-use Rattle.std.proofs.Common.{◌≡◌, ◌-◌, length, sym, ap, subst, arith}
+use Rattle.std.proofs.Common.{◌≡◌, ◌-◌, ◌≤◌, length, sym, ap, subst, arith, Some, None}
 use Rattle.std.specs.List.{All}
 use Rattle.wire_forms.specs.Ops.{Fits}
 use Rattle.quorum_rules.specs.Limits.{Numbers}
@@ -16,3 +16,9 @@ perform-requires-clause-fits g c =
 pub perform-requires-clause-apart : goal.perform-requires-clause-apart
 perform-requires-clause-apart g c =
     λ lifetimes within. apart_slice c.args.ops.now c.loop-at.at c.min.result (omega (arith, c.min.ensures)) c.requires.apart
+
+pub returns-in_err-outcomes-clause-calls : goal.returns-in_err-outcomes-clause-calls
+returns-in_err-outcomes-clause-calls g c = let i = c.loop-at.invariant.gone in ?
+
+pub loop-at-preserved : goal.loop-at-preserved
+loop-at-preserved g c = let i = c.loop-at.invariant.gone in ?

@@ -24,3 +24,13 @@ loop-block-preserved c =
       ];
       count = omega (arith, inv.count, e.count);
     }
+
+pub returns-clause-touched : goal.returns-clause-touched
+returns-clause-touched c =
+    let b = c.blocks_of-blocks.ensures in
+    let inv = c.loop-block.invariant in
+    λ k there.
+    let low = touches_from c.args.config.now c.args.request.now k there in
+    let high = touches_to c.args.config.now c.args.request.now k there in
+    let knows = inv.known k (omega (arith, b.first, low)) (omega (arith, b.end, high, c.loop-block-test.false)) in
+    (record { read = λ e. knows.read e; written = λ e. knows.written e }, omega (arith, b.first, b.end, low, high))
