@@ -17,3 +17,6 @@ mod NewVersions
 mod TurnsAsSteps
 mod ToldOperations
 mod Lives
+mod Storable
+mod SteppingBack
+mod Ending

@@ -4,3 +4,4 @@ pub mod Operating
 pub mod Phases
 pub mod Lives
 pub mod Laws
+pub mod Endings

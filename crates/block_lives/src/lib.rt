@@ -12,6 +12,7 @@ ghost use Rattle.protocol.specs.Laws.{InEachCluster};
 ghost use Rattle.block_lives.specs.Runs.{StepsAreARun, StepsAreLinearizable};
 ghost use Rattle.block_lives.specs.Laws.{OperationsBegin, PhasesGoOn, OperationsAreCutOff};
 ghost use Rattle.block_lives.specs.Laws.{LivesAreLinearizable};
+ghost use Rattle.block_lives.specs.Endings.{OperationsAreAsked, PhasesEnd};
 
 /// Steps that may be taken one after the other are a run of the protocol, with these operations, in which each honest node keeps
 /// what the steps leave.
@@ -45,6 +46,15 @@ pub fn operations()
     ensures go_on { InEachCluster PhasesGoOn }
     ensures cut_off { InEachCluster OperationsAreCutOff }
 {}
+
+/// Operations come to their end. Answers of `n-t` nodes end a phase, whatever versions these nodes keep, and what follows has fewer phases
+/// left: a write has two, and a read two for each version that nodes keep, and two.
+pub fn endings()
+    ensures begin { InEachCluster OperationsAreAsked }
+    ensures phases { InEachCluster PhasesEnd }
+{
+    protocol::laws::cluster();
+}
 
 /// The operations of a life are linearizable, in the order of their turns, where no two different strings that are seen in its run share a
 /// digest: each that was acknowledged takes place at its turn, and a write that was not takes place at its turn, later, or not at all.

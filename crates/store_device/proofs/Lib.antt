@@ -14,3 +14,4 @@ pub mod LifeTelling
 pub mod LifeLaws
 pub mod LifeReads
 pub mod LifeCalls
+pub mod Calling

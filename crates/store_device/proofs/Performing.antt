@@ -1,13 +1,27 @@
 -- What a call leaves of a store.
-use Rattle.std.proofs.Common.{◌≡◌, inl, inr, ℕ, ◌≤◌, false, List, length, Some, None, sym, ◌∙◌, ap, subst, arith}
+use Rattle.std.proofs.Common.{◌≡◌, inl, inr, ℕ, ◌<◌, ◌≤◌, Bool, false, List, [], ◌∷◌, length, map, Option, Some, None, Ok, Err, Result, sym, ◌∙◌, ap, subst, arith}
+use Rattle.std.specs.Prelude.{All, IfOk}
+use Rattle.std.specs.List.{AllByRecursion}
+use Rattle.std.specs.Option.{option_map}
+use Rattle.std.specs.Result.{result_ok}
 use Rattle.std.proofs.lemmas.Bool.{cases_lt}
 use Rattle.std.proofs.lemmas.List.{get_or_past}
+use Rattle.std.proofs.lemmas.List.Elements.{recursion_from_All}
 use Rattle.quorum_rules.specs.Limits.{Numbers, IsValid}
 use Rattle.wire_forms.specs.declared.op.Op.{Op}
-use Rattle.disk_model.specs.Crash.{Pending}
-use Rattle.batch_clients.specs.Batches.{Running}
-use Rattle.store_device.specs.Stores.{SeenStore, IsSound, IsStore, seat_at, is_up}
-use Rattle.store_device.specs.Going.{IsGoing}
+use Rattle.protocol.specs.Instance.{setting, IsCluster}
+use Rattle.protocol.specs.World.{Fits}
+use Rattle.protocol.specs.Operations.{Outcome}
+use Rattle.protocol.specs.Seen.{block_of, work_of}
+use Rattle.disk_model.specs.Crash.{Pending, MayLeave}
+use Rattle.batch_clients.specs.Batches.{Running, end_of}
+use Rattle.store_device.specs.Stores.{SeenStore, Nodes, IsSound, IsStore, IsFound, kept_in, seat_at, is_up}
+use Rattle.store_device.specs.Told.{AreApart, IsTold}
+use Rattle.store_device.specs.Going.{IsGoing, MayBegin}
+use Rattle.store_device.specs.Calls.{HasPerformed, StaysStore, told_each}
+use Rattle.store_device.proofs.Seats.{found_is_left}
+use Rattle.store_device.proofs.Turns.{AreLaws}
+use Rattle.store_device.proofs.Carrying.{all_is_told, none_is_told}
 
 module _ {D : Type 0} (pending : D → Pending) (seen : D → List ℕ) (moment : D → ℕ) (left_since : D → ℕ → List ℕ → Type 0)
     (old new : SeenStore D) (store : IsStore pending seen old) (count : length new.seats ≡ length old.seats)
@@ -30,3 +44,37 @@ module _ {D : Type 0} (pending : D → Pending) (seen : D → List ℕ) (moment 
     | inl l ↦ (going.seats i l).down down
     | inr l ↦ past new i (count ∙ store.count) l ∙ sym (past old i store.count l)
   ]
+
+  -- ---- what the call was
+
+  stays : StaysStore pending seen old new
+  stays = record { store = still_store; config = going.config; down = down_stays }
+
+  all_fit : (l : List Op) → AllByRecursion (MayBegin old.config) l
+      → AllByRecursion (λ (op : Op). (block_of op < old.config.blocks) × Fits (setting old.config) (work_of op)) l
+  all_fit [] may = tt
+  all_fit (op ∷ l) may = ((may.0.there, may.0.fits), all_fit l may.1)
+
+  module _ (counts_now : (disk : D) (t : ℕ) (bytes : List ℕ) → t ≤ moment disk → MayLeave (pending disk) bytes → left_since disk t bytes)
+      (laws : (c : Numbers) → AreLaws c) (few : length ops ≤ 64) (may : All (MayBegin old.config) ops) (apart : AreApart ops) where
+    -- where nothing is told, no operation is
+    tells : {V E : Type 0} (items : V → List (Option Outcome)) (result : Result V E)
+        → IfOk result (λ v. items v ≡ map (λ (r : Running). end_of r.stand) runs)
+        → (lying : ℕ → Bool) (gone kept : Nodes) → IsCluster old.config lying → IsFound pending old new gone kept
+        → IsTold old.config lying ops (told_each ops (option_map items (result_ok result))) (kept_in old gone) kept
+    tells items (Ok v) are lying gone kept is found =
+        all_is_told pending seen moment left_since counts_now laws old new ops runs (items v) going are lying gone kept is found
+    tells items (Err e) are lying gone kept is found =
+        none_is_told pending seen moment left_since counts_now laws old new ops runs going lying gone kept is
+        (λ i l. found_is_left pending seen moment left_since old.config i counts_now (seat_at old i) (seat_at new i) (gone i) (kept i)
+        (going.seats i l) (found i l))
+
+    pub has_performed : {V E : Type 0} (items : V → List (Option Outcome)) (result : Result V E)
+        → IfOk result (λ v. items v ≡ map (λ (r : Running). end_of r.stand) runs)
+        → HasPerformed pending seen moment left_since ops (option_map items (result_ok result)) old new
+    has_performed items result are = record {
+      batch = record { few = few; fit = all_fit ops (recursion_from_All (MayBegin old.config) ops may); apart = apart };
+      told = tells items result are;
+      any_moment = none_is_told pending seen moment left_since counts_now laws old new ops runs going;
+      stays = stays;
+    }

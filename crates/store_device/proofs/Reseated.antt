@@ -11,16 +11,18 @@ use Rattle.stamp_order.specs.declared.Stamp.{Stamp}
 use Rattle.protocol.specs.Messages.{Version}
 use Rattle.protocol.specs.Nodes.{pruned}
 use Rattle.protocol.specs.Instance.{setting}
-use Rattle.disk_model.specs.Crash.{Pending}
+use Rattle.disk_model.specs.Crash.{Pending, MayLeave}
 use Rattle.node_core.specs.Seen.{SeenNode, versions_in, with_versions}
 use Rattle.version_disk.specs.Held.{held}
 use Rattle.version_disk.specs.Stored.{Stored}
 use Rattle.store_device.specs.Stores.{SeenStore, Nodes, IsSound, IsStore, IsLeft, IsLeftAt, kept_at, kept_in, seat_at, is_up}
 use Rattle.store_device.specs.Going.{store_of}
 use Rattle.store_device.specs.Lives.{IsPruned}
+use Rattle.store_device.specs.Working.{HasGoneOn}
+use Rattle.store_device.specs.Calls.{HasPruned as HasPrunedBlock}
 use Rattle.store_device.specs.Seating.{with_seat, HasBlock, HasPruned, PrunesIn, HasTried, TriesIn}
 use Rattle.store_device.proofs.Asked.{IsNodeOf}
-use Rattle.store_device.proofs.Seats.{held_is_node, when_true, when_false, at_true, at_false, not_false, not_true}
+use Rattle.store_device.proofs.Seats.{held_is_node, found_is_left, when_true, when_false, at_true, at_false, not_false, not_true}
 
 module _ {D X : Type 0} (node : X → Option (Stored D)) (c : Numbers) (value : SeenStore D) (items : List X) (is : store_of c (map node items) ≡ value) where
   -- what sits at a seat that is there
@@ -137,6 +139,16 @@ module _ {D : Type 0} (pending : D → Pending) (seen : D → List ℕ) where
             subst (IsSound pending seen c i) same (sound_now was t.0 (sound was refl up) t.2.done (subst (λ (x : Stored D). x.broken ≡ false) (sym same) whole)))
       ]
 
+      -- the seat has gone on
+      pub gone_on : (old new : Option (Stored D)) → IsSoundAt c i old → Tries old new → HasGoneOn pending seen moment left_since c i old new
+      gone_on old new sound tried = record {
+        down = down old new tried;
+        up = λ (was : Stored D) (began : old ≡ Some was) (whole : was.broken ≡ false). (
+            let t = when_false _ _ was.broken whole (subst (λ (s : Option (Stored D)). Tries s new) began tried) in
+            (t.0, t.1, t.2.any_moment.later));
+        sound = still_sound old new sound tried;
+      }
+
       -- of the block the node keeps what it kept, or what a prune leaves of that, and of others what it kept
       pub record IsPrunedOf (old new : SeenNode) : Type 0 where
         pub there : (versions_in new block ≡ versions_in old block) ⊎ (versions_in new block ≡ pruned (setting c) stamp (versions_in old block))
@@ -192,6 +204,18 @@ module _ {D : Type 0} (pending : D → Pending) (seen : D → List ℕ) where
       left_pruned there gone kept left =
           let one = λ (i : ℕ) (l : i < old.config.n). left_tried old.config i there (seat_at old i) (seat_at new i) (gone i) (kept i) (has.sound i) (tried i) (left i l) in
           record { there = λ i l. (one i l).there; others = λ other i ne l. (one i l).others other ne }
+
+      -- what the call was
+      pub has_pruned : block < old.config.blocks
+          → ((disk : D) (t : ℕ) (bytes : List ℕ) → t ≤ moment disk → MayLeave (pending disk) bytes → left_since disk t bytes)
+          → HasPrunedBlock pending seen moment left_since block stamp old new
+      has_pruned there counts_now = record {
+        done = λ gone kept found. left_pruned there gone kept (λ i l. found_is_left pending seen moment left_since old.config i counts_now
+            (seat_at old i) (seat_at new i) (gone i) (kept i) (gone_on old.config i (seat_at old i) (seat_at new i) (has.sound i) (tried i))
+            (found i l));
+        any_moment = left_pruned there;
+        stays = record { store = still_store; config = config; down = λ i. down (seat_at old i) (seat_at new i) (tried i) };
+      }
 
     -- a call's seats, as they were and as they are
     module _ {X : Type 0} (node : X → Option (Stored D)) (c : Numbers) (value : SeenStore D) (items first new : List X) (len : ℕ) (lent : first ≡ items) (is : store_of c (map node items) ≡ value) (long : length first ≡ len) (count : length new ≡ length first) where

@@ -148,7 +148,7 @@ module _ {D : Type 0} where
         → length life + length calls + 1 < 2 ^ 31
         → IsFound pending old new gone found
         → IsLeft moment left_since new last.store found kept
-        → IsLife old.config lying (life ++ moments_of found calls ++ record { turn = turn_cut last.deed; nodes = kept } ∷ [])
+        → IsLife old.config lying (life ++ (moments_of found calls ++ record { turn = turn_cut last.deed; nodes = kept } ∷ []))
 
     -- calls after calls
     abbrev pub CallsGoOn : Type 0

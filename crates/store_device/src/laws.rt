@@ -3,6 +3,7 @@ ghost use Rattle.std.specs.Prelude.{ℕ, Bool};
 ghost use Rattle.quorum_rules.specs.Limits.{Numbers};
 ghost use Rattle.store_device.specs.Lives.{LivesAreLinearizable, LivesAreLinearizableAsOne};
 ghost use Rattle.store_device.specs.Lives.{AcknowledgedWritesAreRead, TellsAlike, FoundIsKept};
+ghost use Rattle.store_device.specs.Calls.{CallsAreLives, CrashedCallsAreLives, CallsGoOn, CallsKeepStores};
 
 use disk_model::Disk;
 
@@ -31,4 +32,14 @@ pub fn acknowledged_writes_are_read()
 pub fn calls_follow<D: Disk>()
     ensures found { FoundIsKept D.pending D.seen }
     ensures alike { (c : Numbers) (lying : ℕ → Bool) → TellsAlike c lying }
+{}
+
+/// A life goes on over calls of a store, one after the other, to what its nodes are found to keep after them; each block is pruned
+/// by no other stamp than that of its latest read. After a crash at any moment of a call it goes on over the calls before that one,
+/// and that one untold of. Calls after calls are calls, and leave a store of the same cluster.
+pub fn calls_are_lives<D: Disk>()
+    ensures lives { CallsAreLives D.pending D.seen D.moment D.left_since }
+    ensures crashed { CrashedCallsAreLives D.pending D.seen D.moment D.left_since }
+    ensures go_on { CallsGoOn D.pending D.seen D.moment D.left_since }
+    ensures keep { CallsKeepStores D.pending D.seen D.moment D.left_since }
 {}

@@ -7,7 +7,7 @@ ghost use Rattle.wire_forms.specs.Ops.{Fits};
 ghost use Rattle.store_device.specs.Stores.{SeenStore, IsStore};
 ghost use Rattle.store_device.specs.Told.{AreApart};
 ghost use Rattle.store_device.specs.Working.{AreHanded};
-ghost use Rattle.store_device.specs.Going.{IsGoing, store_of};
+ghost use Rattle.store_device.specs.Going.{IsGoing, MayBegin, store_of};
 
 use crate::forms::form_ops;
 use crate::seat::{Seat, gather, hand_out, work};
@@ -99,6 +99,7 @@ pub(crate) fn carry_out<D: Disk + Send, R: Threads + Sync>(
     requires few { length ops.now ≤ 64 }
     requires fits { All (Fits config.now) ops.now }
     requires apart { AreApart ops.now }
+    ensures batch { All (MayBegin config.now) ops.now }
     ensures count { length seats.new ≡ length seats.old }
     ensures going { (runs : List Running)
         × IsGoing D.pending D.seen D.moment D.left_since

@@ -3,8 +3,8 @@ ghost use Rattle.std.specs.Prelude.{◌≡◌, ◌<◌, ℕ, true, false, not, r
 ghost use Rattle.quorum_rules.specs.Limits.{IsValid};
 ghost use Rattle.version_disk.specs.Held.{held};
 ghost use Rattle.version_disk.specs.Stored.{Stored};
-ghost use Rattle.store_device.specs.Stores.{Nodes, IsSound, IsLeft, kept_in, seat_at, is_up};
-ghost use Rattle.store_device.specs.Lives.{IsPruned};
+ghost use Rattle.store_device.specs.Stores.{IsSound, seat_at, is_up};
+ghost use Rattle.store_device.specs.Calls.{HasPruned};
 ghost use Rattle.store_device.specs.Seating.{with_seat, HasBlock, PrunesIn, HasTried, TriesIn};
 
 use crate::seat::Seat;
@@ -61,13 +61,9 @@ impl<D: Disk> Store<D> {
         requires { block < self.old.config.blocks }
         ensures config { self.new.config ≡ self.old.config }
         ensures seats { (i : ℕ) → PrunesIn D.pending D.seen block stamp.now (seat_at self.old i) (seat_at self.new i) }
-        // a node that isn't up stays as it is
-        ensures down { (i : ℕ) → is_up (seat_at self.old i) ≡ false
-            → seat_at self.new i ≡ seat_at self.old i }
-        // a crash at any moment of the call leaves of each node what it kept, or what the prune leaves of that
-        ensures any_moment { (gone kept : Nodes)
-            → IsLeft D.moment D.left_since self.old self.new gone kept
-            → IsPruned self.old.config block stamp.now (kept_in self.old gone) kept }
+        // What the call was in a store's life, after it and at any moment of it: each node keeps of the block what it kept, or what the
+        // prune leaves of that. A node that isn't up stays as it is.
+        ensures pruned { HasPruned D.pending D.seen D.moment D.left_since block stamp.now self.old self.new }
     {
         let Store { alloc, seats, .. } = self;
         prune_each(*alloc, seats, block, stamp);

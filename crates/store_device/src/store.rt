@@ -1,9 +1,11 @@
-ghost use Rattle.std.specs.Prelude.{◌≡◌, ◌≤◌, ◌<◌, ℕ, false, Bool, All, length, map, IfOk, OnOk};
-ghost use Rattle.protocol.specs.Instance.{IsCluster};
+ghost use Rattle.std.specs.Prelude.{◌≡◌, ◌≤◌, All, length, IfOk};
+ghost use Rattle.std.specs.Option.{option_map};
+ghost use Rattle.std.specs.Result.{result_ok};
 ghost use Rattle.wire_forms.specs.Ops.{Fits};
-ghost use Rattle.store_device.specs.Stores.{Nodes, IsStore, IsFound, IsLeft, kept_in, seat_at, is_up};
-ghost use Rattle.store_device.specs.Told.{AreApart, IsTold, untold};
+ghost use Rattle.store_device.specs.Stores.{IsStore};
+ghost use Rattle.store_device.specs.Told.{AreApart};
 ghost use Rattle.store_device.specs.Going.{store_of};
+ghost use Rattle.store_device.specs.Calls.{HasPerformed};
 
 use crate::phase::carry_out;
 use crate::seat::{Seat, seat_all};
@@ -79,22 +81,11 @@ impl<D: Disk> Store<D> {
         requires few { length ops.now ≤ 64 }
         requires fits { All (Fits self.old.config) ops.now }
         requires apart { AreApart ops.now }
-        // Each operation is one of the protocol, whatever was done before, between what the nodes kept and what they are found to keep, and
-        // ends as it is told; which nodes others may have changed doesn't matter.
-        ensures told { IfOk result (λ outcomes. (lying : ℕ → Bool) (gone kept : Nodes)
-            → IsCluster self.old.config lying → IsFound D.pending self.old self.new gone kept
-            → IsTold self.old.config lying ops.now outcomes.items (kept_in self.old gone) kept) }
-        // a crash at any moment of the call, and want of memory, leave operations that weren't told of
-        ensures any_moment { (lying : ℕ → Bool) (gone kept : Nodes)
-            → IsCluster self.old.config lying
-            → IsLeft D.moment D.left_since self.old self.new gone kept
-            → IsTold self.old.config lying ops.now (untold ops.now) (kept_in self.old gone) kept }
-        // each node that is up is still one of the cluster, and its disk has it, safe from a crash
-        ensures store { IsStore D.pending D.seen self.new }
+        // What the call was in a store's life, after it and at any moment of it: each operation is one of the protocol, and ends as it is
+        // told; the store is still one of its cluster, on disks that have what its nodes keep.
+        ensures performed { HasPerformed D.pending D.seen D.moment D.left_since ops.now
+            (option_map (λ outcomes. outcomes.items) (result_ok result)) self.old self.new }
         ensures config { self.new.config ≡ self.old.config }
-        // a node that isn't up stays so
-        ensures down { (i : ℕ) → is_up (seat_at self.old i) ≡ false
-            → seat_at self.new i ≡ seat_at self.old i }
     {
         let Store {
             alloc,

@@ -1,9 +1,10 @@
 use Rattle.std.proofs.Common.{◌++◌, length, map, take, drop, subst}
+use Rattle.std.specs.Prelude.{All}
 use Rattle.store_device.specs.declared.seat.Seat.{Seat}
 use Rattle.store_device.specs.Stores.{SeenStore, IsStore}
-use Rattle.store_device.specs.Going.{store_of}
-use Rattle.store_device.proofs.Carrying.{laws_of, put_back, put_count, all_is_told, none_is_told, if_ok}
-use Rattle.store_device.proofs.Performing.{still_store, down_stays}
+use Rattle.store_device.specs.Going.{MayBegin, store_of}
+use Rattle.store_device.proofs.Carrying.{laws_of, put_back, put_count}
+use Rattle.store_device.proofs.Performing.{still_store, has_performed}
 use Rattle.store_device.proofs.store.Store.perform.Goals as goal
 
 pub invariant_of-self : goal.invariant_of-self
@@ -24,26 +25,8 @@ invariant_of-self g c =
     c.self.invariant.0 in
     (still_store D.pending D.seen D.moment D.left_since old then store count c.args.ops.now h.0 going, c.self.invariant.1)
 
-pub returns-clause-store : goal.returns-clause-store
-returns-clause-store g c =
-    let D = g.D.Disk in
-    let node = λ (seat : Seat g.row.D.Denot). seat.node in
-    let old = c.args.self.now in
-    let own = c.self.inside in
-    let new = c.carry_out.new.seats in
-    let h = c.carry_out.ensures.going in
-    let then = store_of own.config (map node (take own.seats.len (new ++ drop (length new) own.seats.items))) in
-    let going = put_back D.pending D.seen D.moment D.left_since node own.config old own.seats.items c.deref_mut.result.now new own.seats.len
-    c.deref_mut.ensures.value c.self.view_is c.deref_mut.ensures.len c.carry_out.ensures.count c.args.ops.now h.0 h.1 in
-    let count = put_count D.pending D.seen D.moment D.left_since node own.config old own.seats.items c.deref_mut.result.now new
-    own.seats.len
-    c.deref_mut.ensures.value c.self.view_is c.deref_mut.ensures.len c.carry_out.ensures.count in
-    let store : IsStore D.pending D.seen old = subst (λ (s : SeenStore g.row.D.Denot). IsStore D.pending D.seen s) c.self.view_is
-    c.self.invariant.0 in
-    still_store D.pending D.seen D.moment D.left_since old then store count c.args.ops.now h.0 going
-
-pub returns-clause-told : goal.returns-clause-told
-returns-clause-told g c =
+pub returns-clause-performed : goal.returns-clause-performed
+returns-clause-performed g c =
     let D = g.D.Disk in
     let disk = g.met.D.Disk g.world.𝓛 g.world.𝓜 g.world.𝓡 ((λ s x. x), (λ x. x), (λ x. x), λ x. x) in
     let node = λ (seat : Seat g.row.D.Denot). seat.node in
@@ -55,38 +38,11 @@ returns-clause-told g c =
     let laws = laws_of c.operations.ensures.begin c.operations.ensures.go_on c.operations.ensures.cut_off in
     let going = put_back D.pending D.seen D.moment D.left_since node own.config old own.seats.items c.deref_mut.result.now new own.seats.len
     c.deref_mut.ensures.value c.self.view_is c.deref_mut.ensures.len c.carry_out.ensures.count c.args.ops.now h.0 h.1 in
-    if_ok _ _ c.carry_out.result (λ ends are. all_is_told D.pending D.seen D.moment D.left_since disk.counts_now laws old then
-    c.args.ops.now h.0 ends.items going are) h.2
-
-pub returns-clause-any_moment : goal.returns-clause-any_moment
-returns-clause-any_moment g c =
-    let D = g.D.Disk in
-    let disk = g.met.D.Disk g.world.𝓛 g.world.𝓜 g.world.𝓡 ((λ s x. x), (λ x. x), (λ x. x), λ x. x) in
-    let node = λ (seat : Seat g.row.D.Denot). seat.node in
-    let old = c.args.self.now in
-    let own = c.self.inside in
-    let new = c.carry_out.new.seats in
-    let h = c.carry_out.ensures.going in
-    let then = store_of own.config (map node (take own.seats.len (new ++ drop (length new) own.seats.items))) in
-    let laws = laws_of c.operations.ensures.begin c.operations.ensures.go_on c.operations.ensures.cut_off in
-    let going = put_back D.pending D.seen D.moment D.left_since node own.config old own.seats.items c.deref_mut.result.now new own.seats.len
-    c.deref_mut.ensures.value c.self.view_is c.deref_mut.ensures.len c.carry_out.ensures.count c.args.ops.now h.0 h.1 in
-    none_is_told D.pending D.seen D.moment D.left_since disk.counts_now laws old then c.args.ops.now h.0 going
-
-pub returns-clause-down : goal.returns-clause-down
-returns-clause-down g c =
-    let D = g.D.Disk in
-    let node = λ (seat : Seat g.row.D.Denot). seat.node in
-    let old = c.args.self.now in
-    let own = c.self.inside in
-    let new = c.carry_out.new.seats in
-    let h = c.carry_out.ensures.going in
-    let then = store_of own.config (map node (take own.seats.len (new ++ drop (length new) own.seats.items))) in
-    let going = put_back D.pending D.seen D.moment D.left_since node own.config old own.seats.items c.deref_mut.result.now new own.seats.len
-    c.deref_mut.ensures.value c.self.view_is c.deref_mut.ensures.len c.carry_out.ensures.count c.args.ops.now h.0 h.1 in
     let count = put_count D.pending D.seen D.moment D.left_since node own.config old own.seats.items c.deref_mut.result.now new
     own.seats.len
     c.deref_mut.ensures.value c.self.view_is c.deref_mut.ensures.len c.carry_out.ensures.count in
     let store : IsStore D.pending D.seen old = subst (λ (s : SeenStore g.row.D.Denot). IsStore D.pending D.seen s) c.self.view_is
     c.self.invariant.0 in
-    down_stays D.pending D.seen D.moment D.left_since old then store count c.args.ops.now h.0 going
+    let may = subst (λ (s : SeenStore g.row.D.Denot). All (MayBegin s.config) c.args.ops.now) c.self.view_is c.carry_out.ensures.batch in
+    has_performed D.pending D.seen D.moment D.left_since old then store count c.args.ops.now h.0 going disk.counts_now laws c.requires.few may
+    c.requires.apart (λ outcomes. outcomes.items) c.carry_out.result h.2

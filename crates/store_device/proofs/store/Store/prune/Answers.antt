@@ -2,7 +2,7 @@ use Rattle.std.proofs.Common.{◌++◌, length, map, take, drop, refl, ap, subst
 use Rattle.store_device.specs.declared.seat.Seat.{Seat}
 use Rattle.store_device.specs.Stores.{SeenStore, IsStore, seat_at}
 use Rattle.store_device.specs.Going.{store_of}
-use Rattle.store_device.proofs.Reseated.{all_have, tried_back, back_count, still_store, left_pruned, prunes, down}
+use Rattle.store_device.proofs.Reseated.{all_have, tried_back, back_count, still_store, has_pruned, prunes}
 use Rattle.store_device.proofs.store.Store.prune.Goals as goal
 
 pub prune_each-requires : goal.prune_each-requires
@@ -43,21 +43,10 @@ returns-clause-seats g c =
     c.deref_mut.ensures.value c.self.view_is c.deref_mut.ensures.len c.prune_each.ensures.count c.prune_each.ensures.each in
     λ i. prunes D.pending D.seen c.args.block c.args.stamp.now D.moment D.left_since (seat_at now i) (seat_at then i) (tried i)
 
-pub returns-clause-down : goal.returns-clause-down
-returns-clause-down g c =
+pub returns-clause-pruned : goal.returns-clause-pruned
+returns-clause-pruned g c =
     let D = g.D.Disk in
-    let node = λ (seat : Seat g.row.D.Denot). seat.node in
-    let own = c.self.inside in
-    let now = c.args.self.now in
-    let new = c.prune_each.new.seats in
-    let then = store_of own.config (map node (take own.seats.len (new ++ drop (length new) own.seats.items))) in
-    let tried = tried_back D.pending D.seen c.args.block c.args.stamp.now D.moment D.left_since node own.config now own.seats.items c.deref_mut.result.now new own.seats.len
-    c.deref_mut.ensures.value c.self.view_is c.deref_mut.ensures.len c.prune_each.ensures.count c.prune_each.ensures.each in
-    λ i. down D.pending D.seen c.args.block c.args.stamp.now D.moment D.left_since (seat_at now i) (seat_at then i) (tried i)
-
-pub returns-clause-any_moment : goal.returns-clause-any_moment
-returns-clause-any_moment g c =
-    let D = g.D.Disk in
+    let disk = g.met.D.Disk in
     let node = λ (seat : Seat g.row.D.Denot). seat.node in
     let own = c.self.inside in
     let now = c.args.self.now in
@@ -69,4 +58,4 @@ returns-clause-any_moment g c =
     let count = back_count D.pending D.seen c.args.block c.args.stamp.now D.moment D.left_since node own.config now own.seats.items c.deref_mut.result.now new own.seats.len
     c.deref_mut.ensures.value c.self.view_is c.deref_mut.ensures.len c.prune_each.ensures.count in
     let same = ap (λ (s : SeenStore g.row.D.Denot). s.config) c.self.view_is in
-    left_pruned D.pending D.seen c.args.block c.args.stamp.now D.moment D.left_since now then same count store tried c.requires
+    has_pruned D.pending D.seen c.args.block c.args.stamp.now D.moment D.left_since now then same count store tried c.requires disk.counts_now
