@@ -1,5 +1,5 @@
 -- Rounds that are answered, or cut off.
-use Rattle.std.proofs.Common.{◌≡◌, ℕ, Bool, List, [], ◌++◌, map, refl, sym, ap, ◌∙◌, subst, inl, inr, Option, ◌∷◌}
+use Rattle.std.proofs.Common.{◌≡◌, ℕ, Bool, List, [], ◌++◌, map, refl, sym, ap, ◌∙◌, subst, inl, inr, ◌∷◌, Option, Result, Ok, Err, OnErr}
 use Rattle.std.specs.List.{All, AllByRecursion, AllPairs}
 use Rattle.std.proofs.lemmas.List.{append-nil}
 use Rattle.std.proofs.lemmas.List.Elements.{All-from_recursion, recursion_from_All}
@@ -14,6 +14,11 @@ use Rattle.store_front.specs.Rounds.{AreSeparate, AreTogether, Exchange, IsExcha
 use Rattle.store_front.specs.Values.{given_by, wrote_by, value_at, is_in, found_in, written_in}
 use Rattle.store_front.specs.Replies.{text_of, replies_of}
 use Rattle.store_front.proofs.Asking.{front_of, leads_then}
+
+-- what is so is so where a call failed
+pub any_err : {T E : Type 0} (P : Type 0) (r : Result T E) → P → OnErr r P
+any_err P (Ok x) h = tt
+any_err P (Err e) h = h
 
 -- ---- requests that are whole
 wholes : (asked : List Asked) → AllByRecursion IsAsked asked → AllByRecursion IsRequest (requests_of asked)

@@ -1,6 +1,7 @@
 -- Calls of a store that go on, and what they asked.
-use Rattle.std.proofs.Common.{◌≡◌, ◌<◌, ℕ, ◌+◌, ◌-◌, ◌≤◌, List, [], ◌∷◌, ◌++◌, length, take, drop, map, refl, sym, ap, ◌∙◌, subst, arith, Option, Some, None, append_assoc, take-append-drop}
+use Rattle.std.proofs.Common.{◌≡◌, ◌<◌, ℕ, ◌+◌, ◌-◌, ◌≤◌, List, [], ◌∷◌, ◌++◌, length, take, drop, map, refl, sym, ap, ◌∙◌, subst, arith, Option, Some, None, Result, Ok, Err, OnOk, append_assoc, take-append-drop}
 use Rattle.std.specs.Bool.{⊤}
+use Rattle.std.specs.Result.{IsErr}
 use Rattle.std.specs.List.{AllByRecursion, flat_map, zip}
 use Rattle.std.proofs.lemmas.List.{append-nil, take_all}
 use Rattle.std.proofs.lemmas.Grind.{flat_map-append}
@@ -34,6 +35,11 @@ module _ {X : Type 0} (P : X → Type 0) where
   pub all_right : (xs ys : List X) → AllByRecursion P (xs ++ ys) → AllByRecursion P ys
   all_right [] ys h = h
   all_right (x ∷ xs) ys h = all_right xs ys h.1
+
+-- nothing is to be shown where a call failed
+pub none_ok : {T E : Type 0} (P : Type 0) (r : Result T E) → IsErr r → OnOk r P
+none_ok P (Ok x) h = cc
+none_ok P (Err e) h = tt
 
 -- ---- what was told, one after the other
 pub found_append : (c : Numbers) (old : List (ℕ × List ℕ)) (xs ys : List (Op × Option Outcome)) → found_in c old (xs ++ ys) ≡ found_in c (found_in c old xs) ys
@@ -73,17 +79,17 @@ writes_in : (es : List (ℕ × List ℕ)) → AllByRecursion Writes (map write_o
 writes_in [] = tt
 writes_in (e ∷ es) = (tt, writes_in es)
 
+deed_writes_none : (old : List ℕ) (deed : Deed) → AllByRecursion Reads (asked_by deed) → written_in old (told_by deed) ≡ old
+deed_writes_none old (Performs ops (Some outcomes)) h = reads_write_none old ops outcomes h
+deed_writes_none old (Performs ops None) h = refl
+deed_writes_none old (Prunes block stamp) h = refl
+
+deed_finds_none : (c : Numbers) (old : List (ℕ × List ℕ)) (deed : Deed) → AllByRecursion Writes (asked_by deed) → found_in c old (told_by deed) ≡ old
+deed_finds_none c old (Performs ops (Some outcomes)) h = writes_find_none c old ops outcomes h
+deed_finds_none c old (Performs ops None) h = refl
+deed_finds_none c old (Prunes block stamp) h = refl
+
 module _ {D : Type 0} where
-  deed_writes_none : (old : List ℕ) (deed : Deed) → AllByRecursion Reads (asked_by deed) → written_in old (told_by deed) ≡ old
-  deed_writes_none old (Performs ops (Some outcomes)) h = reads_write_none old ops outcomes h
-  deed_writes_none old (Performs ops None) h = refl
-  deed_writes_none old (Prunes block stamp) h = refl
-
-  deed_finds_none : (c : Numbers) (old : List (ℕ × List ℕ)) (deed : Deed) → AllByRecursion Writes (asked_by deed) → found_in c old (told_by deed) ≡ old
-  deed_finds_none c old (Performs ops (Some outcomes)) h = writes_find_none c old ops outcomes h
-  deed_finds_none c old (Performs ops None) h = refl
-  deed_finds_none c old (Prunes block stamp) h = refl
-
   calls_write_none : (old : List ℕ) (calls : List (Call D)) → AllByRecursion Reads (asked_in calls) → written_in old (told_in calls) ≡ old
   calls_write_none old [] h = refl
   calls_write_none old (call ∷ calls) h =

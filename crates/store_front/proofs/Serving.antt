@@ -41,6 +41,10 @@ adds_prefix a b c xs ys h k = (xs ++ k.0, k.1, ap (λ z. xs ++ z) k.2 ∙ sym (a
 adds_same : (a b c : Option (List ℕ)) (xs : List ℕ) → Adds a b xs → c ≡ b → Adds a c xs
 adds_same a b c xs h e = subst (λ z. Adds a z xs) (sym e) h
 
+-- a wait doesn't write
+pub not_write : (end : SessionEnd) (place : ℕ) (old new : List ℕ) (left left_after : Option (List ℕ)) → end ≡ WriteFault → EndsWait (Err end) place old new left left_after → ⊥
+not_write end place old new left left_after is waited = subst (λ (e : SessionEnd). EndsWait (Err e) place old new left left_after) is waited
+
 -- ---- places
 place_on : (n m : ℕ) → told_place (told_place n + m) ≡ told_place (n + m)
 place_on n m = omega arith
@@ -304,6 +308,35 @@ module _ {D : Type 0} (pending : D → Pending) (seen : D → List ℕ) (moment 
       left_store = refl;
       said = h.said;
     }
+
+  -- ---- a wait, and what came of it
+  module _ (old now : SeenStore D) (count place : ℕ) (input : List ℕ) (left left_now taken taken_now : Option (List ℕ))
+      (h : HasServed old now count place input left left_now taken taken_now)
+      (came : Bool) (read : List ℕ) (left_after : Option (List ℕ)) (waited : EndsWait (Ok came) place input read left_now left_after) where
+    -- the client leaves, or the input has ended
+    pub none_came : came ≡ false → IsSession pending seen moment left_since c old now (Ok tt) left left_after taken taken_now
+    none_came is = leaves old now count place input left left_now taken taken_now h read left_after (subst (λ b. EndsWait (Ok b) place input read left_now left_after) is waited)
+
+    module _ (is : came ≡ true) (config : Numbers) (same : config ≡ c) (new : SeenStore D) (taken_after : Option (List ℕ)) where
+      one_came : HasServed old now count place read left left_after taken taken_now
+      one_came = reads_on old now count place input left left_now taken taken_now h read left_after (subst (λ b. EndsWait (Ok b) place input read left_now left_after) is waited).0
+
+      -- its round was served
+      pub turn : (len : ℕ) → ServesRound pending seen moment left_since config read now new taken_now taken_after (Ok len)
+          → (input_next : List ℕ) (place_next : ℕ) → input_next ≡ drop len read → place_next ≡ told_place (place + len)
+          → HasServed old new (count + 1) place_next input_next left left_after taken taken_after
+      turn len r input_next place_next rest further =
+          let done = subst (λ (k : Numbers). ServesRound pending seen moment left_since k read now new taken_now taken_after (Ok len)) same r in
+          let next = serves_on old now count place read left left_after taken taken_now one_came new len done.0 done.1 taken_after done.2 in
+          subst (λ z. HasServed old new (count + 1) place_next z left left_after taken taken_after) (sym rest)
+          (subst (λ n. HasServed old new (count + 1) n (drop len read) left left_after taken taken_after) (sym further) next)
+
+      -- its round ended the session
+      pub cut_short : (end : SessionEnd) → ServesRound pending seen moment left_since config read now new taken_now taken_after (Err end)
+          → IsSession pending seen moment left_since c old new (Err end) left left_after taken taken_after
+      cut_short end r =
+          ends_round old now count place read left left_after taken taken_now one_came end new taken_after
+          (subst (λ (k : Numbers). ServesRound pending seen moment left_since k read now new taken_now taken_after (Err end)) same r)
 
   -- the session ended with its greeting
   pub not_begun : (end : SessionEnd) (store : SeenStore D) (left taken taken_after : Option (List ℕ)) → (end ≡ WriteFault) ⊎ (end ≡ NoMemory) → TakesPrefix taken taken_after words

@@ -1,7 +1,7 @@
 -- Values of blocks.
-use Rattle.std.proofs.Common.{◌≡◌, ℕ, ◌<◌, ◌≤◌, ◌+◌, ◌-◌, drop, Bool, true, false, List, [], ◌∷◌, ◌++◌, length, map, cond, get_or, refl, sym, ap, ◌∙◌, subst, arith, Option, Some, None, Bor}
+use Rattle.std.proofs.Common.{◌≡◌, ℕ, ◌<◌, ◌≤◌, ◌+◌, ◌-◌, take, drop, Bool, true, false, List, [], ◌∷◌, ◌++◌, length, map, cond, get_or, refl, sym, ap, ◌∙◌, subst, arith, Option, Some, None, Bor}
 use Rattle.std.specs.List.{All, AllByRecursion, flat_map, range_with_len, slice_range}
-use Rattle.std.proofs.lemmas.List.{append-nil, map-append}
+use Rattle.std.proofs.lemmas.List.{append-nil, map-append, take_more}
 use Rattle.std.proofs.lemmas.Grind.{flat_map-append}
 use Rattle.block_device.proofs.lemmas.Touching.{range_more}
 use Rattle.store_front.specs.declared.round.Asked.{Asked}
@@ -144,3 +144,10 @@ one_left_more f now new asked next before here =
     values_put [] now new (flat_map f (requests_of asked)) (f bytes) before here
     ∙ ap (with_values []) (ap (λ z. flat_map f (requests_of asked) ++ z) (sym (append-nil (f bytes))) ∙ sym (flat_map-append f (requests_of asked) (bytes ∷ [])))
     ∙ ap (λ z. with_values [] (flat_map f z)) (sym (map-append bytes_of asked (next ∷ [])))
+
+pub one_left_at : (f : List ℕ → List (ℕ × List ℕ)) (now new : List (ℕ × List ℕ)) (asked : List Asked) (i : ℕ) (d : Asked) → i < length asked
+    → now ≡ with_values [] (flat_map f (requests_of (take i asked))) → new ≡ with_values now (f (get_or asked i d).bytes.now)
+    → new ≡ with_values [] (flat_map f (requests_of (take (i + 1) asked)))
+one_left_at f now new asked i d high before here =
+    one_left_more f now new (take i asked) (get_or asked i d) before here
+    ∙ ap (λ z. with_values [] (flat_map f (requests_of z))) (sym (take_more asked i d high))

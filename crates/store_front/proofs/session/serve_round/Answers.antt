@@ -16,7 +16,7 @@ returns-in_err-round-clause-round g c =
     no_memory g.D.Disk.pending g.D.Disk.seen g.D.Disk.moment g.D.Disk.left_since c.args.store.now.config _ _ _ _ _ _ is none.0 none.1 refl
 
 pub answer-requires-clause-apart : goal.answer-requires-clause-apart
-answer-requires-clause-apart g c = subst (λ (k : Numbers). AllPairs (AreSeparate k) (requests_of c.in_ok-round.round.asked.items)) c.config.ensures c.in_ok-round.ensures.round.apart
+answer-requires-clause-apart g c = λ lifetimes within. subst (λ (k : Numbers). AllPairs (AreSeparate k) (requests_of c.in_ok-round.round.asked.items)) c.config.ensures c.in_ok-round.ensures.round.apart
 
 pub returns-in_err-replies-clause-round : goal.returns-in_err-replies-clause-round
 returns-in_err-replies-clause-round g c =
