@@ -9,11 +9,11 @@ use Rattle.nbd_front.specs.Sessions.{IsRequest}
 use Rattle.store_device.specs.Stores.{SeenStore}
 use Rattle.store_front.specs.declared.round.Asked.{Asked}
 use Rattle.store_device.specs.Calls.{Call, Leads}
-use Rattle.store_front.specs.Asking.{asked_in, told_in, IsFront}
+use Rattle.store_front.specs.Asking.{told_in, AreAsked, AreHeard}
 use Rattle.store_front.specs.Rounds.{AreSeparate, AreTogether, Exchange, IsExchange, IsBegun, IsAsked, calls_of, bytes_of, requests_of, reads_for, writes_for}
 use Rattle.store_front.specs.Values.{given_by, wrote_by, value_at, is_in, found_in, written_in}
 use Rattle.store_front.specs.Replies.{text_of, replies_of}
-use Rattle.store_front.proofs.Asking.{front_of, leads_then}
+use Rattle.store_front.proofs.Asking.{leads_then, heard_asked}
 
 -- what is so is so where a call failed
 pub any_err : {T E : Type 0} (P : Type 0) (r : Result T E) → P → OnErr r P
@@ -38,24 +38,24 @@ module _ {D : Type 0} (pending : D → Pending) (seen : D → List ℕ) (moment 
   DoneSo text old new = (e : Exchange D) × (e.requests ≡ requests) × IsExchange c e × Leads pending seen moment left_since old (calls_of e) new × (text ≡ text_of c e)
 
   module _ (reads : List (Call D)) (old mid : SeenStore D) (leads : Leads pending seen moment left_since old reads mid) where
-    pub reads_begun : IsFront (asked_in reads) (reads_for c requests) → Begun old mid
-    reads_begun front = (
+    pub reads_begun : AreAsked (reads_for c requests) reads → Begun old mid
+    reads_begun asked = (
       record { requests = requests; reads = reads; writes = [] },
       refl,
-      record { together = together; reads = front; writes = (writes_for c (given_by c reads) requests, refl); order = inl refl },
+      record { together = together; reads = asked; writes = record { front = (writes_for c (given_by c reads) requests, refl); only = tt }; order = inl refl },
       subst (λ z. Leads pending seen moment left_since old z mid) (sym (append-nil reads)) leads,
     )
 
-    module _ (all : asked_in reads ≡ reads_for c requests) (writes : List (Call D)) (new : SeenStore D) (writing : Leads pending seen moment left_since mid writes new) where
-      pub writes_begun : IsFront (asked_in writes) (writes_for c (given_by c reads) requests) → Begun old new
-      writes_begun front = (
+    module _ (all : AreHeard (reads_for c requests) reads) (writes : List (Call D)) (new : SeenStore D) (writing : Leads pending seen moment left_since mid writes new) where
+      pub writes_begun : AreAsked (writes_for c (given_by c reads) requests) writes → Begun old new
+      writes_begun asked = (
         record { requests = requests; reads = reads; writes = writes },
         refl,
-        record { together = together; reads = subst (IsFront (asked_in reads)) all (front_of (asked_in reads)); writes = front; order = inr all },
+        record { together = together; reads = heard_asked (reads_for c requests) reads all; writes = asked; order = inr all },
         leads_then pending seen moment left_since reads writes old mid new leads writing,
       )
 
-      pub all_done : (text : List ℕ) → asked_in writes ≡ writes_for c (given_by c reads) requests → (found : List (ℕ × List ℕ)) (written : List ℕ)
+      pub all_done : (text : List ℕ) → AreHeard (writes_for c (given_by c reads) requests) writes → (found : List (ℕ × List ℕ)) (written : List ℕ)
           → found ≡ found_in c [] (told_in reads) → written ≡ written_in [] (told_in writes) → text ≡ replies_of c (value_at found) (is_in written) requests → DoneSo text old new
       all_done text asked found written gave wrote is = (
         record { requests = requests; reads = reads; writes = writes },

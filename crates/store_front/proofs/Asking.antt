@@ -13,8 +13,8 @@ use Rattle.wire_forms.specs.declared.op.Op.TheVariants.{Read, Write}
 use Rattle.protocol.specs.Operations.{Outcome}
 use Rattle.store_device.specs.Stores.{SeenStore}
 use Rattle.store_device.specs.Calls.{Deed, Call, IsCall, Leads}
-use Rattle.store_device.specs.Calls.Deed.{Performs, Prunes}
-use Rattle.store_front.specs.Asking.{asked_by, told_by, asked_in, told_in, IsFront}
+use Rattle.store_device.specs.Calls.Deed.{Performs}
+use Rattle.store_front.specs.Asking.{asked_by, told_by, asked_in, told_in, IsFront, IsPerformed, IsHeard, AreAsked, AreHeard}
 use Rattle.store_front.specs.Values.{found_with, written_with, found_in, written_in, write_of}
 
 -- ---- lists
@@ -31,6 +31,10 @@ module _ {X : Type 0} (P : X → Type 0) where
   pub all_left : (xs ys : List X) → AllByRecursion P (xs ++ ys) → AllByRecursion P xs
   all_left [] ys h = tt
   all_left (x ∷ xs) ys h = (h.0, all_left xs ys h.1)
+
+  pub all_then : (xs ys : List X) → AllByRecursion P xs → AllByRecursion P ys → AllByRecursion P (xs ++ ys)
+  all_then [] ys h k = k
+  all_then (x ∷ xs) ys h k = (h.0, all_then xs ys h.1 k)
 
   pub all_right : (xs ys : List X) → AllByRecursion P (xs ++ ys) → AllByRecursion P ys
   all_right [] ys h = h
@@ -82,12 +86,12 @@ writes_in (e ∷ es) = (tt, writes_in es)
 deed_writes_none : (old : List ℕ) (deed : Deed) → AllByRecursion Reads (asked_by deed) → written_in old (told_by deed) ≡ old
 deed_writes_none old (Performs ops (Some outcomes)) h = reads_write_none old ops outcomes h
 deed_writes_none old (Performs ops None) h = refl
-deed_writes_none old (Prunes block stamp) h = refl
+deed_writes_none old deed h = refl
 
 deed_finds_none : (c : Numbers) (old : List (ℕ × List ℕ)) (deed : Deed) → AllByRecursion Writes (asked_by deed) → found_in c old (told_by deed) ≡ old
 deed_finds_none c old (Performs ops (Some outcomes)) h = writes_find_none c old ops outcomes h
 deed_finds_none c old (Performs ops None) h = refl
-deed_finds_none c old (Prunes block stamp) h = refl
+deed_finds_none c old deed h = refl
 
 module _ {D : Type 0} where
   calls_write_none : (old : List ℕ) (calls : List (Call D)) → AllByRecursion Reads (asked_in calls) → written_in old (told_in calls) ≡ old
@@ -104,11 +108,30 @@ module _ {D : Type 0} where
       ∙ ap (λ z. found_in c z (told_in calls)) (deed_finds_none c old call.deed (all_left Writes (asked_by call.deed) (asked_in calls) h))
       ∙ calls_find_none c old calls (all_right Writes (asked_by call.deed) (asked_in calls) h)
 
-  pub read_calls : (old : List ℕ) (calls : List (Call D)) (ks : List ℕ) → asked_in calls ≡ map Read ks → written_in old (told_in calls) ≡ old
-  read_calls old calls ks e = calls_write_none old calls (subst (AllByRecursion Reads) (sym e) (reads_in ks))
+  pub read_calls : (old : List ℕ) (calls : List (Call D)) (ks : List ℕ) → AreHeard (map Read ks) calls → written_in old (told_in calls) ≡ old
+  read_calls old calls ks h = calls_write_none old calls (subst (AllByRecursion Reads) (sym h.all) (reads_in ks))
 
-  pub write_calls : (c : Numbers) (old : List (ℕ × List ℕ)) (calls : List (Call D)) (es : List (ℕ × List ℕ)) → asked_in calls ≡ map write_of es → found_in c old (told_in calls) ≡ old
-  write_calls c old calls es e = calls_find_none c old calls (subst (AllByRecursion Writes) (sym e) (writes_in es))
+  pub write_calls : (c : Numbers) (old : List (ℕ × List ℕ)) (calls : List (Call D)) (es : List (ℕ × List ℕ)) → AreHeard (map write_of es) calls → found_in c old (told_in calls) ≡ old
+  write_calls c old calls es h = calls_find_none c old calls (subst (AllByRecursion Writes) (sym h.all) (writes_in es))
+
+-- ---- calls that asked for operations
+deed_only : (deed : Deed) → IsHeard deed → IsPerformed deed
+deed_only (Performs ops told) h = tt
+deed_only deed h = absurd h
+
+module _ {D : Type 0} where
+  abbrev pub Performed : Call D → Type 0
+  Performed call = IsPerformed call.deed
+
+  abbrev pub Heard : Call D → Type 0
+  Heard call = IsHeard call.deed
+
+  pub heard_only : (calls : List (Call D)) → AllByRecursion Heard calls → AllByRecursion Performed calls
+  heard_only [] h = tt
+  heard_only (call ∷ calls) h = (deed_only call.deed h.0, heard_only calls h.1)
+
+  pub heard_asked : (ops : List Op) (calls : List (Call D)) → AreHeard ops calls → AreAsked ops calls
+  heard_asked ops calls h = record { front = subst (IsFront (asked_in calls)) h.all (front_of (asked_in calls)); only = heard_only calls h.heard }
 
 -- ---- calls that go on
 module _ {D : Type 0} (pending : D → Pending) (seen : D → List ℕ) (moment : D → ℕ) (left_since : D → ℕ → List ℕ → Type 0) where
@@ -128,11 +151,12 @@ module _ {D : Type 0} (pending : D → Pending) (seen : D → List ℕ) (moment 
     pub calls : List (Call D)
     pub leads_there : leads old calls now
     pub asked : asked_in calls ≡ take at ops
+    pub heard : AllByRecursion Heard calls
     pub found_is : found_now ≡ found_in c found (told_in calls)
     pub written_is : written_now ≡ written_in written (told_in calls)
 
   pub begun : (c : Numbers) (store : SeenStore D) (ops : List Op) (found : List (ℕ × List ℕ)) (written : List ℕ) → HasGone c store store ops 0 found found written written
-  begun c store ops found written = record { calls = []; leads_there = refl; asked = refl; found_is = refl; written_is = refl }
+  begun c store ops found written = record { calls = []; leads_there = refl; asked = refl; heard = tt; found_is = refl; written_is = refl }
 
   module _ (c : Numbers) (old now : SeenStore D) (ops : List Op) (at end : ℕ) (found found_now : List (ℕ × List ℕ)) (written written_now : List ℕ)
       (h : HasGone c old now ops at found found_now written written_now) (order : at ≤ end) (batch : List Op) (is : batch ≡ take (end - at) (drop at ops)) where
@@ -156,13 +180,26 @@ module _ {D : Type 0} (pending : D → Pending) (seen : D → List ℕ) (moment 
           calls = h.calls ++ call ∷ [];
           leads_there = leads_on h.calls old now call h.leads_there is_call;
           asked = asked_on call refl;
+          heard = all_then Heard h.calls (call ∷ []) h.heard (tt, tt);
           found_is = finds ∙ ap (λ z. found_in c z (zip batch outcomes)) h.found_is ∙ sym (found_append c found (told_in h.calls) (zip batch outcomes)) ∙ ap (found_in c found) (sym told);
           written_is = writes ∙ ap (λ z. written_in z (zip batch outcomes)) h.written_is ∙ sym (written_append written (told_in h.calls) (zip batch outcomes)) ∙ ap (written_in written) (sym told);
         }
 
     -- a batch of which nothing is told, or heard
     pub cut_off : (told : Option (List (Option Outcome))) (new : SeenStore D) → IsCall pending seen moment left_since now (record { deed = Performs batch told; store = new })
-        → (calls : List (Call D)) × leads old calls new × IsFront (asked_in calls) ops
+        → (calls : List (Call D)) × leads old calls new × AreAsked ops calls
     cut_off told new is_call =
-        let call : Call D = record { deed = Performs batch told; store = new } in
-        (h.calls ++ call ∷ [], leads_on h.calls old now call h.leads_there is_call, subst (λ z. IsFront z ops) (sym (asked_on call refl)) (front_taken ops end))
+        let call : Call D = record { deed = Performs batch told; store = new } in (
+          h.calls ++ call ∷ [],
+          leads_on h.calls old now call h.leads_there is_call,
+          record {
+            front = subst (λ z. IsFront z ops) (sym (asked_on call refl)) (front_taken ops end);
+            only = all_then Performed h.calls (call ∷ []) (heard_only h.calls h.heard) (tt, tt);
+          },
+        )
+
+  -- all of them
+  module _ (c : Numbers) (old now : SeenStore D) (ops : List Op) (at : ℕ) (found found_now : List (ℕ × List ℕ)) (written written_now : List ℕ)
+      (h : HasGone c old now ops at found found_now written written_now) (all : length ops ≤ at) where
+    pub all_heard : AreHeard ops h.calls
+    all_heard = record { all = h.asked ∙ take_all at ops all; heard = h.heard }

@@ -2,6 +2,7 @@ pub mod Answering
 pub mod Asking
 pub mod Ending
 pub mod Hearing
+pub mod Living
 pub mod Reaching
 pub mod Replying
 pub mod Rounding

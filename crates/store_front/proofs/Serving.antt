@@ -76,8 +76,8 @@ module _ {D : Type 0} (pending : D → Pending) (seen : D → List ℕ) (moment 
     record {
       is = record {
         together = record { whole = All-nil IsRequest; apart = λ i j d low high. absurd (omega (arith, high)) };
-        reads = (reads_for c [], refl);
-        writes = (writes_for c (given_by {D = D} c []) [], refl);
+        reads = record { front = (reads_for c [], refl); only = tt };
+        writes = record { front = (writes_for c (given_by {D = D} c []) [], refl); only = tt };
         order = inl refl;
       };
       front = (rest, refl);

@@ -16,7 +16,7 @@ use Rattle.store_front.specs.declared.round.Asked.{Asked}
 use Rattle.store_front.specs.declared.round.Round.{Round}
 use Rattle.store_front.specs.Blocks.{blocks_of, piece_of, touches}
 use Rattle.store_device.specs.Calls.{Call}
-use Rattle.store_front.specs.Asking.{asked_in, IsFront}
+use Rattle.store_front.specs.Asking.{AreAsked, AreHeard}
 use Rattle.store_front.specs.Values.{given_by, with_values, write_of}
 
 -- ---- requests, each the bytes that it has
@@ -103,15 +103,15 @@ module _ {D : Type 0} where
   -- all that has to be read was read, and then all was written
   pub record IsExchange (c : Numbers) (e : Exchange D) : Type 0 where
     pub together : AreTogether c e.requests
-    pub reads : asked_in e.reads ≡ reads_for c e.requests
-    pub writes : asked_in e.writes ≡ writes_for c (given_by c e.reads) e.requests
+    pub reads : AreHeard (reads_for c e.requests) e.reads
+    pub writes : AreHeard (writes_for c (given_by c e.reads) e.requests) e.writes
 
   -- not all of it: nothing was written before all was read
   pub record IsBegun (c : Numbers) (e : Exchange D) : Type 0 where
     pub together : AreTogether c e.requests
-    pub reads : IsFront (asked_in e.reads) (reads_for c e.requests)
-    pub writes : IsFront (asked_in e.writes) (writes_for c (given_by c e.reads) e.requests)
-    pub order : (e.writes ≡ []) ⊎ (asked_in e.reads ≡ reads_for c e.requests)
+    pub reads : AreAsked (reads_for c e.requests) e.reads
+    pub writes : AreAsked (writes_for c (given_by c e.reads) e.requests) e.writes
+    pub order : (e.writes ≡ []) ⊎ AreHeard (reads_for c e.requests) e.reads
 
 -- ---- a round at the front of the input
 

@@ -1,5 +1,5 @@
 -- A whole session: the greeting, and then rounds of requests and their replies, by what the store told.
-use Rattle.std.specs.Prelude.{◌≡◌, ◌≢◌, ◌⊎◌, ⊤, ℕ, ◌-◌, ◌*◌, ◌^◌, ◌<◌, ◌≤◌, min, Bool, true, false, List, [], ◌++◌, length, Option, Result, Ok, Err}
+use Rattle.std.specs.Prelude.{◌≡◌, ◌≢◌, ◌⊎◌, ⊤, ℕ, ◌+◌, ◌-◌, ◌*◌, ◌^◌, ◌<◌, ◌≤◌, min, Bool, true, false, List, [], ◌++◌, length, Option, Result, Ok, Err}
 use Rattle.std.specs.Io.KnownBytes.{Consumes, IsAtEnd}
 use Rattle.std.specs.List.{All, AllByRecursion, concat, flat_map}
 use Rattle.quorum_rules.specs.Limits.{Numbers}
@@ -9,8 +9,10 @@ use Rattle.nbd_front.specs.Replies.{greeting}
 use Rattle.nbd_front.specs.Sessions.{IsRequest, IsLeave, IsPart, HasTaken, end_as}
 use Rattle.nbd_front.specs.declared.ending.SessionEnd.{SessionEnd}
 use Rattle.nbd_front.specs.declared.ending.SessionEnd.TheVariants.{NoMemory, ReadFault, WriteFault, BadMagic, CutRequest, TooManyRequests}
-use Rattle.store_device.specs.Stores.{SeenStore}
-use Rattle.store_device.specs.Calls.{Call, Leads}
+use Rattle.protocol.specs.Instance.{IsCluster}
+use Rattle.store_device.specs.Stores.{SeenStore, Nodes, IsStore, IsFound, kept_in}
+use Rattle.store_device.specs.Lives.{Moment, IsLife, KeepAlike}
+use Rattle.store_device.specs.Calls.{Call, Leads, moments_of, nodes_of}
 use Rattle.store_front.specs.Asking.{IsFront}
 use Rattle.store_front.specs.Rounds.{Exchange, IsExchange, calls_of}
 use Rattle.store_front.specs.Replies.{text_of, IsCutOff}
@@ -105,6 +107,24 @@ module _ {D : Type 0} where
       pub calls : Leads pending seen moment left_since old (calls_in rounds) store
       pub left_store : LeavesStore result c rest store new
       pub said : HasTaken (end_as result) (greeting (c.size * c.blocks) ++ replies_in c rounds) taken taken_after
+
+-- ---- a session in a store's life
+
+-- A life that has come to what the store's nodes keep when a session begins goes on over the calls of its rounds, to what its nodes are
+-- found to keep after them.
+abbrev pub SessionsAreLives : {D : Type 0} → (D → Pending) → (D → List ℕ) → (D → ℕ) → (D → ℕ → List ℕ → Type 0) → Type 0
+SessionsAreLives {D} pending seen moment left_since =
+    (lying : ℕ → Bool) (life : List Moment) (c : Numbers) (old new : SeenStore D) (result : Result Unit SessionEnd)
+    (left left_after taken taken_after : Option (List ℕ)) (gone kept : Nodes)
+    → IsCluster old.config lying
+    → IsLife old.config lying life
+    → KeepAlike old.config (nodes_of old.config life) (kept_in old gone)
+    → IsStore pending seen old
+    → (session : IsSession pending seen moment left_since c old new result left left_after taken taken_after)
+    → length life + length (calls_in session.rounds) < 2 ^ 31
+    → IsFound pending old session.store gone kept
+    → IsLife old.config lying (life ++ moments_of kept (calls_in session.rounds))
+    × KeepAlike old.config (nodes_of old.config (life ++ moments_of kept (calls_in session.rounds))) kept
 
 -- ---- what an input says of its end
 

@@ -9,7 +9,7 @@ ghost use Rattle.quorum_rules.specs.Limits.{Numbers};
 ghost use Rattle.wire_forms.specs.Ops.{Fits};
 ghost use Rattle.store_device.specs.Told.{AreApart};
 ghost use Rattle.store_device.specs.Calls.{Call, Leads};
-ghost use Rattle.store_front.specs.Asking.{asked_in, told_in, IsFront};
+ghost use Rattle.store_front.specs.Asking.{told_in, AreAsked, AreHeard};
 ghost use Rattle.store_front.specs.Values.{read_of, write_of, AreBlocks, found_with, found_in, written_with, written_in};
 
 use client_core::Outcome;
@@ -145,8 +145,8 @@ fn perform_all<D: Disk + Send, R: Threads + Sync>(
     ensures blocks { OnOk result (AreBlocks store.old.config done.new.found) }
     ensures calls { (calls : List (Call D))
         × Leads D.pending D.seen D.moment D.left_since store.old calls store.new
-        × IsFront (asked_in calls) ops.now
-        × OnOk result ((asked_in calls ≡ ops.now)
+        × AreAsked ops.now calls
+        × OnOk result (AreHeard ops.now calls
         × (done.new.found.entries
         ≡ found_in store.old.config done.old.found.entries (told_in calls))
         × (done.new.written.keys ≡ written_in done.old.written.keys (told_in calls))) }
@@ -174,8 +174,8 @@ pub(crate) fn read_blocks<D: Disk + Send, R: Threads + Sync>(
     ensures blocks { IfOk result (λ done. AreBlocks store.old.config done.found) }
     ensures calls { (calls : List (Call D))
         × Leads D.pending D.seen D.moment D.left_since store.old calls store.new
-        × IsFront (asked_in calls) (map Op.Read blocks.now.keys)
-        × IfOk result (λ done. (asked_in calls ≡ map Op.Read blocks.now.keys)
+        × AreAsked (map Op.Read blocks.now.keys) calls
+        × IfOk result (λ done. AreHeard (map Op.Read blocks.now.keys) calls
         × (done.found.entries ≡ found_in store.old.config [] (told_in calls))
         × (done.written.keys ≡ [])) }
 {
@@ -200,8 +200,8 @@ pub(crate) fn write_blocks<D: Disk + Send, R: Threads + Sync>(
     ensures blocks { OnOk result (AreBlocks store.old.config done.new.found) }
     ensures calls { (calls : List (Call D))
         × Leads D.pending D.seen D.moment D.left_since store.old calls store.new
-        × IsFront (asked_in calls) (map write_of values.entries)
-        × OnOk result ((asked_in calls ≡ map write_of values.entries)
+        × AreAsked (map write_of values.entries) calls
+        × OnOk result (AreHeard (map write_of values.entries) calls
         × (done.new.written.keys ≡ written_in done.old.written.keys (told_in calls))) }
 {
     let ops = writes_of(alloc, values)?;

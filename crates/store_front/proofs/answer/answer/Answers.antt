@@ -4,8 +4,8 @@ use Rattle.std.specs.List.{All, AllPairs}
 use Rattle.quorum_rules.specs.Limits.{Numbers}
 use Rattle.wire_forms.specs.declared.op.Op.TheVariants.{Read}
 use Rattle.store_front.specs.declared.round.Asked.{Asked}
-use Rattle.store_front.specs.Asking.{asked_in, told_in, IsFront}
-use Rattle.store_front.specs.Rounds.{requests_of, reads_for, writes_for, values_left}
+use Rattle.store_front.specs.Asking.{told_in, AreAsked, AreHeard}
+use Rattle.store_front.specs.Rounds.{requests_of, values_left}
 use Rattle.store_front.specs.Replies.{replies_of}
 use Rattle.store_front.specs.Values.{value_at, is_in, given_by, write_of, written_in}
 use Rattle.store_front.proofs.Answering.{together_of, reads_begun, writes_begun, all_done, any_err}
@@ -18,7 +18,7 @@ returns-in_err-done-clause-cut g c =
     let made = c.in_err-done.ensures.calls in
     any_err _ c.from_residual.result
     (reads_begun g.D.Disk.pending g.D.Disk.seen g.D.Disk.moment g.D.Disk.left_since config (requests_of asked) (together_of config asked c.requires.asked c.requires.apart)
-    made.0 c.args.store.now c.read_blocks.new.store made.1 (subst (λ ks. IsFront (asked_in made.0) (map Read ks)) c.requires.read made.2))
+    made.0 c.args.store.now c.read_blocks.new.store made.1 (subst (λ ks. AreAsked (map Read ks) made.0) c.requires.read made.2))
 
 pub returns-in_err-values-clause-cut : goal.returns-in_err-values-clause-cut
 returns-in_err-values-clause-cut g c =
@@ -27,7 +27,7 @@ returns-in_err-values-clause-cut g c =
     let made = c.in_ok-done.ensures.calls in
     any_err _ c.from_residual-in_err-values.result
     (reads_begun g.D.Disk.pending g.D.Disk.seen g.D.Disk.moment g.D.Disk.left_since config (requests_of asked) (together_of config asked c.requires.asked c.requires.apart)
-    made.0 c.args.store.now c.read_blocks.new.store made.1 (subst (λ ks. IsFront (asked_in made.0) (map Read ks)) c.requires.read made.2))
+    made.0 c.args.store.now c.read_blocks.new.store made.1 (subst (λ ks. AreAsked (map Read ks) made.0) c.requires.read made.2))
 
 pub returns-in_err-write_blocks-clause-cut : goal.returns-in_err-write_blocks-clause-cut
 returns-in_err-write_blocks-clause-cut g c =
@@ -35,7 +35,7 @@ returns-in_err-write_blocks-clause-cut g c =
     let asked = c.args.round.now.asked.items in
     let made = c.in_ok-done.ensures.calls in
     let wrote = c.in_err-write_blocks.ensures.calls in
-    let all : asked_in made.0 ≡ reads_for config (requests_of asked) = made.3.0 ∙ ap (map Read) c.requires.read in
+    let all = subst (λ ks. AreHeard (map Read ks) made.0) c.requires.read made.3.0 in
     let same : c.config.result.now ≡ config = c.config.ensures ∙ c.read_blocks.ensures.config in
     let values : c.in_ok-values.values.entries ≡ values_left config (given_by config made.0) (requests_of asked) =
     c.in_ok-values.ensures.values
@@ -44,7 +44,7 @@ returns-in_err-write_blocks-clause-cut g c =
     ∙ ap (λ es. values_left config (value_at es) (requests_of asked)) made.3.1 in
     any_err _ c.from_residual-in_err-write_blocks.result
     (writes_begun g.D.Disk.pending g.D.Disk.seen g.D.Disk.moment g.D.Disk.left_since config (requests_of asked) (together_of config asked c.requires.asked c.requires.apart)
-    made.0 c.args.store.now c.read_blocks.new.store made.1 all wrote.0 c.write_blocks.new.store wrote.1 (subst (λ es. IsFront (asked_in wrote.0) (map write_of es)) values wrote.2))
+    made.0 c.args.store.now c.read_blocks.new.store made.1 all wrote.0 c.write_blocks.new.store wrote.1 (subst (λ es. AreAsked (map write_of es) wrote.0) values wrote.2))
 
 pub returns-clause-cut : goal.returns-clause-cut
 returns-clause-cut g c =
@@ -52,7 +52,7 @@ returns-clause-cut g c =
     let asked = c.args.round.now.asked.items in
     let made = c.in_ok-done.ensures.calls in
     let wrote = c.in_ok-write_blocks.ensures.calls in
-    let all : asked_in made.0 ≡ reads_for config (requests_of asked) = made.3.0 ∙ ap (map Read) c.requires.read in
+    let all = subst (λ ks. AreHeard (map Read ks) made.0) c.requires.read made.3.0 in
     let same : c.config.result.now ≡ config = c.config.ensures ∙ c.read_blocks.ensures.config in
     let values : c.in_ok-values.values.entries ≡ values_left config (given_by config made.0) (requests_of asked) =
     c.in_ok-values.ensures.values
@@ -61,7 +61,7 @@ returns-clause-cut g c =
     ∙ ap (λ es. values_left config (value_at es) (requests_of asked)) made.3.1 in
     any_err _ c.replies.result
     (writes_begun g.D.Disk.pending g.D.Disk.seen g.D.Disk.moment g.D.Disk.left_since config (requests_of asked) (together_of config asked c.requires.asked c.requires.apart)
-    made.0 c.args.store.now c.read_blocks.new.store made.1 all wrote.0 c.write_blocks.new.store wrote.1 (subst (λ es. IsFront (asked_in wrote.0) (map write_of es)) values wrote.2))
+    made.0 c.args.store.now c.read_blocks.new.store made.1 all wrote.0 c.write_blocks.new.store wrote.1 (subst (λ es. AreAsked (map write_of es) wrote.0) values wrote.2))
 
 pub returns-clause-answered : goal.returns-clause-answered
 returns-clause-answered g c =
@@ -69,7 +69,7 @@ returns-clause-answered g c =
     let asked = c.args.round.now.asked.items in
     let made = c.in_ok-done.ensures.calls in
     let wrote = c.in_ok-write_blocks.ensures.calls in
-    let all : asked_in made.0 ≡ reads_for config (requests_of asked) = made.3.0 ∙ ap (map Read) c.requires.read in
+    let all = subst (λ ks. AreHeard (map Read ks) made.0) c.requires.read made.3.0 in
     let same : c.config.result.now ≡ config = c.config.ensures ∙ c.read_blocks.ensures.config in
     let values : c.in_ok-values.values.entries ≡ values_left config (given_by config made.0) (requests_of asked) =
     c.in_ok-values.ensures.values
@@ -82,7 +82,7 @@ returns-clause-answered g c =
     let gone = all_done g.D.Disk.pending g.D.Disk.seen g.D.Disk.moment g.D.Disk.left_since config (requests_of asked) (together_of config asked c.requires.asked c.requires.apart)
     made.0 c.args.store.now c.read_blocks.new.store made.1 all wrote.0 c.write_blocks.new.store wrote.1 in
     IfOk-weaker c.replies.result _ _
-    (λ text is. gone text.items (wrote.3.0 ∙ ap (map write_of) values) found written (c.in_ok-write_blocks.ensures.found ∙ made.3.1) (wrote.3.1 ∙ ap (λ ks. written_in ks (told_in wrote.0)) made.3.2)
+    (λ text is. gone text.items (subst (λ es. AreHeard (map write_of es) wrote.0) values wrote.3.0) found written (c.in_ok-write_blocks.ensures.found ∙ made.3.1) (wrote.3.1 ∙ ap (λ ks. written_in ks (told_in wrote.0)) made.3.2)
     (is
     ∙ ap (λ (k : Numbers). replies_of k (value_at found) (is_in written) (requests_of c.deref-2.result.now)) still
     ∙ ap (λ (xs : List Asked). replies_of config (value_at found) (is_in written) (requests_of xs)) c.deref-2.ensures.value))

@@ -1,12 +1,11 @@
-use Rattle.std.proofs.Common.{◌≡◌, ◌∙◌, ◌+◌, ◌-◌, ◌≤◌, length, take, drop, refl, sym, ap, subst, arith, Some, None, take_all}
+use Rattle.std.proofs.Common.{◌≡◌, ◌∙◌, ◌+◌, ◌-◌, ◌≤◌, length, take, drop, refl, sym, ap, subst, arith, Some, None}
 use Rattle.std.proofs.lemmas.List.{length-take, length-drop}
 use Rattle.std.specs.List.{All, zip}
 use Rattle.wire_forms.specs.Ops.{Fits}
 use Rattle.quorum_rules.specs.Limits.{Numbers}
 use Rattle.store_device.specs.Told.{AreApart}
-use Rattle.store_front.specs.Asking.{asked_in, IsFront}
 use Rattle.store_front.specs.Values.{AreBlocks, found_in}
-use Rattle.store_front.proofs.Asking.{HasGone, front_of, goes_on, cut_off, none_ok}
+use Rattle.store_front.proofs.Asking.{HasGone, goes_on, cut_off, all_heard, heard_asked, none_ok}
 use Rattle.store_front.proofs.Valuing.{all_slice, apart_slice}
 use Rattle.store_front.proofs.operations.perform_all.Goals as goal
 
@@ -58,5 +57,5 @@ loop-at-preserved g c =
 pub returns-clause-calls : goal.returns-clause-calls
 returns-clause-calls g c =
     let h = c.loop-at.invariant.gone in
-    let all : take c.loop-at.at c.args.ops.now ≡ c.args.ops.now = take_all c.loop-at.at c.args.ops.now (omega (arith, c.loop-at-test.false)) in
-    (h.calls, h.leads_there, subst (IsFront (asked_in h.calls)) (h.asked ∙ all) (front_of (asked_in h.calls)), (h.asked ∙ all, h.found_is, h.written_is))
+    let all = all_heard g.D.Disk.pending g.D.Disk.seen g.D.Disk.moment g.D.Disk.left_since c.args.store.now.config c.args.store.now c.loop-at.store c.args.ops.now c.loop-at.at _ _ _ _ h (omega (arith, c.loop-at-test.false)) in
+    (h.calls, h.leads_there, heard_asked c.args.ops.now h.calls all, (all, h.found_is, h.written_is))

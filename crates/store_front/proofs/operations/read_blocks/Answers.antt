@@ -1,10 +1,9 @@
 use Rattle.std.proofs.Common.{◌≡◌, ◌∙◌, ◌∷◌, [], map, sym, ap, subst}
 use Rattle.std.specs.List.{All}
-use Rattle.wire_forms.specs.declared.op.Op.TheVariants.{Read}
 use Rattle.wire_forms.specs.Ops.{Fits}
 use Rattle.store_device.specs.Told.{AreApart}
-use Rattle.store_front.specs.Asking.{told_in, IsFront, asked_in}
-use Rattle.store_front.specs.Values.{found_in, written_in}
+use Rattle.store_front.specs.Asking.{told_in, AreAsked, AreHeard}
+use Rattle.store_front.specs.Values.{found_in}
 use Rattle.store_front.proofs.Asking.{read_calls}
 use Rattle.store_front.proofs.Valuing.{reads_all_fit, reads_apart}
 use Rattle.store_front.proofs.operations.read_blocks.Goals as goal
@@ -23,10 +22,10 @@ pub returns-clause-calls : goal.returns-clause-calls
 returns-clause-calls g c =
     let made = c.in_ok-perform_all.ensures.calls in
     let asks = c.deref.ensures.value ∙ c.in_ok-ops.ensures.ops in
-    let all : asked_in made.0 ≡ map Read c.args.blocks.now.keys = made.3.0 ∙ asks in (
+    let all = subst (λ ops. AreHeard ops made.0) asks made.3.0 in (
       made.0,
       made.1,
-      subst (IsFront (asked_in made.0)) asks made.2,
+      subst (λ ops. AreAsked ops made.0) asks made.2,
       (
         all,
         made.3.1 ∙ ap (λ z. found_in c.args.store.now.config z (told_in made.0)) c.new-done.ensures.found,

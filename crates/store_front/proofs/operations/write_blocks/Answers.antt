@@ -1,10 +1,9 @@
-use Rattle.std.proofs.Common.{◌≡◌, ◌∙◌, map, sym, ap, subst}
+use Rattle.std.proofs.Common.{◌≡◌, ◌∙◌, sym, subst}
 use Rattle.std.proofs.lemmas.Result.{on_ok_weaker}
 use Rattle.std.specs.List.{All}
 use Rattle.wire_forms.specs.Ops.{Fits}
 use Rattle.store_device.specs.Told.{AreApart}
-use Rattle.store_front.specs.Asking.{asked_in, IsFront}
-use Rattle.store_front.specs.Values.{write_of}
+use Rattle.store_front.specs.Asking.{AreAsked, AreHeard}
 use Rattle.store_front.proofs.Asking.{write_calls}
 use Rattle.store_front.proofs.Valuing.{writes_all_fit, writes_apart}
 use Rattle.store_front.proofs.operations.write_blocks.Goals as goal
@@ -23,10 +22,10 @@ pub returns-clause-found : goal.returns-clause-found
 returns-clause-found g c =
     let made = c.perform_all.ensures.calls in
     let asks = c.deref.ensures.value ∙ c.in_ok-ops.ensures.ops in
-    on_ok_weaker c.perform_all.result (λ h. h.1 ∙ write_calls c.args.store.now.config c.args.done.now.found.entries made.0 c.args.values.entries (h.0 ∙ asks)) made.3
+    on_ok_weaker c.perform_all.result (λ h. h.1 ∙ write_calls c.args.store.now.config c.args.done.now.found.entries made.0 c.args.values.entries (subst (λ ops. AreHeard ops made.0) asks h.0)) made.3
 
 pub returns-clause-calls : goal.returns-clause-calls
 returns-clause-calls g c =
     let made = c.perform_all.ensures.calls in
     let asks = c.deref.ensures.value ∙ c.in_ok-ops.ensures.ops in
-    (made.0, made.1, subst (IsFront (asked_in made.0)) asks made.2, on_ok_weaker c.perform_all.result (λ h. (h.0 ∙ asks, h.2)) made.3)
+    (made.0, made.1, subst (λ ops. AreAsked ops made.0) asks made.2, on_ok_weaker c.perform_all.result (λ h. (subst (λ ops. AreHeard ops made.0) asks h.0, h.2)) made.3)
