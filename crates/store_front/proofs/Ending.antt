@@ -14,10 +14,12 @@ use Rattle.nbd_front.specs.Sessions.{leave_kind, IsRequest, IsLeave, IsPart}
 use Rattle.nbd_front.specs.declared.ending.SessionEnd.{SessionEnd}
 use Rattle.nbd_front.specs.declared.ending.SessionEnd.TheVariants.{NoMemory, ReadFault, WriteFault, BadMagic, CutRequest, TooManyRequests}
 use Rattle.store_device.specs.Stores.{SeenStore}
-use Rattle.store_front.specs.declared.standing.Standing.TheVariants.{Leave, Whole}
+use Rattle.store_front.specs.declared.standing.Standing.{Standing}
+use Rattle.store_front.specs.declared.standing.Standing.TheVariants.{Part, Wrong, Leave, Whole}
+use Rattle.store_front.specs.Standings.{IsStanding}
 use Rattle.store_front.specs.Asking.{IsFront}
-use Rattle.store_front.specs.Rounds.{Exchange, IsExchange}
-use Rattle.store_front.specs.Sessions.{told_place, requests_in, BeginsWithRequest, BeginsWithLeave, IsEnd, IsRest, EndsSo, IsSession}
+use Rattle.store_front.specs.Rounds.{BeginsWithRequest, Exchange, IsExchange}
+use Rattle.store_front.specs.Sessions.{told_place, requests_in, BeginsWithLeave, IsEnd, IsRest, EndsSo, IsSession}
 use Rattle.store_front.proofs.Waiting.{begins, leaves}
 
 -- ---- bytes with which a text begins
@@ -52,6 +54,13 @@ part_begins text part bytes more is e =
     let short = part.short (omega (arith, long, is.size)) in
     let less : length text < head_len + data_len (request_of bytes) = subst (λ q. length text < head_len + data_len q) same short in
     omega (arith, less, long, is.size)
+
+-- where a whole request begins, one stands
+pub none_stands : (s : Standing) (xs : List ℕ) → IsStanding s xs → BeginsWithRequest xs → ((r : Request) → s ≡ Whole r → ⊥) → ⊥
+none_stands Part xs h b none = part_begins xs h b.0 b.2.0 b.1 b.2.1
+none_stands Wrong xs h b none = wrong_begins xs h.1 b.0 b.2.0 b.1 b.2.1
+none_stands Leave xs h b none = leave_begins xs (inl (leaves xs h)) b.0 b.2.0 b.1 b.2.1
+none_stands (Whole r) xs h b none = none r refl
 
 rest_begins : (end : Result Unit SessionEnd) (place : ℕ) (rest : List ℕ) → IsRest end place rest → BeginsNone rest
 rest_begins (Ok done) place rest is = leave_begins rest is

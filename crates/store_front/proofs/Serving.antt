@@ -17,10 +17,10 @@ use Rattle.nbd_front.specs.declared.ending.SessionEnd.TheVariants.{NoMemory, Rea
 use Rattle.store_device.specs.Stores.{SeenStore}
 use Rattle.store_device.specs.Calls.{Leads}
 use Rattle.store_front.specs.Asking.{IsFront}
-use Rattle.store_front.specs.Rounds.{Exchange, IsExchange, IsBegun, calls_of, reads_for, writes_for}
+use Rattle.store_front.specs.Rounds.{BeginsWithRequest, Exchange, IsExchange, IsBegun, calls_of, reads_for, writes_for}
 use Rattle.store_front.specs.Values.{given_by}
 use Rattle.store_front.specs.Replies.{text_of, IsDone, IsCutOff, ServesRound}
-use Rattle.store_front.specs.Sessions.{told_place, requests_in, calls_in, replies_in, HasReadOn, HasLost, EndsWait, IsEnd, IsSession}
+use Rattle.store_front.specs.Sessions.{told_place, requests_in, calls_in, replies_in, HasRequest, HasReadOn, HasLost, EndsWait, IsEnd, IsSession}
 use Rattle.store_front.proofs.Asking.{leads_then}
 
 -- ---- what the sink took
@@ -96,10 +96,15 @@ module _ {D : Type 0} (pending : D → Pending) (seen : D → List ℕ) (moment 
       calls = calls;
     }
 
+    -- it has a request where one stands there
+    not_empty : (requests' : List (List ℕ)) → take len input ≡ concat requests' → 0 < len → 0 < length requests'
+    not_empty [] e some = let none : length (take len input) ≡ 0 = ap length e in omega (arith, none, length-take-le len input fits, some)
+    not_empty (r ∷ rs) e some = omega arith
+
     -- it was done
-    pub all_done : (round : Exchange D) → round.requests ≡ requests → IsExchange c round → Leads pending seen moment left_since old (calls_of round) new
+    pub all_done : (some : BeginsWithRequest input → 0 < len) (round : Exchange D) → round.requests ≡ requests → IsExchange c round → Leads pending seen moment left_since old (calls_of round) new
         → IsDone pending seen moment left_since c input len old new round
-    all_done round same is calls = record { is = is; fits = fits; front = front ∙ ap concat (sym same); calls = calls }
+    all_done some round same is calls = record { is = is; some = λ there. not_empty round.requests (front ∙ ap concat (sym same)) (some there); fits = fits; front = front ∙ ap concat (sym same); calls = calls }
 
   module _ (input : List ℕ) (old new : SeenStore D) (taken taken_after : Option (List ℕ)) (result : Result ℕ SessionEnd) where
     abbrev Serves : Type 0
@@ -115,6 +120,7 @@ module _ {D : Type 0} (pending : D → Pending) (seen : D → List ℕ) (moment 
   pub record HasServed (old now : SeenStore D) (count place : ℕ) (input : List ℕ) (left left_now taken taken_now : Option (List ℕ)) : Type 0 where
     pub rounds : List (Exchange D)
     pub done : AllByRecursion (IsExchange c) rounds
+    pub some : AllByRecursion HasRequest rounds
     pub gave : Consumes left left_now (concat (requests_in rounds) ++ input)
     pub count_is : count ≡ length rounds
     pub place_is : place ≡ told_place (length (concat (requests_in rounds)))
@@ -125,6 +131,7 @@ module _ {D : Type 0} (pending : D → Pending) (seen : D → List ℕ) (moment 
   greeted store left taken taken_now adds = record {
     rounds = [];
     done = tt;
+    some = tt;
     gave = Consumes-none left;
     count_is = refl;
     place_is = refl;
@@ -147,6 +154,7 @@ module _ {D : Type 0} (pending : D → Pending) (seen : D → List ℕ) (moment 
     reads_on new left_after read = record {
       rounds = h.rounds;
       done = h.done;
+      some = h.some;
       gave = gave_on new left_after read;
       count_is = h.count_is;
       place_is = h.place_is;
@@ -155,7 +163,7 @@ module _ {D : Type 0} (pending : D → Pending) (seen : D → List ℕ) (moment 
     }
 
     -- a round was done
-    module _ (new : SeenStore D) (len : ℕ) (round : Exchange D) (done : IsDone pending seen moment left_since c input len now new round) where
+    module _ (there : BeginsWithRequest input) (new : SeenStore D) (len : ℕ) (round : Exchange D) (done : IsDone pending seen moment left_since c input len now new round) where
       abbrev more : List (Exchange D)
       more = h.rounds ++ round ∷ []
 
@@ -174,6 +182,9 @@ module _ {D : Type 0} (pending : D → Pending) (seen : D → List ℕ) (moment 
       done_all : AllByRecursion (IsExchange c) more
       done_all = all_more (IsExchange c) h.rounds round h.done done.is
 
+      some_all : AllByRecursion HasRequest more
+      some_all = all_more HasRequest h.rounds round h.some (done.some there)
+
       text_more : (words ++ replies_in c h.rounds) ++ text_of c round ≡ words ++ replies_in c more
       text_more = append_assoc words (replies_in c h.rounds) (text_of c round) ∙ ap (λ z. words ++ z) (sym (replies_more c h.rounds round))
 
@@ -184,6 +195,7 @@ module _ {D : Type 0} (pending : D → Pending) (seen : D → List ℕ) (moment 
           record {
             rounds = more;
             done = done_all;
+            some = some_all;
             gave = done_gave;
             count_is = omega (arith, h.count_is, length-append h.rounds (round ∷ []));
             place_is = ap (λ p. told_place (p + len)) h.place_is ∙ place_on (length bytes) len
@@ -198,6 +210,7 @@ module _ {D : Type 0} (pending : D → Pending) (seen : D → List ℕ) (moment 
       write_failed taken_after prefix = record {
         rounds = more;
         done = done_all;
+        some = some_all;
         rest = drop len input;
         gave = done_gave;
         ended = tt;
@@ -208,12 +221,13 @@ module _ {D : Type 0} (pending : D → Pending) (seen : D → List ℕ) (moment 
       }
 
     -- a round ended the session
-    pub ends_round : (end : SessionEnd) (new : SeenStore D) (taken_after : Option (List ℕ)) → ServesRound pending seen moment left_since c input now new taken_now taken_after (Err end)
+    pub ends_round : (there : BeginsWithRequest input) (end : SessionEnd) (new : SeenStore D) (taken_after : Option (List ℕ)) → ServesRound pending seen moment left_since c input now new taken_now taken_after (Err end)
         → IsSession pending seen moment left_since c old new (Err end) left left_now taken taken_after
-    ends_round WriteFault new taken_after r = write_failed new r.1 r.0 r.2 taken_after r.3
-    ends_round NoMemory new taken_after r = record {
+    ends_round there WriteFault new taken_after r = write_failed there new r.1 r.0 r.2 taken_after r.3
+    ends_round there NoMemory new taken_after r = record {
       rounds = h.rounds;
       done = h.done;
+      some = h.some;
       rest = input;
       gave = h.gave;
       ended = tt;
@@ -222,10 +236,10 @@ module _ {D : Type 0} (pending : D → Pending) (seen : D → List ℕ) (moment 
       left_store = (r.0, r.1);
       said = (words ++ replies_in c h.rounds, [], sym (append-nil (words ++ replies_in c h.rounds)), subst (Adds taken taken_after) (append-nil (words ++ replies_in c h.rounds)) (adds_then taken taken_now taken_after (words ++ replies_in c h.rounds) [] h.said r.2));
     }
-    ends_round ReadFault new taken_after r = absurd r
-    ends_round (BadMagic at) new taken_after r = absurd r
-    ends_round (CutRequest at) new taken_after r = absurd r
-    ends_round TooManyRequests new taken_after r = absurd r
+    ends_round there ReadFault new taken_after r = absurd r
+    ends_round there (BadMagic at) new taken_after r = absurd r
+    ends_round there (CutRequest at) new taken_after r = absurd r
+    ends_round there TooManyRequests new taken_after r = absurd r
 
     -- the session ended with these bytes at hand, but for want of memory
     abbrev ended_so : Result Unit SessionEnd → List ℕ → Option (List ℕ) → Type 0
@@ -237,6 +251,7 @@ module _ {D : Type 0} (pending : D → Pending) (seen : D → List ℕ) (moment 
     leaves new left_after w = record {
       rounds = h.rounds;
       done = h.done;
+      some = h.some;
       rest = new;
       gave = gave_on new left_after w.0;
       ended = w.1;
@@ -251,6 +266,7 @@ module _ {D : Type 0} (pending : D → Pending) (seen : D → List ℕ) (moment 
     ends_wait (BadMagic at) new left_after w = record {
       rounds = h.rounds;
       done = h.done;
+      some = h.some;
       rest = new;
       gave = gave_on new left_after w.0;
       ended = (w.1 ∙ h.place_is, w.2, w.3);
@@ -262,6 +278,7 @@ module _ {D : Type 0} (pending : D → Pending) (seen : D → List ℕ) (moment 
     ends_wait (CutRequest at) new left_after w = record {
       rounds = h.rounds;
       done = h.done;
+      some = h.some;
       rest = new;
       gave = gave_on new left_after w.0;
       ended = (w.1 ∙ h.place_is, w.2, w.3, w.4);
@@ -273,6 +290,7 @@ module _ {D : Type 0} (pending : D → Pending) (seen : D → List ℕ) (moment 
     ends_wait ReadFault new left_after w = record {
       rounds = h.rounds;
       done = h.done;
+      some = h.some;
       rest = new;
       gave = gave_on new left_after w.0;
       ended = w.1;
@@ -284,6 +302,7 @@ module _ {D : Type 0} (pending : D → Pending) (seen : D → List ℕ) (moment 
     ends_wait NoMemory new left_after w = record {
       rounds = h.rounds;
       done = h.done;
+      some = h.some;
       rest = input ++ w.bytes;
       gave = subst (Consumes left left_after) (append_assoc bytes input w.bytes) (Consumes-then left left_now left_after (bytes ++ input) w.bytes h.gave w.gave);
       ended = tt;
@@ -300,6 +319,7 @@ module _ {D : Type 0} (pending : D → Pending) (seen : D → List ℕ) (moment 
     many all = record {
       rounds = h.rounds;
       done = h.done;
+      some = h.some;
       rest = input;
       gave = h.gave;
       ended = sym h.count_is ∙ all;
@@ -318,8 +338,11 @@ module _ {D : Type 0} (pending : D → Pending) (seen : D → List ℕ) (moment 
     none_came is = leaves old now count place input left left_now taken taken_now h read left_after (subst (λ b. EndsWait (Ok b) place input read left_now left_after) is waited)
 
     module _ (is : came ≡ true) (config : Numbers) (same : config ≡ c) (new : SeenStore D) (taken_after : Option (List ℕ)) where
+      it_came : EndsWait (Ok true) place input read left_now left_after
+      it_came = subst (λ b. EndsWait (Ok b) place input read left_now left_after) is waited
+
       one_came : HasServed old now count place read left left_after taken taken_now
-      one_came = reads_on old now count place input left left_now taken taken_now h read left_after (subst (λ b. EndsWait (Ok b) place input read left_now left_after) is waited).0
+      one_came = reads_on old now count place input left left_now taken taken_now h read left_after it_came.0
 
       -- its round was served
       pub turn : (len : ℕ) → ServesRound pending seen moment left_since config read now new taken_now taken_after (Ok len)
@@ -327,7 +350,7 @@ module _ {D : Type 0} (pending : D → Pending) (seen : D → List ℕ) (moment 
           → HasServed old new (count + 1) place_next input_next left left_after taken taken_after
       turn len r input_next place_next rest further =
           let done = subst (λ (k : Numbers). ServesRound pending seen moment left_since k read now new taken_now taken_after (Ok len)) same r in
-          let next = serves_on old now count place read left left_after taken taken_now one_came new len done.0 done.1 taken_after done.2 in
+          let next = serves_on old now count place read left left_after taken taken_now one_came it_came.1 new len done.0 done.1 taken_after done.2 in
           subst (λ z. HasServed old new (count + 1) place_next z left left_after taken taken_after) (sym rest)
           (subst (λ n. HasServed old new (count + 1) n (drop len read) left left_after taken taken_after) (sym further) next)
 
@@ -335,7 +358,7 @@ module _ {D : Type 0} (pending : D → Pending) (seen : D → List ℕ) (moment 
       pub cut_short : (end : SessionEnd) → ServesRound pending seen moment left_since config read now new taken_now taken_after (Err end)
           → IsSession pending seen moment left_since c old new (Err end) left left_after taken taken_after
       cut_short end r =
-          ends_round old now count place read left left_after taken taken_now one_came end new taken_after
+          ends_round old now count place read left left_after taken taken_now one_came it_came.1 end new taken_after
           (subst (λ (k : Numbers). ServesRound pending seen moment left_since k read now new taken_now taken_after (Err end)) same r)
 
   -- the session ended with its greeting
@@ -344,6 +367,7 @@ module _ {D : Type 0} (pending : D → Pending) (seen : D → List ℕ) (moment 
   not_begun end store left taken taken_after (inl is) prefix = rw is (record {
     rounds = [];
     done = tt;
+    some = tt;
     rest = [];
     gave = Consumes-none left;
     ended = tt;
@@ -355,6 +379,7 @@ module _ {D : Type 0} (pending : D → Pending) (seen : D → List ℕ) (moment 
   not_begun end store left taken taken_after (inr is) prefix = rw is (record {
     rounds = [];
     done = tt;
+    some = tt;
     rest = [];
     gave = Consumes-none left;
     ended = tt;

@@ -13,7 +13,8 @@ use Rattle.store_front.specs.declared.standing.Standing.{Standing}
 use Rattle.store_front.specs.declared.standing.Standing.TheVariants.{Part, Wrong, Leave, Whole}
 use Rattle.store_front.specs.Asking.{IsFront}
 use Rattle.store_front.specs.Inputs.{HasRead}
-use Rattle.store_front.specs.Sessions.{HasReadOn, HasLost, BeginsWithRequest, BeginsWithLeave, EndsWait}
+use Rattle.store_front.specs.Rounds.{BeginsWithRequest}
+use Rattle.store_front.specs.Sessions.{HasReadOn, HasLost, BeginsWithLeave, EndsWait}
 use Rattle.store_front.specs.Standings.{IsStanding}
 use Rattle.store_front.proofs.Rounding.{whole_request}
 

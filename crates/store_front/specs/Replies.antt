@@ -1,6 +1,6 @@
 -- Replies to requests, by what the store told of the block operations of their round: the values that reads gave, and which blocks were
 -- written.
-use Rattle.std.specs.Prelude.{◌≡◌, ℕ, ◌≤◌, ◌*◌, ◌==◌, ◌&&◌, if◌then◌else◌, Bool, is_some, unwrap_or, List, [], ◌++◌, length, take, Option, Result, Ok, Err}
+use Rattle.std.specs.Prelude.{◌≡◌, ℕ, ◌<◌, ◌≤◌, ◌*◌, ◌==◌, ◌&&◌, if◌then◌else◌, Bool, is_some, unwrap_or, List, [], ◌++◌, length, take, Option, Result, Ok, Err}
 use Rattle.std.specs.List.{concat, flat_map, list_all, slice_range}
 use Rattle.quorum_rules.specs.Limits.{Numbers}
 use Rattle.disk_model.specs.Crash.{Pending}
@@ -15,7 +15,7 @@ use Rattle.store_device.specs.Stores.{SeenStore}
 use Rattle.store_device.specs.Calls.{Leads}
 use Rattle.store_front.specs.Asking.{IsFront}
 use Rattle.store_front.specs.Blocks.{blocks_of, piece_of}
-use Rattle.store_front.specs.Rounds.{Exchange, IsExchange, IsBegun, calls_of}
+use Rattle.store_front.specs.Rounds.{BeginsWithRequest, Exchange, IsExchange, IsBegun, calls_of}
 use Rattle.store_front.specs.Values.{given_by, wrote_by}
 
 -- the error of a request of which a block operation failed
@@ -57,6 +57,7 @@ module _ {D : Type 0} (pending : D → Pending) (seen : D → List ℕ) (moment 
   -- a round was done whose requests are the first bytes of the input, so many, and its calls lead from the one store to the other
   pub record IsDone (c : Numbers) (input : List ℕ) (len : ℕ) (old new : SeenStore D) (round : Exchange D) : Type 0 where
     pub is : IsExchange c round
+    pub some : BeginsWithRequest input → 0 < length round.requests
     pub fits : len ≤ length input
     pub front : take len input ≡ concat round.requests
     pub calls : Leads pending seen moment left_since old (calls_of round) new

@@ -16,7 +16,7 @@ use Rattle.store_front.specs.declared.round.Asked.{Asked}
 use Rattle.store_front.specs.declared.round.Round.{Round}
 use Rattle.store_front.specs.Blocks.{blocks_of, piece_of, touches}
 use Rattle.store_device.specs.Calls.{Call}
-use Rattle.store_front.specs.Asking.{AreAsked, AreHeard}
+use Rattle.store_front.specs.Asking.{IsFront, AreAsked, AreHeard}
 use Rattle.store_front.specs.Values.{given_by, with_values, write_of}
 
 -- ---- requests, each the bytes that it has
@@ -31,6 +31,10 @@ AreSeparate c a b =
 pub record AreTogether (c : Numbers) (requests : List (List ℕ)) : Type 0 where
   pub whole : All IsRequest requests
   pub apart : AllPairs (AreSeparate c) requests
+
+-- a whole request stands at the front of these bytes
+abbrev pub BeginsWithRequest : List ℕ → Type 0
+BeginsWithRequest input = (bytes : List ℕ) × IsRequest bytes × IsFront bytes input
 
 -- ---- the blocks that are read for them
 

@@ -14,7 +14,7 @@ use Rattle.store_device.specs.Stores.{SeenStore, Nodes, IsStore, IsFound, kept_i
 use Rattle.store_device.specs.Lives.{Moment, IsLife, KeepAlike}
 use Rattle.store_device.specs.Calls.{Call, Leads, moments_of, nodes_of}
 use Rattle.store_front.specs.Asking.{IsFront}
-use Rattle.store_front.specs.Rounds.{Exchange, IsExchange, calls_of}
+use Rattle.store_front.specs.Rounds.{BeginsWithRequest, Exchange, IsExchange, calls_of}
 use Rattle.store_front.specs.Replies.{text_of, IsCutOff}
 
 -- a session that has begun: the input that was read and isn't served yet, and how many bytes of requests were served
@@ -26,10 +26,7 @@ pub record SeenSession : Type 0 where
 abbrev pub told_place : ℕ → ℕ
 told_place place = min place (2 ^ 64 - 1)
 
--- a request stands at the front of these bytes: one that stays, or one that leaves
-abbrev pub BeginsWithRequest : List ℕ → Type 0
-BeginsWithRequest input = (bytes : List ℕ) × IsRequest bytes × IsFront bytes input
-
+-- a request that leaves stands at the front of these bytes
 abbrev pub BeginsWithLeave : List ℕ → Type 0
 BeginsWithLeave input = (bytes : List ℕ) × IsLeave bytes × IsFront bytes input
 
@@ -82,6 +79,10 @@ module _ {D : Type 0} where
   abbrev pub calls_in : List (Exchange D) → List (Call D)
   calls_in rounds = flat_map calls_of rounds
 
+  -- at least one
+  abbrev pub HasRequest : Exchange D → Type 0
+  HasRequest e = 0 < length e.requests
+
   -- their replies
   abbrev pub replies_in : Numbers → List (Exchange D) → List ℕ
   replies_in c rounds = flat_map (text_of c) rounds
@@ -98,6 +99,7 @@ module _ {D : Type 0} where
         (left left_after taken taken_after : Option (List ℕ)) : Type 0 where
       pub rounds : List (Exchange D)
       pub done : AllByRecursion (IsExchange c) rounds
+      pub some : AllByRecursion HasRequest rounds
       -- the bytes that were read behind their requests
       pub rest : List ℕ
       pub gave : Consumes left left_after (concat (requests_in rounds) ++ rest)

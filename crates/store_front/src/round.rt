@@ -3,7 +3,7 @@ ghost use Rattle.std.specs.Prelude.{◌≡◌, ◌+◌, ◌≤◌, ◌<◌, ◌-
 ghost use Rattle.std.specs.Ordering.{nat_cmp};
 ghost use Rattle.std.specs.BTreeSet.{insert_key};
 ghost use Rattle.store_front.specs.Blocks.{Reaches};
-ghost use Rattle.store_front.specs.Rounds.{needs, needed, with_blocks, IsAsked, IsRound};
+ghost use Rattle.store_front.specs.Rounds.{BeginsWithRequest, needs, needed, with_blocks, IsAsked, IsRound};
 ghost use Rattle.store_front.specs.Touching.{IsFree, HasRoom, HasTouched, Knows, KnowsMore};
 ghost use Rattle.store_front.specs.Standings.{IsStanding};
 ghost use Rattle.nbd_front.specs.Requests.{head_len, data_len};
@@ -54,8 +54,9 @@ impl Touched {
     /// they touch few blocks together.
     fn takes(&self, blocks: Blocks, kind: u16) -> bool
         requires { blocks.first ≤ blocks.end }
-        ensures { result ≡ true → (k : ℕ) → blocks.first ≤ k → k < blocks.end
+        ensures room { result ≡ true → (k : ℕ) → blocks.first ≤ k → k < blocks.end
             → HasRoom self.now kind k }
+        ensures first { self.now.count ≡ 0 → result ≡ true }
     {
         if self.count == 0 {
             return true;
@@ -162,6 +163,7 @@ pub(crate) fn take_round<'a>(
 ) -> Result<Round<'a>, NoMemory>
     ensures round { IfOk result (IsRound config.now input.now) }
     ensures blocks { IfOk result (λ round. All (λ k. k < config.now.blocks) round.read.keys) }
+    ensures some { BeginsWithRequest input.now → IfOk result (λ round. 0 < round.len) }
 {
     let _valid = config.size();
     let mut asked = Vec::new(alloc);

@@ -9,6 +9,7 @@ invariant-loop-request l = record {
   asked : All IsAsked l.asked.items;
   apart : AllPairs (AreSeparate l.config) (requests_of l.asked.items);
   known : AreKnown l.config l.touched (requests_of l.asked.items);
+  first : l.len ≡ 0 → l.touched.count ≡ 0;
   fits : l.len ≤ length l.input;
   front : take l.len l.input ≡ concat (requests_of l.asked.items);
   read : l.touched.read.keys ≡ blocks_read l.config (requests_of l.asked.items);

@@ -34,7 +34,7 @@ returns-in_err-write_or_end-clause-round g c =
     let e = c.in_ok-replies.ensures.answered in
     let prefix = subst (TakesPrefix (g.K.Sink.taken c.args.sink.now) (g.K.Sink.taken c.write_or_end.new.sink)) (c.deref.ensures.value ∙ e.4) c.in_err-write_or_end.ensures.prefix in
     no_sink g.D.Disk.pending g.D.Disk.seen g.D.Disk.moment g.D.Disk.left_since c.args.store.now.config _ _ _ _ _ _ is e.0 c.in_ok-round.round.len
-    (all_done g.D.Disk.pending g.D.Disk.seen g.D.Disk.moment g.D.Disk.left_since c.args.store.now.config c.args.at_hand.now c.args.store.now c.answer.new.store (requests_of c.in_ok-round.round.asked.items) c.in_ok-round.round.len round.fits round.front e.0 e.1 e.2 e.3)
+    (all_done g.D.Disk.pending g.D.Disk.seen g.D.Disk.moment g.D.Disk.left_since c.args.store.now.config c.args.at_hand.now c.args.store.now c.answer.new.store (requests_of c.in_ok-round.round.asked.items) c.in_ok-round.round.len round.fits round.front c.in_ok-round.ensures.some e.0 e.1 e.2 e.3)
     prefix
 
 pub returns-clause-round : goal.returns-clause-round
@@ -43,6 +43,6 @@ returns-clause-round g c =
     let e = c.in_ok-replies.ensures.answered in
     let adds = subst (Adds (g.K.Sink.taken c.args.sink.now) (g.K.Sink.taken c.write_or_end.new.sink)) (c.deref.ensures.value ∙ e.4) c.in_ok-write_or_end.ensures.whole in (
       e.0,
-      all_done g.D.Disk.pending g.D.Disk.seen g.D.Disk.moment g.D.Disk.left_since c.args.store.now.config c.args.at_hand.now c.args.store.now c.answer.new.store (requests_of c.in_ok-round.round.asked.items) c.in_ok-round.round.len round.fits round.front e.0 e.1 e.2 e.3,
+      all_done g.D.Disk.pending g.D.Disk.seen g.D.Disk.moment g.D.Disk.left_since c.args.store.now.config c.args.at_hand.now c.args.store.now c.answer.new.store (requests_of c.in_ok-round.round.asked.items) c.in_ok-round.round.len round.fits round.front c.in_ok-round.ensures.some e.0 e.1 e.2 e.3,
       adds,
     )

@@ -9,5 +9,5 @@ loop-block-preserved c = λ k low high. elim (cases_lt k c.loop-block.block) [
   | inr now ↦ (let same : c.loop-block.block ≡ k = omega (arith, now, high) in subst (IsFree c.args.self.now c.args.kind) same (c.is_free.ensures c.if-not-is_free.false))
 ]
 
-pub returns : goal.returns
-returns c = λ e k low high. inr (c.loop-block.invariant k low (omega (arith, high, c.loop-block-test.false)))
+pub returns-clause-room : goal.returns-clause-room
+returns-clause-room c = λ e k low high. inr (c.loop-block.invariant k low (omega (arith, high, c.loop-block-test.false)))
