@@ -359,7 +359,7 @@ module _ (written : (zeros : List ℕ) (ops : List Operation) → ReadsAreWritte
           all_same : (os : List Op) → AllByRecursion (λ (op : Op). a (block_of op) ≡ a (block_of op)) os
           all_same [] = tt
           all_same (o ∷ os) = (refl, all_same os)
-      by (Pruned block stamp) is here more = more a (λ b. holds_still k (Pruned block stamp) here (λ ops outcomes e. absurd cc) b (a b) (holds b))
+      by (Pruned prunes) is here more = more a (λ b. holds_still k (Pruned prunes) here (λ ops outcomes e. absurd cc) b (a b) (holds b))
       by Changed is here more = more a (λ b. holds_still k Changed here (λ ops outcomes e. absurd cc) b (a b) (holds b))
 
   all_answered : AreAnswered (λ block. zeros (setting c)) (operations_of life)

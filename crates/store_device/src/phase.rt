@@ -31,6 +31,7 @@ const MOST_PHASES: u64 = 1_000_000;
 pub(crate) fn go_on<D: Disk + Send, R: Threads + Sync>(
     rt: &R,
     alloc: Global,
+    threads: usize,
     seats: &mut [Seat<D>],
     batch: &mut Batch,
     asks: Asks,
@@ -61,7 +62,7 @@ pub(crate) fn go_on<D: Disk + Send, R: Threads + Sync>(
     endings();
     let mut asks = asks;
     while batch.asking() > 0 && batch.phases() < MOST_PHASES {
-        asks = go_through(rt, alloc, seats, batch, asks)?;
+        asks = go_through(rt, alloc, threads, seats, batch, asks)?;
     }
     Ok(())
 }
@@ -70,6 +71,7 @@ pub(crate) fn go_on<D: Disk + Send, R: Threads + Sync>(
 fn go_through<D: Disk + Send, R: Threads + Sync>(
     rt: &R,
     alloc: Global,
+    threads: usize,
     seats: &mut [Seat<D>],
     batch: &mut Batch,
     asks: Asks,
@@ -96,7 +98,7 @@ fn go_through<D: Disk + Send, R: Threads + Sync>(
         (map (λ a. a.items) asks.items)) }
 {
     hand_out(seats, asks);
-    work(rt, seats);
+    work(rt, threads, seats);
     none_starved(seats)?;
     let answers = gather(alloc, seats)?;
     batch.hear(answers)
@@ -106,6 +108,7 @@ fn go_through<D: Disk + Send, R: Threads + Sync>(
 pub(crate) fn carry_out<D: Disk + Send, R: Threads + Sync>(
     rt: &R,
     alloc: Global,
+    threads: usize,
     config: &Config,
     idle: &Client,
     seats: &mut [Seat<D>],
@@ -134,6 +137,6 @@ pub(crate) fn carry_out<D: Disk + Send, R: Threads + Sync>(
     endings();
     form_ops(config, ops);
     let (mut batch, asks) = Batch::begin(alloc, config, idle, ops)?;
-    go_on(rt, alloc, seats, &mut batch, asks)?;
+    go_on(rt, alloc, threads, seats, &mut batch, asks)?;
     batch.into_ends()
 }

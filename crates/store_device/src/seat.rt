@@ -10,7 +10,7 @@ use std::alloc::Global;
 use std::mem::swap;
 use std::thread::{Threads, for_each_mut};
 use version_disk::{Replies, StoreRefusal, StoredNode};
-use wire_forms::Ask;
+use wire_forms::{Ask, Request};
 
 /// A seat for a node: the node, if one sits there, what it is to answer, what it answered, and whether it found no memory for that.
 #[derive(Drop)]
@@ -114,8 +114,8 @@ pub(crate) fn hand_out<D: Disk>(seats: &mut [Seat<D>], asks: Asks)
     }
 }
 
-/// Has each node answer its asks, each in a thread of its own.
-pub(crate) fn work<D: Disk + Send, R: Threads + Sync>(rt: &R, seats: &mut [Seat<D>])
+/// Has each node answer its asks. Where more than one of them is to write, they work at once, in so many threads at most.
+pub(crate) fn work<D: Disk + Send, R: Threads + Sync>(rt: &R, threads: usize, seats: &mut [Seat<D>])
     ensures count { length seats.new ≡ length seats.old }
     ensures each { (i : ℕ) (d : _) → i < length seats.old
         → WorksIn D.pending D.seen D.moment D.left_since (slice_index_or seats.old i d).asks.items
@@ -126,11 +126,32 @@ pub(crate) fn work<D: Disk + Send, R: Threads + Sync>(rt: &R, seats: &mut [Seat<
         ((slice_index_or seats.new i d).starved || is_some (slice_index_or seats.new i d).replies)
         (slice_index_or seats.old i d).node (slice_index_or seats.new i d).node }
 {
-    let threads = seats.len();
-    if threads == 0 {
-        return;
+    let threads = if write_at_once(seats) { threads } else { 1 };
+    for_each_mut(rt, seats, threads.max(1), &|_, seat| seat.work());
+}
+
+/// Whether more than one node is asked to write. What changes no disk takes less time than a thread does to begin.
+fn write_at_once<D: Disk>(seats: &[Seat<D>]) -> bool {
+    let mut writes = false;
+    for seat in seats {
+        if is_write(&seat.asks) {
+            if writes {
+                return true;
+            }
+            writes = true;
+        }
     }
-    for_each_mut(rt, seats, threads, &|_, seat| seat.work());
+    false
+}
+
+/// Whether one of the asks is a write.
+fn is_write(asks: &[Ask]) -> bool {
+    for ask in asks {
+        if matches!(ask.request, Request::Write(_)) {
+            return true;
+        }
+    }
+    false
 }
 
 /// Sees that no node found too little memory to answer.

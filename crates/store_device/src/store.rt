@@ -33,6 +33,8 @@ pub struct Store<D: Disk> {
     /// An idle client, from which each operation's own client is made.
     idle: Client,
     pub(crate) seats: Vec<Seat<D>>,
+    /// In how many threads the nodes write at once at most.
+    pub(crate) threads: usize,
 }
 
 impl<D: Disk> Model for Store<D> {
@@ -62,15 +64,17 @@ impl<D: Disk> Store<D> {
     {
         let idle = Client::new(alloc, config, 0)?;
         let seats = seat_all(alloc, nodes)?;
+        let threads = seats.len();
         Ok(Store {
             alloc,
             config: *config,
             idle,
             seats,
+            threads,
         })
     }
 
-    /// Reads and writes blocks, each by a client of its own, in step: in each phase the nodes work at once, each in a thread of its own.
+    /// Reads and writes blocks, each by a client of its own, in step: in each phase the nodes that write do so at once, in threads.
     /// Gives how each operation ended, in order; None where too few nodes answered, or where it had not ended after a million phases:
     /// then a write may have taken place or not. So it may where no memory was found, by the caller or by a node that is up, and then
     /// nothing is told of any of them.
@@ -100,8 +104,9 @@ impl<D: Disk> Store<D> {
             config,
             idle,
             seats,
+            threads,
         } = self;
         operations();
-        carry_out(rt, *alloc, config, idle, seats, ops)
+        carry_out(rt, *alloc, *threads, config, idle, seats, ops)
     }
 }
