@@ -17,3 +17,4 @@ pub mod LifeCalls
 pub mod Calling
 pub mod Rooms
 pub mod Coming
+pub mod LifeArrays

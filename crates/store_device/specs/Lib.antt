@@ -6,3 +6,4 @@ pub mod Lives
 pub mod Seating
 pub mod Calls
 pub mod Answered
+pub mod Arrays
