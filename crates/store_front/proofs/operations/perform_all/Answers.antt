@@ -1,9 +1,8 @@
-use Rattle.std.proofs.Common.{◌≡◌, ◌∙◌, ◌+◌, ◌-◌, ◌≤◌, length, take, drop, refl, sym, ap, subst, arith, Some, None}
+use Rattle.std.proofs.Common.{◌≡◌, ◌∙◌, ◌+◌, ◌-◌, length, take, drop, refl, sym, ap, subst, arith, Some, None}
 use Rattle.std.proofs.lemmas.List.{length-take, length-drop}
 use Rattle.std.specs.List.{All, zip}
 use Rattle.wire_forms.specs.Ops.{Fits}
 use Rattle.quorum_rules.specs.Limits.{Numbers}
-use Rattle.store_device.specs.Told.{AreApart}
 use Rattle.store_front.specs.Values.{AreBlocks, found_in}
 use Rattle.store_front.proofs.Asking.{HasGone, goes_on, cut_off, all_heard, heard_asked, none_ok}
 use Rattle.store_front.proofs.Valuing.{all_slice, apart_slice}
