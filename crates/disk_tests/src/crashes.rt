@@ -6,7 +6,7 @@ use lists::NoMemory;
 use std::alloc::Global;
 use std::process::Abort;
 use std::test::Fail;
-use version_disk::{OpenRefusal, StoreRefusal, StoredNode};
+use version_disk::{OpenRefusal, Prune, StoreRefusal, StoredNode};
 
 /// So many deeds a node does: the numbers of 7, 14 and 21 are prunes of block 0, the others writes of the blocks in turn.
 const DEEDS: u64 = 23;
@@ -32,6 +32,10 @@ pub(crate) fn act<D: Disk>(
 {
     if let Some(time) = prune_time(deed) {
         let stamp = version(alloc, time)?.stamp;
+        // one that drops versions can come as one of many too
+        if deed == 14 {
+            return node.prune_all(&[Prune { block: 0, stamp }]);
+        }
         return node.prune(0, &stamp);
     }
     let ask = write(alloc, (deed % 2) as u32, deed + 1)?;

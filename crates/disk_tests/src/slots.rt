@@ -6,7 +6,7 @@ use lists::NoMemory;
 use std::alloc::Global;
 use std::process::Abort;
 use std::test::Fail;
-use version_disk::{OpenRefusal, StoreRefusal, StoredNode};
+use version_disk::{OpenRefusal, Prune, StoreRefusal, StoredNode};
 
 // Node 0 on an empty disk that has this room.
 fn on_empty(rt: &impl Abort, alloc: Global, room: usize) -> Result<StoredNode<CalmDisk>, NoMemory>
@@ -67,7 +67,8 @@ fn a_stopped_write_is_whole_or_not_there(rt: HostRuntime) -> Result<(), Fail> {
     Ok(())
 }
 
-// Whether a node takes writes of the times 1 and 2, and a prune by the second.
+// Whether a node takes writes of the times 1 and 2, and a prune by the second. Then it takes that prune as one of many, which drops
+// nothing any more, so no slot is written.
 fn takes_prune(alloc: Global, node: &mut StoredNode<CalmDisk>) -> Result<bool, StoreRefusal>
     requires { 0 < node.old.node.config.blocks }
     ensures { node.new.node.config ≡ node.old.node.config }
@@ -75,6 +76,10 @@ fn takes_prune(alloc: Global, node: &mut StoredNode<CalmDisk>) -> Result<bool, S
     let second = version(alloc, 2)?.stamp;
     let are_written = written(alloc, node, 1)? && written(alloc, node, 2)?;
     node.prune(0, &second)?;
+    node.prune_all(&[Prune {
+        block: 0,
+        stamp: second,
+    }])?;
     Ok(are_written)
 }
 

@@ -1,1 +1,2 @@
+mod PrunedBlocks
 mod Rising

@@ -1,3 +1,4 @@
 pub mod Batches
 pub mod Holdings
+pub mod Prunes
 pub mod Tallies

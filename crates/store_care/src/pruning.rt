@@ -1,6 +1,6 @@
-ghost use Rattle.std.specs.Prelude.{◌≡◌, ◌+◌, ◌-◌, ◌≤◌, ◌<◌, length, IfOk, OnOk};
-ghost use Rattle.wire_forms.specs.Ops.{Fits};
+ghost use Rattle.std.specs.Prelude.{◌≡◌, ◌+◌, ◌-◌, ◌≤◌, ◌<◌, ◌++◌, length, option_map, IfOk, OnOk};
 ghost use Rattle.store_care.specs.Batches.{AreBelow};
+ghost use Rattle.store_care.specs.Prunes.{prune_at, prunes_by};
 
 use crate::blocks::{add, block_of};
 use client_core::Outcome;
@@ -9,10 +9,11 @@ use lists::NoMemory;
 use std::alloc::Global;
 use std::thread::Threads;
 use store_device::Store;
+use version_disk::Prune;
 use wire_forms::Op;
 
 /// Of `count` blocks from this one on reads those of which some node that is up keeps more than so many versions, and has each node that is
-/// up prune them by the stamps that the reads gave.
+/// up prune them by the stamps that the reads gave, all in one call.
 pub fn prune_due<D: Disk + Send, R: Threads + Sync>(
     rt: &R,
     alloc: Global,
@@ -27,21 +28,46 @@ pub fn prune_due<D: Disk + Send, R: Threads + Sync>(
 {
     let due = due_reads(alloc, store, first, count, most)?;
     let outcomes = store.perform(rt, &due)?;
-    for (k, outcome) in outcomes.into_iter().enumerate() {
-        if let Some(op) = due.get(k) {
-            prune_by(store, op, outcome);
-        }
-    }
+    let prunes = prunes_by(alloc, &due, &outcomes)?;
+    store.prune_all(rt, &prunes);
     Ok(())
 }
 
-// Prunes the block of a read by the stamp that the read gave, if it gave one.
-fn prune_by<D: Disk>(store: &mut Store<D>, op: &Op, outcome: Option<Outcome>)
-    requires { Fits store.old.config op.now }
-    ensures { store.new.config ≡ store.old.config }
+// The prunes that reads allow: of each block by the stamp that its read gave.
+fn prunes_by(
+    alloc: Global,
+    reads: &[Op],
+    outcomes: &[Option<Outcome>],
+) -> Result<Vec<Prune>, NoMemory>
+    ensures { IfOk result (λ prunes. prunes.items ≡ prunes_by reads.now outcomes.now) }
 {
-    if let Some(Outcome::Gave { stamp, .. }) = outcome {
-        store.prune(block_of(op), &stamp);
+    let mut prunes = Vec::new(alloc);
+    for (k, op) in reads.iter().enumerate() {
+        add_prune(&mut prunes, op, outcomes.get(k))?;
+    }
+    Ok(prunes)
+}
+
+// Adds the prune that a read allows which ended so, if that is known.
+fn add_prune(
+    prunes: &mut Vec<Prune>,
+    op: &Op,
+    outcome: Option<&Option<Outcome>>,
+) -> Result<(), NoMemory>
+    ensures { OnOk result (prunes.new.items ≡ prunes.old.items
+        ++ prune_at op.now (option_map (λ o. o.now) outcome.entry)) }
+{
+    match outcome {
+        Some(Some(Outcome::Gave { stamp, .. })) => {
+            prunes.push(Prune {
+                block: block_of(op),
+                stamp: *stamp,
+            })?;
+            Ok(())
+        }
+        Some(Some(Outcome::Wrote(_) | Outcome::Spent | Outcome::Outvoted(_)) | None) | None => {
+            Ok(())
+        }
     }
 }
 

@@ -85,7 +85,7 @@ module _ {D : Type 0} (pending : D → Pending) (seen : D → List ℕ) (moment 
       (then : SeenStore D) (asks : ℕ → List Ask) (answers : List (Option (List Reply)))
       (turn : IsTurn pending seen moment left_since counts_now start now then asks answers) (laws : AreLaws c) where
     -- what the operations from this one on ask has its place behind j others
-    abbrev IsPlaced : ℕ → List Running → Type 0
+    abbrev pub IsPlaced : ℕ → List Running → Type 0
     IsPlaced j runs = (i k : ℕ) (ask : Ask) → slice_get (asked_of i runs) k ≡ Some ask → slice_get (asks i) (j + k) ≡ Some ask
 
     -- where none of those asks for its block, no other does
@@ -93,7 +93,7 @@ module _ {D : Type 0} (pending : D → Pending) (seen : D → List ℕ) (moment 
     AreAlone runs ops = AllByRecursion (λ (op : Op). (i : ℕ) → AreNotFor (block_of op) (asked_of i runs) → AreNotFor (block_of op)
         (asks i)) ops
 
-    placed_one : (j : ℕ) (stand : Stand) (runs : List Running)
+    pub placed_one : (j : ℕ) (stand : Stand) (runs : List Running)
         → ((i k : ℕ) (ask : Ask) → slice_get (with_ask i stand (asked_of i runs)) k ≡ Some ask → slice_get (asks i) (j + k) ≡ Some ask)
         → IsPlaced (j + how_many stand) runs
     placed_one j (Asks task) runs placed i k ask is = subst (λ (m : ℕ). slice_get (asks i) m ≡ Some ask) (omega arith)

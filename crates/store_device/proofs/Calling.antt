@@ -2,6 +2,7 @@
 use Rattle.std.proofs.Common.{◌≡◌, inl, inr, ℕ, ◌<◌, Bool, true, false, cond, not, List, [], ◌∷◌, ◌++◌, length, Option, Some, None, refl, sym, ◌∙◌, ap, subst, arith}
 use Rattle.std.proofs.lemmas.Bool.{cases_Bool}
 use Rattle.std.proofs.lemmas.List.{length-append}
+use Rattle.std.specs.List.{AllByRecursion}
 use Rattle.quorum_rules.specs.Limits.{Numbers}
 use Rattle.stamp_order.specs.declared.Stamp.{Stamp}
 use Rattle.protocol.specs.Instance.{setting, IsCluster}
@@ -12,8 +13,9 @@ use Rattle.disk_model.proofs.lemmas.Crash.{only_settled}
 use Rattle.node_core.specs.Seen.{SeenNode, versions_in}
 use Rattle.version_disk.specs.Held.{held}
 use Rattle.version_disk.specs.Stored.{Stored}
+use Rattle.version_disk.specs.declared.prune.Prune.{Prune}
 use Rattle.store_device.specs.Stores.{SeenStore, Nodes, IsSound, IsStore, IsFound, IsFoundAt, IsLeft, kept_at, kept_in, seat_at, is_up}
-use Rattle.store_device.specs.Lives.{Moment, Takes, TakesAll, IsPruned, KeepAlike, first_nodes, prunable_after, turn_on}
+use Rattle.store_device.specs.Lives.{Moment, Takes, TakesAll, IsPruned, ArePruned, KeepAlike, first_nodes, prunable_after, turn_on}
 use Rattle.store_device.specs.Calls.{Deed, Call, HasDone, StaysStore, Leads, turn_by, turn_cut, nodes_after, prunable_by, nodes_of, latest_reads, MayDo, MayDoAll, moments_of, CallsAreLives, CrashedCallsAreLives, CallsGoOn, CallsKeepStores}
 use Rattle.store_device.specs.Calls.Deed.{Performs, Prunes}
 use Rattle.store_device.proofs.LifeCalls.{tells_alike, found_is_kept}
@@ -52,15 +54,22 @@ module _ (c : Numbers) where
   alike_on : (a b d : Nodes) → KeepAlike c a b → KeepAlike c b d → KeepAlike c a d
   alike_on a b d one two i block below = one i block below ∙ two i block below
 
-  -- a prune of nodes that keep the same
-  pruned_alike : (block : ℕ) (stamp : Stamp) (old old' new : Nodes) → KeepAlike c old old' → IsPruned c block stamp old new
-      → IsPruned c block stamp old' new
-  pruned_alike block stamp old old' new alike is = record {
-    there = λ i below. elim (is.there i below) [
-      | inl same ↦ inl (same ∙ alike i block below)
-      | inr less ↦ inr (less ∙ ap (λ (vs : List Version). pruned (setting c) stamp vs) (alike i block below))
-    ];
-    others = λ other i ne below. is.others other i ne below ∙ alike i other below;
+  -- prunes of nodes that keep the same
+  each_alike : (old old' new : Nodes) → KeepAlike c old old' → (prunes : List Prune) → AllByRecursion (λ p. IsPruned c p old new) prunes
+      → AllByRecursion (λ p. IsPruned c p old' new) prunes
+  each_alike old old' new alike [] all = tt
+  each_alike old old' new alike (p ∷ prunes) all = (
+    (λ i below. elim (all.0 i below) [
+      | inl same ↦ inl (same ∙ alike i p.block below)
+      | inr less ↦ inr (less ∙ ap (λ (vs : List Version). pruned (setting c) p.stamp vs) (alike i p.block below))
+    ]),
+    each_alike old old' new alike prunes all.1,
+  )
+
+  pruned_alike : (prunes : List Prune) (old old' new : Nodes) → KeepAlike c old old' → ArePruned c prunes old new → ArePruned c prunes old' new
+  pruned_alike prunes old old' new alike is = record {
+    there = each_alike old old' new alike prunes is.there;
+    others = λ block i apart below. is.others block i apart below ∙ alike i block below;
   }
 
 module _ {D : Type 0} (pending : D → Pending) (seen : D → List ℕ) (moment : D → ℕ) (left_since : D → ℕ → List ℕ → Type 0) where
@@ -69,7 +78,7 @@ module _ {D : Type 0} (pending : D → Pending) (seen : D → List ℕ) (moment 
 
   stays_by : (deed : Deed) (old new : SeenStore D) → Does deed old new → StaysStore pending seen old new
   stays_by (Performs ops told) old new done = done.stays
-  stays_by (Prunes block stamp) old new done = done.stays
+  stays_by (Prunes prunes) old new done = done.stays
 
   -- ---- calls after calls
 
@@ -187,9 +196,9 @@ module _ {D : Type 0} (pending : D → Pending) (seen : D → List ℕ) (moment 
       tells_alike old.config lying ops _ (kept_in old gone) kept first kept (alike_back old.config first (kept_in old gone) alike)
           (λ i block below. refl) (done.told lying gone kept good found),
     )
-    takes last (Prunes block stamp) old new gone kept first good alike may done found = (
+    takes last (Prunes prunes) old new gone kept first good alike may done found = (
       may,
-      pruned_alike old.config block stamp (kept_in old gone) first kept (alike_back old.config first (kept_in old gone) alike)
+      pruned_alike old.config prunes (kept_in old gone) first kept (alike_back old.config first (kept_in old gone) alike)
           (done.done gone kept found),
     )
 
@@ -202,9 +211,9 @@ module _ {D : Type 0} (pending : D → Pending) (seen : D → List ℕ) (moment 
       tells_alike old.config lying ops _ (kept_in old gone) kept first kept (alike_back old.config first (kept_in old gone) alike)
           (λ i block below. refl) (done.any_moment lying gone kept good left),
     )
-    takes_cut last (Prunes block stamp) old new gone kept first good alike may done left = (
+    takes_cut last (Prunes prunes) old new gone kept first good alike may done left = (
       may,
-      pruned_alike old.config block stamp (kept_in old gone) first kept (alike_back old.config first (kept_in old gone) alike)
+      pruned_alike old.config prunes (kept_in old gone) first kept (alike_back old.config first (kept_in old gone) alike)
           (done.any_moment gone kept left),
     )
 

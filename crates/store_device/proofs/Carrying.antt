@@ -91,8 +91,11 @@ module _ {D : Type 0} (pending : D → Pending) (seen : D → List ℕ) (moment 
   module _ {X : Type 0} (node : X → Option (Stored D)) (c : Numbers) (value : SeenStore D) (items first new : List X) (len : ℕ)
       (lent : first ≡ items) (is : store_of c (map node items) ≡ value) (long : length first ≡ len) (count : length new ≡ length first)
     where
-      back : take len (new ++ drop (length new) items) ≡ new
+      pub back : take len (new ++ drop (length new) items) ≡ new
       back = ap (λ (n : ℕ). take n (new ++ drop (length new) items)) (sym long ∙ sym count) ∙ take-append_seam new (drop (length new) items)
+
+      pub lent_is : store_of c (map node first) ≡ value
+      lent_is = ap (λ (l : List X). store_of c (map node l)) lent ∙ is
 
       pub put_back : (ops : List Op) (runs : List Running)
           → IsGoing pending seen moment left_since (store_of c (map node first)) (store_of c (map node new)) ops runs
@@ -120,3 +123,7 @@ if_err P (Err x) e = tt
 pub if_ok : {T E : Type 0} (P Q : T → Type 0) (r : Result T E) → ((x : T) → P x → Q x) → IfOk r P → IfOk r Q
 if_ok P Q (Ok x) f p = f x p
 if_ok P Q (Err x) f p = p
+
+pub on_ok_and : {T E : Type 0} (P Q : Type 0) (r : Result T E) → OnOk r P → Q → OnOk r (P × Q)
+on_ok_and P Q (Ok x) p q = (p, q)
+on_ok_and P Q (Err x) p q = tt

@@ -1,5 +1,6 @@
 -- Seats that are handed asks, work, and give their answers, as a phase of a store.
-use Rattle.std.proofs.Common.{◌≡◌, inl, inr, ℕ, ◌<◌, ◌≤◌, List, length, map, get_or, Option, Some, None, refl, sym, ◌∙◌, ap, subst, arith}
+use Rattle.std.specs.Prelude.{All, is_some}
+use Rattle.std.proofs.Common.{◌≡◌, inl, inr, ℕ, ◌<◌, ◌≤◌, ◌||◌, Bool, false, List, length, map, get_or, Option, Some, None, refl, sym, ◌∙◌, ap, subst, arith}
 use Rattle.std.specs.List.{slice_get}
 use Rattle.std.specs.Option.{option_map}
 use Rattle.std.proofs.lemmas.Bool.{cases_Bool}
@@ -16,6 +17,7 @@ use Rattle.batch_clients.specs.Batches.{Running, asks_to, after_answers, AreAsks
 use Rattle.store_device.specs.Stores.{SeenStore, seat_at}
 use Rattle.store_device.specs.Told.{AreApart}
 use Rattle.store_device.specs.Working.{HasAnswered, WorksIn, AreHanded}
+use Rattle.store_device.specs.Answered.{HaveReplied, RepliesIn}
 use Rattle.store_device.specs.Going.{IsGoing, store_of}
 use Rattle.store_device.proofs.Asked.{count_replies}
 use Rattle.store_device.proofs.Seats.{when_true, when_false}
@@ -121,6 +123,41 @@ module _ {D : Type 0} (pending : D → Pending) (seen : D → List ℕ) (moment 
           (subst (λ (a : Option (List Reply)). WorksIn pending seen moment left_since (asks_to (setting c) i runs) a
           (seat_at (store_of c (map node first)) i) (seat_at (store_of c (map node last)) i)) same (works_at i l o)));
     }
+
+    -- each node that is up in the end and has room answered, where none found too little memory for that
+    module _ (most : D → ℕ) (starved : X → Bool)
+        (replied : (i : ℕ) (d : X) → i < length handed
+        → RepliesIn seen most (length (asks (get_or handed i d))) (starved (get_or worked i d) || is_some (replies (get_or worked i d)))
+        (node (get_or handed i d)) (node (get_or worked i d)))
+        (none : All (λ (x : X). starved x ≡ false) worked) where
+      replies_at : (i : ℕ) (l : i < c.n) (o : IsOne i)
+          → RepliesIn seen most (length (asks_to (setting c) i runs)) (is_some (replies o.is)) (seat_at (store_of c (map node first)) i)
+          (seat_at (store_of c (map node last)) i)
+      replies_at i l o =
+          let was : get_or handed i o.was ≡ o.was = get_or_from_slice_get handed i o.was o.was o.was_there in
+          let is : get_or worked i o.was ≡ o.is = get_or_from_slice_get worked i o.is o.was o.is_there in
+          let here = replied i o.was (let m = as_many in omega arith) in
+          let fed : starved o.is ≡ false = subst (λ (y : X). starved y ≡ false) is (none i o.was (let m = as_many in omega arith)) in
+          let both : RepliesIn seen most (length (asks o.was)) (starved o.is || is_some (replies o.is)) (node o.was) (node o.is) =
+          subst (λ (x : X). RepliesIn seen most (length (asks x)) (starved o.is || is_some (replies o.is)) (node x) (node o.is)) was
+          (subst (λ (y : X). RepliesIn seen most (length (asks (get_or handed i o.was))) (starved y || is_some (replies y))
+          (node (get_or handed i o.was)) (node y)) is here) in
+          let told : RepliesIn seen most (length (asks o.was)) (is_some (replies o.is)) (node o.was) (node o.is) =
+          subst (λ (b : Bool). RepliesIn seen most (length (asks o.was)) (b || is_some (replies o.is)) (node o.was) (node o.is)) fed both in
+          let old : seat_at (store_of c (map node first)) i ≡ node o.was = ap (λ (l : List (Option (Stored D))). seat_at (store_of c l) i)
+          (sym nodes) ∙ seat_in handed i o.was o.was_there in
+          let new : seat_at (store_of c (map node last)) i ≡ node o.is = ap (λ (l : List (Option (Stored D))). seat_at (store_of c l) i)
+          kept ∙ seat_in worked i o.is o.is_there in
+          subst (λ (l : List Ask). RepliesIn seen most (length l) (is_some (replies o.is)) (seat_at (store_of c (map node first)) i)
+          (seat_at (store_of c (map node last)) i)) (asks_are i l o)
+          (subst (λ (s : Option (Stored D)). RepliesIn seen most (length (asks o.was)) (is_some (replies o.is)) s
+          (seat_at (store_of c (map node last)) i)) (sym old)
+          (subst (λ (s : Option (Stored D)). RepliesIn seen most (length (asks o.was)) (is_some (replies o.is)) (node o.was) s) (sym new)
+          told))
+
+      pub have_replied : HaveReplied seen most (λ i. asks_to (setting c) i runs) (map replies worked) (store_of c (map node first))
+          (store_of c (map node last))
+      have_replied i l = let o = one i l in (replies o.is, answer_at i o, replies_at i l o)
 
   -- a phase of a store, as its operations go on
   pub phase_goes_on : (counts_now : (disk : D) (t : ℕ) (bytes : List ℕ) → t ≤ moment disk → MayLeave (pending disk) bytes

@@ -15,3 +15,6 @@ pub mod LifeLaws
 pub mod LifeReads
 pub mod LifeCalls
 pub mod Calling
+pub mod Rooms
+pub mod Coming
+pub mod LifeArrays

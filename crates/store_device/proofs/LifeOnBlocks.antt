@@ -16,12 +16,13 @@ use Rattle.protocol.specs.World.{Fits}
 use Rattle.protocol.specs.Operations.{Work, Outcome}
 use Rattle.protocol.specs.Seen.{block_of, work_of}
 use Rattle.node_core.specs.Seen.{versions_in}
+use Rattle.version_disk.specs.declared.prune.Prune.{Prune}
 use Rattle.block_lives.specs.Operating.{Keeps, Does}
 use Rattle.block_lives.specs.Lives.{Turn as BlockTurn, Takes as TakesThere, TakesAll as TakesAllThere, first_kept, IsLife as IsLifeThere}
 use Rattle.block_lives.specs.Lives.Turn.{Pruned as PrunedThere}
 use Rattle.store_device.specs.Stores.{Nodes}
 use Rattle.store_device.specs.Told.{AreDone, cluster, kept_of}
-use Rattle.store_device.specs.Lives.{Turn, Moment, turn_of, batch_on, turn_on, moment_on, life_on, prunable_after, first_nodes, IsPruned, Takes, TakesAll, IsLife}
+use Rattle.store_device.specs.Lives.{Turn, Moment, turn_of, batch_on, turn_on, moment_on, life_on, prunable_after, first_nodes, prune_on, IsPruned, Takes, TakesAll, IsLife}
 use Rattle.store_device.specs.Lives.Turn.{Performed, Pruned, Changed}
 
 shorter : {X Y : Type 0} (f : X → Option Y) (xs : List X) → length (filter_map f xs) ≤ length xs
@@ -92,20 +93,24 @@ module _ (c : Numbers) (lying : ℕ → Bool) (block : ℕ) where
   abbrev Prunes : Stamp → Keeps → Keeps → ℕ → Type 0
   Prunes stamp before after i = (after i ≡ before i) ⊎ (after i ≡ pruned (cluster c lying) stamp (before i))
 
-  prune : (last : ℕ → Option Stamp) (other : ℕ) (stamp : Stamp) (kept : Keeps) (old new : Nodes) → KeptOf kept old
-      → last other ≡ Some stamp → IsPruned c other stamp old new
-      → TakesIf (last block) kept (turn_on block (Pruned other stamp)) (kept_of new block)
-  prune last other stamp kept old new same may is = at (eqb other block) refl
+  prune : (last : ℕ → Option Stamp) (prunes : List Prune) (kept : Keeps) (old new : Nodes) → KeptOf kept old
+      → AllByRecursion (λ p. last p.block ≡ Some p.stamp) prunes → AllByRecursion (λ p. IsPruned c p old new) prunes
+      → (AllByRecursion (λ p. p.block ≢ block) prunes → (i : ℕ) → i < c.n → versions_in (new i) block ≡ versions_in (old i) block)
+      → TakesIf (last block) kept (prune_on block prunes) (kept_of new block)
+  prune last [] kept old new same may are stay = λ i l. stay tt i l ∙ sym (same i l)
+  prune last (p ∷ prunes) kept old new same may are stay =
+      at (eqb p.block block) refl (λ apart. prune last prunes kept old new same may.1 are.1 (λ all. stay (apart, all)))
     where
-      here : other ≡ block → (i : ℕ) → i < c.n → Prunes stamp kept (kept_of new block) i
-      here e i l = elim (subst (λ (b : ℕ). Prunes stamp (kept_of old b) (kept_of new b) i) e (is.there i l)) [
+      here : p.block ≡ block → (i : ℕ) → i < c.n → Prunes p.stamp kept (kept_of new block) i
+      here e i l = elim (subst (λ (b : ℕ). Prunes p.stamp (kept_of old b) (kept_of new b) i) e (are.0 i l)) [
         | inl q ↦ inl (q ∙ sym (same i l))
-        | inr q ↦ inr (q ∙ ap (λ (vs : List Version). pruned (cluster c lying) stamp vs) (sym (same i l)))
+        | inr q ↦ inr (q ∙ ap (λ (vs : List Version). pruned (cluster c lying) p.stamp vs) (sym (same i l)))
       ]
 
-      at : (b : Bool) → eqb other block ≡ b → TakesIf (last block) kept (if b then Some (PrunedThere stamp) else None) (kept_of new block)
-      at true e = (subst (λ (b : ℕ). last b ≡ Some stamp) (eqb-true other block e) may, here (eqb-true other block e))
-      at false e = λ i l. is.others block i (λ q. let k = eq-eqb other block (sym q) in cc) l ∙ sym (same i l)
+      at : (b : Bool) → eqb p.block block ≡ b → (p.block ≢ block → TakesIf (last block) kept (prune_on block prunes) (kept_of new block))
+          → TakesIf (last block) kept (if b then Some (PrunedThere p.stamp) else prune_on block prunes) (kept_of new block)
+      at true e rest = (subst (λ (b : ℕ). last b ≡ Some p.stamp) (eqb-true p.block block e) may.0, here (eqb-true p.block block e))
+      at false e rest = rest (λ q. let k = eq-eqb p.block block q in cc)
 
   turn : (last : ℕ → Option Stamp) (t : Turn) (kept : Keeps) (old new : Nodes) → KeptOf kept old → Takes c lying last old t new
       → TakesIf (last block) kept (turn_on block t) (kept_of new block)
@@ -113,7 +118,7 @@ module _ (c : Numbers) (lying : ℕ → Bool) (block : ℕ) where
       let few = is.0.few in
       batch (last block) 1 ops outcomes kept old new same (omega arith) (omega (arith, few)) is.0.fit is.1.done
       (λ all i l. is.1.others block i all l)
-  turn last (Pruned other stamp) kept old new same is = prune last other stamp kept old new same is.0 is.1
+  turn last (Pruned prunes) kept old new same is = prune last prunes kept old new same is.0 is.1.there (λ all i l. is.1.others block i all l)
   turn last Changed kept old new same is =
       λ i l. elim (is i l) [ inl e ↦ inl e | inr e ↦ inr (ap (λ (node : _). versions_in node block) e ∙ sym (same i l)) ]
 

@@ -3,7 +3,7 @@ use Rattle.std.proofs.Common.{◌≡◌, ◌≢◌, ℕ, suc, ◌≤◌, Bool, t
 use Rattle.std.specs.Prelude.{if◌then◌else◌}
 use Rattle.std.specs.declared.option.Option.TheVariants.{None, Some}
 use Rattle.std.specs.Option.{option_map}
-use Rattle.std.specs.List.{AllByRecursion, cons_option}
+use Rattle.std.specs.List.{AllByRecursion, AllPairs, cons_option}
 use Rattle.std.proofs.lemmas.Bool.{eqb-true, eq-eqb}
 use Rattle.std.proofs.lemmas.List.{append-nil, map-append}
 use Rattle.std.proofs.lemmas.List.Elements.{filter-append}
@@ -17,20 +17,22 @@ use Rattle.linear_runs.specs.Linear.{Act, Operation, IsLinear, on_block}
 use Rattle.block_lives.specs.Lives.{Turn as BlockTurn, operation, act_of, act_left, told_by as told_there, told as told_of, turns_of}
 use Rattle.block_lives.specs.Lives.Turn.{Did, Left, Pruned as PrunedThere, Changed as ChangedThere}
 use Rattle.block_lives.proofs.lemmas.TurnNumbers.{renumbered, linear_renumbered, turn_at, turn_first, turn_later, turns_rise}
+use Rattle.version_disk.specs.declared.prune.Prune.{Prune}
 use Rattle.store_device.specs.Stores.{Nodes}
 use Rattle.store_device.specs.Told.{AreApart, kept_of}
-use Rattle.store_device.specs.Lives.{Turn, Moment, turn_of, batch_on, turn_on, life_on, prunable_after, told_one, told_by, told_at, told_from, told, first_nodes, Takes, TakesAll, IsLife}
+use Rattle.store_device.specs.Lives.{Turn, Moment, turn_of, batch_on, prune_on, turn_on, life_on, prunable_after, told_one, told_by, told_at, told_from, told, first_nodes, Takes, TakesAll, IsLife}
 use Rattle.store_device.specs.Lives.Turn.{Performed, Pruned, Changed}
 
 -- ---- operations on blocks of their own
 
-apart_first : (op : Op) (ops : List Op) → AreApart (op ∷ ops) → AllByRecursion (λ other. block_of other ≢ block_of op) ops
-apart_first op ops apart =
-    all_of (λ (other : Op). block_of other ≢ block_of op) ops
-    (λ other there same. apart 0 (suc there.0) other (omega arith) (omega (arith, there.1)) (sym same ∙ ap block_of (sym there.2)))
+module _ {X : Type 0} (of : X → ℕ) (x : X) (xs : List X) (apart : AllPairs (λ y other. of y ≢ of other) (x ∷ xs)) where
+  pub apart_first : AllByRecursion (λ other. of other ≢ of x) xs
+  apart_first =
+      all_of (λ (other : X). of other ≢ of x) xs
+      (λ other there same. apart 0 (suc there.0) other (omega arith) (omega (arith, there.1)) (sym same ∙ ap of (sym there.2)))
 
-apart_rest : (op : Op) (ops : List Op) → AreApart (op ∷ ops) → AreApart ops
-apart_rest op ops apart = λ i j d less within. apart (suc i) (suc j) d (omega (arith, less)) (omega (arith, within))
+  pub apart_rest : AllPairs (λ y other. of y ≢ of other) xs
+  apart_rest = λ i j d less within. apart (suc i) (suc j) d (omega (arith, less)) (omega (arith, within))
 
 -- how many turns the block has had after one
 abbrev counted : ℕ → Option BlockTurn → ℕ
@@ -95,7 +97,7 @@ module _ (block : ℕ) where
   batch_told k client [] outcomes apart = refl
   batch_told k client (op ∷ ops) [] apart = refl
   batch_told k client (op ∷ ops) (outcome ∷ outcomes) apart =
-      at (eqb (block_of op) block) refl (batch_told k (suc client) ops outcomes (apart_rest op ops apart))
+      at (eqb (block_of op) block) refl (batch_told k (suc client) ops outcomes (apart_rest block_of op ops apart))
     where
       here : block_of op ≡ block
           → on_block block (told_one k client op outcome ++ told_by k (suc client) ops outcomes)
@@ -106,7 +108,7 @@ module _ (block : ℕ) where
           (ap (λ (b : ℕ). on_block block (told_there b k (turn_of client (work_of op) outcome))) e
           ∙ one_own k client (work_of op) outcome)
           (none_on k (suc client) ops outcomes
-          (subst (λ (b : ℕ). AllByRecursion (λ other. block_of other ≢ b) ops) e (apart_first op ops apart)))
+          (subst (λ (b : ℕ). AllByRecursion (λ other. block_of other ≢ b) ops) e (apart_first block_of op ops apart)))
           ∙ append-nil (told_there block k (turn_of client (work_of op) outcome))
 
       at : (b : Bool) → eqb (block_of op) block ≡ b
@@ -137,15 +139,20 @@ module _ (block : ℕ) where
   renumbered_turn f k (PrunedThere stamp) = refl
   renumbered_turn f k ChangedThere = refl
 
+  -- nothing is told of prunes
+  none_told : (k : ℕ) (prunes : List Prune) → [] ≡ told_if k (prune_on block prunes)
+  none_told k [] = refl
+  none_told k (p ∷ prunes) = at (eqb p.block block) (none_told k prunes)
+    where
+      at : (b : Bool) → [] ≡ told_if k (prune_on block prunes) → [] ≡ told_if k (if b then Some (PrunedThere p.stamp) else prune_on block prunes)
+      at true rest = refl
+      at false rest = rest
+
   module _ (c : Numbers) (lying : ℕ → Bool) where
     turn_told : (last : ℕ → Option Stamp) (old new : Nodes) (k : ℕ) (t : Turn) → Takes c lying last old t new
         → on_block block (told_at k t) ≡ told_if k (turn_on block t)
     turn_told last old new k (Performed ops outcomes) is = batch_told k 1 ops outcomes is.0.apart
-    turn_told last old new k (Pruned other stamp) is = at (eqb other block)
-      where
-        at : (b : Bool) → [] ≡ told_if k (if b then Some (PrunedThere stamp) else None)
-        at true = refl
-        at false = refl
+    turn_told last old new k (Pruned prunes) is = none_told k prunes
     turn_told last old new k Changed is = refl
 
     -- ---- a life

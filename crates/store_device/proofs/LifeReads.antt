@@ -29,7 +29,7 @@ on_same block (o ∷ ops) = at (eqb o.block block) refl (on_same block ops)
     at true e rest = rw e (ap (λ (os : List Operation). o ∷ os) rest)
     at false e rest = rest
 
-only_there : (zeros : List ℕ) (block : ℕ) (ops : List Operation) → IsLinear zeros (on_block block ops)
+pub only_there : (zeros : List ℕ) (block : ℕ) (ops : List Operation) → IsLinear zeros (on_block block ops)
     → Linearizable zeros (on_block block ops)
 only_there zeros block ops linear b = elim (cases_eq b block) [
   | inl e ↦

@@ -181,7 +181,7 @@ from_life k (m ∷ life) o there =
           };
           is = subst (λ (n : ℕ). IsOf n b.op b.outcome o) number b.is;
         }
-    at (Pruned block stamp) e a = absurd (Contains-none o a)
+    at (Pruned prunes) e a = absurd (Contains-none o a)
     at Changed e a = absurd (Contains-none o a)
 
 pub to_life : (k : ℕ) (life : List Moment) (turn : ℕ) (op : Op) (outcome : Option Outcome) → WasTold life turn op outcome

@@ -1,7 +1,6 @@
 -- Lists that a loop goes through, element by element.
-use Rattle.std.proofs.Common.{◌≡◌, inl, inr, ℕ, suc, ◌+◌, ◌<◌, ◌≤◌, List, [], ◌∷◌, ◌++◌, length, map, take, get_or, set, sym, ◌∙◌, ap, subst, arith}
-use Rattle.std.proofs.lemmas.Bool.{cases_lt}
-use Rattle.std.proofs.lemmas.List.{take_all, take_more, map-append, map-set, get_or-set_same, get_or-set_other, get_or_default, length-map}
+use Rattle.std.proofs.Common.{◌≡◌, ℕ, suc, ◌+◌, ◌<◌, ◌≤◌, List, [], ◌∷◌, ◌++◌, length, map, take, get_or, set, sym, ◌∙◌, ap, arith}
+use Rattle.std.proofs.lemmas.List.{take_all, take_more, map-append, map-set, get_or-set_other, length-map}
 use Rattle.std.proofs.Math.Seq.{take-suc-set}
 
 -- one element more was taken
@@ -28,16 +27,3 @@ more_set {Y = Y} f xs zs i y e l m so_far this =
 -- all of them are
 pub all_set : {Y : Type 0} (xs zs : List Y) (i : ℕ) → length xs ≤ i → length zs ≤ i → take i xs ≡ take i zs → xs ≡ zs
 all_set xs zs i l m same = sym (take_all i xs l) ∙ same ∙ take_all i zs m
-
--- one element more stands to its former one so
-pub worked_more : {X : Type 0} (R : X → X → Type 0) (old xs : List X) (i : ℕ) (y e : X) → i < length xs
-    → ((k : ℕ) (d : X) → k < i → R (get_or old k d) (get_or xs k d)) → ((k : ℕ) (d : X) → i ≤ k → get_or xs k d ≡ get_or old k d)
-    → R (get_or xs i e) y → (k : ℕ) (d : X) → k < i + 1 → R (get_or old k d) (get_or (set xs i y) k d)
-worked_more {X = X} R old xs i y e l so_far rest this k d m = elim (cases_lt k i) [
-  | inl below ↦ subst (R (get_or old k d)) (sym (get_or-set_other xs i k y d (λ (same : k ≡ i). absurd (omega arith)))) (so_far k d below)
-  | inr above ↦ (
-      let same : k ≡ i = omega arith in
-      let here : R (get_or old i d) y = subst (λ (x : X). R x y) (get_or_default xs i e d l ∙ rest i d (omega arith)) this in
-      let there : R (get_or old i d) (get_or (set xs i y) i d) = subst (R (get_or old i d)) (sym (get_or-set_same xs i y d l)) here in
-      subst (λ (n : ℕ). R (get_or old n d) (get_or (set xs i y) n d)) (sym same) there)
-]

@@ -2,7 +2,7 @@
 use Rattle.std.proofs.Common.{◌≡◌, ◌⊎◌, inl, inr, ℕ, ◌≤◌, Bool, true, false, cond, not, List, [], ◌∷◌, length, take, Option, Some, None, refl, sym, ◌∙◌, ap, subst, eqb, arith}
 use Rattle.std.specs.List.{AllByRecursion}
 use Rattle.std.proofs.lemmas.Bool.{cases_Bool}
-use Rattle.std.proofs.lemmas.List.{length-set, length-replicate}
+use Rattle.std.proofs.lemmas.List.{length-set, length-replicate, take-map}
 use Rattle.quorum_rules.specs.Limits.{Numbers}
 use Rattle.protocol.specs.Messages.{Ask, Reply, IsFormedReply}
 use Rattle.protocol.specs.Nodes.{pruned}
@@ -12,7 +12,7 @@ use Rattle.disk_model.proofs.lemmas.Crash.{only_settled}
 use Rattle.node_core.specs.Seen.{SeenNode, versions_in, with_versions, new_node, after_of}
 use Rattle.slot_disk.specs.Slots.{Slot}
 use Rattle.version_disk.specs.Held.{held, played, after_slot, slots_of, written}
-use Rattle.version_disk.specs.Deeds.{after_asks, replies_of, AreDoneInPart}
+use Rattle.version_disk.specs.Deeds.{Answers, answering, after_deeds, after_asks, replies_of, AreDoneInPart}
 use Rattle.version_disk.proofs.lemmas.Playing.{played_config}
 use Rattle.version_disk.proofs.lemmas.Answering.{after_config}
 use Rattle.version_disk.specs.Stored.{Stored}
@@ -120,11 +120,12 @@ module _ {D : Type 0} (pending : D → Pending) (seen : D → List ℕ) (moment 
     where
       -- what is kept of the asks when a crash leaves these bytes
       partly_done : (asks : List Ask) (n : Stored D) (bytes : List ℕ) (kept : SeenNode) → IsSound pending seen c i n → kept ≡ held c i bytes
-          → AreDoneInPart n.node.config n.node.number n.node asks (seen n.disk) bytes → IsPartly c i asks n.node kept
+          → AreDoneInPart n.node.config n.node.number n.node (answering asks) (seen n.disk) bytes → IsPartly c i asks n.node kept
       partly_done asks n bytes kept sound is done = record {
         node = subst (IsNodeOf c i) sound.state (held_is_node c i (seen n.disk));
         k = done.state.0;
-        few = is ∙ sym ((λ x. held (sound.config x) (sound.numbered x) bytes)) ∙ done.state.2;
+        few = is ∙ sym ((λ x. held (sound.config x) (sound.numbered x) bytes)) ∙ done.state.2
+            ∙ ap (after_deeds n.node) (take-map Answers done.state.0 asks);
       }
 
       abbrev Left : D → ℕ → SeenNode → Type 0

@@ -279,7 +279,7 @@ module _ {D : Type 0} (pending : D → Pending) (seen : D → List ℕ) (moment 
           at None e f = absurd cc
           at (Some replies) e f = record { replies = replies; answered = e; at = f; below = below_n i (Some replies) e }
 
-      are_answers : (lying : ℕ → Bool) (gone : Nodes) → AreAnswers (cluster c lying) task (old gone) (column j answers)
+      pub are_answers : (lying : ℕ → Bool) (gone : Nodes) → AreAnswers (cluster c lying) task (old gone) (column j answers)
       are_answers lying gone = record {
         count = length-map answers (reply_at j) ∙ turn.count;
         formed = λ i given is. (

@@ -1,21 +1,23 @@
 -- Calls of a store, one after the other, and what they are in its life.
 use Rattle.std.specs.Prelude.{◌≡◌, ℕ, ◌+◌, ◌<◌, ◌^◌, ⊤, Bool, false, List, [], ◌∷◌, ◌++◌, length, Option}
 use Rattle.std.specs.declared.option.Option.TheVariants.{None, Some}
+use Rattle.std.specs.List.{AllByRecursion}
 use Rattle.quorum_rules.specs.Limits.{Numbers}
 use Rattle.stamp_order.specs.declared.Stamp.{Stamp}
 use Rattle.wire_forms.specs.declared.op.Op.{Op}
 use Rattle.protocol.specs.Instance.{IsCluster}
 use Rattle.protocol.specs.Operations.{Outcome}
 use Rattle.disk_model.specs.Crash.{Pending}
+use Rattle.version_disk.specs.declared.prune.Prune.{Prune}
 use Rattle.store_device.specs.Stores.{SeenStore, Nodes, IsStore, IsFound, IsLeft, kept_in, seat_at, is_up}
 use Rattle.store_device.specs.Told.{IsTold, untold}
-use Rattle.store_device.specs.Lives.{Turn, Moment, IsBatch, IsPruned, IsLife, KeepAlike, first_nodes, prunable_after, turn_on}
+use Rattle.store_device.specs.Lives.{Turn, Moment, IsBatch, ArePruned, IsLife, KeepAlike, first_nodes, prunable_after, turn_on}
 use Rattle.store_device.specs.Lives.Turn.{Performed, Pruned}
 
 -- what was asked of the store in a call, and what was told of it: None where nothing was, as after want of memory
 pub data Deed : Type 0 where
   Performs : List Op → Option (List (Option Outcome)) → Deed
-  Prunes : (block : ℕ) → Stamp → Deed
+  Prunes : List Prune → Deed
 
 -- a call, and what the store is then
 pub record Call (D : Type 0) : Type 0 where
@@ -48,18 +50,17 @@ module _ {D : Type 0} (pending : D → Pending) (seen : D → List ℕ) where
           → IsTold old.config lying ops (untold ops) (kept_in old gone) kept
       pub stays : StaysStore old new
 
-    -- The store was asked to prune a block by a stamp. Each node keeps of the block what it kept, or what the prune leaves of that, after the
+    -- The store was asked to prune blocks. Each node keeps of each block what it kept, or what the block's prune leaves of that, after the
     -- call and at any moment of it.
-    pub record HasPruned (block : ℕ) (stamp : Stamp) (old new : SeenStore D) : Type 0 where
-      pub done : (gone kept : Nodes) → IsFound pending old new gone kept → IsPruned old.config block stamp (kept_in old gone) kept
-      pub any_moment : (gone kept : Nodes) → IsLeft moment left_since old new gone kept
-          → IsPruned old.config block stamp (kept_in old gone) kept
+    pub record HasPruned (prunes : List Prune) (old new : SeenStore D) : Type 0 where
+      pub done : (gone kept : Nodes) → IsFound pending old new gone kept → ArePruned old.config prunes (kept_in old gone) kept
+      pub any_moment : (gone kept : Nodes) → IsLeft moment left_since old new gone kept → ArePruned old.config prunes (kept_in old gone) kept
       pub stays : StaysStore old new
 
     -- the store did this
     abbrev pub HasDone : Deed → SeenStore D → SeenStore D → Type 0
     HasDone (Performs ops told) old new = HasPerformed ops told old new
-    HasDone (Prunes block stamp) old new = HasPruned block stamp old new
+    HasDone (Prunes prunes) old new = HasPruned prunes old new
 
     -- from the old store on, this is a call
     abbrev pub IsCall : SeenStore D → Call D → Type 0
@@ -75,12 +76,12 @@ module _ {D : Type 0} (pending : D → Pending) (seen : D → List ℕ) where
 -- the turn that a call is
 abbrev pub turn_by : Deed → Turn
 turn_by (Performs ops told) = Performed ops (told_each ops told)
-turn_by (Prunes block stamp) = Pruned block stamp
+turn_by (Prunes prunes) = Pruned prunes
 
 -- and where a crash cuts it off
 abbrev pub turn_cut : Deed → Turn
 turn_cut (Performs ops told) = Performed ops (untold ops)
-turn_cut (Prunes block stamp) = Pruned block stamp
+turn_cut (Prunes prunes) = Pruned prunes
 
 -- what each node keeps after these moments, where it kept this before them
 abbrev pub nodes_after : Nodes → List Moment → Nodes
@@ -100,10 +101,10 @@ nodes_of c life = nodes_after (first_nodes c) life
 abbrev pub latest_reads : List Moment → ℕ → Option Stamp
 latest_reads life = prunable_by (λ block. None) life
 
--- a block is pruned by no other stamp
+-- blocks are pruned by no other stamps
 abbrev pub MayDo : (ℕ → Option Stamp) → Deed → Type 0
 MayDo last (Performs ops told) = ⊤
-MayDo last (Prunes block stamp) = last block ≡ Some stamp
+MayDo last (Prunes prunes) = AllByRecursion (λ p. last p.block ≡ Some p.stamp) prunes
 
 module _ {D : Type 0} where
   -- each prune is by the stamp of the block's latest read then

@@ -5,3 +5,5 @@ pub mod Working
 pub mod Lives
 pub mod Seating
 pub mod Calls
+pub mod Answered
+pub mod Arrays

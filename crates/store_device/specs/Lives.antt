@@ -16,6 +16,7 @@ use Rattle.protocol.specs.History.{NoClash}
 use Rattle.protocol.specs.Seen.{block_of, work_of}
 use Rattle.run_words.specs.declared.outcome.Outcome.TheVariants.{Wrote, Gave}
 use Rattle.node_core.specs.Seen.{versions_in, new_node}
+use Rattle.version_disk.specs.declared.prune.Prune.{Prune}
 use Rattle.linear_runs.specs.Linear.{Operation, IsLinear, IsLinearAsOne, on_block}
 use Rattle.block_lives.specs.Lives.{IsToldBy, Turn as BlockTurn, Moment as BlockMoment, prunable as prunable_there, told_by as told_there}
 use Rattle.block_lives.specs.Lives.Turn.{Did, Left, Pruned as PrunedThere, Changed as ChangedThere}
@@ -27,8 +28,8 @@ use Rattle.store_device.specs.Told.{AreApart, IsTold, cluster, kept_of}
 pub data Turn : Type 0 where
   -- a batch of operations, and how each ended, as it was told; None for one that wasn't: a crash cut it off, or too few nodes answered
   Performed : List Op → List (Option Outcome) → Turn
-  -- nodes pruned a block by the stamp that its latest read gave, or hadn't come to it
-  Pruned : (block : ℕ) → Stamp → Turn
+  -- nodes pruned blocks, each by the stamp that its latest read gave, or hadn't come to it
+  Pruned : List Prune → Turn
   -- what some nodes keep was changed by others
   Changed : Turn
 
@@ -50,10 +51,15 @@ batch_on block client (op ∷ ops) (outcome ∷ outcomes) =
     if block_of op == block then Some (turn_of client (work_of op) outcome) else batch_on block (suc client) ops outcomes
 batch_on block client _ _ = None
 
+-- what prunes are on a block, if one of them is of it
+abbrev pub prune_on : ℕ → List Prune → Option BlockTurn
+prune_on block [] = None
+prune_on block (p ∷ prunes) = if p.block == block then Some (PrunedThere p.stamp) else prune_on block prunes
+
 -- what a turn is on a block, if it is something there
 abbrev pub turn_on : ℕ → Turn → Option BlockTurn
 turn_on block (Performed ops outcomes) = batch_on block 1 ops outcomes
-turn_on block (Pruned other stamp) = if other == block then Some (PrunedThere stamp) else None
+turn_on block (Pruned prunes) = prune_on block prunes
 turn_on block Changed = Some ChangedThere
 
 -- and a moment
@@ -106,18 +112,22 @@ module _ (c : Numbers) where
     pub fit : AllByRecursion (λ op. (block_of op < c.blocks) × Fits (setting c) (work_of op)) ops
     pub apart : AreApart ops
 
-  -- nodes pruned the block, or hadn't come to it
-  pub record IsPruned (block : ℕ) (stamp : Stamp) (old new : Nodes) : Type 0 where
-    pub there :
-        (i : ℕ) → i < c.n
-        → (kept_of new block i ≡ kept_of old block i) ⊎ (kept_of new block i ≡ pruned (setting c) stamp (kept_of old block i))
-    pub others : (other i : ℕ) → other ≢ block → i < c.n → versions_in (new i) other ≡ versions_in (old i) other
+  -- of the block each node keeps what it kept, or what a prune leaves of that
+  abbrev pub IsPruned : Prune → Nodes → Nodes → Type 0
+  IsPruned p old new =
+      (i : ℕ) → i < c.n
+      → (kept_of new p.block i ≡ kept_of old p.block i) ⊎ (kept_of new p.block i ≡ pruned (setting c) p.stamp (kept_of old p.block i))
+
+  -- nodes pruned the blocks, or hadn't come to them, and nothing else changed
+  pub record ArePruned (prunes : List Prune) (old new : Nodes) : Type 0 where
+    pub there : AllByRecursion (λ p. IsPruned p old new) prunes
+    pub others : (block i : ℕ) → AllByRecursion (λ p. p.block ≢ block) prunes → i < c.n → versions_in (new i) block ≡ versions_in (old i) block
 
 module _ (c : Numbers) (lying : ℕ → Bool) where
   -- the turn is one that leads from what was kept to what is; others change only nodes that are declared lying
   abbrev pub Takes : (ℕ → Option Stamp) → Nodes → Turn → Nodes → Type 0
   Takes last old (Performed ops outcomes) new = IsBatch c ops × IsTold c lying ops outcomes old new
-  Takes last old (Pruned block stamp) new = (last block ≡ Some stamp) × IsPruned c block stamp old new
+  Takes last old (Pruned prunes) new = AllByRecursion (λ p. last p.block ≡ Some p.stamp) prunes × ArePruned c prunes old new
   Takes last old Changed new = (i : ℕ) → i < c.n → (lying i ≡ true) ⊎ (new i ≡ old i)
 
   -- one turn after the other, from what was kept, where each block may be pruned by this stamp

@@ -5,7 +5,7 @@ use Rattle.quorum_rules.specs.Limits.{Numbers}
 use Rattle.protocol.specs.Messages.{Ask, Reply, IsFormedReply}
 use Rattle.disk_model.specs.Crash.{Pending, LeavesOnly, settled}
 use Rattle.version_disk.specs.Held.{held}
-use Rattle.version_disk.specs.Deeds.{after_asks, replies_of, AreDoneInPart}
+use Rattle.version_disk.specs.Deeds.{answering, after_asks, replies_of, AreDoneInPart}
 use Rattle.version_disk.specs.Stored.{Stored}
 use Rattle.store_device.specs.Stores.{SeenStore, IsSound, is_up, seat_at}
 
@@ -29,7 +29,7 @@ module _ {D : Type 0} (pending : D → Pending) (seen : D → List ℕ) where
     pub record HasWorked (asks : List Ask) (answer : Option (List Reply)) (was is : Stored D) : Type 0 where
       pub done : HasDone asks answer was is
       pub any_moment : LeavesOnly moment left_since was.disk is.disk
-          (AreDoneInPart was.node.config was.node.number was.node asks (seen was.disk))
+          (AreDoneInPart was.node.config was.node.number was.node (answering asks) (seen was.disk))
 
     -- what sits in a seat was handed the asks: a node that isn't up stays as it is, and gives no answer
     abbrev pub WorksIn : List Ask → Option (List Reply) → (old new : Option (Stored D)) → Type 0

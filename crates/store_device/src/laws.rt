@@ -3,6 +3,7 @@ ghost use Rattle.std.specs.Prelude.{ℕ, Bool};
 ghost use Rattle.quorum_rules.specs.Limits.{Numbers};
 ghost use Rattle.store_device.specs.Lives.{LivesAreLinearizable, LivesAreLinearizableAsOne};
 ghost use Rattle.store_device.specs.Lives.{AcknowledgedWritesAreRead, TellsAlike, FoundIsKept};
+ghost use Rattle.store_device.specs.Arrays.{LivesAreArrays};
 ghost use Rattle.store_device.specs.Calls.{CallsAreLives, CrashedCallsAreLives, CallsGoOn, CallsKeepStores};
 
 use disk_model::Disk;
@@ -24,6 +25,15 @@ pub fn stores_are_linearizable()
 pub fn acknowledged_writes_are_read()
     ensures { (c : Numbers) (lying : ℕ → Bool) → AcknowledgedWritesAreRead c lying }
 {
+    linear_runs::laws::reads();
+}
+
+/// Where each operation of a life was told of, reads as giving a value and writes as written, the values are those of a plain array
+/// of blocks that holds zeros first, where no two different strings that are seen share a digest.
+pub fn lives_are_arrays()
+    ensures { (c : Numbers) (lying : ℕ → Bool) → LivesAreArrays c lying }
+{
+    acknowledged_writes_are_read();
     linear_runs::laws::reads();
 }
 

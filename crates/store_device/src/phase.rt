@@ -1,4 +1,6 @@
-ghost use Rattle.std.specs.Prelude.{◌≡◌, ◌≤◌, ◌<◌, ◌+◌, ◌-◌, ◌^◌, List, Option, length, map, All, IfOk, OnOk};
+ghost use Rattle.std.specs.Prelude.{◌≡◌, ◌≤◌, ◌<◌, ◌+◌, ◌-◌, ◌^◌, ℕ, true, is_some, List, Option, length, map, All, IfOk, OnOk};
+ghost use Rattle.std.specs.List.{AllByRecursion};
+ghost use Rattle.quorum_rules.specs.Limits.{IsValid};
 ghost use Rattle.protocol.specs.Instance.{setting};
 ghost use Rattle.protocol.specs.Messages.{Reply as AnyReply};
 ghost use Rattle.wire_forms.specs.declared.op.Op.{Op as AnyOp};
@@ -7,12 +9,13 @@ ghost use Rattle.wire_forms.specs.Ops.{Fits};
 ghost use Rattle.store_device.specs.Stores.{SeenStore, IsStore};
 ghost use Rattle.store_device.specs.Told.{AreApart};
 ghost use Rattle.store_device.specs.Working.{AreHanded};
+ghost use Rattle.store_device.specs.Answered.{AllCome, AreFew, HaveReplied, IsEnough};
 ghost use Rattle.store_device.specs.Going.{IsGoing, MayBegin, store_of};
 
 use crate::forms::form_ops;
-use crate::seat::{Seat, gather, hand_out, work};
+use crate::seat::{Seat, gather, hand_out, none_starved, work};
 use batch_clients::{Asks, Batch};
-use block_lives::operations;
+use block_lives::{endings, operations};
 use client_core::{Client, Outcome};
 use disk_model::Disk;
 use lists::NoMemory;
@@ -28,6 +31,7 @@ const MOST_PHASES: u64 = 1_000_000;
 pub(crate) fn go_on<D: Disk + Send, R: Threads + Sync>(
     rt: &R,
     alloc: Global,
+    threads: usize,
     seats: &mut [Seat<D>],
     batch: &mut Batch,
     asks: Asks,
@@ -44,11 +48,21 @@ pub(crate) fn go_on<D: Disk + Send, R: Threads + Sync>(
         × IsGoing D.pending D.seen D.moment D.left_since start
         (store_of batch.old.config (map (λ seat. seat.node) seats.new)) ops runs
         × OnOk result (batch.new.runs ≡ runs) }
+    // and where enough nodes are up then and have room, each of them has ended
+    ensures ended { (start : SeenStore D) (ops : List AnyOp) (more : ℕ) → IsValid start.config
+        → AreApart ops
+        → IsGoing D.pending D.seen D.moment D.left_since start
+        (store_of batch.old.config (map (λ seat. seat.node) seats.old)) ops batch.old.runs
+        → length ops ≤ more → AllCome start batch.old.phases ops batch.old.runs → AreFew start ops
+        → OnOk result (IsEnough D.seen D.most more
+        (store_of batch.old.config (map (λ seat. seat.node) seats.new))
+        → AllByRecursion (λ r. is_some (end_of r.stand) ≡ true) batch.new.runs) }
 {
     operations();
+    endings();
     let mut asks = asks;
     while batch.asking() > 0 && batch.phases() < MOST_PHASES {
-        asks = go_through(rt, alloc, seats, batch, asks)?;
+        asks = go_through(rt, alloc, threads, seats, batch, asks)?;
     }
     Ok(())
 }
@@ -57,6 +71,7 @@ pub(crate) fn go_on<D: Disk + Send, R: Threads + Sync>(
 fn go_through<D: Disk + Send, R: Threads + Sync>(
     rt: &R,
     alloc: Global,
+    threads: usize,
     seats: &mut [Seat<D>],
     batch: &mut Batch,
     asks: Asks,
@@ -72,14 +87,19 @@ fn go_through<D: Disk + Send, R: Threads + Sync>(
         (λ i. asks_to (setting batch.old.config) i batch.old.runs) answers
         (store_of batch.old.config (map (λ seat. seat.node) seats.old))
         (store_of batch.old.config (map (λ seat. seat.node) seats.new))
-        × OnOk result (batch.new.runs
-        ≡ after_answers (setting batch.old.config) 0 answers batch.old.runs) }
+        × OnOk result ((batch.new.runs
+        ≡ after_answers (setting batch.old.config) 0 answers batch.old.runs)
+        × HaveReplied D.seen D.most (λ i. asks_to (setting batch.old.config) i batch.old.runs)
+        answers
+        (store_of batch.old.config (map (λ seat. seat.node) seats.old))
+        (store_of batch.old.config (map (λ seat. seat.node) seats.new))) }
     ensures phases { OnOk result (batch.new.phases ≡ batch.old.phases + 1) }
     ensures asks { IfOk result (λ asks. AreAsksOf (setting batch.old.config) batch.new.runs
         (map (λ a. a.items) asks.items)) }
 {
     hand_out(seats, asks);
-    work(rt, seats);
+    work(rt, threads, seats);
+    none_starved(seats)?;
     let answers = gather(alloc, seats)?;
     batch.hear(answers)
 }
@@ -88,6 +108,7 @@ fn go_through<D: Disk + Send, R: Threads + Sync>(
 pub(crate) fn carry_out<D: Disk + Send, R: Threads + Sync>(
     rt: &R,
     alloc: Global,
+    threads: usize,
     config: &Config,
     idle: &Client,
     seats: &mut [Seat<D>],
@@ -106,10 +127,16 @@ pub(crate) fn carry_out<D: Disk + Send, R: Threads + Sync>(
         (store_of config.now (map (λ seat. seat.node) seats.old))
         (store_of config.now (map (λ seat. seat.node) seats.new)) ops.now runs
         × IfOk result (λ ends. ends.items ≡ map (λ r. end_of r.stand) runs) }
+    ensures answered { IfOk result (λ ends.
+        AreFew (store_of config.now (map (λ seat. seat.node) seats.old)) ops.now
+        → IsEnough D.seen D.most (length ops.now)
+        (store_of config.now (map (λ seat. seat.node) seats.new))
+        → AllByRecursion (λ outcome. is_some outcome ≡ true) ends.items) }
 {
     operations();
+    endings();
     form_ops(config, ops);
     let (mut batch, asks) = Batch::begin(alloc, config, idle, ops)?;
-    go_on(rt, alloc, seats, &mut batch, asks)?;
+    go_on(rt, alloc, threads, seats, &mut batch, asks)?;
     batch.into_ends()
 }

@@ -1,5 +1,6 @@
-ghost use Rattle.std.specs.Prelude.{◌≡◌, ℕ, ◌<◌, true, false, None, length, map, IfOk, slice_index_or};
+ghost use Rattle.std.specs.Prelude.{◌≡◌, ℕ, ◌<◌, ◌||◌, true, false, None, Some, is_some, length, map, All, IfOk, OnOk, slice_index_or};
 ghost use Rattle.store_device.specs.Working.{HasWorked, WorksIn};
+ghost use Rattle.store_device.specs.Answered.{RepliesIn, answer_of, gave, is_memory};
 
 use crate::forms::form_all;
 use batch_clients::{Answers, Asks};
@@ -8,49 +9,77 @@ use lists::NoMemory;
 use std::alloc::Global;
 use std::mem::swap;
 use std::thread::{Threads, for_each_mut};
-use version_disk::{Replies, StoredNode};
-use wire_forms::Ask;
+use version_disk::{Replies, StoreRefusal, StoredNode};
+use wire_forms::{Ask, Request};
 
-/// A seat for a node: the node, if one sits there, what it is to answer, and what it answered.
+/// A seat for a node: the node, if one sits there, what it is to answer, what it answered, and whether it found no memory for that.
 #[derive(Drop)]
 pub(crate) struct Seat<D: Disk> {
     pub(crate) node: Option<StoredNode<D>>,
     pub(crate) asks: Vec<Ask>,
     pub(crate) replies: Option<Replies>,
+    pub(crate) starved: bool,
 }
 
 impl<D: Disk> Seat<D> {
     /// Has the node answer its asks. One that isn't up, finds no memory or room, or whose disk fails gives no answer.
     pub(crate) fn work(&mut self)
-        ensures { WorksIn D.pending D.seen D.moment D.left_since self.old.asks.items
+        ensures works { WorksIn D.pending D.seen D.moment D.left_since self.old.asks.items
             self.new.replies self.old.node self.new.node }
+        ensures replied { RepliesIn D.seen D.most (length self.old.asks.items)
+            (self.new.starved || is_some self.new.replies) self.old.node self.new.node }
     {
-        self.replies = answer_in(&mut self.node, self.asks.as_slice());
+        match answer_in(&mut self.node, self.asks.as_slice()) {
+            Ok(replies) => {
+                self.replies = replies;
+                self.starved = false;
+            }
+            Err(NoMemory) => {
+                self.replies = None;
+                self.starved = true;
+            }
+        }
     }
 }
 
 /// What the node that sits there answers to the asks, if one does.
-fn answer_in<D: Disk>(seat: &mut Option<StoredNode<D>>, asks: &[Ask]) -> Option<Replies>
-    ensures { WorksIn D.pending D.seen D.moment D.left_since asks.now result seat.old seat.new }
+fn answer_in<D: Disk>(
+    seat: &mut Option<StoredNode<D>>,
+    asks: &[Ask],
+) -> Result<Option<Replies>, NoMemory>
+    ensures works { WorksIn D.pending D.seen D.moment D.left_since asks.now (answer_of result) seat.old seat.new }
+    ensures replied { RepliesIn D.seen D.most (length asks.now) (gave result) seat.old seat.new }
 {
     let Some(node) = seat else {
-        return None;
+        return Ok(None);
     };
     answer(node, asks)
 }
 
 /// What the node answers to the asks, if it does.
-fn answer<D: Disk>(node: &mut StoredNode<D>, asks: &[Ask]) -> Option<Replies>
-    ensures down { node.old.broken ≡ true → (node.new ≡ node.old) × (result ≡ None) }
+fn answer<D: Disk>(node: &mut StoredNode<D>, asks: &[Ask]) -> Result<Option<Replies>, NoMemory>
+    ensures down { node.old.broken ≡ true → (node.new ≡ node.old) × (answer_of result ≡ None) }
     ensures up { node.old.broken ≡ false → HasWorked D.pending D.seen D.moment D.left_since
-        asks.now result node.old node.new }
+        asks.now (answer_of result) node.old node.new }
+    ensures replied { RepliesIn D.seen D.most (length asks.now) (gave result) (Some node.old) (Some node.new) }
 {
     match node.handle_all(asks) {
         Ok(replies) => {
             form_all(replies.as_slice());
-            Some(replies)
+            Ok(Some(replies))
         }
-        Err(_refusal) => None,
+        Err(refusal) => silence(refusal),
+    }
+}
+
+/// A node that refuses gives no answer. Want of memory is its caller's too.
+fn silence(refusal: StoreRefusal) -> Result<Option<Replies>, NoMemory>
+    ensures none { answer_of result ≡ None }
+    ensures memory { gave result ≡ is_memory refusal }
+{
+    match refusal {
+        StoreRefusal::NoMemory => Err(NoMemory),
+        StoreRefusal::DiskFault | StoreRefusal::Broken | StoreRefusal::Full => Ok(None),
     }
 }
 
@@ -67,6 +96,7 @@ pub(crate) fn seat_all<D: Disk + Drop>(
             node,
             asks: Vec::new(alloc),
             replies: None,
+            starved: false,
         })?;
     }
     Ok(seats)
@@ -84,19 +114,56 @@ pub(crate) fn hand_out<D: Disk>(seats: &mut [Seat<D>], asks: Asks)
     }
 }
 
-/// Has each node answer its asks, each in a thread of its own.
-pub(crate) fn work<D: Disk + Send, R: Threads + Sync>(rt: &R, seats: &mut [Seat<D>])
+/// Has each node answer its asks. Where more than one of them is to write, they work at once, in so many threads at most.
+pub(crate) fn work<D: Disk + Send, R: Threads + Sync>(rt: &R, threads: usize, seats: &mut [Seat<D>])
     ensures count { length seats.new ≡ length seats.old }
     ensures each { (i : ℕ) (d : _) → i < length seats.old
         → WorksIn D.pending D.seen D.moment D.left_since (slice_index_or seats.old i d).asks.items
         (slice_index_or seats.new i d).replies (slice_index_or seats.old i d).node
         (slice_index_or seats.new i d).node }
+    ensures replied { (i : ℕ) (d : _) → i < length seats.old
+        → RepliesIn D.seen D.most (length (slice_index_or seats.old i d).asks.items)
+        ((slice_index_or seats.new i d).starved || is_some (slice_index_or seats.new i d).replies)
+        (slice_index_or seats.old i d).node (slice_index_or seats.new i d).node }
 {
-    let threads = seats.len();
-    if threads == 0 {
-        return;
+    let threads = if write_at_once(seats) { threads } else { 1 };
+    for_each_mut(rt, seats, threads.max(1), &|_, seat| seat.work());
+}
+
+/// Whether more than one node is asked to write. What changes no disk takes less time than a thread does to begin.
+fn write_at_once<D: Disk>(seats: &[Seat<D>]) -> bool {
+    let mut writes = false;
+    for seat in seats {
+        if is_write(&seat.asks) {
+            if writes {
+                return true;
+            }
+            writes = true;
+        }
     }
-    for_each_mut(rt, seats, threads, &|_, seat| seat.work());
+    false
+}
+
+/// Whether one of the asks is a write.
+fn is_write(asks: &[Ask]) -> bool {
+    for ask in asks {
+        if matches!(ask.request, Request::Write(_)) {
+            return true;
+        }
+    }
+    false
+}
+
+/// Sees that no node found too little memory to answer.
+pub(crate) fn none_starved<D: Disk>(seats: &[Seat<D>]) -> Result<(), NoMemory>
+    ensures { OnOk result (All (λ seat. seat.starved ≡ false) seats.now) }
+{
+    for seat in seats {
+        if seat.starved {
+            return Err(NoMemory);
+        }
+    }
+    Ok(())
 }
 
 /// Takes what each node answered.

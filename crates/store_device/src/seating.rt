@@ -1,23 +1,30 @@
 //! Who sits on a store's seats, and prunes of blocks.
-ghost use Rattle.std.specs.Prelude.{◌≡◌, ◌<◌, ℕ, true, false, not, replicate, length, slice_index_or, MatchOption, IfSome, IfOk, OnOk, OnErr, Some, None};
+ghost use Rattle.std.specs.Prelude.{◌≡◌, ◌<◌, ℕ, true, false, All, replicate, length, slice_index_or, MatchOption, IfSome, IfOk, OnOk, OnErr, Some, None};
 ghost use Rattle.quorum_rules.specs.Limits.{IsValid};
 ghost use Rattle.version_disk.specs.Held.{held};
 ghost use Rattle.version_disk.specs.Stored.{Stored};
 ghost use Rattle.store_device.specs.Stores.{IsSound, seat_at, is_up};
 ghost use Rattle.store_device.specs.Calls.{HasPruned};
-ghost use Rattle.store_device.specs.Seating.{with_seat, HasBlock, PrunesIn, HasTried, TriesIn};
+ghost use Rattle.store_device.specs.Seating.{with_seat, HasBlocks, ArePrunesApart, PrunesIn, HasTried, TriesIn};
 
 use crate::seat::Seat;
 use crate::store::Store;
-use disk_model::{Disk, MemoryDisk};
+use disk_model::Disk;
 use lists::NoMemory;
-use outside_io::Calls;
 use quorum_rules::Config;
-use stamp_order::Stamp;
 use std::alloc::Global;
-use version_disk::{CompactFault, CompactRefusal, OpenRefusal, StoredNode};
+use std::thread::{Threads, for_each_mut};
+use version_disk::{OpenRefusal, Prune, StoredNode};
 
 impl<D: Disk> Store<D> {
+    /// From now on the nodes write in so many threads at once at most, and not each in a thread of its own. On disks whose syncs take no time
+    /// one is best.
+    pub fn set_threads(&mut self, threads: usize)
+        ensures { self.new ≡ self.old }
+    {
+        self.threads = threads;
+    }
+
     /// The cluster's numbers.
     pub fn config(&self) -> &Config
         ensures { result.now ≡ self.now.config }
@@ -36,13 +43,12 @@ impl<D: Disk> Store<D> {
         self.seats.get(seat)?.node.as_ref()
     }
 
-    /// Whether a node sits there whose disk hasn't failed. Nothing changes.
-    pub fn is_up(&mut self, seat: usize) -> bool
-        ensures is { result ≡ is_up (seat_at self.old seat) }
-        ensures same { self.new ≡ self.old }
+    /// Whether a node sits there whose disk hasn't failed.
+    pub fn is_up(&self, seat: usize) -> bool
+        ensures { result ≡ is_up (seat_at self.now seat) }
     {
         match self.node(seat) {
-            Some(node) => is_whole(self.alloc, node),
+            Some(node) => !node.is_broken(),
             None => false,
         }
     }
@@ -55,18 +61,20 @@ impl<D: Disk> Store<D> {
         self.seats.get_mut(seat)?.node.take()
     }
 
-    /// Has each node that is up prune a block by a stamp that a read of it gave, while nothing is under way. One that finds no memory or no
-    /// room for that stays as it is.
-    pub fn prune(&mut self, block: u32, stamp: &Stamp)
-        requires { block < self.old.config.blocks }
+    /// Has each node that is up prune blocks, each by a stamp that a read of it gave, while nothing is under way; the nodes at once. One that finds no memory or no room for that stays as it is.
+    pub fn prune_all<R: Threads + Sync>(&mut self, rt: &R, prunes: &[Prune])
+    where
+        D: Send,
+        requires there { All (λ p. p.block < self.old.config.blocks) prunes.now }
+        requires apart { ArePrunesApart prunes.now }
         ensures config { self.new.config ≡ self.old.config }
-        ensures seats { (i : ℕ) → PrunesIn D.pending D.seen block stamp.now (seat_at self.old i) (seat_at self.new i) }
-        // What the call was in a store's life, after it and at any moment of it: each node keeps of the block what it kept, or what the
-        // prune leaves of that. A node that isn't up stays as it is.
-        ensures pruned { HasPruned D.pending D.seen D.moment D.left_since block stamp.now self.old self.new }
+        ensures seats { (i : ℕ) → PrunesIn D.pending D.seen prunes.now (seat_at self.old i) (seat_at self.new i) }
+        // What the call was in a store's life, after it and at any moment of it: each node keeps of each block what it kept, or what the
+        // block's prune leaves of that. A node that isn't up stays as it is.
+        ensures pruned { HasPruned D.pending D.seen D.moment D.left_since prunes.now self.old self.new }
     {
-        let Store { alloc, seats, .. } = self;
-        prune_each(*alloc, seats, block, stamp);
+        let Store { seats, threads, .. } = self;
+        prune_each(rt, *threads, seats, prunes);
     }
 }
 
@@ -122,55 +130,51 @@ fn nobody<D: Disk + Drop>(
     Ok(nodes)
 }
 
-/// Whether the node's disk hasn't failed. Where it has, the node refuses for that to be compacted; where it hasn't, it asks the disk that
-/// it is given, which fails at once.
-fn is_whole<D: Disk>(alloc: Global, node: &StoredNode<D>) -> bool
-    ensures { result ≡ not node.now.broken }
-{
-    let mut fails = Calls::new(alloc);
-    let _ = fails.push(0);
-    let refused = node.compact(MemoryDisk::new(alloc, fails));
-    !matches!(
-        refused,
-        Err(CompactRefusal {
-            why: CompactFault::Broken,
-            ..
-        })
-    )
-}
-
-/// Has each node that is up prune the block.
-fn prune_each<D: Disk>(alloc: Global, seats: &mut [Seat<D>], block: u32, stamp: &Stamp)
-    requires { (i : ℕ) (d : _) → i < length seats.old
-        → HasBlock block (slice_index_or seats.old i d).node }
+/// Has each node that is up prune the blocks, in so many threads at most.
+fn prune_each<D: Disk + Send, R: Threads + Sync>(
+    rt: &R,
+    threads: usize,
+    seats: &mut [Seat<D>],
+    prunes: &[Prune],
+)
+    requires blocks { (i : ℕ) (d : _) → i < length seats.old
+        → HasBlocks prunes.now (slice_index_or seats.old i d).node }
     ensures count { length seats.new ≡ length seats.old }
     ensures each { (i : ℕ) (d : _) → i < length seats.old
-        → TriesIn D.pending D.seen block stamp.now D.moment D.left_since
+        → TriesIn D.pending D.seen prunes.now D.moment D.left_since
         (slice_index_or seats.old i d).node (slice_index_or seats.new i d).node }
 {
-    for seat in seats.iter_mut() {
-        prune_in(alloc, &mut seat.node, block, stamp);
-    }
+    for_each_mut(
+        rt,
+        seats,
+        threads.max(1),
+        &|_: usize, seat: &mut Seat<D>|
+            requires { HasBlocks prunes.now seat.old.node }
+            ensures { TriesIn D.pending D.seen prunes.entry.now D.moment D.left_since
+                seat.old.node seat.new.node }
+        { prune_in(&mut seat.node, prunes) },
+    );
 }
 
-/// Has the node that sits there prune the block, if it is up.
-fn prune_in<D: Disk>(alloc: Global, seat: &mut Option<StoredNode<D>>, block: u32, stamp: &Stamp)
-    requires { HasBlock block seat.old }
-    ensures { TriesIn D.pending D.seen block stamp.now D.moment D.left_since seat.old seat.new }
+/// Has the node that sits there prune the blocks, if it is up.
+fn prune_in<D: Disk>(seat: &mut Option<StoredNode<D>>, prunes: &[Prune])
+    requires { HasBlocks prunes.now seat.old }
+    ensures { TriesIn D.pending D.seen prunes.now D.moment D.left_since seat.old seat.new }
 {
     if let Some(node) = seat {
-        prune_up(alloc, node, block, stamp);
+        prune_up(node, prunes);
     }
 }
 
-/// Has the node prune the block, if it is up. Where no memory or no room is found for that, it stays as it is.
-fn prune_up<D: Disk>(alloc: Global, node: &mut StoredNode<D>, block: u32, stamp: &Stamp)
-    requires { node.old.broken ≡ false → block < node.old.node.config.blocks }
+/// Has the node prune the blocks, if it is up. Where no memory or no room is found for that, it stays as it is.
+fn prune_up<D: Disk>(node: &mut StoredNode<D>, prunes: &[Prune])
+    requires { node.old.broken ≡ false
+        → All (λ p. p.block < node.old.node.config.blocks) prunes.now }
     ensures down { node.old.broken ≡ true → node.new ≡ node.old }
     ensures up { node.old.broken ≡ false
-        → HasTried D.pending D.seen block stamp.now D.moment D.left_since node.old node.new }
+        → HasTried D.pending D.seen prunes.now D.moment D.left_since node.old node.new }
 {
-    if is_whole(alloc, node) {
-        let _refusal = node.prune(block, stamp);
+    if !node.is_broken() {
+        let _refusal = node.prune_all(prunes);
     }
 }

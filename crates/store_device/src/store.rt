@@ -1,4 +1,5 @@
-ghost use Rattle.std.specs.Prelude.{◌≡◌, ◌≤◌, All, length, IfOk};
+ghost use Rattle.std.specs.Prelude.{◌≡◌, ◌≤◌, true, is_some, All, length, IfOk};
+ghost use Rattle.std.specs.List.{AllByRecursion};
 ghost use Rattle.std.specs.Option.{option_map};
 ghost use Rattle.std.specs.Result.{result_ok};
 ghost use Rattle.wire_forms.specs.Ops.{Fits};
@@ -6,6 +7,7 @@ ghost use Rattle.store_device.specs.Stores.{IsStore};
 ghost use Rattle.store_device.specs.Told.{AreApart};
 ghost use Rattle.store_device.specs.Going.{store_of};
 ghost use Rattle.store_device.specs.Calls.{HasPerformed};
+ghost use Rattle.store_device.specs.Answered.{AreFew, IsEnough};
 
 use crate::phase::carry_out;
 use crate::seat::{Seat, seat_all};
@@ -31,6 +33,8 @@ pub struct Store<D: Disk> {
     /// An idle client, from which each operation's own client is made.
     idle: Client,
     pub(crate) seats: Vec<Seat<D>>,
+    /// In how many threads the nodes write at once at most.
+    pub(crate) threads: usize,
 }
 
 impl<D: Disk> Model for Store<D> {
@@ -60,17 +64,20 @@ impl<D: Disk> Store<D> {
     {
         let idle = Client::new(alloc, config, 0)?;
         let seats = seat_all(alloc, nodes)?;
+        let threads = seats.len();
         Ok(Store {
             alloc,
             config: *config,
             idle,
             seats,
+            threads,
         })
     }
 
-    /// Reads and writes blocks, each by a client of its own, in step: in each phase the nodes work at once, each in a thread of its own.
+    /// Reads and writes blocks, each by a client of its own, in step: in each phase the nodes that write do so at once, in threads.
     /// Gives how each operation ended, in order; None where too few nodes answered, or where it had not ended after a million phases:
-    /// then a write may have taken place or not. So it may where no memory was found, and then nothing is told of any of them.
+    /// then a write may have taken place or not. So it may where no memory was found, by the caller or by a node that is up, and then
+    /// nothing is told of any of them.
     pub fn perform<R: Threads + Sync>(
         &mut self,
         rt: &R,
@@ -85,6 +92,11 @@ impl<D: Disk> Store<D> {
         // told; the store is still one of its cluster, on disks that have what its nodes keep.
         ensures performed { HasPerformed D.pending D.seen D.moment D.left_since ops.now
             (option_map (λ outcomes. outcomes.items) (result_ok result)) self.old self.new }
+        // Where at least n-t nodes are up then and have room for a slot for each operation, and nodes keep fewer than some 499,000 versions
+        // of each block, every operation came to its end.
+        ensures answered { IfOk result (λ outcomes. AreFew self.old ops.now
+            → IsEnough D.seen D.most (length ops.now) self.new
+            → AllByRecursion (λ outcome. is_some outcome ≡ true) outcomes.items) }
         ensures config { self.new.config ≡ self.old.config }
     {
         let Store {
@@ -92,8 +104,9 @@ impl<D: Disk> Store<D> {
             config,
             idle,
             seats,
+            threads,
         } = self;
         operations();
-        carry_out(rt, *alloc, config, idle, seats, ops)
+        carry_out(rt, *alloc, *threads, config, idle, seats, ops)
     }
 }

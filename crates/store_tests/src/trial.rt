@@ -1,5 +1,6 @@
 //! A case that is played: sessions of a store, and what is left of its disks between them.
-ghost use Rattle.std.specs.Prelude.{◌≡◌, ◌<◌, replicate, None, IfOk};
+ghost use Rattle.std.specs.Prelude.{◌≡◌, ◌<◌, All, replicate, None, IfOk};
+ghost use Rattle.store_device.specs.Seating.{ArePrunesApart};
 ghost use Rattle.store_device.specs.Stores.{IsStore};
 
 use crate::batch::{all_reads, drawn_batch};
@@ -12,13 +13,14 @@ use crate::register::Register;
 use crate::unmade::Unmade;
 use client_core::Outcome;
 use disk_model::{Disk, MemoryDisk};
+use lists::NoMemory;
 use outside_io::Calls;
 use quorum_rules::Config;
 use stamp_order::Stamp;
 use std::alloc::Global;
 use std::thread::Threads;
 use store_device::Store;
-use version_disk::{OpenRefusal, StoredNode};
+use version_disk::{OpenRefusal, Prune, StoredNode};
 use wire_forms::Op;
 
 type Device = Store<NotedDisk<MemoryDisk>>;
@@ -187,7 +189,7 @@ impl Trial {
         for _ in 0..session.batches {
             self.play_batch(rt, &mut store)?;
             if session.prunes {
-                self.prune(&mut store);
+                self.prune(rt, &mut store)?;
             }
         }
         self.close(&mut store)
@@ -364,17 +366,12 @@ impl Trial {
         }
     }
 
-    // Nodes prune a block that a read has given.
-    fn prune(&mut self, store: &mut Device) {
-        let number = self.draws.below(self.config.blocks());
-        let Some(block) = self.blocks.get(number as usize) else {
-            return;
-        };
-        if let Some(stamp) = &block.read {
-            if number < store.config().blocks() {
-                store.prune(number, stamp);
-            }
-        }
+    // Nodes prune the blocks from a drawn one on, as far as reads have given them.
+    fn prune<R: Threads + Sync>(&mut self, rt: &R, store: &mut Device) -> Result<(), Unmade> {
+        let first = self.draws.below(self.config.blocks());
+        let prunes = prunes_of(self.alloc, &self.blocks, first, store.config().blocks())?;
+        store.prune_all(rt, &prunes);
+        Ok(())
     }
 
     // Takes the nodes away, and leaves of each disk what a crash may leave.
@@ -419,4 +416,23 @@ fn note(failing: &mut [Option<u32>], node: u32, call: u32) {
     if let Some(place) = failing.get_mut(node as usize) {
         *place = Some(call);
     }
+}
+
+// The prunes of these blocks, by the stamps that reads gave.
+fn prunes_of(alloc: Global, blocks: &[Block], first: u32, end: u32) -> Result<Vec<Prune>, NoMemory>
+    ensures there { IfOk result (λ prunes. All (λ p. p.block < end) prunes.items) }
+    ensures apart { IfOk result (λ prunes. ArePrunesApart prunes.items) }
+{
+    let mut prunes = Vec::new(alloc);
+    for block in first.min(end)..end {
+        if let Some(stamp) = stamp_of(blocks, block) {
+            prunes.push(Prune { block, stamp })?;
+        }
+    }
+    Ok(prunes)
+}
+
+// The greatest stamp that a read gave of a block.
+fn stamp_of(blocks: &[Block], block: u32) -> Option<Stamp> {
+    blocks.get(block as usize)?.read
 }

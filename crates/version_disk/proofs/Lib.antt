@@ -1,9 +1,10 @@
 pub mod lemmas
 pub mod Accepting
-pub mod Asking
 pub mod Compacting
 pub mod Deeds
 pub mod Journals
 pub mod Keeping
 pub mod Lives
+pub mod Many
 pub mod Opening
+pub mod Pruning

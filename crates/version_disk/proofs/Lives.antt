@@ -5,7 +5,7 @@ use Rattle.quorum_rules.specs.Limits.{Numbers}
 use Rattle.node_core.specs.Seen.{SeenNode, new_node}
 use Rattle.slot_disk.specs.Slots.{Slot}
 use Rattle.version_disk.specs.Held.{held, played, slots_of, first_bad, first_bad_from}
-use Rattle.version_disk.specs.Deeds.{after_deed, slots_by, after_asks, slots_by_all}
+use Rattle.version_disk.specs.Deeds.{after_deed, slots_by, after_deeds, slots_by_deeds}
 use Rattle.version_disk.specs.Lives.{Turn, Acknowledged, Stopped, AcknowledgedAll, StoppedIn, Opened, Moment, Turns, IsLife, end_of, MayEnd, OnlyGrows}
 
 module _ (c : Numbers) (number : ℕ) where
@@ -16,9 +16,9 @@ module _ (c : Numbers) (number : ℕ) where
     | inl same ↦ inl (rest node (same ∙ is))
     | inr did ↦ inr (rest (after_deed node deed) (did ∙ ap (λ (n : SeenNode). after_deed n deed) is))
   ]
-  ends_next old bytes node end turns (AcknowledgedAll asks) is done rest = rest (after_asks node asks) (done.state ∙ ap (λ (n : SeenNode). after_asks n asks) is)
-  ends_next old bytes node end turns (StoppedIn asks) is left rest =
-      (left.state.0, left.state.1, rest (after_asks node (take left.state.0 asks)) (left.state.2 ∙ ap (λ (n : SeenNode). after_asks n (take left.state.0 asks)) is))
+  ends_next old bytes node end turns (AcknowledgedAll deeds) is done rest = rest (after_deeds node deeds) (done.state ∙ ap (λ (n : SeenNode). after_deeds n deeds) is)
+  ends_next old bytes node end turns (StoppedIn deeds) is left rest =
+      (left.state.0, left.state.1, rest (after_deeds node (take left.state.0 deeds)) (left.state.2 ∙ ap (λ (n : SeenNode). after_deeds n (take left.state.0 deeds)) is))
   ends_next old bytes node end turns Opened is same rest = rest node (ap (played (new_node c number)) same ∙ is)
 
   -- from a disk that holds a node
@@ -30,8 +30,8 @@ module _ (c : Numbers) (number : ℕ) where
   good_next : (old bytes : List ℕ) (turn : Turn) → first_bad c number old ≡ None → Turns c number old turn bytes → first_bad c number bytes ≡ None
   good_next old bytes (Acknowledged deed) good done = done.good
   good_next old bytes (Stopped deed) good left = left.good
-  good_next old bytes (AcknowledgedAll asks) good done = done.good
-  good_next old bytes (StoppedIn asks) good left = left.good
+  good_next old bytes (AcknowledgedAll deeds) good done = done.good
+  good_next old bytes (StoppedIn deeds) good left = left.good
   good_next old bytes Opened good same = ap (first_bad_from c number 0) same ∙ good
 
   pub stays_good : (life : List Moment) (old : List ℕ) → first_bad c number old ≡ None → IsLife c number old life → first_bad c number (end_of old life) ≡ None
@@ -41,8 +41,8 @@ module _ (c : Numbers) (number : ℕ) where
   grows_next : (old bytes : List ℕ) (turn : Turn) → Turns c number old turn bytes → (more : List Slot) × (slots_of c bytes ≡ slots_of c old ++ more)
   grows_next old bytes (Acknowledged deed) done = (slots_by (held c number old) deed, done.slots)
   grows_next old bytes (Stopped deed) left = left.begins
-  grows_next old bytes (AcknowledgedAll asks) done = (slots_by_all (held c number old) asks, done.slots)
-  grows_next old bytes (StoppedIn asks) left = left.begins
+  grows_next old bytes (AcknowledgedAll deeds) done = (slots_by_deeds (held c number old) deeds, done.slots)
+  grows_next old bytes (StoppedIn deeds) left = left.begins
   grows_next old bytes Opened same = ([], same ∙ sym (append-nil (slots_of c old)))
 
   pub grows : (bytes : List ℕ) (life : List Moment) → OnlyGrows c number bytes life

@@ -1,5 +1,5 @@
 -- What a node on a disk is asked to do, and what that writes.
-use Rattle.std.specs.Prelude.{◌≡◌, ◌≤◌, ℕ, Option, Some, None, List, [], ◌∷◌, ◌++◌, length, take}
+use Rattle.std.specs.Prelude.{◌≡◌, ◌≤◌, ℕ, Bool, if◌then◌else◌, nat_lt, Option, Some, None, List, [], ◌∷◌, ◌++◌, length, map, take}
 use Rattle.quorum_rules.specs.Limits.{Numbers}
 use Rattle.stamp_order.specs.declared.Stamp.{Stamp}
 use Rattle.protocol.specs.Messages.{Version, Ask, Reply}
@@ -9,6 +9,7 @@ use Rattle.node_core.specs.Seen.{SeenNode, versions_in, with_versions, reply_of,
 use Rattle.slot_disk.specs.Slots.{Slot, version_slot, prune_slot}
 use Rattle.version_disk.specs.Held.{held, slots_of, first_bad}
 use Rattle.version_disk.specs.Kept.{HoldsOneOf}
+use Rattle.version_disk.specs.declared.prune.Prune.{Prune}
 
 -- an ask is answered, or a block is pruned by a stamp
 pub data Deed : Type 0 where
@@ -40,10 +41,52 @@ pub record IsDone (c : Numbers) (number : ℕ) (node : SeenNode) (deed : Deed) (
 abbrev pub IsDoneOrNot : Numbers → ℕ → SeenNode → Deed → List ℕ → List ℕ → Type 0
 IsDoneOrNot c number node deed old left = HoldsOneOf c number (slots_of c old) node (after_deed node deed) left
 
--- the node when it has answered all the asks, one after the other
+-- ---- many deeds, one after the other
+
+-- the node when all of them are done
+abbrev pub after_deeds : SeenNode → List Deed → SeenNode
+after_deeds node [] = node
+after_deeds node (deed ∷ deeds) = after_deeds (after_deed node deed) deeds
+
+-- a prune of the block by the stamp drops a version
+abbrev pub drops : SeenNode → ℕ → Stamp → Bool
+drops node block stamp = nat_lt (length (pruned (setting node.config) stamp (versions_in node block))) (length (versions_in node block))
+
+-- the slots that a deed among others writes: none where it changes nothing
+abbrev pub slots_among : SeenNode → Deed → List Slot
+slots_among node (Answers ask) = added_slots ask.block (accepts_of node ask)
+slots_among node (Prunes block stamp) = if drops node block stamp then prune_slot node.config block stamp ∷ [] else []
+
+-- the slots that they write
+abbrev pub slots_by_deeds : SeenNode → List Deed → List Slot
+slots_by_deeds node [] = []
+slots_by_deeds node (deed ∷ deeds) = slots_among node deed ++ slots_by_deeds (after_deed node deed) deeds
+
+-- All of them were done: the disk's slots are those from before and those that they write, it holds the node after them, and no slot is bad.
+pub record AreDone (c : Numbers) (number : ℕ) (node : SeenNode) (deeds : List Deed) (old new : List ℕ) : Type 0 where
+  pub state : held c number new ≡ after_deeds node deeds
+  pub slots : slots_of c new ≡ slots_of c old ++ slots_by_deeds node deeds
+  pub good : first_bad c number new ≡ None
+
+-- The first few of them were done, none or all of them too: the bytes hold the node after those, begin with the slots from before, and have no bad slot.
+pub record AreDoneInPart (c : Numbers) (number : ℕ) (node : SeenNode) (deeds : List Deed) (old left : List ℕ) : Type 0 where
+  pub state : (k : ℕ) × (k ≤ length deeds) × (held c number left ≡ after_deeds node (take k deeds))
+  pub begins : (more : List Slot) × (slots_of c left ≡ slots_of c old ++ more)
+  pub good : first_bad c number left ≡ None
+
+-- ---- many asks, and many prunes
+
+-- asks are answered
+abbrev pub answering : List Ask → List Deed
+answering asks = map Answers asks
+
+-- blocks are pruned
+abbrev pub pruning : List Prune → List Deed
+pruning prunes = map (λ p. Prunes p.block p.stamp) prunes
+
+-- the node when it has answered all the asks
 abbrev pub after_asks : SeenNode → List Ask → SeenNode
-after_asks node [] = node
-after_asks node (ask ∷ asks) = after_asks (after_deed node (Answers ask)) asks
+after_asks node asks = after_deeds node (answering asks)
 
 -- its answers
 abbrev pub replies_of : SeenNode → List Ask → List Reply
@@ -52,17 +95,12 @@ replies_of node (ask ∷ asks) = reply_of node ask ∷ replies_of (after_deed no
 
 -- the slots that they write
 abbrev pub slots_by_all : SeenNode → List Ask → List Slot
-slots_by_all node [] = []
-slots_by_all node (ask ∷ asks) = slots_by node (Answers ask) ++ slots_by_all (after_deed node (Answers ask)) asks
+slots_by_all node asks = slots_by_deeds node (answering asks)
 
--- All the asks were answered: the disk's slots are those from before and those that they write, it holds the node after them, and no slot is bad.
-pub record AreDone (c : Numbers) (number : ℕ) (node : SeenNode) (asks : List Ask) (old new : List ℕ) : Type 0 where
-  pub state : held c number new ≡ after_asks node asks
-  pub slots : slots_of c new ≡ slots_of c old ++ slots_by_all node asks
-  pub good : first_bad c number new ≡ None
+-- the node when it has pruned all the blocks
+abbrev pub after_prunes : SeenNode → List Prune → SeenNode
+after_prunes node prunes = after_deeds node (pruning prunes)
 
--- The first few of the asks were answered, none or all of them too: the bytes hold the node after those, begin with the slots from before, and have no bad slot.
-pub record AreDoneInPart (c : Numbers) (number : ℕ) (node : SeenNode) (asks : List Ask) (old left : List ℕ) : Type 0 where
-  pub state : (k : ℕ) × (k ≤ length asks) × (held c number left ≡ after_asks node (take k asks))
-  pub begins : (more : List Slot) × (slots_of c left ≡ slots_of c old ++ more)
-  pub good : first_bad c number left ≡ None
+-- the slots that they write
+abbrev pub slots_by_prunes : SeenNode → List Prune → List Slot
+slots_by_prunes node prunes = slots_by_deeds node (pruning prunes)

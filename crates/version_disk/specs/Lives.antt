@@ -1,19 +1,18 @@
 -- The life of a disk, from call to call and from crash to crash.
 use Rattle.std.specs.Prelude.{◌≡◌, ◌≤◌, ◌⊎◌, ℕ, ⊤, List, [], ◌∷◌, ◌++◌, None, length, take, map}
 use Rattle.quorum_rules.specs.Limits.{Numbers}
-use Rattle.protocol.specs.Messages.{Ask}
 use Rattle.node_core.specs.Seen.{SeenNode, new_node}
 use Rattle.slot_disk.specs.Slots.{Slot}
 use Rattle.version_disk.specs.Held.{held, slots_of, first_bad}
-use Rattle.version_disk.specs.Deeds.{Deed, after_deed, IsDone, IsDoneOrNot, after_asks, AreDone, AreDoneInPart}
+use Rattle.version_disk.specs.Deeds.{Deed, after_deed, IsDone, IsDoneOrNot, after_deeds, AreDone, AreDoneInPart}
 
--- What came next: a call acknowledged its deed, or all its asks; or a call of one deed, or of many asks, failed or was stopped by a
--- crash at some moment of it; or the disk was opened, wholly or up to a crash.
+-- What came next: a call acknowledged its deed, or all its deeds; or a call of one deed, or of many, failed or was stopped by a crash
+-- at some moment of it; or the disk was opened, wholly or up to a crash.
 pub data Turn : Type 0 where
   Acknowledged : Deed → Turn
   Stopped : Deed → Turn
-  AcknowledgedAll : List Ask → Turn
-  StoppedIn : List Ask → Turn
+  AcknowledgedAll : List Deed → Turn
+  StoppedIn : List Deed → Turn
   Opened : Turn
 
 -- a turn, and the bytes that the disk has then
@@ -25,8 +24,8 @@ pub record Moment : Type 0 where
 abbrev pub Turns : Numbers → ℕ → List ℕ → Turn → List ℕ → Type 0
 Turns c number old (Acknowledged deed) new = IsDone c number (held c number old) deed old new
 Turns c number old (Stopped deed) new = IsDoneOrNot c number (held c number old) deed old new
-Turns c number old (AcknowledgedAll asks) new = AreDone c number (held c number old) asks old new
-Turns c number old (StoppedIn asks) new = AreDoneInPart c number (held c number old) asks old new
+Turns c number old (AcknowledgedAll deeds) new = AreDone c number (held c number old) deeds old new
+Turns c number old (StoppedIn deeds) new = AreDoneInPart c number (held c number old) deeds old new
 Turns c number old Opened new = slots_of c new ≡ slots_of c old
 
 -- one turn after the other
@@ -40,13 +39,13 @@ end_of old [] = old
 end_of old (m ∷ more) = end_of m.bytes more
 
 -- A node that lives through these turns and never crashes may end so: it has done each deed that was acknowledged, and each of the
--- others or not, and of a call of many asks that was stopped the first few, all in their order.
+-- others or not, and of a call of many that was stopped the first few, all in their order.
 abbrev pub MayEnd : SeenNode → List Turn → SeenNode → Type 0
 MayEnd node [] end = end ≡ node
 MayEnd node (Acknowledged deed ∷ more) end = MayEnd (after_deed node deed) more end
 MayEnd node (Stopped deed ∷ more) end = MayEnd node more end ⊎ MayEnd (after_deed node deed) more end
-MayEnd node (AcknowledgedAll asks ∷ more) end = MayEnd (after_asks node asks) more end
-MayEnd node (StoppedIn asks ∷ more) end = (k : ℕ) × (k ≤ length asks) × MayEnd (after_asks node (take k asks)) more end
+MayEnd node (AcknowledgedAll deeds ∷ more) end = MayEnd (after_deeds node deeds) more end
+MayEnd node (StoppedIn deeds ∷ more) end = (k : ℕ) × (k ≤ length deeds) × MayEnd (after_deeds node (take k deeds)) more end
 MayEnd node (Opened ∷ more) end = MayEnd node more end
 
 -- What was acknowledged is there: after any calls and crashes a disk that was empty holds such a node.

@@ -28,6 +28,10 @@ adds node ask = is_some (accepts_of node ask)
 abbrev pub has_place : SeenNode → List ℕ → ℕ → Bool
 has_place node bytes room = fits (body_len node.config) (length (bodies (body_len node.config) bytes)) room
 
+-- so many slots more, if any, and the byte after them, fit this room of a disk with these bytes
+abbrev pub has_room : SeenNode → ℕ → List ℕ → ℕ → Bool
+has_room node more bytes room = all_fit (body_len node.config) (length (bodies (body_len node.config) bytes)) more room
+
 -- the slots of the versions that a node adds in answer to the asks, and the byte after them, fit this room of a disk with these bytes
 abbrev pub has_places : SeenNode → List Ask → List ℕ → ℕ → Bool
-has_places node asks bytes room = all_fit (body_len node.config) (length (bodies (body_len node.config) bytes)) (length (slots_by_all node asks)) room
+has_places node asks bytes room = has_room node (length (slots_by_all node asks)) bytes room

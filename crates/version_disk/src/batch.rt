@@ -5,7 +5,7 @@ ghost use Rattle.outside_io.specs.Causes.{Rose};
 ghost use Rattle.disk_model.specs.Crash.{LeavesOnly};
 ghost use Rattle.node_core.specs.Seen.{accepts_of};
 ghost use Rattle.version_disk.specs.Batches.{IsBatchOf, IsOneMore};
-ghost use Rattle.version_disk.specs.Deeds.{after_deed, after_asks, replies_of, slots_by_all, AreDone, AreDoneInPart};
+ghost use Rattle.version_disk.specs.Deeds.{after_deed, answering, after_asks, replies_of, slots_by_all, AreDone, AreDoneInPart};
 ghost use Rattle.version_disk.specs.Deeds.Deed.{Answers};
 ghost use Rattle.version_disk.specs.Kept.{IsKept};
 ghost use Rattle.version_disk.specs.Refusals.{IfFailed, IfCalm};
@@ -14,7 +14,7 @@ ghost use Rattle.version_disk.specs.Stored.{all_fit};
 ghost use Rattle.version_disk.specs.Undone.{undone, AreLater};
 
 use crate::add::have_places;
-use crate::keep::keep_slots;
+use crate::keep::keep_deeds;
 use crate::refusal::StoreRefusal;
 use disk_model::Disk;
 use lists::{ItemList, NoMemory};
@@ -53,7 +53,7 @@ pub(crate) fn add_all<D: Disk>(
     ensures replies { IfOk result (λ r. r.0 ≡ replies_of node.old asks.now) }
     ensures more { IfOk result (λ r. r.1 ≡ length (slots_by_all node.old asks.now)) }
     ensures state { OnOk result (node.new ≡ after_asks node.old asks.now) }
-    ensures done { OnOk result (AreDone node.old.config node.old.number node.old asks.now
+    ensures done { OnOk result (AreDone node.old.config node.old.number node.old (answering asks.now)
         (D.seen disk.old) (D.seen disk.new)) }
     ensures kept { IfOk result (λ r. IsKept D.pending D.seen node.old.config node.old.number
         node.new (count + r.1) disk.new) }
@@ -73,7 +73,8 @@ pub(crate) fn add_all<D: Disk>(
     ensures calm_disk { IfErr result (IfCalm (disk.new ≡ disk.old)) }
     ensures room { D.most disk.new ≡ D.most disk.old }
     ensures any_moment { LeavesOnly D.moment D.left_since disk.old disk.new
-        (AreDoneInPart node.old.config node.old.number node.old asks.now (D.seen disk.old)) }
+        (AreDoneInPart node.old.config node.old.number node.old (answering asks.now)
+        (D.seen disk.old)) }
     ensures later { D.faults disk.old ≤ D.faults disk.new }
     ensures cause { IfErr result (IfFailed (Rose D.last (D.faults disk.old) (D.faults disk.new))) }
 {
@@ -89,10 +90,7 @@ pub(crate) fn add_all<D: Disk>(
         pieces,
         ..
     } = batch;
-    if more == 0 {
-        return Ok((replies, more));
-    }
-    keep_slots(disk, &config, node.number(), count, more, &pieces)?;
+    keep_deeds(disk, &config, node.number(), count, more, &pieces)?;
     Ok((replies, more))
 }
 

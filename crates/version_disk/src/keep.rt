@@ -1,7 +1,11 @@
-ghost use Rattle.std.specs.Prelude.{◌≡◌, ◌≤◌, ◌+◌, ◌-◌, ◌*◌, ◌∷◌, [], ◌++◌, List, length, OnOk, slice_index};
+ghost use Rattle.std.specs.Prelude.{◌≡◌, ◌≤◌, ◌+◌, ◌-◌, ◌*◌, ◌∷◌, [], ◌++◌, true, List, length, OnOk, slice_index};
 ghost use Rattle.outside_io.specs.Causes.{HasCause};
 ghost use Rattle.disk_model.specs.Crash.{LeavesOnly};
+ghost use Rattle.node_core.specs.Seen.{SeenNode};
 ghost use Rattle.slot_disk.specs.Slots.{Slot, body_len, IsPieceOf, pieces_of};
+ghost use Rattle.version_disk.specs.Batches.{AreWritten, IsFrom};
+ghost use Rattle.version_disk.specs.Deeds.{Deed, after_deeds, AreDone, AreDoneInPart};
+ghost use Rattle.version_disk.specs.Stored.{all_fit};
 ghost use Rattle.version_disk.specs.Held.{after_slot, played, held, slots_of};
 ghost use Rattle.version_disk.specs.Kept.{IsKept, IsGoodIn, AreGoodIn, HoldsOneOf, HoldsFirstOf};
 
@@ -71,4 +75,42 @@ pub(crate) fn keep_slot<D: Disk>(
     ensures cause { HasCause D.last (D.faults disk.old) (D.faults disk.new) result }
 {
     keep_slots(disk, config, number, count, 1, piece)
+}
+
+// Writes the pieces of the slots that deeds write behind the others, if there are any. The disk then holds the node after the deeds.
+pub(crate) fn keep_deeds<D: Disk>(
+    disk: &mut D,
+    config: &Config,
+    number: u8,
+    count: u64,
+    more: u64,
+    pieces: &[u8],
+) -> Result<(), DiskFault>
+    requires kept { IsKept D.pending D.seen config.now number
+        (held config.now number (D.seen disk.old)) count disk.old }
+    requires written { (start : SeenNode) × (deeds : List Deed)
+        × IsFrom config.now number (D.seen disk.old) start
+        × AreWritten start deeds pieces.now more }
+    requires room { all_fit (body_len config.now) count more (D.most disk.old) ≡ true }
+    ensures kept { (start : SeenNode) (deeds : List Deed)
+        → IsFrom config.now number (D.seen disk.old) start → AreWritten start deeds pieces.now more
+        → OnOk result (IsKept D.pending D.seen start.config start.number (after_deeds start deeds)
+        (count + more) disk.new) }
+    ensures done { (start : SeenNode) (deeds : List Deed)
+        → IsFrom config.now number (D.seen disk.old) start → AreWritten start deeds pieces.now more
+        → OnOk result (AreDone start.config start.number start deeds (D.seen disk.old)
+        (D.seen disk.new)) }
+    ensures untouched { more ≡ 0 → disk.new ≡ disk.old }
+    ensures room { D.most disk.new ≡ D.most disk.old }
+    // what a crash at any moment of the call leaves holds the state after the first few of the deeds
+    ensures any_moment { (start : SeenNode) (deeds : List Deed)
+        → IsFrom config.now number (D.seen disk.old) start → AreWritten start deeds pieces.now more
+        → LeavesOnly D.moment D.left_since disk.old disk.new
+        (AreDoneInPart start.config start.number start deeds (D.seen disk.old)) }
+    ensures cause { HasCause D.last (D.faults disk.old) (D.faults disk.new) result }
+{
+    if more == 0 {
+        return Ok(());
+    }
+    keep_slots(disk, config, number, count, more, pieces)
 }

@@ -5,10 +5,10 @@ ghost use Rattle.quorum_rules.specs.Limits.{Numbers};
 ghost use Rattle.version_disk.specs.Compacted.{AnswersAlike};
 ghost use Rattle.version_disk.specs.Lives.{Moment, IsThere, IsNeverDamaged, OnlyGrows};
 
-/// After any list of calls and crashes, what was acknowledged is there: an empty disk that `open`, `handle`, `handle_all` and `prune`
-/// alone have written, with one configuration and number, holds a node that has done each acknowledged deed, each deed in which it
-/// was stopped or not, and of many asks in which it was stopped the first few, in their order. None of its slots is ever bad, so `open` never answers `Damaged`; and the slots that were there
-/// at some moment stay the first ones.
+/// After any list of calls and crashes, what was acknowledged is there: an empty disk that `open`, `handle`, `handle_all`, `prune` and
+/// `prune_all` alone have written, with one configuration and number, holds a node that has done each acknowledged deed, each deed in
+/// which it was stopped or not, and of many deeds in which it was stopped the first few, in their order. None of its slots is ever bad,
+/// so `open` never answers `Damaged`; and the slots that were there at some moment stay the first ones.
 pub fn acknowledged_is_there()
     ensures there { (c : Numbers) (number : ℕ) (life : List Moment) → IsThere c number life }
     ensures never_damaged { (c : Numbers) (number : ℕ) (life : List Moment)

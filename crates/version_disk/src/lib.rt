@@ -10,11 +10,13 @@ pub mod compact_fault;
 mod fault;
 mod keep;
 pub mod laws;
+mod prune;
 pub mod refusal;
 mod replay;
 mod start;
 pub mod stored;
 
 pub use compact_fault::{CompactFault, CompactRefusal};
+pub use prune::Prune;
 pub use refusal::StoreRefusal;
 pub use stored::{JournalLen, OpenRefusal, Replies, StoredNode};

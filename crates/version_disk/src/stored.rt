@@ -1,4 +1,4 @@
-ghost use Rattle.std.specs.Prelude.{◌≡◌, ◌≤◌, ◌<◌, ◌+◌, ◌-◌, ◌*◌, ◌^◌, ◌↔◌, true, false, is_some, nat_lt, min, length, map, [], Some, None, IfOk, IfErr, OnOk, IsErrOf};
+ghost use Rattle.std.specs.Prelude.{◌≡◌, ◌≤◌, ◌<◌, ◌+◌, ◌-◌, ◌*◌, ◌^◌, ◌↔◌, true, false, is_some, nat_lt, min, All, length, map, [], Some, None, IfOk, IfErr, OnOk, IsErrOf};
 ghost use Rattle.outside_io.specs.Causes.{Rose};
 ghost use Rattle.disk_model.specs.Crash.{settled, LeavesOnly};
 ghost use Rattle.protocol.specs.Nodes.{greatest_time, pruned};
@@ -6,7 +6,7 @@ ghost use Rattle.protocol.specs.Instance.{setting};
 ghost use Rattle.node_core.specs.Seen.{versions_in, with_versions, reply_of, after_of, accepts_of};
 ghost use Rattle.version_disk.specs.Held.{held, slots_of, first_bad};
 ghost use Rattle.version_disk.specs.Reopened.{IsStillThere};
-ghost use Rattle.version_disk.specs.Deeds.{IsDone, IsDoneOrNot, after_asks, replies_of, slots_by_all, AreDone, AreDoneInPart};
+ghost use Rattle.version_disk.specs.Deeds.{IsDone, IsDoneOrNot, answering, after_asks, replies_of, slots_by_all, pruning, after_prunes, slots_by_prunes, AreDone, AreDoneInPart};
 ghost use Rattle.version_disk.specs.Deeds.Deed.{Answers, Prunes};
 
 use crate::add::{add_prune, add_version, has_place};
@@ -14,6 +14,7 @@ use crate::batch::add_all;
 use crate::compact::{compacted_size, write_journal};
 use crate::compact_fault::{CompactFault, CompactRefusal};
 use crate::fault::OpenFault;
+use crate::prune::{Prune, prune_all};
 use crate::refusal::StoreRefusal;
 use crate::start::start;
 use disk_model::Disk;
@@ -79,7 +80,7 @@ pub enum OpenRefusal<D> {
 
 impl<D: Disk> StoredNode<D> {
     ghost use Rattle.version_disk.specs.Opened.{IfSlotOf, IfFaultOf, disk_of};
-    ghost use Rattle.version_disk.specs.Stored.{adds, has_place, has_places};
+    ghost use Rattle.version_disk.specs.Stored.{adds, has_place, has_places, has_room};
     ghost use Rattle.version_disk.specs.Refusals.{IfCalm, IfFailed};
     ghost use Rattle.version_disk.specs.Compacted.{kept_slots, compacted_len, slots_len};
     ghost use Rattle.version_disk.specs.CompactFaults.{IfDiskFailed, given_back};
@@ -174,7 +175,7 @@ impl<D: Disk> StoredNode<D> {
         ensures replies { IfOk result (λ replies. replies ≡ replies_of self.old.node asks.now) }
         ensures state { OnOk result (self.new.node ≡ after_asks self.old.node asks.now) }
         ensures done { OnOk result (AreDone self.old.node.config self.old.node.number self.old.node
-            asks.now (D.seen self.old.disk) (D.seen self.new.disk)) }
+            (answering asks.now) (D.seen self.old.disk) (D.seen self.new.disk)) }
         ensures untouched { OnOk result
             (slots_by_all self.old.node asks.now ≡ [] → self.new.disk ≡ self.old.disk) }
         ensures durable { OnOk result (D.pending self.new.disk ≡ settled (D.seen self.new.disk)) }
@@ -195,8 +196,8 @@ impl<D: Disk> StoredNode<D> {
         // what a crash at any moment of the call leaves holds the state after the first few of the asks
         ensures any_moment { self.old.broken ≡ false
             → LeavesOnly D.moment D.left_since self.old.disk self.new.disk
-            (AreDoneInPart self.old.node.config self.old.node.number self.old.node asks.now
-            (D.seen self.old.disk)) }
+            (AreDoneInPart self.old.node.config self.old.node.number self.old.node
+            (answering asks.now) (D.seen self.old.disk)) }
         ensures later { D.faults self.old.disk ≤ D.faults self.new.disk }
         ensures cause { IfErr result
             (IfFailed (Rose D.last (D.faults self.old.disk) (D.faults self.new.disk))) }
@@ -319,6 +320,67 @@ impl<D: Disk> StoredNode<D> {
         }
         self.broken = matches!(kept, Err(StoreRefusal::DiskFault));
         kept
+    }
+
+    /// Prunes blocks, one after the other, as a node does. The prunes that drop a version then are written as slots, all of them for two
+    /// syncs, and safe at the return; where none drops any, the disk is not touched. Memory is taken before anything is dropped.
+    pub fn prune_all(&mut self, prunes: &[Prune]) -> Result<(), StoreRefusal>
+        requires { All (λ p. p.block < self.old.node.config.blocks) prunes.now }
+        ensures state { OnOk result (self.new.node ≡ after_prunes self.old.node prunes.now) }
+        ensures done { OnOk result (AreDone self.old.node.config self.old.node.number self.old.node
+            (pruning prunes.now) (D.seen self.old.disk) (D.seen self.new.disk)) }
+        ensures untouched { OnOk result
+            (slots_by_prunes self.old.node prunes.now ≡ [] → self.new.disk ≡ self.old.disk) }
+        ensures durable { OnOk result (D.pending self.new.disk ≡ settled (D.seen self.new.disk)) }
+        ensures broken { IsErrOf result StoreRefusal.Broken ↔ (self.old.broken ≡ true) }
+        // Full comes only where a slot for each prune doesn't fit, and where they don't, nothing but want of memory comes in its place
+        ensures full { IsErrOf result StoreRefusal.Full → (self.old.broken ≡ false)
+            × (has_room self.old.node (length prunes.now) (D.seen self.old.disk)
+            (D.most self.old.disk) ≡ false) }
+        ensures fits { OnOk result (has_room self.old.node (length prunes.now)
+            (D.seen self.old.disk) (D.most self.old.disk) ≡ true) }
+        ensures fits_failed { IfErr result (IfFailed (has_room self.old.node (length prunes.now)
+            (D.seen self.old.disk) (D.most self.old.disk) ≡ true)) }
+        ensures calm { IfErr result (IfCalm (self.new ≡ self.old)) }
+        ensures breaks { IfErr result (IfFailed (self.new.broken ≡ true)) }
+        ensures whole { OnOk result (self.new.broken ≡ false) }
+        ensures config { self.new.node.config ≡ self.old.node.config }
+        ensures room { D.most self.new.disk ≡ D.most self.old.disk }
+        // what a crash at any moment of the call leaves holds the state after the first few of the prunes
+        ensures any_moment { self.old.broken ≡ false
+            → LeavesOnly D.moment D.left_since self.old.disk self.new.disk
+            (AreDoneInPart self.old.node.config self.old.node.number self.old.node
+            (pruning prunes.now) (D.seen self.old.disk)) }
+        ensures later { D.faults self.old.disk ≤ D.faults self.new.disk }
+        ensures cause { IfErr result
+            (IfFailed (Rose D.last (D.faults self.old.disk) (D.faults self.new.disk))) }
+    {
+        if self.broken {
+            return Err(StoreRefusal::Broken);
+        }
+        match prune_all(
+            self.alloc,
+            &mut self.node,
+            &mut self.disk,
+            self.count,
+            prunes,
+        ) {
+            Ok(more) => {
+                self.count += more;
+                Ok(())
+            }
+            Err(refusal) => {
+                self.broken = matches!(refusal, StoreRefusal::DiskFault);
+                Err(refusal)
+            }
+        }
+    }
+
+    /// Whether a fault of the disk has broken the node.
+    pub fn is_broken(&self) -> bool
+        ensures { result ≡ self.now.broken }
+    {
+        self.broken
     }
 
     /// Writes the shortest journal of the node to an empty disk, and syncs it: a slot for each version that is kept beside the first

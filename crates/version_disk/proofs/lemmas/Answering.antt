@@ -1,8 +1,8 @@
 -- Asks that are answered one after the other, and what they add.
-use Rattle.std.proofs.Common.{◌≡◌, inl, inr, ℕ, zero, suc, ◌+◌, ◌≤◌, Bool, true, false, cond, not, ◌||◌, ◌⊎◌, List, [], ◌∷◌, ◌++◌, length, take, Option, Some, None, refl, sym, ◌∙◌, ap, subst, arith, append_assoc, length-append}
+use Rattle.std.proofs.Common.{◌≡◌, inl, inr, ℕ, zero, suc, ◌+◌, Bool, true, false, cond, not, ◌||◌, ◌⊎◌, List, [], ◌∷◌, ◌++◌, length, Option, Some, None, refl, sym, ◌∙◌, ap, subst, arith, append_assoc, length-append}
 use Rattle.std.specs.Prelude.{Result, Ok, Err, OnOk}
 use Rattle.std.proofs.lemmas.Bool.{cases_lt}
-use Rattle.std.proofs.lemmas.List.{append-nil, get_or-set_same, set_past}
+use Rattle.std.proofs.lemmas.List.{append-nil, map-append, get_or-set_same, set_past}
 use Rattle.std.proofs.lemmas.List.Elements.{filter-append}
 use Rattle.std.specs.List.{slice_set, AllByRecursion}
 use Rattle.stamp_order.specs.declared.Stamp.{Stamp}
@@ -17,33 +17,40 @@ use Rattle.node_core.specs.Seen.{SeenNode, versions_in, with_versions, without, 
 use Rattle.node_core.proofs.lemmas.Accepting.{IsNewIn, accepted_is_new}
 use Rattle.node_core.proofs.lemmas.Blocks.{node_same}
 use Rattle.slot_disk.specs.Slots.{Slot, version_slot, pieces_of, body_of, Fits}
-use Rattle.version_disk.specs.Held.{played}
 use Rattle.version_disk.specs.Kept.{IsGoodIn, AreGoodIn}
-use Rattle.version_disk.specs.Deeds.{Answers, after_deed, slots_by, added_slots, after_asks, replies_of, slots_by_all}
+use Rattle.version_disk.specs.Deeds.{Deed, Answers, Prunes, after_deed, slots_by, added_slots, slots_among, after_deeds, slots_by_deeds, answering, after_asks, replies_of, slots_by_all}
 use Rattle.version_disk.specs.Undone.{taken_back, undone, IsLater}
 use Rattle.version_disk.specs.Batches.{IsBatchOf}
 use Rattle.version_disk.specs.declared.batch.Added.{Added}
 use Rattle.version_disk.specs.declared.batch.Batch.{Batch}
-use Rattle.version_disk.proofs.Accepting.{version_after, version_slots, version_good}
+use Rattle.version_disk.proofs.Accepting.{version_slots, version_good}
+
+-- one deed more, at the end
+pub deeds_push : (node : SeenNode) (deeds : List Deed) (deed : Deed) → after_deeds node (deeds ++ deed ∷ []) ≡ after_deed (after_deeds node deeds) deed
+deeds_push node [] deed = refl
+deeds_push node (d ∷ deeds) deed = deeds_push (after_deed node d) deeds deed
+
+pub slots_push : (node : SeenNode) (deeds : List Deed) (deed : Deed) → slots_by_deeds node (deeds ++ deed ∷ []) ≡ slots_by_deeds node deeds ++ slots_among (after_deeds node deeds) deed
+slots_push node [] deed = append-nil (slots_among node deed)
+slots_push node (d ∷ deeds) deed =
+    ap (λ (l : List Slot). slots_among node d ++ l) (slots_push (after_deed node d) deeds deed)
+    ∙ sym (append_assoc (slots_among node d) (slots_by_deeds (after_deed node d) deeds) (slots_among (after_deeds (after_deed node d) deeds) deed))
+
+pub deeds_config : (node : SeenNode) (deeds : List Deed) → ((after_deeds node deeds).config ≡ node.config) × ((after_deeds node deeds).number ≡ node.number)
+deeds_config node [] = (refl, refl)
+deeds_config node (Answers ask ∷ deeds) = deeds_config (after_deed node (Answers ask)) deeds
+deeds_config node (Prunes block stamp ∷ deeds) = deeds_config (after_deed node (Prunes block stamp)) deeds
 
 -- one ask more, at the end
-pub after_push : (node : SeenNode) (asks : List Ask) (ask : Ask) → after_asks node (asks ++ ask ∷ []) ≡ after_deed (after_asks node asks) (Answers ask)
-after_push node [] ask = refl
-after_push node (a ∷ asks) ask = after_push (after_deed node (Answers a)) asks ask
+one_more_ask : (asks : List Ask) (ask : Ask) → answering (asks ++ ask ∷ []) ≡ answering asks ++ Answers ask ∷ []
+one_more_ask asks ask = map-append Answers asks (ask ∷ [])
 
-pub replies_push : (node : SeenNode) (asks : List Ask) (ask : Ask) → replies_of node (asks ++ ask ∷ []) ≡ replies_of node asks ++ reply_of (after_asks node asks) ask ∷ []
+replies_push : (node : SeenNode) (asks : List Ask) (ask : Ask) → replies_of node (asks ++ ask ∷ []) ≡ replies_of node asks ++ reply_of (after_asks node asks) ask ∷ []
 replies_push node [] ask = refl
 replies_push node (a ∷ asks) ask = ap (λ (l : List Reply). reply_of node a ∷ l) (replies_push (after_deed node (Answers a)) asks ask)
 
-pub slots_push : (node : SeenNode) (asks : List Ask) (ask : Ask) → slots_by_all node (asks ++ ask ∷ []) ≡ slots_by_all node asks ++ slots_by (after_asks node asks) (Answers ask)
-slots_push node [] ask = append-nil (slots_by node (Answers ask))
-slots_push node (a ∷ asks) ask =
-    ap (λ (l : List Slot). slots_by node (Answers a) ++ l) (slots_push (after_deed node (Answers a)) asks ask)
-    ∙ sym (append_assoc (slots_by node (Answers a)) (slots_by_all (after_deed node (Answers a)) asks) (slots_by (after_asks (after_deed node (Answers a)) asks) (Answers ask)))
-
 pub after_config : (node : SeenNode) (asks : List Ask) → ((after_asks node asks).config ≡ node.config) × ((after_asks node asks).number ≡ node.number)
-after_config node [] = (refl, refl)
-after_config node (a ∷ asks) = after_config (after_deed node (Answers a)) asks
+after_config node asks = deeds_config node (answering asks)
 
 -- an ask that adds nothing changes nothing
 pub nothing_added : (node : SeenNode) (ask : Ask) → None ≡ accepts_of node ask → node ≡ after_deed node (Answers ask)
@@ -51,49 +58,6 @@ nothing_added node ask none = node_same node ask.block ∙ ap (λ (o : Option Ve
 
 pub no_slots : (node : SeenNode) (ask : Ask) → None ≡ accepts_of node ask → slots_by node (Answers ask) ≡ []
 no_slots node ask none = ap (added_slots ask.block) (sym none)
-
--- the state after the first few slots is that after the first few asks
-pub record IsFew (node : SeenNode) (asks : List Ask) (state : SeenNode) : Type 0 where
-  pub k : ℕ
-  pub le : k ≤ length asks
-  pub are : state ≡ after_asks node (take k asks)
-
--- one ask more before those
-few_more : (node : SeenNode) (ask : Ask) (asks : List Ask) (state : SeenNode) → IsFew (after_deed node (Answers ask)) asks state → IsFew node (ask ∷ asks) state
-few_more node ask asks state few = record { k = suc few.k; le = (let le = few.le in omega arith); are = few.are }
-
--- one ask, which adds a version or not, and then others
-few_at : (node : SeenNode) (ask : Ask) (asks : List Ask) → ((i : ℕ) → i ≤ length (slots_by_all (after_deed node (Answers ask)) asks) → IsFew (after_deed node (Answers ask)) asks (played (after_deed node (Answers ask)) (take i (slots_by_all (after_deed node (Answers ask)) asks))))
-    → (o : Option Version) → o ≡ accepts_of node ask → (j : ℕ) → j ≤ length (slots_by_all node (ask ∷ asks)) → IsFew node (ask ∷ asks) (played node (take j (slots_by_all node (ask ∷ asks))))
-few_at node ask asks rest None is j le =
-    let next = after_deed node (Answers ask) in
-    let all : slots_by_all node (ask ∷ asks) ≡ slots_by_all next asks = ap (λ (l : List Slot). l ++ slots_by_all next asks) (no_slots node ask is) in
-    let few = rest j (subst (λ (l : List Slot). j ≤ length l) all le) in
-    subst (IsFew node (ask ∷ asks)) (ap (λ (n : SeenNode). played n (take j (slots_by_all next asks))) (sym (nothing_added node ask is)) ∙ ap (λ (l : List Slot). played node (take j l)) (sym all)) (few_more node ask asks (played next (take j (slots_by_all next asks))) few)
-few_at node ask asks rest (Some v) is zero le = record { k = 0; le = omega arith; are = refl }
-few_at node ask asks rest (Some v) is (suc i) le =
-    let next = after_deed node (Answers ask) in
-    let all : slots_by_all node (ask ∷ asks) ≡ version_slot ask.block v ∷ slots_by_all next asks = ap (λ (l : List Slot). l ++ slots_by_all next asks) (version_slots node ask v is) in
-    let few = rest i (let size = subst (λ (l : List Slot). suc i ≤ length l) all le in omega arith) in
-    subst (IsFew node (ask ∷ asks)) (ap (λ (n : SeenNode). played n (take i (slots_by_all next asks))) (sym (version_after node ask v is)) ∙ ap (λ (l : List Slot). played node (take (suc i) l)) (sym all)) (few_more node ask asks (played next (take i (slots_by_all next asks))) few)
-
-pub few_slots : (asks : List Ask) (node : SeenNode) (j : ℕ) → j ≤ length (slots_by_all node asks) → IsFew node asks (played node (take j (slots_by_all node asks)))
-few_slots [] node zero le = record { k = 0; le = omega arith; are = refl }
-few_slots [] node (suc j) le = absurd (omega arith)
-few_slots (ask ∷ asks) node j le = few_at node ask asks (few_slots asks (after_deed node (Answers ask))) (accepts_of node ask) refl j le
-
--- all slots are played as all asks
-all_at : (node : SeenNode) (ask : Ask) (asks : List Ask) (o : Option Version) → o ≡ accepts_of node ask → played node (slots_by_all node (ask ∷ asks)) ≡ played (after_deed node (Answers ask)) (slots_by_all (after_deed node (Answers ask)) asks)
-all_at node ask asks None is =
-    let next = after_deed node (Answers ask) in
-    ap (λ (l : List Slot). played node (l ++ slots_by_all next asks)) (no_slots node ask is) ∙ ap (λ (n : SeenNode). played n (slots_by_all next asks)) (nothing_added node ask is)
-all_at node ask asks (Some v) is =
-    let next = after_deed node (Answers ask) in
-    ap (λ (l : List Slot). played node (l ++ slots_by_all next asks)) (version_slots node ask v is) ∙ ap (λ (n : SeenNode). played n (slots_by_all next asks)) (version_after node ask v is)
-
-pub all_slots : (asks : List Ask) (node : SeenNode) → played node (slots_by_all node asks) ≡ after_asks node asks
-all_slots [] node = refl
-all_slots (ask ∷ asks) node = all_at node ask asks (accepts_of node ask) refl ∙ all_slots asks (after_deed node (Answers ask))
 
 -- pieces behind others
 pub pieces_append : (slots new : List Slot) → pieces_of (slots ++ new) ≡ pieces_of slots ++ pieces_of new
@@ -112,10 +76,10 @@ module _ (start node then : SeenNode) (asks : List Ask) (ask : Ask) (old new : B
       ∙ ap (λ (n : SeenNode). replies_of start asks ++ reply_of n ask ∷ []) is.state ∙ sym (replies_push start asks ask)
 
   stands : then ≡ after_deed node (Answers ask) → then ≡ after_asks start (asks ++ ask ∷ [])
-  stands after = after ∙ ap (λ (n : SeenNode). after_deed n (Answers ask)) is.state ∙ sym (after_push start asks ask)
+  stands after = after ∙ ap (λ (n : SeenNode). after_deed n (Answers ask)) is.state ∙ sym (ap (after_deeds start) (one_more_ask asks ask) ∙ deeds_push start (answering asks) (Answers ask))
 
   all_of_slots : (added : List Slot) → slots_by node (Answers ask) ≡ added → slots_by_all start (asks ++ ask ∷ []) ≡ slots_by_all start asks ++ added
-  all_of_slots added are = slots_push start asks ask ∙ ap (λ (n : SeenNode). slots_by_all start asks ++ slots_by n (Answers ask)) (sym is.state) ∙ ap (λ (l : List Slot). slots_by_all start asks ++ l) are
+  all_of_slots added are = ap (slots_by_deeds start) (one_more_ask asks ask) ∙ slots_push start (answering asks) (Answers ask) ∙ ap (λ (n : SeenNode). slots_by_all start asks ++ slots_by n (Answers ask)) (sym is.state) ∙ ap (λ (l : List Slot). slots_by_all start asks ++ l) are
 
   -- with the slots that it writes
   with_slots : (added : List Slot) → slots_by node (Answers ask) ≡ added → AreGoodIn start.config start.number added

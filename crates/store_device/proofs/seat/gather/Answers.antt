@@ -13,7 +13,7 @@ loop-seat-preserved g c =
     let inv = c.loop-seat.invariant in
     let i = c.loop-seat.seat-index in
     let was = get_or c.loop-seat.seats i c.seat-item.result in
-    let taken : Seat g.row.D.Denot = record { node = was.node; asks = was.asks; replies = c.take.new.self } in
+    let taken : Seat g.row.D.Denot = record { node = was.node; asks = was.asks; replies = c.take.new.self; starved = was.starved } in
     let l : i < _ = c.loop-seat-test.true in (
       map-set_same (λ (seat : Seat g.row.D.Denot). seat.node) c.loop-seat.seats i taken c.seat-item.result refl ∙ inv.0,
       more_taken (λ (seat : Seat g.row.D.Denot). seat.replies) c.args.seats.now i c.seat-item.result c.loop-seat.answers.items

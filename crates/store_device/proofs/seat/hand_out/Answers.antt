@@ -15,7 +15,7 @@ loop-i-preserved g c =
     let seats_below : i < length c.loop-i.seats = omega (arith, c.loop-i-test.true, c.loop-i.auto.seats) in
     let items_below : i < length (map (λ a. a.items) given) = omega (arith, below, length-map given (λ a. a.items)) in
     let was = get_or c.loop-i.seats i c.index-seats-i.result in
-    let handed : Seat g.row.D.Denot = record { node = was.node; asks = c.swap.new.x; replies = was.replies } in
+    let handed : Seat g.row.D.Denot = record { node = was.node; asks = c.swap.new.x; replies = was.replies; starved = was.starved } in
     let is : c.swap.new.x ≡ get_or given i d = c.swap.ensures.x_after ∙ c.index_mut.ensures.value ∙ inv.3 i d (omega arith) in (
       map-set_same (λ (seat : Seat g.row.D.Denot). seat.node) c.loop-i.seats i handed c.index-seats-i.result refl ∙ inv.0,
       more_set (λ (seat : Seat g.row.D.Denot). seat.asks.items) c.loop-i.seats (map (λ a. a.items) given) i handed [] seats_below items_below

@@ -16,11 +16,11 @@ invariant_of-self g c =
     let sound = λ (m : Stored g.row.D.Denot) (there : Some n ≡ Some m) (whole : m.broken ≡ false). (
     let same : n ≡ m = cc in
     subst (IsSound D.pending D.seen now.config c.args.seat) same (c.requires.sound (ap (λ (x : Stored g.row.D.Denot). x.broken) same ∙ whole))) in
-    let then = reseated node own.config now own.seats.items c.self.view_is c.args.seat (record { node = Some n; asks = c.index_mut.result.now.asks; replies = c.index_mut.result.now.replies }) in
+    let then = reseated node own.config now own.seats.items c.self.view_is c.args.seat (record { node = Some n; asks = c.index_mut.result.now.asks; replies = c.index_mut.result.now.replies; starved = c.index_mut.result.now.starved }) in
     (subst (λ (s : SeenStore g.row.D.Denot). IsStore D.pending D.seen s) (sym then) (still_seats D.pending D.seen now store c.args.seat (Some n) sound), c.self.invariant.1)
 
 pub returns : goal.returns
 returns g c =
     let node = λ (seat : Seat g.row.D.Denot). seat.node in
     let own = c.self.inside in
-    reseated node own.config c.args.self.now own.seats.items c.self.view_is c.args.seat (record { node = Some c.args.node; asks = c.index_mut.result.now.asks; replies = c.index_mut.result.now.replies })
+    reseated node own.config c.args.self.now own.seats.items c.self.view_is c.args.seat (record { node = Some c.args.node; asks = c.index_mut.result.now.asks; replies = c.index_mut.result.now.replies; starved = c.index_mut.result.now.starved })

@@ -2,18 +2,18 @@ use Rattle.std.proofs.Common.{◌++◌, length, map, take, drop, refl, ap, subst
 use Rattle.store_device.specs.declared.seat.Seat.{Seat}
 use Rattle.store_device.specs.Stores.{SeenStore, IsStore, seat_at}
 use Rattle.store_device.specs.Going.{store_of}
-use Rattle.store_device.proofs.Reseated.{all_have, tried_back, back_count, still_store, has_pruned, prunes}
-use Rattle.store_device.proofs.store.Store.prune.Goals as goal
+use Rattle.store_device.proofs.Reseated.{all_have, tried_back, back_count, still_store, has_pruned, prunes_in}
+use Rattle.store_device.proofs.store.Store.prune_all.Goals as goal
 
-pub prune_each-requires : goal.prune_each-requires
-prune_each-requires g c =
+pub prune_each-requires-clause-blocks : goal.prune_each-requires-clause-blocks
+prune_each-requires-clause-blocks g c lifetimes within =
     let D = g.D.Disk in
     let node = λ (seat : Seat g.row.D.Denot). seat.node in
     let own = c.self.inside in
     let now = c.args.self.now in
     let store : IsStore D.pending D.seen now = subst (λ (s : SeenStore g.row.D.Denot). IsStore D.pending D.seen s) c.self.view_is c.self.invariant.0 in
-    all_have D.pending D.seen c.args.block c.args.stamp.now D.moment D.left_since node own.config now own.seats.items c.deref_mut.result.now c.deref_mut.result.now own.seats.len
-    c.deref_mut.ensures.value c.self.view_is c.deref_mut.ensures.len refl c.args.block store c.requires
+    all_have D.pending D.seen c.args.prunes.now D.moment D.left_since node own.config now own.seats.items c.deref_mut.result.now c.deref_mut.result.now own.seats.len
+    c.deref_mut.ensures.value c.self.view_is c.deref_mut.ensures.len refl store c.requires.there
 
 pub invariant_of-self : goal.invariant_of-self
 invariant_of-self g c =
@@ -23,13 +23,13 @@ invariant_of-self g c =
     let now = c.args.self.now in
     let new = c.prune_each.new.seats in
     let then = store_of own.config (map node (take own.seats.len (new ++ drop (length new) own.seats.items))) in
-    let tried = tried_back D.pending D.seen c.args.block c.args.stamp.now D.moment D.left_since node own.config now own.seats.items c.deref_mut.result.now new own.seats.len
+    let tried = tried_back D.pending D.seen c.args.prunes.now D.moment D.left_since node own.config now own.seats.items c.deref_mut.result.now new own.seats.len
     c.deref_mut.ensures.value c.self.view_is c.deref_mut.ensures.len c.prune_each.ensures.count c.prune_each.ensures.each in
     let store : IsStore D.pending D.seen now = subst (λ (s : SeenStore g.row.D.Denot). IsStore D.pending D.seen s) c.self.view_is c.self.invariant.0 in
-    let count = back_count D.pending D.seen c.args.block c.args.stamp.now D.moment D.left_since node own.config now own.seats.items c.deref_mut.result.now new own.seats.len
+    let count = back_count D.pending D.seen c.args.prunes.now D.moment D.left_since node own.config now own.seats.items c.deref_mut.result.now new own.seats.len
     c.deref_mut.ensures.value c.self.view_is c.deref_mut.ensures.len c.prune_each.ensures.count in
     let same = ap (λ (s : SeenStore g.row.D.Denot). s.config) c.self.view_is in
-    (still_store D.pending D.seen c.args.block c.args.stamp.now D.moment D.left_since now then same count store tried, c.self.invariant.1)
+    (still_store D.pending D.seen c.args.prunes.now D.moment D.left_since now then same count store tried, c.self.invariant.1)
 
 pub returns-clause-seats : goal.returns-clause-seats
 returns-clause-seats g c =
@@ -39,23 +39,23 @@ returns-clause-seats g c =
     let now = c.args.self.now in
     let new = c.prune_each.new.seats in
     let then = store_of own.config (map node (take own.seats.len (new ++ drop (length new) own.seats.items))) in
-    let tried = tried_back D.pending D.seen c.args.block c.args.stamp.now D.moment D.left_since node own.config now own.seats.items c.deref_mut.result.now new own.seats.len
+    let tried = tried_back D.pending D.seen c.args.prunes.now D.moment D.left_since node own.config now own.seats.items c.deref_mut.result.now new own.seats.len
     c.deref_mut.ensures.value c.self.view_is c.deref_mut.ensures.len c.prune_each.ensures.count c.prune_each.ensures.each in
-    λ i. prunes D.pending D.seen c.args.block c.args.stamp.now D.moment D.left_since (seat_at now i) (seat_at then i) (tried i)
+    λ i. prunes_in D.pending D.seen c.args.prunes.now D.moment D.left_since (seat_at now i) (seat_at then i) (tried i)
 
 pub returns-clause-pruned : goal.returns-clause-pruned
 returns-clause-pruned g c =
     let D = g.D.Disk in
-    let disk = g.met.D.Disk in
+    let disk = g.met.D.Disk g.world.𝓛 g.world.𝓜 g.world.𝓡 ((λ s x. x), (λ x. x), (λ x. x), λ x. x) in
     let node = λ (seat : Seat g.row.D.Denot). seat.node in
     let own = c.self.inside in
     let now = c.args.self.now in
     let new = c.prune_each.new.seats in
     let then = store_of own.config (map node (take own.seats.len (new ++ drop (length new) own.seats.items))) in
-    let tried = tried_back D.pending D.seen c.args.block c.args.stamp.now D.moment D.left_since node own.config now own.seats.items c.deref_mut.result.now new own.seats.len
+    let tried = tried_back D.pending D.seen c.args.prunes.now D.moment D.left_since node own.config now own.seats.items c.deref_mut.result.now new own.seats.len
     c.deref_mut.ensures.value c.self.view_is c.deref_mut.ensures.len c.prune_each.ensures.count c.prune_each.ensures.each in
     let store : IsStore D.pending D.seen now = subst (λ (s : SeenStore g.row.D.Denot). IsStore D.pending D.seen s) c.self.view_is c.self.invariant.0 in
-    let count = back_count D.pending D.seen c.args.block c.args.stamp.now D.moment D.left_since node own.config now own.seats.items c.deref_mut.result.now new own.seats.len
+    let count = back_count D.pending D.seen c.args.prunes.now D.moment D.left_since node own.config now own.seats.items c.deref_mut.result.now new own.seats.len
     c.deref_mut.ensures.value c.self.view_is c.deref_mut.ensures.len c.prune_each.ensures.count in
     let same = ap (λ (s : SeenStore g.row.D.Denot). s.config) c.self.view_is in
-    has_pruned D.pending D.seen c.args.block c.args.stamp.now D.moment D.left_since now then same count store tried c.requires disk.counts_now
+    has_pruned D.pending D.seen c.args.prunes.now D.moment D.left_since now then same count store tried c.requires.there c.requires.apart disk.counts_now
