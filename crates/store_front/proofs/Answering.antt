@@ -1,5 +1,5 @@
 -- Rounds that are answered, or cut off.
-use Rattle.std.proofs.Common.{◌≡◌, ℕ, Bool, List, [], ◌++◌, map, refl, sym, ap, ◌∙◌, subst, inl, inr, ◌∷◌, Option, Result, Ok, Err, OnErr}
+use Rattle.std.proofs.Common.{◌≡◌, ℕ, List, [], refl, sym, ap, ◌∙◌, subst, inl, inr, ◌∷◌, Result, Ok, Err, OnErr}
 use Rattle.std.specs.List.{All, AllByRecursion, AllPairs}
 use Rattle.std.proofs.lemmas.List.{append-nil}
 use Rattle.std.proofs.lemmas.List.Elements.{All-from_recursion, recursion_from_All}
@@ -10,8 +10,8 @@ use Rattle.store_device.specs.Stores.{SeenStore}
 use Rattle.store_front.specs.declared.round.Asked.{Asked}
 use Rattle.store_device.specs.Calls.{Call, Leads}
 use Rattle.store_front.specs.Asking.{told_in, AreAsked, AreHeard}
-use Rattle.store_front.specs.Rounds.{AreSeparate, AreTogether, Exchange, IsExchange, IsBegun, IsAsked, calls_of, bytes_of, requests_of, reads_for, writes_for}
-use Rattle.store_front.specs.Values.{given_by, wrote_by, value_at, is_in, found_in, written_in}
+use Rattle.store_front.specs.Rounds.{AreSeparate, AreTogether, Exchange, IsExchange, IsBegun, IsAsked, calls_of, requests_of, reads_for, writes_for}
+use Rattle.store_front.specs.Values.{given_by, value_at, is_in, found_in, written_in}
 use Rattle.store_front.specs.Replies.{text_of, replies_of}
 use Rattle.store_front.proofs.Asking.{leads_then, heard_asked}
 

@@ -1,23 +1,22 @@
 -- An input has one end, and a session that meets no fault comes to it.
-use Rattle.std.proofs.Common.{◌≡◌, ◌≢◌, ◌⊎◌, ℕ, zero, suc, ◌+◌, ◌<◌, ◌≤◌, List, [], ◌∷◌, ◌++◌, length, take, drop, refl, sym, ◌∙◌, ap, subst, arith, inl, inr, length-append, append_assoc, take-append-drop, Option, Some, None, Result, Ok, Err}
-use Rattle.std.specs.List.{All, AllByRecursion, concat, flat_map}
+use Rattle.std.proofs.Common.{◌≡◌, ◌≢◌, ◌⊎◌, ℕ, zero, suc, ◌+◌, ◌<◌, ◌≤◌, List, [], ◌∷◌, ◌++◌, length, take, drop, refl, sym, ◌∙◌, ap, subst, arith, inl, inr, length-append, append_assoc, Option, Some, None, Result, Ok, Err}
+use Rattle.std.specs.List.{All, AllByRecursion, concat}
 use Rattle.std.specs.Int.{w32, from_be_bytes}
 use Rattle.std.specs.Io.KnownBytes.{Consumes, IsAtEnd}
 use Rattle.std.proofs.lemmas.Bool.{cases_eq, cases_lt}
-use Rattle.std.proofs.lemmas.List.{append-nil, drop_at, take_at, take-append-le, drop-append-le, length-take-le, length-drop}
+use Rattle.std.proofs.lemmas.List.{append-nil, drop_at, take_at, take-append-le, drop-append-le, length-drop}
 use Rattle.std.proofs.lemmas.List.Elements.{All-append, All-cons, All-head, All-nil, All-tail}
 use Rattle.quorum_rules.specs.Limits.{Numbers}
 use Rattle.disk_model.specs.Crash.{Pending}
 use Rattle.nbd_front.specs.declared.request.Request.{Request}
 use Rattle.nbd_front.specs.Requests.{request_magic, magic_of, head_len, data_len, request_of, fields_of}
-use Rattle.nbd_front.specs.Sessions.{leave_kind, IsRequest, IsLeave, IsPart}
+use Rattle.nbd_front.specs.Sessions.{leave_kind, IsRequest, IsPart}
 use Rattle.nbd_front.specs.declared.ending.SessionEnd.{SessionEnd}
 use Rattle.nbd_front.specs.declared.ending.SessionEnd.TheVariants.{NoMemory, ReadFault, WriteFault, BadMagic, CutRequest, TooManyRequests}
 use Rattle.store_device.specs.Stores.{SeenStore}
 use Rattle.store_front.specs.declared.standing.Standing.{Standing}
 use Rattle.store_front.specs.declared.standing.Standing.TheVariants.{Part, Wrong, Leave, Whole}
 use Rattle.store_front.specs.Standings.{IsStanding}
-use Rattle.store_front.specs.Asking.{IsFront}
 use Rattle.store_front.specs.Rounds.{BeginsWithRequest, Exchange, IsExchange}
 use Rattle.store_front.specs.Sessions.{told_place, requests_in, BeginsWithLeave, IsEnd, IsRest, EndsSo, IsSession}
 use Rattle.store_front.proofs.Waiting.{begins, leaves}

@@ -1,6 +1,5 @@
 -- Calls of a session in the life of its store.
-use Rattle.std.proofs.Common.{ℕ, Bool, List, [], ◌∷◌, ◌++◌, Option}
-use Rattle.std.specs.Bool.{⊤}
+use Rattle.std.proofs.Common.{ℕ, List, [], ◌∷◌, ◌++◌, Option}
 use Rattle.std.specs.List.{AllByRecursion}
 use Rattle.stamp_order.specs.declared.Stamp.{Stamp}
 use Rattle.quorum_rules.specs.Limits.{Numbers}

@@ -1,7 +1,7 @@
 -- Sessions that go on by a round, and end.
-use Rattle.std.proofs.Common.{◌≡◌, ◌≢◌, ◌⊎◌, ℕ, ◌+◌, ◌-◌, ◌*◌, ◌^◌, ◌<◌, ◌≤◌, min, Bool, true, false, List, [], ◌∷◌, ◌++◌, length, take, drop, refl, sym, ap, ◌∙◌, subst, arith, inl, inr, append_assoc, length-append, take-append-drop, Option, Some, None, Result, Ok, Err, IfErr}
-use Rattle.std.specs.List.{AllByRecursion, concat, flat_map}
-use Rattle.std.specs.Io.KnownBytes.{Consumes, IsAtEnd}
+use Rattle.std.proofs.Common.{◌≡◌, ◌⊎◌, ℕ, ◌+◌, ◌-◌, ◌*◌, ◌^◌, ◌<◌, ◌≤◌, Bool, true, false, List, [], ◌∷◌, ◌++◌, length, take, drop, refl, sym, ap, ◌∙◌, subst, arith, inl, inr, append_assoc, length-append, take-append-drop, Option, Some, None, Result, Ok, Err}
+use Rattle.std.specs.List.{AllByRecursion, concat}
+use Rattle.std.specs.Io.KnownBytes.{Consumes}
 use Rattle.std.proofs.lemmas.List.{append-nil, length-take-le}
 use Rattle.std.proofs.lemmas.List.Elements.{All-nil}
 use Rattle.std.proofs.lemmas.List.Folds.{concat-append}
@@ -11,16 +11,15 @@ use Rattle.outside_io.specs.Written.{Adds, TakesPrefix}
 use Rattle.outside_io.proofs.lemmas.Known.{Consumes-none, Consumes-then}
 use Rattle.quorum_rules.specs.Limits.{Numbers}
 use Rattle.nbd_front.specs.Replies.{greeting}
-use Rattle.nbd_front.specs.Sessions.{IsRequest, HasTaken, end_as}
+use Rattle.nbd_front.specs.Sessions.{IsRequest}
 use Rattle.nbd_front.specs.declared.ending.SessionEnd.{SessionEnd}
 use Rattle.nbd_front.specs.declared.ending.SessionEnd.TheVariants.{NoMemory, ReadFault, WriteFault, BadMagic, CutRequest, TooManyRequests}
 use Rattle.store_device.specs.Stores.{SeenStore}
 use Rattle.store_device.specs.Calls.{Leads}
-use Rattle.store_front.specs.Asking.{IsFront}
 use Rattle.store_front.specs.Rounds.{BeginsWithRequest, Exchange, IsExchange, IsBegun, calls_of, reads_for, writes_for}
 use Rattle.store_front.specs.Values.{given_by}
 use Rattle.store_front.specs.Replies.{text_of, IsDone, IsCutOff, ServesRound}
-use Rattle.store_front.specs.Sessions.{told_place, requests_in, calls_in, replies_in, HasRequest, HasReadOn, HasLost, EndsWait, IsEnd, IsSession}
+use Rattle.store_front.specs.Sessions.{told_place, requests_in, calls_in, replies_in, HasRequest, HasReadOn, EndsWait, IsEnd, IsSession}
 use Rattle.store_front.proofs.Asking.{leads_then}
 
 -- ---- what the sink took

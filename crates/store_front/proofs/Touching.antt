@@ -1,5 +1,5 @@
 -- Requests that may be done together.
-use Rattle.std.proofs.Common.{◌≡◌, ◌⊎◌, ℕ, ◌+◌, ◌*◌, ◌/◌, ◌<◌, ◌≤◌, Bool, true, false, ◌&&◌, ◌||◌, nat_le, nat_lt, if◌then◌else◌, List, [], ◌∷◌, ◌++◌, length, map, get_or, refl, sym, ap, ◌∙◌, subst, arith, inl, inr}
+use Rattle.std.proofs.Common.{◌≡◌, ℕ, ◌+◌, ◌/◌, ◌<◌, ◌≤◌, Bool, true, false, ◌&&◌, ◌||◌, nat_le, nat_lt, if◌then◌else◌, List, [], ◌∷◌, ◌++◌, get_or, refl, sym, ap, ◌∙◌, subst, arith, inl, inr}
 use Rattle.std.specs.List.{All, AllPairs, list_any}
 use Rattle.std.specs.Int.{div_ceil}
 use Rattle.std.specs.Ordering.{nat_cmp, match_ordering}
@@ -14,7 +14,7 @@ use Rattle.std.proofs.lemmas.List.Elements.{All-append, All-from_recursion}
 use Rattle.std.proofs.lemmas.List.Quantifiers.{all_pairs_push}
 use Rattle.quorum_rules.specs.Limits.{Numbers}
 use Rattle.nbd_front.specs.declared.request.Request.{Request}
-use Rattle.nbd_front.specs.Requests.{write_kind, request_of}
+use Rattle.nbd_front.specs.Requests.{request_of}
 use Rattle.nbd_front.specs.Sessions.{read_kind}
 use Rattle.store_front.specs.declared.round.Touched.{Touched}
 use Rattle.store_front.specs.Blocks.{is_served, first_of, end_of, touches}

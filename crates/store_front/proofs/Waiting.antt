@@ -1,17 +1,16 @@
 -- Waits for a request.
 use Rattle.std.proofs.Common.{◌≡◌, ◌≢◌, ◌⊎◌, ℕ, ◌+◌, ◌<◌, ◌≤◌, Bool, true, false, List, [], ◌++◌, length, take, drop, refl, sym, ap, ◌∙◌, subst, arith, inl, inr, append_assoc, take-append-drop, Option, Result, Ok, Err, IfErr, OnErr}
 use Rattle.std.specs.Int.{w32, from_be_bytes}
-use Rattle.std.specs.Io.KnownBytes.{Consumes, IsAtEnd}
+use Rattle.std.specs.Io.KnownBytes.{IsAtEnd}
 use Rattle.std.proofs.lemmas.List.{append-nil, take-take, drop-take, length-take-le}
 use Rattle.outside_io.proofs.lemmas.Known.{Consumes-none, Consumes-then}
 use Rattle.nbd_front.specs.declared.request.Request.{Request}
-use Rattle.nbd_front.specs.Requests.{request_magic, magic_of, head_len, data_len, request_of, fields_of}
-use Rattle.nbd_front.specs.Sessions.{leave_kind, IsRequest, IsLeave, IsPart}
+use Rattle.nbd_front.specs.Requests.{magic_of, head_len, data_len, request_of, fields_of}
+use Rattle.nbd_front.specs.Sessions.{IsPart}
 use Rattle.nbd_front.specs.declared.ending.SessionEnd.{SessionEnd}
 use Rattle.nbd_front.specs.declared.ending.SessionEnd.TheVariants.{NoMemory, ReadFault, CutRequest}
 use Rattle.store_front.specs.declared.standing.Standing.{Standing}
 use Rattle.store_front.specs.declared.standing.Standing.TheVariants.{Part, Wrong, Leave, Whole}
-use Rattle.store_front.specs.Asking.{IsFront}
 use Rattle.store_front.specs.Inputs.{HasRead}
 use Rattle.store_front.specs.Rounds.{BeginsWithRequest}
 use Rattle.store_front.specs.Sessions.{HasReadOn, HasLost, BeginsWithLeave, EndsWait}

@@ -1,5 +1,5 @@
 -- What calls of a store asked, and what was told of it.
-use Rattle.std.specs.Prelude.{◌≡◌, ℕ, ⊤, List, [], ◌++◌, Option}
+use Rattle.std.specs.Prelude.{◌≡◌, ⊤, List, [], ◌++◌, Option}
 use Rattle.std.specs.declared.option.Option.TheVariants.{Some}
 use Rattle.std.specs.List.{AllByRecursion, flat_map, zip}
 use Rattle.wire_forms.specs.declared.op.Op.{Op}

@@ -94,7 +94,7 @@ impl Done {
         requires { AreBlocks config.now self.old.found }
         ensures found { OnOk result (self.new.found.entries
             ≡ found_with config.now self.old.found.entries op.now outcome) }
-        ensures blocks { OnOk result (AreBlocks config.now self.new.found) }
+        ensures valid { OnOk result (AreBlocks config.now self.new.found) }
         ensures written { OnOk result (self.new.written.keys
             ≡ written_with self.old.written.keys op.now outcome) }
     {

@@ -1,4 +1,4 @@
-use Rattle.std.proofs.Common.{◌≡◌, ◌∙◌, ◌∷◌, [], map, sym, ap, subst}
+use Rattle.std.proofs.Common.{◌∙◌, sym, ap, subst}
 use Rattle.std.specs.List.{All}
 use Rattle.wire_forms.specs.Ops.{Fits}
 use Rattle.store_device.specs.Told.{AreApart}

@@ -1,4 +1,4 @@
-use Rattle.std.proofs.Common.{◌≡◌, ◌∙◌, ◌+◌, ◌-◌, ◌<◌, ◌≤◌, ℕ, List, [], ◌∷◌, map, take, drop, length, inl, inr, sym, ap, subst, arith}
+use Rattle.std.proofs.Common.{◌≡◌, ◌∙◌, ◌+◌, ◌-◌, ◌<◌, ◌≤◌, ℕ, List, [], ◌∷◌, take, drop, length, inl, inr, sym, ap, subst, arith}
 use Rattle.std.specs.List.{All, AllPairs, concat}
 use Rattle.std.proofs.lemmas.Bool.{cases_lt}
 use Rattle.std.proofs.lemmas.List.{length-take, length-drop, take_rest}
@@ -7,7 +7,7 @@ use Rattle.nbd_front.specs.declared.request.Request.{Request}
 use Rattle.nbd_front.specs.Requests.{request_of}
 use Rattle.store_front.specs.declared.round.Asked.{Asked}
 use Rattle.store_front.specs.Blocks.{first_of, end_of}
-use Rattle.store_front.specs.Rounds.{bytes_of, requests_of, blocks_read, needed, with_blocks, AreSeparate, IsAsked}
+use Rattle.store_front.specs.Rounds.{requests_of, blocks_read, needed, with_blocks, AreSeparate, IsAsked}
 use Rattle.store_front.specs.Touching.{HasRoom, HasTouched}
 use Rattle.store_front.proofs.Reaching.{ends_within}
 use Rattle.store_front.proofs.Rounding.{one_request, one_touched, round_below}

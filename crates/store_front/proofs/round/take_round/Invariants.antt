@@ -1,4 +1,4 @@
-use Rattle.std.proofs.Common.{◌≡◌, ◌≤◌, ◌-◌, [], length, map, take}
+use Rattle.std.proofs.Common.{◌≡◌, ◌≤◌, ◌-◌, length, take}
 use Rattle.std.specs.List.{All, AllPairs, concat}
 use Rattle.store_front.specs.Rounds.{requests_of, blocks_read, AreSeparate, IsAsked}
 use Rattle.store_front.proofs.Touching.{AreKnown}

@@ -1,4 +1,4 @@
-use Rattle.std.proofs.Common.{◌≡◌, inl, subst}
+use Rattle.std.proofs.Common.{inl, subst}
 use Rattle.store_front.specs.declared.standing.Standing.TheVariants.{Leave, Whole}
 use Rattle.store_front.specs.Standings.{IsStanding}
 use Rattle.store_front.proofs.Waiting.{begins, leaves}

@@ -1,11 +1,10 @@
-use Rattle.std.proofs.Common.{rules, ◌≡◌, ◌∙◌, Ok, Err, refl, ap, subst, sym, arith}
+use Rattle.std.proofs.Common.{rules, ◌≡◌, ◌∙◌, Err, refl, subst, arith}
 use Rattle.std.proofs.lemmas.Grind.{common_steps}
 use Rattle.std.specs.List.{AllPairs}
 use Rattle.outside_io.specs.Written.{Adds, TakesPrefix}
 use Rattle.quorum_rules.specs.Limits.{Numbers}
 use Rattle.nbd_front.specs.declared.ending.SessionEnd.TheVariants.{NoMemory, WriteFault}
-use Rattle.store_front.specs.Rounds.{IsRound, AreSeparate, requests_of}
-use Rattle.store_front.specs.Replies.{text_of}
+use Rattle.store_front.specs.Rounds.{AreSeparate, requests_of}
 use Rattle.store_front.proofs.Serving.{none_cut, begun_cut, all_done, no_memory, no_sink}
 use Rattle.store_front.proofs.session.serve_round.Goals as goal
 

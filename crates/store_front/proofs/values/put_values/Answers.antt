@@ -1,8 +1,5 @@
-use Rattle.std.proofs.Common.{◌≡◌, ◌-◌, ◌∙◌, ap, sym, arith}
-use Rattle.std.specs.List.{flat_map, range_with_len}
-use Rattle.store_front.specs.Blocks.{end_of}
 use Rattle.store_front.specs.Rounds.{left_at}
-use Rattle.store_front.specs.Values.{read_of, with_values}
+use Rattle.store_front.specs.Values.{read_of}
 use Rattle.store_front.proofs.Valuing.{one_value_more}
 use Rattle.store_front.proofs.values.put_values.Goals as goal
 

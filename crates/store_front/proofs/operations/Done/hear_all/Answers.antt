@@ -1,4 +1,4 @@
-use Rattle.std.proofs.Common.{◌≡◌, ◌∙◌, ap}
+use Rattle.std.proofs.Common.{◌∙◌, ap}
 use Rattle.std.proofs.lemmas.Iterator.{items_from_drains, YieldsList-from_slice, YieldsList-from_zip}
 use Rattle.std.proofs.lemmas.Iterator.Adapters.{YieldsList-from_vec}
 use Rattle.std.proofs.lemmas.Iterator.Consumers.{YieldsList-at}
@@ -11,7 +11,7 @@ loop-op-preserved c =
     let inv = c.loop-op.invariant in
     let e = c.in_ok-hear.ensures in
     record {
-      blocks = e.blocks;
+      blocks = e.valid;
       found = one_found c.args.config.now c.args.self.now.found.entries c.loop-op.self.found.entries c.hear.new.self.found.entries c.loop-op.yielded (c.in-Some.op, c.in-Some.outcome) inv.found e.found;
       written = one_written c.args.self.now.written.keys c.loop-op.self.written.keys c.hear.new.self.written.keys c.loop-op.yielded (c.in-Some.op, c.in-Some.outcome) inv.written e.written;
     }
