@@ -1,5 +1,5 @@
 -- An input has one end, and a session that meets no fault comes to it.
-use Rattle.std.proofs.Common.{◌≡◌, ◌≢◌, ◌⊎◌, ℕ, suc, ◌+◌, ◌<◌, ◌≤◌, List, [], ◌∷◌, ◌++◌, length, take, drop, refl, sym, ◌∙◌, ap, subst, arith, inl, inr, length-append, append_assoc, Option, Some, None, Result, Ok, Err, OnOk, IfErr}
+use Rattle.std.proofs.Common.{◌≡◌, ◌≢◌, ◌⊎◌, ℕ, suc, ◌+◌, ◌<◌, ◌≤◌, List, [], ◌∷◌, ◌++◌, length, take, drop, refl, sym, ◌∙◌, ap, subst, arith, inl, inr, length-append, append_assoc, Option, Some, None, Result, Ok, Err}
 use Rattle.std.specs.List.{All, concat}
 use Rattle.std.proofs.lemmas.List.{append-nil, drop_at, take_at}
 use Rattle.std.proofs.lemmas.List.Elements.{All-head, All-tail}
@@ -10,7 +10,7 @@ use Rattle.nbd_front.specs.declared.ending.Served.{Served}
 use Rattle.nbd_front.specs.declared.ending.Served.TheVariants.{Next, Over}
 use Rattle.nbd_front.specs.declared.ending.SessionEnd.{SessionEnd}
 use Rattle.nbd_front.specs.declared.ending.SessionEnd.TheVariants.{NoMemory, ReadFault, WriteFault, BadMagic, CutRequest, TooManyRequests}
-use Rattle.nbd_front.specs.Sessions.{leave_kind, most_requests, IsRequest, IsLeave, IsPart, IsEnd, IsLast, IsRest, IsSession, EndsSo, end_as}
+use Rattle.nbd_front.specs.Sessions.{leave_kind, most_requests, IsRequest, IsLeave, IsPart, IsEnd, IsLast, IsRest, IsSession, EndsSo}
 use Rattle.nbd_front.proofs.Requests.{front_magic, front_request}
 
 -- ---- texts that begin with a request
@@ -219,13 +219,13 @@ module _ (words array : List ℕ) (count place : ℕ) (input : List ℕ) (left l
 
   module _ (end : Result Served SessionEnd) (is : EndsSo end count place input) where
     -- it ends as the input does, or for want of memory
-    pub completes : (result : Result Unit SessionEnd) → OnOk result (IsSession words array count place (Ok Over) left left_after taken taken_after)
-        → IfErr result (λ e. IsSession words array count place (Err e) left left_after taken taken_after)
-        → (result ≡ Err ReadFault → ⊥) → (result ≡ Err WriteFault → ⊥) → (end_as result ≡ end) ⊎ (result ≡ Err NoMemory)
-    completes (Ok done) over ended r w = inl (one_end (Ok Over) end count place input (ends_so (Ok Over) (λ e. cc, λ e. cc, λ e. cc) over) is)
-    completes (Err NoMemory) over ended r w = inr refl
-    completes (Err ReadFault) over ended r w = absurd (r refl)
-    completes (Err WriteFault) over ended r w = absurd (w refl)
-    completes (Err (BadMagic at)) over ended r w = inl (one_end (Err (BadMagic at)) end count place input (ends_so (Err (BadMagic at)) (λ e. cc, λ e. cc, λ e. cc) ended) is)
-    completes (Err (CutRequest at)) over ended r w = inl (one_end (Err (CutRequest at)) end count place input (ends_so (Err (CutRequest at)) (λ e. cc, λ e. cc, λ e. cc) ended) is)
-    completes (Err TooManyRequests) over ended r w = inl (one_end (Err TooManyRequests) end count place input (ends_so (Err TooManyRequests) (λ e. cc, λ e. cc, λ e. cc) ended) is)
+    pub completes : (result : Result Served SessionEnd) → IsSession words array count place result left left_after taken taken_after
+        → (result ≡ Err ReadFault → ⊥) → (result ≡ Err WriteFault → ⊥) → (result ≡ end) ⊎ (result ≡ Err NoMemory)
+    completes (Ok Next) s r w = absurd s.ended
+    completes (Ok Over) s r w = inl (one_end (Ok Over) end count place input (ends_so (Ok Over) (λ e. cc, λ e. cc, λ e. cc) s) is)
+    completes (Err NoMemory) s r w = inr refl
+    completes (Err ReadFault) s r w = absurd (r refl)
+    completes (Err WriteFault) s r w = absurd (w refl)
+    completes (Err (BadMagic at)) s r w = inl (one_end (Err (BadMagic at)) end count place input (ends_so (Err (BadMagic at)) (λ e. cc, λ e. cc, λ e. cc) s) is)
+    completes (Err (CutRequest at)) s r w = inl (one_end (Err (CutRequest at)) end count place input (ends_so (Err (CutRequest at)) (λ e. cc, λ e. cc, λ e. cc) s) is)
+    completes (Err TooManyRequests) s r w = inl (one_end (Err TooManyRequests) end count place input (ends_so (Err TooManyRequests) (λ e. cc, λ e. cc, λ e. cc) s) is)

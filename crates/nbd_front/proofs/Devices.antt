@@ -71,7 +71,6 @@ module _ (d : SeenDevice) (o : IsInOrder d) where
 
       pub write_order : IsInOrder now
       write_order = record {
-        whole = o.whole;
         valid = o.valid;
         count = length-set d.held k (rewritten old value) ∙ o.count;
         blocks = λ j l. elim (cases_eq j k) [
@@ -85,7 +84,7 @@ module _ (d : SeenDevice) (o : IsInOrder d) where
       }
 
 pub read_order : (n : ℕ) (d e : SeenDevice) → IsInOrder d → HasRead n d e → IsInOrder e
-read_order n d e o r = rw r.same (record { whole = o.whole; valid = o.valid; count = o.count; blocks = o.blocks; unwritten = o.unwritten })
+read_order n d e o r = rw r.same (record { valid = o.valid; count = o.count; blocks = o.blocks; unwritten = o.unwritten })
 
 -- nothing was written
 pub same_written : (wrote : ℕ → Bool) (d : SeenDevice) → IsInOrder d → ((k : ℕ) → wrote k ≡ false) → HasWritten 131072 (array_of d.held) wrote d d

@@ -13,7 +13,7 @@ use Rattle.node_device.proofs.lemmas.Holding.{zero_bytes}
 
 -- the client may serve one more request, and the device is as it was
 pub refreshed_order : (served : ℕ) (d e : SeenDevice) → IsInOrder d → HasRefreshed served d e → IsInOrder e
-refreshed_order served d e o r = rw r.same (record { whole = o.whole; valid = o.valid; count = o.count; blocks = o.blocks; unwritten = o.unwritten })
+refreshed_order served d e o r = rw r.same (record { valid = o.valid; count = o.count; blocks = o.blocks; unwritten = o.unwritten })
 
 pub refreshed_times : (served most : ℕ) (d e : SeenDevice) → IsWrittenUpTo most d → HasRefreshed served d e → IsWrittenUpTo most e
 refreshed_times served most d e h r = rw r.same h
@@ -56,14 +56,13 @@ fresh_array c (suc n) =
     ∙ replicate-append-replicate c.size (c.size * n) 0
     ∙ ap (λ m. replicate m 0) more
 
-module _ (c : Numbers) (valid : IsValid c) (d : SeenDevice) (is : d ≡ record { config = c; held = replicate c.blocks (unwritten c); life = 0; started = 0; whole = true }) where
+module _ (c : Numbers) (valid : IsValid c) (d : SeenDevice) (is : d ≡ record { config = c; held = replicate c.blocks (unwritten c); life = 0; started = 0 }) where
   never : (k : ℕ) → k < c.blocks → held_at c (replicate c.blocks (unwritten c)) k ≡ unwritten c
   never k l = get_or-replicate c.blocks k (unwritten c) (unwritten c) l
 
   pub fresh_server : IsServer d 0 0
   fresh_server = rw is (record {
     order = record {
-      whole = refl;
       valid = valid;
       count = length-replicate c.blocks (unwritten c);
       blocks = λ k l. rw (never k l) (length-replicate c.size 0, zero_bytes c.size);
@@ -77,6 +76,11 @@ module _ (c : Numbers) (valid : IsValid c) (d : SeenDevice) (is : d ≡ record {
 
   pub fresh_bytes : array_of d.held ≡ replicate (c.size * c.blocks) 0
   fresh_bytes = rw is (fresh_array c c.blocks)
+
+-- a test has one answer
+pub not_both : (b : Bool) → b ≡ true → b ≡ false → ⊥
+not_both true h k = cc
+not_both false h k = cc
 
 -- what holds of an answer that is there
 pub if_ok : {T E : Type 0} (P Q : T → Type 0) → ((x : T) → P x → Q x) → (r : Result T E) → IfOk r P → IfOk r Q

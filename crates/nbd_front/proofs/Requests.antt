@@ -5,7 +5,6 @@ use Rattle.std.specs.Io.KnownBytes.{Consumes}
 use Rattle.std.specs.Int.{w32, from_be_bytes}
 use Rattle.outside_io.specs.Given.{GaveAtMost}
 use Rattle.outside_io.proofs.lemmas.Known.{Consumes-then}
-use Rattle.node_device.specs.Devices.{SeenDevice}
 use Rattle.nbd_front.specs.declared.request.Request.{Request}
 use Rattle.nbd_front.specs.declared.filling.TakeRefusal.{TakeRefusal}
 use Rattle.nbd_front.specs.declared.filling.TakeRefusal.TheVariants as refusals
@@ -16,7 +15,7 @@ use Rattle.nbd_front.specs.declared.ending.SessionEnd.TheVariants.{NoMemory, Rea
 use Rattle.nbd_front.specs.Ends.{end_of}
 use Rattle.nbd_front.specs.Sessions.{leave_kind, most_requests, IsRequest, IsPart}
 use Rattle.nbd_front.specs.Answers.{HasStopped}
-use Rattle.nbd_front.specs.Servers.{HasNotCome, HasEndedEarly}
+use Rattle.nbd_front.specs.Servers.{HasNotCome}
 
 -- a request is known by its first bytes
 pub front_magic : (head more : List ℕ) → 4 ≤ length head → magic_of (head ++ more) ≡ magic_of head
@@ -81,7 +80,3 @@ ended_within head r (CutRequest at) served place left mid left_after size magic 
 ended_within head r WriteFault served place left mid left_after size magic is few gave s = absurd s
 ended_within head r (BadMagic at) served place left mid left_after size magic is few gave s = absurd s
 ended_within head r TooManyRequests served place left mid left_after size magic is few gave s = absurd s
-
--- or for want of memory, when all of it was read
-pub no_memory : (bytes : List ℕ) (served place : ℕ) (old new : SeenDevice) (left left_after : Option (List ℕ)) → Consumes left left_after bytes → served < most_requests → HasEndedEarly NoMemory served place old new left left_after
-no_memory bytes served place old new left left_after gave few = (record { bytes = bytes; gave = gave; few = omega (arith, few); ends = tt; early = λ e. cc }, λ no. absurd (no refl))

@@ -1,18 +1,18 @@
--- What a read or a write of one block adds to a walk over the blocks of a span.
-use Rattle.std.proofs.Common.{◌≡◌, ℕ, ◌+◌, ◌-◌, ◌*◌, ◌/◌, ◌<◌, ◌≤◌, min, max, false, List, ◌++◌, length, take, refl, sym, ◌∙◌, ap, subst, arith, inl, inr, slice_range, slice_set}
+-- What a read or a write of one block adds to a walk over the blocks of a range.
+use Rattle.std.proofs.Common.{◌≡◌, ℕ, zero, suc, ◌+◌, ◌-◌, ◌*◌, ◌<◌, ◌≤◌, min, max, List, ◌++◌, length, take, refl, sym, ◌∙◌, ap, subst, arith, inl, inr, slice_range, slice_set}
 use Rattle.std.proofs.lemmas.Bool.{cases_eq, cases_lt, lt-ltb, le-ltb}
-use Rattle.std.specs.Int.{div_ceil}
-use Rattle.std.proofs.lemmas.Grind.{div_ceil_times}
+use Rattle.std.proofs.Math.Nat.{mul-zero}
+use Rattle.quorum_rules.specs.Limits.{Numbers}
 use Rattle.std.proofs.lemmas.List.{append_assoc, length-take-le}
 use Rattle.std.proofs.lemmas.List.Edits.{length-between}
 use Rattle.block_device.specs.Device.{merged}
+use Rattle.block_device.proofs.lemmas.Merges.{merged_whole}
 use Rattle.protocol.specs.Setting.{IsBlock}
 use Rattle.protocol.specs.Instance.{setting}
 use Rattle.node_device.specs.Held.{held_at, rewritten}
 use Rattle.node_device.specs.Devices.{SeenDevice}
-use Rattle.block_device.specs.Ranges.{is_touched}
-use Rattle.block_device.proofs.lemmas.Touching.{last_place, first_place}
-use Rattle.nbd_front.specs.Arrays.{array_of, once, time_at, IsInOrder, HasRead}
+use Rattle.block_device.specs.Ranges.{is_touched, Reaches}
+use Rattle.nbd_front.specs.Arrays.{array_of, once, time_at, IsInOrder, HasWrittenOne}
 use Rattle.nbd_front.proofs.Blocks.{merged_then, parts_then, start_then}
 use Rattle.nbd_front.proofs.Devices.{block_part, block_merged, write_order, write_here, write_apart}
 use Rattle.nbd_front.proofs.Progress.{IsStep, up_to}
@@ -61,35 +61,6 @@ write_more d o array bytes k start end place from to s first last all within bef
     ∙ merged_then array (take done bytes) piece start done done_is inside
     ∙ ap (λ z. merged array start z) (start_then bytes done next low)
 
--- what is written fits its block
-pub piece_fits : (size start end blocks k place from to : ℕ) (bytes : List ℕ) → IsStep size start end blocks k place → from + k * size ≡ place → to ≡ min (end - k * size) size → end ≡ start + length bytes
-    → from + length (slice_range bytes (place - start) (k * size + to - start)) ≤ size
-piece_fits size start end blocks k place from to bytes s first last all =
-    let short : k * size + to - start ≤ length bytes = omega (arith, s.fits, last, all) in
-    let long = length-between bytes (place - start) (k * size + to - start) short in
-    omega (arith, long, last, first, s.first, s.high)
-
--- the same, where the block's size goes by another name
-pub read_more_at : (d0 : SeenDevice) → IsInOrder d0 → (d : SeenDevice) → d ≡ record d0 { started = d.started } → (size : ℕ) → size ≡ d0.config.size → (k start end place from to : ℕ)
-    → IsStep size start end d0.config.blocks k place → from + k * size ≡ place → to ≡ min (end - k * size) size
-    → (text0 text text1 value : List ℕ) → text ≡ text0 ++ slice_range (array_of d0.held) start place → value ≡ (held_at d.config d.held k).value → text1 ≡ text ++ slice_range value from to
-    → text1 ≡ text0 ++ slice_range (array_of d0.held) start (k * size + to)
-read_more_at d0 o d same size e k start end place from to =
-    subst (λ n. IsStep n start end d0.config.blocks k place → from + k * n ≡ place → to ≡ min (end - k * n) n
-    → (text0 text text1 value : List ℕ) → text ≡ text0 ++ slice_range (array_of d0.held) start place → value ≡ (held_at d.config d.held k).value → text1 ≡ text ++ slice_range value from to
-    → text1 ≡ text0 ++ slice_range (array_of d0.held) start (k * n + to)) (sym e) (read_more d0 o d same k start end place from to)
-
-pub write_more_at : (d : SeenDevice) (o : IsInOrder d) (size : ℕ) → size ≡ d.config.size → (array bytes : List ℕ) (k start end place from to : ℕ)
-    → IsStep size start end d.config.blocks k place → from + k * size ≡ place → to ≡ min (end - k * size) size
-    → end ≡ start + length bytes → end ≤ length array → array_of d.held ≡ merged array start (take (place - start) bytes)
-    → (value : List ℕ) → value ≡ merged (held_at d.config d.held k).value from (slice_range bytes (place - start) (k * size + to - start))
-    → array_of (slice_set d.held k (rewritten (held_at d.config d.held k) value)) ≡ merged array start (take (k * size + to - start) bytes)
-write_more_at d o size e array bytes k start end place from to =
-    subst (λ n. IsStep n start end d.config.blocks k place → from + k * n ≡ place → to ≡ min (end - k * n) n
-    → end ≡ start + length bytes → end ≤ length array → array_of d.held ≡ merged array start (take (place - start) bytes)
-    → (value : List ℕ) → value ≡ merged (held_at d.config d.held k).value from (slice_range bytes (place - start) (k * n + to - start))
-    → array_of (slice_set d.held k (rewritten (held_at d.config d.held k) value)) ≡ merged array start (take (k * n + to - start) bytes)) (sym e) (write_more d o array bytes k start end place from to)
-
 -- one more read
 pub read_same : (d0 d e : SeenDevice) → d ≡ record d0 { started = d.started } → e ≡ record d { started = d.started + 1 } → (e ≡ record d0 { started = e.started }) × (e.started ≡ d.started + 1)
 read_same d0 d e h k =
@@ -97,7 +68,7 @@ read_same d0 d e h k =
     (k ∙ ap (λ (x : SeenDevice). record x { started = d.started + 1 }) h ∙ ap (λ m. record d0 { started = m }) (sym n), n)
 
 -- one more write
-pub record HasWrittenOne (d e : SeenDevice) (k : ℕ) (value : List ℕ) : Type 0 where
+pub record IsAfterOne (d e : SeenDevice) (k : ℕ) (value : List ℕ) : Type 0 where
   pub order : IsInOrder e
   pub config : e.config ≡ d.config
   pub life : e.life ≡ d.life
@@ -105,20 +76,26 @@ pub record HasWrittenOne (d e : SeenDevice) (k : ℕ) (value : List ℕ) : Type 
   pub here : time_at e k ≡ time_at d k + 1
   pub apart : (j : ℕ) → (j ≡ k → ⊥) → time_at e j ≡ time_at d j
 
-pub write_one : (d r e : SeenDevice) (k : ℕ) (value : List ℕ) → IsInOrder d → k < d.config.blocks → IsBlock (setting d.config) value → HasRead 1 d r
-    → e ≡ record r { held = slice_set r.held k (rewritten (held_at r.config r.held k) value); started = r.started + 1 }
-    → HasWrittenOne d e k value
-write_one d r e k value o there is read wrote =
-    let n = r.started + 1 in
-    let by_read : e ≡ record d { held = slice_set d.held k (rewritten (held_at d.config d.held k) value); started = n } =
-    wrote ∙ ap (λ (x : SeenDevice). record x { held = slice_set x.held k (rewritten (held_at x.config x.held k) value); started = n }) read.same in
-    subst (λ (x : SeenDevice). HasWrittenOne d x k value) (sym by_read) (record {
-      order = write_order d o k there value is n;
+pub write_one : (d e : SeenDevice) (k : ℕ) (value : List ℕ) → IsInOrder d → k < d.config.blocks → HasWrittenOne d k value e → IsAfterOne d e k value
+write_one d e k value o there w =
+    subst (λ (x : SeenDevice). IsAfterOne d x k value) (sym w.same) (record {
+      order = write_order d o k there value w.block e.started;
       config = refl;
       life = refl;
       held = refl;
-      here = write_here d o k there value is n;
-      apart = write_apart d o k there value is n;
+      here = write_here d o k there value w.block e.started;
+      apart = write_apart d o k there value w.block e.started;
+    })
+
+-- a block that was written whole
+pub wrote_whole : (d : SeenDevice) (k at : ℕ) (part : List ℕ) → IsBlock (setting d.config) (held_at d.config d.held k).value → IsBlock (setting d.config) part → at ≡ 0 → (e : SeenDevice)
+    → e ≡ record d { held = slice_set d.held k (rewritten (held_at d.config d.held k) part); started = d.started + 1 } → HasWrittenOne d k (merged (held_at d.config d.held k).value at part) e
+wrote_whole d k at part old is none e wrote =
+    let started : e.started ≡ d.started + 1 = ap (λ (x : SeenDevice). x.started) wrote in
+    subst (λ v. HasWrittenOne d k v e) (sym (merged_whole (held_at d.config d.held k).value at part none (omega (arith, old.0, is.0)))) (record {
+      same = wrote ∙ ap (λ n. record d { held = slice_set d.held k (rewritten (held_at d.config d.held k) part); started = n }) (sym started);
+      block = is;
+      steps = omega (arith, started);
     })
 
 -- ---- the blocks that a walk has written
@@ -127,6 +104,11 @@ pub record HaveWalked (first block : ℕ) (old new : SeenDevice) : Type 0 where
   pub before : (j : ℕ) → j < first → time_at new j ≡ time_at old j
   pub written : (j : ℕ) → first ≤ j → j < block → time_at new j ≡ time_at old j + 1
   pub rest : (j : ℕ) → block ≤ j → time_at new j ≡ time_at old j
+
+-- blocks that end after a place have bytes
+sized_by : (size k start : ℕ) → start < (k + 1) * size → 0 < size
+sized_by zero k start h = absurd (let z : (k + 1) * 0 ≡ 0 = mul-zero (k + 1) in omega (arith, h, z))
+sized_by (suc n) k start h = omega arith
 
 pub walk_begins : (first : ℕ) (d : SeenDevice) → HaveWalked first first d d
 walk_begins first d = record { before = λ j l. refl; written = λ j l h. absurd (omega (arith, l, h)); rest = λ j l. refl }
@@ -141,41 +123,28 @@ walk_goes_on first block old d e from w here apart = record {
   rest = λ j l. apart j (λ same. omega (arith, same, l)) ∙ w.rest j (omega (arith, l));
 }
 
--- a range of no bytes has none of any block
-pub untouched : (size start k : ℕ) → is_touched size start 0 k ≡ false
+-- a walk over the blocks of a range has written those of which it has a byte
+pub walk_ends : (c : Numbers) (start len first last : ℕ) (old new : SeenDevice) → first * c.size ≤ start → (0 < len → start + len ≤ last * c.size)
+    → ((k : ℕ) → first ≤ k → k < last → Reaches c start len k) → HaveWalked first last old new
+    → (k : ℕ) → time_at new k ≡ time_at old k + once (is_touched c.size start len k)
 unfolding is_touched
-untouched size start k = le-ltb (max start (k * size)) (min (start + 0) ((k + 1) * size)) (omega arith)
-
--- a walk over the blocks of a range that has a byte has written those of which it has one
-pub walk_ends : (size start len block : ℕ) (old new : SeenDevice) → 0 < size → 0 < len → div_ceil (start + len) size ≤ block → block * size < (start + len) + size → HaveWalked (start / size) block old new
-    → (k : ℕ) → time_at new k ≡ time_at old k + once (is_touched size start len k)
-unfolding is_touched
-walk_ends size start len block old new sized some last near w k =
-    let end = start + len in
-    let low = max start (k * size) in
-    let high = min end ((k + 1) * size) in
-    let more : (k + 1) * size ≡ k * size + size = omega arith in
-    let first = first_place size start in
-    let next = last_place size start sized in
-    let all = div_ceil_times end size sized in
-    elim (cases_lt low high) [
-      | inl touched ↦ (let from : start / size ≤ k = elim (cases_lt k (start / size)) [
-        | inl h ↦ absurd (let u = up_to size (k + 1) (start / size) (omega (arith, h)) in omega (arith, u, first, touched))
-        | inr h ↦ h
-      ] in
-          let to : k < block = elim (cases_lt k block) [
-            | inl h ↦ h
-            | inr h ↦ absurd (let u = up_to size (div_ceil end size) k (omega (arith, h, last)) in omega (arith, u, all.0, touched))
-          ] in
-          w.written k from to ∙ ap (λ b. time_at old k + once b) (sym (lt-ltb low high touched)))
-      | inr apart ↦ (let none : time_at new k ≡ time_at old k = elim (cases_lt k (start / size)) [
-        | inl h ↦ w.before k h
-        | inr h ↦ (let u = up_to size (start / size + 1) (k + 1) (omega (arith, h)) in
-            let past : end ≤ k * size = omega (arith, u, next, apart, more, some, sized) in
-            w.rest k (elim (cases_lt k block) [
-              | inl l ↦ absurd (let v = up_to size (k + 1) block (omega (arith, l)) in omega (arith, v, near, past, more))
-              | inr l ↦ l
-            ]))
-      ] in
-          none ∙ omega arith ∙ ap (λ b. time_at old k + once b) (sym (le-ltb low high apart)))
+walk_ends c start len first last old new begun ended reaches w k =
+    let low = max start (k * c.size) in
+    let high = min (start + len) ((k + 1) * c.size) in
+    let more : (k + 1) * c.size ≡ k * c.size + c.size = omega arith in
+    let apart : time_at new k ≡ time_at old k → high ≤ low → time_at new k ≡ time_at old k + once (is_touched c.size start len k) =
+    λ same none. same ∙ omega arith ∙ ap (λ b. time_at old k + once b) (sym (le-ltb low high none)) in
+    elim (cases_lt k first) [
+      | inl h ↦ (let u = up_to c.size (k + 1) first (omega (arith, h)) in apart (w.before k h) (omega (arith, u, begun)))
+      | inr h ↦ elim (cases_lt k last) [
+        | inl l ↦ (let r = reaches k h l in
+            let below = r.below in
+            let above = r.above in
+            let some = r.some in
+            w.written k h l ∙ ap (λ b. time_at old k + once b) (sym (lt-ltb low high (omega (arith, below, above, some, more, sized_by c.size k start above)))))
+        | inr l ↦ apart (w.rest k l) (elim (cases_lt 0 len) [
+          | inl some ↦ (let u = up_to c.size last k l in let e = ended some in omega (arith, u, e))
+          | inr none ↦ omega (arith, none)
+        ])
+      ]
     ]

@@ -1,12 +1,11 @@
 -- A device's bytes as one array.
-use Rattle.std.specs.Prelude.{◌≡◌, ℕ, ◌+◌, ◌*◌, ◌<◌, ◌≤◌, Bool, true, if◌then◌else◌, List, length}
+use Rattle.std.specs.Prelude.{◌≡◌, ℕ, ◌+◌, ◌<◌, ◌≤◌, Bool, if◌then◌else◌, List, length, slice_set}
 use Rattle.std.specs.List.{flat_map}
-use Rattle.quorum_rules.specs.Limits.{Numbers, IsValid}
+use Rattle.quorum_rules.specs.Limits.{IsValid}
 use Rattle.protocol.specs.Setting.{zeros, IsBlock}
 use Rattle.protocol.specs.Instance.{setting}
-use Rattle.node_device.specs.Held.{Held, held_at}
+use Rattle.node_device.specs.Held.{Held, held_at, rewritten}
 use Rattle.node_device.specs.Devices.{SeenDevice}
-use Rattle.nbd_front.specs.declared.array.Span.{Span}
 
 -- the bytes of a block
 abbrev pub value_of : Held → List ℕ
@@ -20,9 +19,8 @@ array_of held = flat_map value_of held
 abbrev pub time_at : SeenDevice → ℕ → ℕ
 time_at d k = (held_at d.config d.held k).time
 
--- a device in order: no operation was cut off, and each of its blocks is one, of zeros where it was never written
+-- a device in order: each of its blocks is one, of zeros where it was never written
 pub record IsInOrder (d : SeenDevice) : Type 0 where
-  pub whole : d.whole ≡ true
   pub valid : IsValid d.config
   pub count : length d.held ≡ d.config.blocks
   pub blocks : (k : ℕ) → k < d.config.blocks → IsBlock (setting d.config) (held_at d.config d.held k).value
@@ -31,10 +29,6 @@ pub record IsInOrder (d : SeenDevice) : Type 0 where
 -- no block was written more often
 abbrev pub IsWrittenUpTo : ℕ → SeenDevice → Type 0
 IsWrittenUpTo most d = (k : ℕ) → k < d.config.blocks → time_at d k ≤ most
-
--- a span of the array's bytes
-abbrev pub IsWithin : Span → Numbers → Type 0
-IsWithin span c = (span.start ≤ span.end) × (span.end ≤ c.size * c.blocks)
 
 -- reads change the count of operations alone, by at most so many
 pub record HasRead (most : ℕ) (old new : SeenDevice) : Type 0 where
@@ -57,3 +51,9 @@ pub record HasWritten (most : ℕ) (array : List ℕ) (wrote : ℕ → Bool) (ol
   pub bytes : array_of new.held ≡ array
   pub times : HaveTimes wrote old new
   pub steps : new.started ≤ old.started + most
+
+-- this block was written once more, and has this value now; nothing else changed but the count of operations, by two at most
+pub record HasWrittenOne (old : SeenDevice) (k : ℕ) (value : List ℕ) (new : SeenDevice) : Type 0 where
+  pub same : new ≡ record old { held = slice_set old.held k (rewritten (held_at old.config old.held k) value); started = new.started }
+  pub block : IsBlock (setting old.config) value
+  pub steps : new.started ≤ old.started + 2

@@ -6,3 +6,4 @@ pub mod Ends
 pub mod Sessions
 pub mod Answers
 pub mod Servers
+pub mod Outcomes

@@ -1,26 +1,26 @@
 -- What contracts see of a server.
-use Rattle.std.specs.Prelude.{◌≡◌, ℕ, ◌+◌, ◌*◌, ◌^◌, ◌<◌, ◌≤◌, Bool, true, List, [], length, slice_range, Option, Some, None, Result, Ok, Err, ◌≢◌}
+use Rattle.std.specs.Prelude.{◌≡◌, ℕ, ◌+◌, ◌*◌, ◌^◌, ◌<◌, ◌≤◌, List, [], length, drop, slice_range, IfSome, Option, Some, None, Result, Ok, Err, ◌≢◌}
 use Rattle.std.specs.Io.KnownBytes.{Consumes}
 use Rattle.node_device.specs.Held.{Held}
 use Rattle.node_device.specs.Devices.{SeenDevice}
 use Rattle.nbd_front.specs.Arrays.{array_of, time_at, HaveTimes, IsInOrder, IsWrittenUpTo}
 use Rattle.nbd_front.specs.Answers.{most_steps}
 use Rattle.nbd_front.specs.declared.request.Request.{Request}
-use Rattle.nbd_front.specs.Requests.{request_magic, magic_of, head_len, request_of}
+use Rattle.nbd_front.specs.Requests.{request_magic, magic_of, head_len, request_of, write_kind}
+use Rattle.nbd_front.specs.Replies.{error_of}
 use Rattle.nbd_front.specs.declared.ending.SessionEnd.{SessionEnd}
 use Rattle.nbd_front.specs.declared.ending.SessionEnd.TheVariants.{NoMemory, ReadFault, WriteFault, BadMagic, CutRequest, TooManyRequests}
 use Rattle.nbd_front.specs.declared.ending.Served.{Served}
 use Rattle.nbd_front.specs.declared.ending.Served.TheVariants.{Next, Over}
-use Rattle.nbd_front.specs.declared.turn.Turn.{Turn}
+use Rattle.nbd_front.specs.declared.turn.Asked.{Asked}
 use Rattle.outside_io.specs.Written.{Adds, TakesPrefix}
 use Rattle.nbd_front.specs.Sessions.{reply_to, after_request, writes_to, most_requests, IsEnd, IsRequest}
 
--- a server: its device, how many requests it served, how many bytes of the input they had, and whether it can serve more
+-- a server: its device, how many requests it served, and how many bytes of the input they had
 pub record SeenServer : Type 0 where
   pub device : SeenDevice
   pub served : ℕ
   pub place : ℕ
-  pub whole : Bool
 
 -- the bytes that it serves
 abbrev pub bytes_of : SeenServer → List ℕ
@@ -52,13 +52,8 @@ pub record IsServer (d : SeenDevice) (served place : ℕ) : Type 0 where
   pub few : served ≤ most_requests
   pub near : place ≤ served * most_len
 
--- it serves as long as memory was found
-abbrev pub IsWhole : SeenDevice → ℕ → ℕ → Bool → Type 0
-IsWhole d served place whole = whole ≡ true → IsServer d served place
-
 -- the server has served this request
 pub record HasServed (bytes : List ℕ) (old new : SeenServer) : Type 0 where
-  pub whole : new.whole ≡ true
   pub config : new.device.config ≡ old.device.config
   pub array : bytes_of new ≡ after_request (bytes_of old) bytes
   pub times : HaveTimes (writes_to old.device.config (request_of bytes)) old.device new.device
@@ -97,36 +92,36 @@ IsPastTheLast WriteFault left left_after = ⊥
 IsPastTheLast (BadMagic at) left left_after = ⊥
 IsPastTheLast (CutRequest at) left left_after = ⊥
 
--- the client left, or the input ended, and the device is as it was
-pub record HasLeft (served place : ℕ) (old new : SeenDevice) (left left_after : Option (List ℕ)) : Type 0 where
+-- the client left, or the input ended
+pub record HasLeft (served place : ℕ) (left left_after : Option (List ℕ)) : Type 0 where
   pub bytes : List ℕ
   pub gave : Consumes left left_after bytes
   pub few : served ≤ most_requests
   pub ends : IsEnd (Ok Over) served place bytes left_after
-  pub same : new ≡ old
 
--- a request was answered
-pub record HasReplied (served place : ℕ) (old new : SeenDevice) (left left_after : Option (List ℕ)) (turn : Turn) : Type 0 where
-  pub bytes : List ℕ
-  pub gave : Consumes left left_after bytes
-  pub request : IsRequest bytes
-  pub few : served < most_requests
-  pub told : turn.reply.items ≡ reply_to (array_of old.held) bytes
-  pub long : turn.len ≡ length bytes
+-- the request that these bytes are, with its data and the error of its reply by a device of so many bytes
+pub record IsAsked (size : ℕ) (bytes : List ℕ) (asked : Asked) : Type 0 where
+  pub whole : IsRequest bytes
+  pub request : asked.request ≡ request_of bytes
+  pub error : asked.error ≡ error_of size asked.request
+  pub written : asked.request.kind ≡ write_kind → asked.error ≡ 0 → asked.bytes.items ≡ drop head_len bytes
+
+-- the source gave the bytes of a request
+abbrev pub HasAsked : ℕ → ℕ → Option (List ℕ) → Option (List ℕ) → Asked → Type 0
+HasAsked size served left left_after asked = (bytes : List ℕ) × Consumes left left_after bytes × (served < most_requests) × IsAsked size bytes asked
+
+-- what these bytes ask was done after so many requests, and this is the reply to it
+pub record HasReplied (served : ℕ) (bytes : List ℕ) (old new : SeenDevice) (reply : List ℕ) : Type 0 where
+  pub told : reply ≡ reply_to (array_of old.held) bytes
   pub config : new.config ≡ old.config
   pub array : array_of new.held ≡ after_request (array_of old.held) bytes
   pub times : HaveTimes (writes_to old.config (request_of bytes)) old new
-  pub server : IsServer new (served + 1) (place + length bytes)
+  pub server : (place : ℕ) → place ≤ served * most_len → length bytes ≤ most_len → IsServer new (served + 1) (place + length bytes)
 
--- the session ended before a reply; only where no memory was found may the device be another
-abbrev pub HasEndedEarly : SessionEnd → ℕ → ℕ → SeenDevice → SeenDevice → Option (List ℕ) → Option (List ℕ) → Type 0
-HasEndedEarly end served place old new left left_after = HasNotCome end served place left left_after × (end ≢ NoMemory → new ≡ old)
-
--- what became of a turn: the client left, or the input ended; or a request was answered; or the session ended before its reply
-abbrev pub HasTurned : ℕ → ℕ → SeenDevice → SeenDevice → Option (List ℕ) → Option (List ℕ) → Result (Option Turn) SessionEnd → Type 0
-HasTurned served place old new left left_after (Ok None) = HasLeft served place old new left left_after
-HasTurned served place old new left left_after (Ok (Some turn)) = HasReplied served place old new left left_after turn
-HasTurned served place old new left left_after (Err end) = HasEndedEarly end served place old new left left_after
+-- there is a server, and it is so
+abbrev pub IsLeft : Option SeenServer → (SeenServer → Type 0) → Type 0
+IsLeft None P = ⊥
+IsLeft (Some s) P = P s
 
 -- the session has ended here
 pub record HasFinished (end : Result Served SessionEnd) (old : SeenServer) (left left_after : Option (List ℕ)) : Type 0 where
@@ -135,14 +130,26 @@ pub record HasFinished (end : Result Served SessionEnd) (old : SeenServer) (left
   pub few : old.served ≤ most_requests
   pub ends : IsEnd end old.served old.place bytes left_after
 
+-- what came of the request that these bytes are: its reply was taken, or a beginning of it where the sink failed, or no memory was
+-- found and the server is gone
+abbrev pub HasCarriedOut : List ℕ → SeenServer → Option SeenServer → Option (List ℕ) → Option (List ℕ) → Result Served SessionEnd → Type 0
+HasCarriedOut bytes old new taken taken_after (Ok Next) = IsLeft new (HasServed bytes old) × Adds taken taken_after (reply_to (bytes_of old) bytes)
+HasCarriedOut bytes old new taken taken_after (Ok Over) = ⊥
+HasCarriedOut bytes old new taken taken_after (Err WriteFault) = IsLeft new (HasServed bytes old) × TakesPrefix taken taken_after (reply_to (bytes_of old) bytes)
+HasCarriedOut bytes old new taken taken_after (Err NoMemory) = new ≡ None
+HasCarriedOut bytes old new taken taken_after (Err ReadFault) = ⊥
+HasCarriedOut bytes old new taken taken_after (Err (BadMagic at)) = ⊥
+HasCarriedOut bytes old new taken taken_after (Err (CutRequest at)) = ⊥
+HasCarriedOut bytes old new taken taken_after (Err TooManyRequests) = ⊥
+
 -- what a call did: it served a request, whose reply was taken, or a beginning of it where the sink failed; or the session has ended,
--- and but for want of memory the server is as it was
-abbrev pub HasStepped : SeenServer → SeenServer → Option (List ℕ) → Option (List ℕ) → Option (List ℕ) → Option (List ℕ) → Result Served SessionEnd → Type 0
-HasStepped old new left left_after taken taken_after (Ok Next) = (bytes : List ℕ) × IsRequest bytes × (old.served < most_requests) × Consumes left left_after bytes × HasServed bytes old new × Adds taken taken_after (reply_to (bytes_of old) bytes)
-HasStepped old new left left_after taken taken_after (Ok Over) = HasFinished (Ok Over) old left left_after × (new ≡ old)
-HasStepped old new left left_after taken taken_after (Err WriteFault) = (bytes : List ℕ) × IsRequest bytes × (old.served < most_requests) × Consumes left left_after bytes × HasServed bytes old new × TakesPrefix taken taken_after (reply_to (bytes_of old) bytes)
-HasStepped old new left left_after taken taken_after (Err NoMemory) = HasFinished (Err NoMemory) old left left_after
-HasStepped old new left left_after taken taken_after (Err ReadFault) = HasFinished (Err ReadFault) old left left_after × (new ≡ old)
-HasStepped old new left left_after taken taken_after (Err (BadMagic at)) = HasFinished (Err (BadMagic at)) old left left_after × (new ≡ old)
-HasStepped old new left left_after taken taken_after (Err (CutRequest at)) = HasFinished (Err (CutRequest at)) old left left_after × (new ≡ old)
-HasStepped old new left left_after taken taken_after (Err TooManyRequests) = HasFinished (Err TooManyRequests) old left left_after × (new ≡ old)
+-- and the server is as it was, or gone for want of memory
+abbrev pub HasStepped : SeenServer → Option SeenServer → Option (List ℕ) → Option (List ℕ) → Option (List ℕ) → Option (List ℕ) → Result Served SessionEnd → Type 0
+HasStepped old new left left_after taken taken_after (Ok Next) = (bytes : List ℕ) × IsRequest bytes × (old.served < most_requests) × Consumes left left_after bytes × IsLeft new (HasServed bytes old) × Adds taken taken_after (reply_to (bytes_of old) bytes)
+HasStepped old new left left_after taken taken_after (Ok Over) = HasFinished (Ok Over) old left left_after × (new ≡ Some old)
+HasStepped old new left left_after taken taken_after (Err WriteFault) = (bytes : List ℕ) × IsRequest bytes × (old.served < most_requests) × Consumes left left_after bytes × IsLeft new (HasServed bytes old) × TakesPrefix taken taken_after (reply_to (bytes_of old) bytes)
+HasStepped old new left left_after taken taken_after (Err NoMemory) = HasFinished (Err NoMemory) old left left_after × IfSome new (λ s. s ≡ old)
+HasStepped old new left left_after taken taken_after (Err ReadFault) = HasFinished (Err ReadFault) old left left_after × (new ≡ Some old)
+HasStepped old new left left_after taken taken_after (Err (BadMagic at)) = HasFinished (Err (BadMagic at)) old left left_after × (new ≡ Some old)
+HasStepped old new left left_after taken taken_after (Err (CutRequest at)) = HasFinished (Err (CutRequest at)) old left left_after × (new ≡ Some old)
+HasStepped old new left left_after taken taken_after (Err TooManyRequests) = HasFinished (Err TooManyRequests) old left left_after × (new ≡ Some old)

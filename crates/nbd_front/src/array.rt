@@ -1,126 +1,94 @@
-//! Spans of a device's bytes, read and written block by block.
-ghost use Rattle.std.specs.Prelude.{◌≡◌, ◌+◌, ◌-◌, ◌*◌, ◌^◌, ◌<◌, ◌≤◌, ◌++◌, min, length, slice_range, IfOk, OnOk};
+//! Ranges of a device's bytes, read and written block by block.
+ghost use Rattle.std.specs.Prelude.{◌≡◌, ◌+◌, ◌-◌, ◌*◌, ◌^◌, ◌<◌, ◌≤◌, ◌++◌, length, slice_range, IfOk, OnOk};
 ghost use Rattle.block_device.specs.Device.{merged};
 ghost use Rattle.block_device.specs.Ranges.{is_touched};
 ghost use Rattle.protocol.specs.Messages.{IsBytes};
-ghost use Rattle.protocol.specs.Setting.{IsBlock};
-ghost use Rattle.protocol.specs.Instance.{setting};
 ghost use Rattle.node_device.specs.Held.{held_at};
-ghost use Rattle.nbd_front.specs.Arrays.{array_of, IsInOrder, IsWithin, IsWrittenUpTo, HasRead, HasWritten};
+ghost use Rattle.nbd_front.specs.Arrays.{array_of, time_at, IsInOrder, IsWrittenUpTo, HasRead, HasWritten, HasWrittenOne};
 
+use block_device::{Piece, blocks_of, merge, piece_of};
 use cross_sum::Bytes;
 use lists::NoMemory;
 use node_device::NodeDevice;
 use std::alloc::Global;
 
-/// Places from a start up to an end, which is no part of it.
-#[derive(Clone, Copy)]
-pub struct Span {
-    pub start: usize,
-    pub end: usize,
-}
-
-impl Span {
-    /// The places within a block of those that are left from `place` on, where that is one of the block's or its end.
-    fn within(block: usize, size: usize, place: usize, end: usize) -> Span
-        requires from { block * size ≤ place }
-        requires place { place ≤ end }
-        requires last { end < 2 ^ 32 }
-        requires size { size < 2 ^ 32 }
-        ensures start { result.start + block * size ≡ place }
-        ensures end { result.end ≡ min (end - block * size) size }
-    {
-        let first = block * size;
-        Span {
-            start: place - first,
-            end: size.min(end - first),
-        }
-    }
-}
-
-/// Adds the bytes of a span to a text.
-pub(crate) fn read_span(
-    device: &mut NodeDevice,
-    span: Span,
+/// Adds the bytes of a range to a text.
+pub(crate) fn read_range(
+    device: NodeDevice,
+    start: u64,
+    len: u64,
     text: &mut Vec<u8>,
-) -> Result<(), NoMemory>
-    requires order { IsInOrder device.old }
-    requires within { IsWithin span device.old.config }
-    requires steps { device.old.started + 65536 < 2 ^ 32 - 1 }
+) -> Result<NodeDevice, NoMemory>
+    requires order { IsInOrder device }
+    requires within { start + len ≤ device.config.size * device.config.blocks }
+    requires steps { device.started + 65536 < 2 ^ 32 - 1 }
     ensures text { OnOk result (text.new.items ≡ text.old.items ++ slice_range
-        (array_of device.old.held) span.start span.end) }
-    ensures read { OnOk result (HasRead 65536 device.old device.new) }
+        (array_of device.held) start (start + len)) }
+    ensures read { IfOk result (HasRead 65536 device) }
 {
-    let size = device.config().size() as usize;
-    let mut place = span.start;
-    for block in span.start / size..span.end.div_ceil(size) {
-        let part = Span::within(block, size, place, span.end);
-        let value = device.read(block as u32)?;
-        text.extend_from_slice(&value.as_slice()[part.start..part.end])?;
-        place = block * size + part.end;
+    let config = *device.config();
+    let blocks = blocks_of(&config, start, len);
+    let mut device = device;
+    for block in blocks.first..blocks.end {
+        let piece = piece_of(&config, start, len, block);
+        let (next, value) = device.read(block)?;
+        text.extend_from_slice(&value.as_slice()[piece.at..piece.end])?;
+        device = next;
     }
-    Ok(())
+    Ok(device)
 }
 
-/// Writes bytes from a place on, to each block that has one of these places. A block of which only a part is written is read
-/// first.
-pub(crate) fn write_span(
+/// Writes bytes from a place on, to each block that has one of these places.
+pub(crate) fn write_range(
     alloc: Global,
-    device: &mut NodeDevice,
-    start: usize,
+    device: NodeDevice,
+    start: u64,
     bytes: &[u8],
-) -> Result<(), NoMemory>
-    requires order { IsInOrder device.old }
-    requires within { start + length bytes.now ≤ device.old.config.size * device.old.config.blocks }
-    requires steps { device.old.started + 131072 < 2 ^ 32 - 1 }
-    requires times { IsWrittenUpTo (2 ^ 63) device.old }
-    ensures { OnOk result (HasWritten 131072
-        (merged (array_of device.old.held) start bytes.now)
-        (is_touched device.old.config.size start (length bytes.now)) device.old device.new) }
+) -> Result<NodeDevice, NoMemory>
+    requires order { IsInOrder device }
+    requires within { start + length bytes.now ≤ device.config.size * device.config.blocks }
+    requires steps { device.started + 131072 < 2 ^ 32 - 1 }
+    requires times { IsWrittenUpTo (2 ^ 63) device }
+    ensures { IfOk result (HasWritten 131072
+        (merged (array_of device.held) start bytes.now)
+        (is_touched device.config.size start (length bytes.now)) device) }
 {
-    if bytes.is_empty() {
-        return Ok(());
+    let config = *device.config();
+    let len = bytes.len() as u64;
+    let blocks = blocks_of(&config, start, len);
+    let mut device = device;
+    for block in blocks.first..blocks.end {
+        let piece = piece_of(&config, start, len, block);
+        let part = bytes_of(alloc, &bytes[piece.from..piece.to])?;
+        device = write_piece(alloc, device, block, piece, part)?;
     }
-    let size = device.config().size() as usize;
-    let end = start + bytes.len();
-    let mut place = start;
-    for block in start / size..end.div_ceil(size) {
-        let part = Span::within(block, size, place, end);
-        let piece = &bytes[place - start..block * size + part.end - start];
-        let value = merged_block(alloc, device, block as u32, part.start, piece)?;
-        device.write(block as u32, value)?;
-        place = block * size + part.end;
-    }
-    Ok(())
+    Ok(device)
 }
 
-/// A block with a piece written at a place. Where the piece is all of the block, nothing is read.
-#[tactic(auto, unfolding(block_device::specs::Device::merged))]
-fn merged_block(
+/// Writes the bytes of a piece into its block. Where they are only a part of it, the block is read first.
+fn write_piece(
     alloc: Global,
-    device: &mut NodeDevice,
+    device: NodeDevice,
     block: u32,
-    at: usize,
-    piece: &[u8],
-) -> Result<Bytes, NoMemory>
-    requires order { IsInOrder device.old }
-    requires block { block < device.old.config.blocks }
-    requires within { at + length piece.now ≤ device.old.config.size }
-    requires steps { device.old.started < 2 ^ 32 - 1 }
-    ensures value { IfOk result (λ value.
-        value ≡ merged (held_at device.old.config device.old.held block).value at piece.now) }
-    ensures block { IfOk result (λ value. IsBlock (setting device.old.config) value) }
-    ensures read { OnOk result (HasRead 1 device.old device.new) }
+    piece: Piece,
+    part: Bytes,
+) -> Result<NodeDevice, NoMemory>
+    requires order { IsInOrder device }
+    requires block { block < device.config.blocks }
+    requires bytes { IsBytes part }
+    requires len { piece.at + length part ≡ piece.end }
+    requires within { piece.end ≤ device.config.size }
+    requires steps { device.started + 1 < 2 ^ 32 - 1 }
+    requires times { time_at device block < 2 ^ 64 - 1 }
+    ensures { IfOk result (HasWrittenOne device block
+        (merged (held_at device.config device.held block).value piece.at part)) }
 {
-    if piece.len() == device.config().size() as usize {
-        return bytes_of(alloc, piece);
+    if piece.is_whole(device.config().size()) {
+        return device.write(block, part);
     }
-    let old = device.read(block)?;
-    let mut value = Vec::with_capacity(alloc, old.len())?;
-    value.extend_from_slice(&old.as_slice()[..at])?;
-    value.extend_from_slice(piece)?;
-    value.extend_from_slice(old.tail(at + piece.len()))?;
-    Ok(known(Bytes::shared(value)?))
+    let (device, old) = device.read(block)?;
+    let value = known(merge(alloc, &old, piece.at as u32, &part)?);
+    device.write(block, value)
 }
 
 /// A string of these bytes, each of which is one.

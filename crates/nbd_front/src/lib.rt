@@ -15,5 +15,6 @@ pub mod session;
 mod turn;
 
 pub use ending::{Served, SessionEnd};
-pub use server::Server;
+pub use request::RequestKind;
+pub use server::{Server, Stopped};
 pub use session::serve;

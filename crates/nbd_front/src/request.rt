@@ -1,13 +1,35 @@
-ghost use Rattle.std.specs.Prelude.{◌≡◌, length};
+ghost use Rattle.std.specs.Prelude.{◌≡◌, ◌<◌, ◌↔◌, length};
 ghost use Rattle.std.specs.Int.{w16, w32, w64, from_be_bytes};
-ghost use Rattle.nbd_front.specs.Requests.{fields_of, data_len};
+ghost use Rattle.nbd_front.specs.Requests.{fields_of, data_len, write_kind, flush_kind};
+ghost use Rattle.nbd_front.specs.Sessions.{read_kind, leave_kind};
 ghost use Rattle.nbd_front.specs.Replies.{error_of};
+
+/// The error of a request that isn't served, or reads past the end.
+const INVALID: u32 = 22;
+
+/// The error of a write past the end.
+const NO_SPACE: u32 = 28;
+
+/// What a request asks for.
+#[derive(Clone, Copy, Debug, PartialEq, Eq)]
+pub enum RequestKind {
+    /// The bytes of its range.
+    Read,
+    /// That its data take the place of the bytes of its range.
+    Write,
+    /// The end of the session.
+    Leave,
+    /// That what was written is kept. It has no range.
+    Flush,
+    /// Something that isn't served.
+    Other,
+}
 
 /// What a client asks.
 #[derive(Clone, Copy, Debug, PartialEq, Eq)]
 pub struct Request {
     pub flags: u16,
-    /// 0 reads, 1 writes, 2 leaves, 3 flushes; others aren't served.
+    /// The number of what it asks for; `asks` tells what that is.
     pub kind: u16,
     /// What the client knows the reply by.
     pub handle: [u8; 8],
@@ -34,26 +56,49 @@ impl Request {
         }
     }
 
+    /// What it asks for.
+    pub fn asks(&self) -> RequestKind
+        ensures read { (result ≡ RequestKind.Read) ↔ (self.now.kind ≡ read_kind) }
+        ensures write { (result ≡ RequestKind.Write) ↔ (self.now.kind ≡ write_kind) }
+        ensures leave { (result ≡ RequestKind.Leave) ↔ (self.now.kind ≡ leave_kind) }
+        ensures flush { (result ≡ RequestKind.Flush) ↔ (self.now.kind ≡ flush_kind) }
+        ensures other { (result ≡ RequestKind.Other) ↔ (flush_kind < self.now.kind) }
+    {
+        match self.kind {
+            0 => RequestKind::Read,
+            1 => RequestKind::Write,
+            2 => RequestKind::Leave,
+            3 => RequestKind::Flush,
+            _ => RequestKind::Other,
+        }
+    }
+
     /// The error of its reply by a device of so many bytes, 0 where it is served: 22 where it isn't served or reads past the
     /// end, 28 where it writes past the end. A flush has no range.
     pub fn error(&self, size: u64) -> u32
         ensures { result ≡ error_of size self.now }
     {
-        if self.kind > 3 || self.flags != 0 {
-            return 22;
+        if self.flags != 0 {
+            return INVALID;
         }
         let within = self.offset <= size && u64::from(self.len) <= size - self.offset;
-        if self.kind == 3 || within {
-            return 0;
+        match self.asks() {
+            RequestKind::Other => INVALID,
+            RequestKind::Flush => 0,
+            _ if within => 0,
+            RequestKind::Write => NO_SPACE,
+            RequestKind::Read | RequestKind::Leave => INVALID,
         }
-        if self.kind == 1 { 28 } else { 22 }
     }
 
     /// How many bytes of data follow it.
     pub fn data_len(&self) -> u32
         ensures { result ≡ data_len self.now }
     {
-        if self.kind == 1 { self.len } else { 0 }
+        match self.asks() {
+            RequestKind::Write => self.len,
+            _ => 0,
+        }
     }
 }
 

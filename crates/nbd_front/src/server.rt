@@ -1,4 +1,4 @@
-ghost use Rattle.std.specs.Prelude.{◌≡◌, ◌≢◌, ◌⊎◌, ◌≤◌, ◌+◌, ◌*◌, ◌<◌, ℕ, List, Some, Result, Ok, Err, true, [], replicate, OnOk, OnErr, IfOk, IfErr, IsErrOf};
+ghost use Rattle.std.specs.Prelude.{◌≡◌, ◌≢◌, ◌⊎◌, ◌≤◌, ◌+◌, ◌*◌, ◌<◌, ℕ, List, Some, Result, Ok, Err, [], length, replicate, OnOk, OnErr, IfOk, IfErr, IsSome};
 ghost use Rattle.outside_io.specs.Causes.{Rose};
 ghost use Rattle.outside_io.specs.Written.{Adds, AllFlushed, TakesPrefix};
 ghost use Rattle.quorum_rules.specs.Limits.{wait_of};
@@ -7,12 +7,14 @@ ghost use Rattle.protocol.specs.Instance.{setting};
 ghost use Rattle.node_device.specs.Held.{version_of};
 ghost use Rattle.nbd_front.specs.Replies.{greeting};
 ghost use Rattle.nbd_front.specs.Arrays.{time_at};
-ghost use Rattle.nbd_front.specs.Sessions.{IsSession, EndsSo, end_as};
-ghost use Rattle.nbd_front.specs.Servers.{bytes_of, block_of, HasStepped};
+ghost use Rattle.nbd_front.specs.Sessions.{most_requests, IsSession, EndsSo};
+ghost use Rattle.nbd_front.specs.Servers.{bytes_of, block_of, HasCarriedOut, HasStepped, IsAsked};
+ghost use Rattle.nbd_front.specs.Outcomes.{outcome, given_back, closing};
 
 use crate::ending::{Served, SessionEnd};
 use crate::reply::greeting;
-use crate::turn::answer_next;
+use crate::turn::{Asked, carry_out, take_request};
+use block_device::device_len;
 use lists::NoMemory;
 use node_device::NodeDevice;
 use outside_io::{Sink, Source, write_all};
@@ -22,18 +24,16 @@ use std::marker::Model;
 use wire_forms::Version;
 
 /// A block device that is served over a source and a sink. Its blocks are kept by nodes in the same process, and read and
-/// written by one client. Contracts see the device, how many requests were served, how many bytes of the input they had, and
-/// whether it is whole: it isn't after a call that answered `NoMemory`, and is of no use then.
+/// written by one client. Contracts see the device, how many requests were served, and how many bytes of the input they had.
 #[derive(Drop)]
 pub struct Server {
     device: NodeDevice,
     served: u64,
     place: u64,
-    whole: bool,
 }
 
 impl Model for Server {
-    ghost use Rattle.nbd_front.specs.Servers.{SeenServer, IsWhole};
+    ghost use Rattle.nbd_front.specs.Servers.{SeenServer, IsServer};
 
     ghost Value = { SeenServer };
 
@@ -41,16 +41,36 @@ impl Model for Server {
       device = s.device;
       served = s.served;
       place = s.place;
-      whole = s.whole;
     } };
 
-    ghost invariant = { λ s. IsWhole s.device s.served s.place s.whole };
+    ghost invariant = { λ s. IsServer s.device s.served s.place };
+}
+
+/// Why a session stopped. The server is given back, but where no memory was found for what a request asks.
+#[derive(Drop)]
+pub struct Stopped {
+    pub end: SessionEnd,
+    pub server: Option<Server>,
+}
+
+impl From<NoMemory> for Stopped {
+    ghost use Rattle.std.specs.Prelude.{◌≡◌, None};
+    ghost use Rattle.nbd_front.specs.declared.ending.SessionEnd.TheVariants.{NoMemory as NoMemoryEnd};
+
+    ghost from_gives = { λ _ e. (e.end ≡ NoMemoryEnd) × (e.server ≡ None) };
+
+    fn from(_: NoMemory) -> Stopped {
+        Stopped {
+            end: SessionEnd::NoMemory,
+            server: None,
+        }
+    }
 }
 
 impl Server {
     /// A server of a device whose bytes are all 0.
     pub fn new(alloc: Global, config: &Config) -> Result<Server, NoMemory>
-        ensures fresh { IfOk result (λ s. (s.served ≡ 0) × (s.place ≡ 0) × (s.whole ≡ true)) }
+        ensures fresh { IfOk result (λ s. (s.served ≡ 0) × (s.place ≡ 0)) }
         ensures config { IfOk result (λ s. s.device.config ≡ config.now) }
         ensures zeros { IfOk result (λ s. bytes_of s
             ≡ replicate (config.now.size * config.now.blocks) 0) }
@@ -61,14 +81,12 @@ impl Server {
             device: NodeDevice::new(alloc, config)?,
             served: 0,
             place: 0,
-            whole: true,
         })
     }
 
     /// The version that a node which is asked finds of a block: that of its bytes, at the time that tells how often it was written;
     /// the first version where it never was.
     pub fn held(&self, node: u8, block: u32) -> Result<Version, NoMemory>
-        requires whole { self.now.whole ≡ true }
         requires node { node < wait_of self.now.device.config }
         requires block { block < self.now.device.config.blocks }
         ensures version { IfOk result (λ v. v
@@ -99,80 +117,117 @@ impl Server {
         write_or_end(sink, &greeting(size))
     }
 
-    /// Reads one request, does what it asks, and writes and flushes its whole reply before it returns. Where no request is answered,
-    /// the server is as it was, but for want of memory; so a write whose data are cut changes nothing.
+    /// Reads one request, does what it asks, and writes and flushes its whole reply before it returns. Nothing is done before all of
+    /// the request was read; so a write whose data are cut changes nothing.
     pub fn serve_one<S: Source, K: Sink>(
-        &mut self,
+        self,
         alloc: Global,
         source: &mut S,
         sink: &mut K,
-    ) -> Result<Served, SessionEnd>
-        requires { self.old.whole ≡ true }
-        ensures step { HasStepped self.old self.new (S.left source.old) (S.left source.new)
-            (K.taken sink.old) (K.taken sink.new) result }
-        ensures flushed { result ≡ Ok Served.Next
+    ) -> Result<(Server, Served), Stopped>
+        ensures step { HasStepped self (given_back result) (S.left source.old) (S.left source.new)
+            (K.taken sink.old) (K.taken sink.new) (outcome result) }
+        ensures flushed { outcome result ≡ Ok Served.Next
             → AllFlushed (K.taken sink.new) (K.flushed sink.new) }
-        ensures unwritten { result ≢ Ok Served.Next → result ≢ Err SessionEnd.WriteFault
-            → sink.new ≡ sink.old }
-        ensures read_fault { IsErrOf result SessionEnd.ReadFault
+        ensures unwritten { outcome result ≢ Ok Served.Next
+            → outcome result ≢ Err SessionEnd.WriteFault → sink.new ≡ sink.old }
+        ensures read_fault { outcome result ≡ Err SessionEnd.ReadFault
             → Rose S.last (S.faults source.old) (S.faults source.new) }
-        ensures write_fault { IsErrOf result SessionEnd.WriteFault
+        ensures write_fault { outcome result ≡ Err SessionEnd.WriteFault
             → Rose K.last (K.faults sink.old) (K.faults sink.new) }
-        ensures calm_source { result ≢ Err SessionEnd.ReadFault
+        ensures calm_source { outcome result ≢ Err SessionEnd.ReadFault
             → S.faults source.new ≡ S.faults source.old }
-        ensures calm_sink { result ≢ Err SessionEnd.WriteFault
+        ensures calm_sink { outcome result ≢ Err SessionEnd.WriteFault
             → K.faults sink.new ≡ K.faults sink.old }
     {
-        self.whole = false;
-        let turn = answer_next(alloc, &mut self.device, source, self.served, self.place);
-        self.whole = !matches!(turn, Err(SessionEnd::NoMemory));
-        let Some(turn) = turn? else {
-            return Ok(Served::Over);
+        let size = device_len(self.device.config());
+        match take_request(alloc, source, size, self.served, self.place) {
+            Ok(Some(asked)) => self.answer(alloc, &asked, sink),
+            Ok(None) => Ok((self, Served::Over)),
+            Err(end) => Err(Stopped {
+                end,
+                server: Some(self),
+            }),
+        }
+    }
+
+    /// Does what a request asks, and writes its reply.
+    fn answer<K: Sink>(
+        self,
+        alloc: Global,
+        asked: &Asked,
+        sink: &mut K,
+    ) -> Result<(Server, Served), Stopped>
+        requires asked { (bytes : List ℕ) × IsAsked (length (bytes_of self)) bytes asked.now }
+        requires few { self.served < most_requests }
+        ensures answered { (bytes : List ℕ) → IsAsked (length (bytes_of self)) bytes asked.now
+            → HasCarriedOut bytes self (given_back result)
+            (K.taken sink.old) (K.taken sink.new) (outcome result) }
+        ensures flushed { outcome result ≡ Ok Served.Next
+            → AllFlushed (K.taken sink.new) (K.flushed sink.new) }
+        ensures unwritten { outcome result ≢ Ok Served.Next
+            → outcome result ≢ Err SessionEnd.WriteFault → sink.new ≡ sink.old }
+        ensures unread { outcome result ≢ Err SessionEnd.ReadFault }
+        ensures write_fault { outcome result ≡ Err SessionEnd.WriteFault
+            → Rose K.last (K.faults sink.old) (K.faults sink.new) }
+        ensures calm { outcome result ≢ Err SessionEnd.WriteFault
+            → K.faults sink.new ≡ K.faults sink.old }
+    {
+        let Server {
+            device,
+            served,
+            place,
+        } = self;
+        let (device, reply) = carry_out(alloc, device, asked, served)?;
+        let server = Server {
+            device,
+            served: served + 1,
+            place: place + asked.len(),
         };
-        self.served += 1;
-        self.place += turn.len;
-        write_or_end(sink, &turn.reply)?;
-        Ok(Served::Next)
+        match write_or_end(sink, &reply) {
+            Ok(()) => Ok((server, Served::Next)),
+            Err(end) => Err(Stopped {
+                end,
+                server: Some(server),
+            }),
+        }
     }
 
     /// Serves requests until the session ends.
     pub fn serve<S: Source, K: Sink>(
-        &mut self,
+        self,
         alloc: Global,
         source: &mut S,
         sink: &mut K,
-    ) -> Result<(), SessionEnd>
-        requires { self.old.whole ≡ true }
-        ensures done { OnOk result (IsSession [] (bytes_of self.old) self.old.served self.old.place
-            (Ok Served.Over)
-            (S.left source.old) (S.left source.new) (K.taken sink.old) (K.taken sink.new)) }
-        ensures ended { IfErr result
-            (λ end. IsSession [] (bytes_of self.old) self.old.served self.old.place (Err end)
-            (S.left source.old) (S.left source.new) (K.taken sink.old) (K.taken sink.new)) }
-        ensures whole { result ≢ Err SessionEnd.NoMemory → self.new.whole ≡ true }
-        ensures flushed { result ≢ Err SessionEnd.WriteFault
+    ) -> Result<Server, Stopped>
+        ensures session { IsSession [] (bytes_of self) self.served self.place (closing result)
+            (S.left source.old) (S.left source.new) (K.taken sink.old) (K.taken sink.new) }
+        ensures given { IfErr result (λ stopped.
+            stopped.end ≢ SessionEnd.NoMemory → IsSome stopped.server) }
+        ensures flushed { closing result ≢ Err SessionEnd.WriteFault
             → AllFlushed (K.taken sink.old) (K.flushed sink.old)
             → AllFlushed (K.taken sink.new) (K.flushed sink.new) }
         // faults
-        ensures read_fault { IsErrOf result SessionEnd.ReadFault
+        ensures read_fault { closing result ≡ Err SessionEnd.ReadFault
             → Rose S.last (S.faults source.old) (S.faults source.new) }
-        ensures write_fault { IsErrOf result SessionEnd.WriteFault
+        ensures write_fault { closing result ≡ Err SessionEnd.WriteFault
             → Rose K.last (K.faults sink.old) (K.faults sink.new) }
-        ensures calm_source { result ≢ Err SessionEnd.ReadFault
+        ensures calm_source { closing result ≢ Err SessionEnd.ReadFault
             → S.faults source.new ≡ S.faults source.old }
-        ensures calm_sink { result ≢ Err SessionEnd.WriteFault
+        ensures calm_sink { closing result ≢ Err SessionEnd.WriteFault
             → K.faults sink.new ≡ K.faults sink.old }
         // where there is memory, an input that meets no fault is served to its end, and that is how it says
         ensures complete { (input : List ℕ) (end : Result Served SessionEnd)
-            → S.left source.old ≡ Some input → EndsSo end self.old.served self.old.place input
+            → S.left source.old ≡ Some input → EndsSo end self.served self.place input
             → (Rose S.last (S.faults source.old) (S.faults source.new) → ⊥)
             → (Rose K.last (K.faults sink.old) (K.faults sink.new) → ⊥)
-            → (end_as result ≡ end) ⊎ (result ≡ Err SessionEnd.NoMemory) }
+            → (closing result ≡ end) ⊎ (closing result ≡ Err SessionEnd.NoMemory) }
     {
+        let mut server = self;
         loop {
-            match self.serve_one(alloc, source, sink)? {
-                Served::Next => {}
-                Served::Over => return Ok(()),
+            match server.serve_one(alloc, source, sink)? {
+                (next, Served::Next) => server = next,
+                (next, Served::Over) => return Ok(next),
             }
         }
     }

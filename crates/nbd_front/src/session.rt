@@ -40,7 +40,10 @@ pub fn serve<S: Source, K: Sink>(
         → (Rose K.last (K.faults sink.old) (K.faults sink.new) → ⊥)
         → (end_as result ≡ end) ⊎ (result ≡ Err SessionEnd.NoMemory) }
 {
-    let mut server = Server::new(alloc, config)?;
+    let server = Server::new(alloc, config)?;
     server.greet(sink)?;
-    server.serve(alloc, source, sink)
+    match server.serve(alloc, source, sink) {
+        Ok(_) => Ok(()),
+        Err(stopped) => Err(stopped.end),
+    }
 }

@@ -1,22 +1,20 @@
-//! One turn of a session: a request is read, and answered.
-ghost use Rattle.std.specs.Prelude.{◌≡◌, ◌≢◌, ◌≤◌, ◌<◌, Ok, Err, None, [], length, OnOk, IfOk, IfErr, IfSome, IsErrOf};
+//! One turn of a session: a request is read, and then carried out.
+ghost use Rattle.std.specs.Prelude.{◌≡◌, ◌≢◌, ◌+◌, ◌≤◌, ◌<◌, ℕ, List, Ok, Err, None, [], length, OnOk, IfOk, IfErr, IfSome, IsErrOf};
 ghost use Rattle.std.specs.Io.KnownBytes.{Consumes, IsAtEnd};
 ghost use Rattle.outside_io.specs.Causes.{Rose};
-ghost use Rattle.nbd_front.specs.Arrays.{array_of, IsInOrder};
+ghost use Rattle.nbd_front.specs.Arrays.{array_of, IsInOrder, IsWrittenUpTo};
+ghost use Rattle.nbd_front.specs.Requests.{data_len, head_len};
 ghost use Rattle.nbd_front.specs.Sessions.{most_requests};
-ghost use Rattle.nbd_front.specs.Servers.{HasCome, HasNotCome, HasRefreshed, HasTurned, IsInLife, IsPastTheLast, IsServer};
+ghost use Rattle.nbd_front.specs.Servers.{HasAsked, HasCome, HasLeft, HasNotCome, HasRefreshed, HasReplied, IsAsked, IsInLife, IsPastTheLast, most_len};
 
 use crate::answer::{answer, take_data};
 use crate::arrival::{Arrival, read_request};
 use crate::ending::SessionEnd;
-use crate::request::Request;
+use crate::request::{Request, RequestKind};
 use lists::NoMemory;
 use node_device::NodeDevice;
 use outside_io::Source;
 use std::alloc::Global;
-
-/// The kind of requests that leave.
-const LEAVE: u16 = 2;
 
 /// The most requests of a session.
 const MOST: u64 = 1 << 31;
@@ -27,25 +25,41 @@ const LIFE: u64 = 1 << 14;
 /// How many bytes a request has before its data.
 const HEAD: u64 = 28;
 
-/// A request that was answered: its reply, and how many bytes it had.
+/// A request that was read, and the error of its reply.
 #[derive(Drop)]
-pub(crate) struct Turn {
-    pub reply: Vec<u8>,
-    pub len: u64,
+pub(crate) struct Asked {
+    pub request: Request,
+    pub error: u32,
+    /// The data of a write that is served.
+    pub bytes: Vec<u8>,
 }
 
-/// Reads a request and answers it; none where the client leaves or the input has ended. The session has served so many requests
-/// before it, and it begins at `place`. Nothing is done before all of the request has been read.
-pub(crate) fn answer_next<S: Source>(
+impl Asked {
+    /// How many bytes the request had, with its data.
+    pub fn len(&self) -> u64
+        ensures is { result ≡ head_len + data_len self.now.request }
+        ensures most { result ≤ most_len }
+    {
+        HEAD + u64::from(self.request.data_len())
+    }
+}
+
+/// Reads a request to a device of so many bytes; none where the client leaves or the input has ended. The session has served so many
+/// requests before it, and it begins at `place`.
+pub(crate) fn take_request<S: Source>(
     alloc: Global,
-    device: &mut NodeDevice,
     source: &mut S,
+    size: u64,
     served: u64,
     place: u64,
-) -> Result<Option<Turn>, SessionEnd>
-    requires { IsServer device.old served place }
-    ensures turned { HasTurned served place device.old device.new (S.left source.old)
-        (S.left source.new) result }
+) -> Result<Option<Asked>, SessionEnd>
+    requires { served ≤ most_requests }
+    ensures some { IfOk result (λ found. IfSome found
+        (HasAsked size served (S.left source.old) (S.left source.new))) }
+    ensures none { result ≡ Ok None
+        → HasLeft served place (S.left source.old) (S.left source.new) }
+    ensures end { IfErr result
+        (λ end. HasNotCome end served place (S.left source.old) (S.left source.new)) }
     ensures fault { IsErrOf result SessionEnd.ReadFault
         → Rose S.last (S.faults source.old) (S.faults source.new) }
     ensures calm { result ≢ Err SessionEnd.ReadFault → S.faults source.new ≡ S.faults source.old }
@@ -53,26 +67,37 @@ pub(crate) fn answer_next<S: Source>(
     let Some(request) = next_request(alloc, source, served, place)? else {
         return Ok(None);
     };
-    if request.kind == LEAVE {
+    if request.asks() == RequestKind::Leave {
         return Ok(None);
     }
-    let error = request.error(bytes_of(device));
-    let data = take_data(alloc, source, &request, error, place)?;
-    refresh(alloc, device, served)?;
-    let reply = answer(alloc, device, &request, error, &data)?;
-    Ok(Some(Turn {
-        reply,
-        len: HEAD + u64::from(request.data_len()),
+    let error = request.error(size);
+    let bytes = take_data(alloc, source, &request, error, place)?;
+    Ok(Some(Asked {
+        request,
+        error,
+        bytes,
     }))
 }
 
-/// How many bytes a device has.
-fn bytes_of(device: &NodeDevice) -> u64
-    requires { IsInOrder device.now }
-    ensures { result ≡ length (array_of device.now.held) }
+/// Does what a request asks, and makes the reply to it. The device has served so many before it.
+pub(crate) fn carry_out(
+    alloc: Global,
+    device: NodeDevice,
+    asked: &Asked,
+    served: u64,
+) -> Result<(NodeDevice, Vec<u8>), NoMemory>
+    requires asked { (bytes : List ℕ) × IsAsked (length (array_of device.held)) bytes asked.now }
+    requires order { IsInOrder device }
+    requires times { IsWrittenUpTo served device }
+    requires life { IsInLife device served }
+    requires few { served < most_requests }
+    ensures { IfOk result (λ done. (bytes : List ℕ)
+        → IsAsked (length (array_of device.held)) bytes asked.now
+        → HasReplied served bytes device done.0 done.1.items) }
 {
-    let config = device.config();
-    u64::from(config.size()) * u64::from(config.blocks())
+    let mut device = device;
+    refresh(alloc, &mut device, served)?;
+    answer(alloc, device, &asked.request, asked.error, &asked.bytes)
 }
 
 /// Reads a request, its data aside; none where the input has ended. The session has served so many requests before it, and it

@@ -1,13 +1,13 @@
 //! What nodes hold of blocks after requests to two blocks of two bytes on five nodes. Of a block node i has the value at i of the
 //! polynomial of degree 1 that has the block's bytes at 0 and 1.
-ghost use Rattle.std.specs.Prelude.{◌≡◌, true, IfOk, OnOk};
+ghost use Rattle.std.specs.Prelude.{◌≡◌, IfOk};
 ghost use Rattle.quorum_rules.specs.Faults.{numbers};
 ghost use Rattle.quorum_rules.specs.declared.Edition.TheVariants.{One};
 
 use crate::rows::bytes_of;
 use crate::unmade::Unmade;
 use cross_sum::Bytes;
-use nbd_front::{Served, Server, SessionEnd};
+use nbd_front::{Served, Server, SessionEnd, Stopped};
 use outside_io::{Calls, MemorySink, MemorySource};
 use quorum_rules::Config;
 use std::alloc::Global;
@@ -21,8 +21,7 @@ fn source_of(alloc: Global, digits: &str) -> Result<MemorySource, Unmade> {
 
 // A server of two blocks of two bytes on five nodes.
 fn small_server(alloc: Global) -> Result<Server, Unmade>
-    ensures whole { IfOk result (λ server. server.whole ≡ true) }
-    ensures config { IfOk result (λ server. server.device.config ≡ numbers One 5 1 1 3 2 2 2) }
+    ensures { IfOk result (λ server. server.device.config ≡ numbers One 5 1 1 3 2 2 2) }
 {
     let config = Config::new(5, 1, 1, 3, 2, 2, 2).map_err(|_| Unmade)?;
     Ok(Server::new(alloc, &config)?)
@@ -30,36 +29,34 @@ fn small_server(alloc: Global) -> Result<Server, Unmade>
 
 // Serves a request.
 fn serve_next(
-    server: &mut Server,
+    server: Server,
     alloc: Global,
     source: &mut MemorySource,
     sink: &mut MemorySink,
-) -> Result<(), Unmade>
-    requires whole { server.old.whole ≡ true }
-    requires config { server.old.device.config ≡ numbers One 5 1 1 3 2 2 2 }
-    ensures whole { OnOk result (server.new.whole ≡ true) }
-    ensures config { OnOk result (server.new.device.config ≡ numbers One 5 1 1 3 2 2 2) }
+) -> Result<Server, Unmade>
+    requires { server.device.config ≡ numbers One 5 1 1 3 2 2 2 }
+    ensures { IfOk result (λ next. next.device.config ≡ numbers One 5 1 1 3 2 2 2) }
 {
     match server.serve_one(alloc, source, sink) {
-        Ok(Served::Next) => Ok(()),
+        Ok((next, Served::Next)) => Ok(next),
         _ => Err(Unmade),
     }
 }
 
 // Comes to a request that is cut.
 fn meet_cut(
-    server: &mut Server,
+    server: Server,
     alloc: Global,
     source: &mut MemorySource,
     sink: &mut MemorySink,
-) -> Result<(), Unmade>
-    requires whole { server.old.whole ≡ true }
-    requires config { server.old.device.config ≡ numbers One 5 1 1 3 2 2 2 }
-    ensures same { OnOk result (server.new ≡ server.old) }
-    ensures config { OnOk result (server.new.device.config ≡ numbers One 5 1 1 3 2 2 2) }
+) -> Result<Server, Unmade>
+    ensures { IfOk result (λ left. left ≡ server) }
 {
     match server.serve_one(alloc, source, sink) {
-        Err(SessionEnd::CutRequest { .. }) => Ok(()),
+        Err(Stopped {
+            end: SessionEnd::CutRequest { .. },
+            server: Some(left),
+        }) => Ok(left),
         _ => Err(Unmade),
     }
 }
@@ -81,10 +78,10 @@ const EMPTY_WRITE: &str = "25609513 0000 0001 0000000000000004 0000000000000001 
 
 /// After a write to both blocks and a read of them the nodes hold what was written, at time 1.
 pub fn is_written(alloc: Global) -> Result<bool, Unmade> {
-    let mut server = small_server(alloc)?;
+    let server = small_server(alloc)?;
     let mut sink = MemorySink::new(alloc, 4096, Calls::new(alloc));
-    serve_next(&mut server, alloc, &mut source_of(alloc, WRITE)?, &mut sink)?;
-    serve_next(&mut server, alloc, &mut source_of(alloc, READ)?, &mut sink)?;
+    let server = serve_next(server, alloc, &mut source_of(alloc, WRITE)?, &mut sink)?;
+    let server = serve_next(server, alloc, &mut source_of(alloc, READ)?, &mut sink)?;
     let first = server.held(2, 0)?;
     let last = server.held(2, 1)?;
     Ok(is(&first, 1, &[0x14]) && is(&last, 1, &[0x1d]))
@@ -92,27 +89,17 @@ pub fn is_written(alloc: Global) -> Result<bool, Unmade> {
 
 /// A write whose data are cut changes nothing.
 pub fn is_left_by_a_cut_write(alloc: Global) -> Result<bool, Unmade> {
-    let mut server = small_server(alloc)?;
+    let server = small_server(alloc)?;
     let mut sink = MemorySink::new(alloc, 4096, Calls::new(alloc));
-    serve_next(&mut server, alloc, &mut source_of(alloc, WRITE)?, &mut sink)?;
-    meet_cut(
-        &mut server,
-        alloc,
-        &mut source_of(alloc, CUT_WRITE)?,
-        &mut sink,
-    )?;
+    let server = serve_next(server, alloc, &mut source_of(alloc, WRITE)?, &mut sink)?;
+    let server = meet_cut(server, alloc, &mut source_of(alloc, CUT_WRITE)?, &mut sink)?;
     Ok(is(&server.held(2, 0)?, 1, &[0x14]))
 }
 
 /// A block to which no byte was written has its first version.
 pub fn is_unwritten(alloc: Global) -> Result<bool, Unmade> {
-    let mut server = small_server(alloc)?;
+    let server = small_server(alloc)?;
     let mut sink = MemorySink::new(alloc, 4096, Calls::new(alloc));
-    serve_next(
-        &mut server,
-        alloc,
-        &mut source_of(alloc, EMPTY_WRITE)?,
-        &mut sink,
-    )?;
+    let server = serve_next(server, alloc, &mut source_of(alloc, EMPTY_WRITE)?, &mut sink)?;
     Ok(is(&server.held(2, 0)?, 0, &[0]))
 }

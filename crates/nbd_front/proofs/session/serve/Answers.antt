@@ -10,7 +10,7 @@ use Rattle.nbd_front.specs.declared.ending.Served.TheVariants.{Over}
 use Rattle.nbd_front.specs.declared.ending.SessionEnd.TheVariants.{NoMemory, WriteFault}
 use Rattle.nbd_front.specs.Sessions.{EndsSo}
 use Rattle.nbd_front.proofs.Runs.{not_greeted, not_made}
-use Rattle.nbd_front.proofs.Stepping.{greeted, on_ok, if_err}
+use Rattle.nbd_front.proofs.Stepping.{greeted, ended_over, ended_so}
 use Rattle.nbd_front.proofs.session.serve.Goals as goal
 
 pub returns-in_err-server-clause-ended : goal.returns-in_err-server-clause-ended
@@ -26,13 +26,13 @@ returns-in_err-greet-clause-ended g c =
     let prefix = subst (λ (k : Numbers). TakesPrefix (g.K.Sink.taken c.args.sink.now) (g.K.Sink.taken c.greet.new.sink) (greeting (k.size * k.blocks))) c.in_ok-server.ensures.config c.in_err-greet.ensures.prefix in
     rw written (not_greeted _ _ _ _ _ (Consumes-none (g.S.Source.left c.args.source.now)) prefix)
 
-pub returns-clause-done : goal.returns-clause-done
-returns-clause-done g c =
+pub returns-in-Ok-clause-done : goal.returns-in-Ok-clause-done
+returns-in-Ok-clause-done g c =
     let s = c.in_ok-server.server in
     let made = c.in_ok-server.ensures in
     let size = c.args.config.now.size * c.args.config.now.blocks in
     let adds = subst (λ (k : Numbers). Adds (g.K.Sink.taken c.args.sink.now) (g.K.Sink.taken c.greet.new.sink) (greeting (k.size * k.blocks))) made.config c.in_ok-greet.ensures.whole in
-    on_ok _ _ (greeted (greeting size) (replicate size 0) s (Ok Over) _ _ _ _ _ made.zeros made.fresh.0 made.fresh.1 adds) c.serve.result c.serve.ensures.done
+    greeted (greeting size) (replicate size 0) s (Ok Over) _ _ _ _ _ made.zeros made.fresh.0 made.fresh.1 adds c.in-Ok.ensures.session
 
 pub returns-clause-ended : goal.returns-clause-ended
 returns-clause-ended g c =
@@ -40,11 +40,18 @@ returns-clause-ended g c =
     let made = c.in_ok-server.ensures in
     let size = c.args.config.now.size * c.args.config.now.blocks in
     let adds = subst (λ (k : Numbers). Adds (g.K.Sink.taken c.args.sink.now) (g.K.Sink.taken c.greet.new.sink) (greeting (k.size * k.blocks))) made.config c.in_ok-greet.ensures.whole in
-    if_err _ _ (λ e i. greeted (greeting size) (replicate size 0) s (Err e) _ _ _ _ _ made.zeros made.fresh.0 made.fresh.1 adds i) c.serve.result c.serve.ensures.ended
+    greeted (greeting size) (replicate size 0) s (Err c.in-Err.stopped.end) _ _ _ _ _ made.zeros made.fresh.0 made.fresh.1 adds c.in-Err.ensures.session
+
+pub returns-in-Ok-clause-complete : goal.returns-in-Ok-clause-complete
+returns-in-Ok-clause-complete g c input end told so no_read no_write =
+    let made = c.in_ok-server.ensures in
+    let served = subst (λ n. EndsSo end n 0 input) (sym made.fresh.0) so in
+    let placed = subst (λ n. EndsSo end c.in_ok-server.server.served n input) (sym made.fresh.1) served in
+    ended_over end (c.in-Ok.ensures.complete input end told placed no_read (λ rose. no_write (subst (λ n. Rose g.K.Sink.last n (g.K.Sink.faults c.serve.new.sink)) c.in_ok-greet.ensures.calm rose)))
 
 pub returns-clause-complete : goal.returns-clause-complete
 returns-clause-complete g c input end told so no_read no_write =
     let made = c.in_ok-server.ensures in
     let served = subst (λ n. EndsSo end n 0 input) (sym made.fresh.0) so in
     let placed = subst (λ n. EndsSo end c.in_ok-server.server.served n input) (sym made.fresh.1) served in
-    c.serve.ensures.complete input end told placed no_read (λ rose. no_write (subst (λ n. Rose g.K.Sink.last n (g.K.Sink.faults c.serve.new.sink)) c.in_ok-greet.ensures.calm rose))
+    ended_so end c.in-Err.stopped.end (c.in-Err.ensures.complete input end told placed no_read (λ rose. no_write (subst (λ n. Rose g.K.Sink.last n (g.K.Sink.faults c.serve.new.sink)) c.in_ok-greet.ensures.calm rose)))

@@ -1,25 +1,32 @@
-use Rattle.std.proofs.Common.{rules, ◌≡◌, ◌+◌, Err, true, not, ap, subst, arith}
-use Rattle.nbd_front.specs.declared.ending.SessionEnd.TheVariants.{WriteFault}
-use Rattle.nbd_front.specs.Servers.{SeenServer, HasReplied, HasStepped}
-use Rattle.nbd_front.proofs.Stepping.{half_replied}
+use Rattle.std.proofs.Common.{◌≡◌, ◌<◌, ◌*◌, ◌∙◌, Ok, refl, ap, sym, subst, length}
+use Rattle.quorum_rules.specs.Limits.{Numbers}
+use Rattle.nbd_front.specs.declared.ending.Served.TheVariants.{Over}
+use Rattle.nbd_front.specs.Sessions.{most_requests}
+use Rattle.nbd_front.specs.Servers.{SeenServer, bytes_of, HasAsked, HasFinished, HasLeft, IsAsked}
+use Rattle.nbd_front.specs.Outcomes.{outcome, given_back}
+use Rattle.nbd_front.proofs.Devices.{length_array}
+use Rattle.nbd_front.proofs.Stepping.{carried}
 use Rattle.nbd_front.proofs.server.Server.serve_one.Goals as goal
-use Rattle.nbd_front.proofs.server.Server.serve_one.Goals.{in-Err-NoMemory, in_default, in_default-2}
 
-pub overflow_add-self-2 : goal.overflow_add-self-2
-overflow_add-self-2 g c =
+pub answer-requires-clause-asked : goal.answer-requires-clause-asked
+answer-requires-clause-asked g c =
     let inside = c.self.inside in
-    let replied : HasReplied inside.served inside.place inside.device c.answer_next-turn.new.device (g.S.Source.left c.args.source.now) (g.S.Source.left c.answer_next-turn.new.source) c.in-Some.turn = rw c.in-Some.is at c.in_ok-turn.ensures.turned in
-    omega (arith, replied.long, replied.server.near, replied.server.few)
+    let asked : HasAsked c.device_len-size.result inside.served (g.S.Source.left c.args.source.now) (g.S.Source.left c.take_request.new.source) c.in-Ok-Some.asked = rw c.in-Ok-Some.field-0-is at c.in-Ok-Some.ensures.some in
+    let size : c.device_len-size.result ≡ length (bytes_of c.args.self) =
+    c.device_len-size.ensures.is ∙ ap (λ (k : Numbers). k.size * k.blocks) c.config.ensures ∙ sym (length_array inside.device c.self.invariant.order) ∙ ap (λ (x : SeenServer). length (bytes_of x)) c.self.view_is in
+    (asked.0, subst (λ n. IsAsked n asked.0 c.in-Ok-Some.asked) size asked.3)
 
-pub returns-in_err-write_or_end-clause-step : goal.returns-in_err-write_or_end-clause-step
-returns-in_err-write_or_end-clause-step g c =
+pub returns-in-Ok-Some-clause-step : goal.returns-in-Ok-Some-clause-step
+returns-in-Ok-Some-clause-step g c =
     let inside = c.self.inside in
-    let replied : HasReplied inside.served inside.place inside.device c.answer_next-turn.new.device (g.S.Source.left c.args.source.now) (g.S.Source.left c.answer_next-turn.new.source) c.in-Some.turn = rw c.in-Some.is at c.in_ok-turn.ensures.turned in
-    let whole : not c.match-matches.matches ≡ true = elim c.match-matches.branch [
-      | in-Err-NoMemory w ↦ (let found = c.in_ok-turn.was in let none = w.in-Err-NoMemory.is in absurd cc)
-      | in_default w ↦ ap not w.matches-is
-      | in_default-2 w ↦ ap not w.matches-is
-    ] in
-    let is : c.from_residual-in_err-write_or_end.result ≡ Err WriteFault = first_of (search rules, cc) in
-    rw is (subst (λ (s : SeenServer). HasStepped s (record { device = c.answer_next-turn.new.device; served = inside.served + 1; place = inside.place + c.in-Some.turn.len; whole = not c.match-matches.matches }) (g.S.Source.left c.args.source.now) (g.S.Source.left c.answer_next-turn.new.source) (g.K.Sink.taken c.args.sink.now) (g.K.Sink.taken c.write_or_end.new.sink) (Err WriteFault)) c.self.view_is
-    (half_replied inside.served inside.place inside.device c.answer_next-turn.new.device inside.whole (not c.match-matches.matches) _ _ _ _ c.in-Some.turn c.deref.result.now whole replied c.deref.ensures.value c.in_err-write_or_end.ensures.prefix))
+    let asked : HasAsked c.device_len-size.result inside.served (g.S.Source.left c.args.source.now) (g.S.Source.left c.take_request.new.source) c.in-Ok-Some.asked = rw c.in-Ok-Some.field-0-is at c.in-Ok-Some.ensures.some in
+    let size : c.device_len-size.result ≡ length (bytes_of c.args.self) =
+    c.device_len-size.ensures.is ∙ ap (λ (k : Numbers). k.size * k.blocks) c.config.ensures ∙ sym (length_array inside.device c.self.invariant.order) ∙ ap (λ (x : SeenServer). length (bytes_of x)) c.self.view_is in
+    let few = subst (λ (x : SeenServer). x.served < most_requests) c.self.view_is asked.2 in
+    carried c.args.self (given_back c.answer.result) asked.0 _ _ _ _ (outcome c.answer.result) asked.1 few asked.3.whole (c.answer.ensures.answered asked.0 (subst (λ n. IsAsked n asked.0 c.in-Ok-Some.asked) size asked.3))
+
+pub returns-in-Ok-None-clause-step : goal.returns-in-Ok-None-clause-step
+returns-in-Ok-None-clause-step g c =
+    let inside = c.self.inside in
+    let gone : HasLeft inside.served inside.place (g.S.Source.left c.args.source.now) (g.S.Source.left c.take_request.new.source) = c.in-Ok-None.ensures.none (ap Ok c.in-Ok-None.field-0-is) in
+    (subst (λ (x : SeenServer). HasFinished (Ok Over) x (g.S.Source.left c.args.source.now) (g.S.Source.left c.take_request.new.source)) c.self.view_is (record { bytes = gone.bytes; gave = gone.gave; few = gone.few; ends = gone.ends }), refl)
