@@ -1,4 +1,4 @@
-use Rattle.std.proofs.Common.{◌<◌, ◌≤◌}
+use Rattle.std.proofs.Common.{◌<◌}
 use Rattle.std.specs.List.{All}
 use Rattle.store_device.specs.Seating.{ArePrunesApart}
 use Rattle.store_tests.proofs.trial.prunes_of.Given as goal
