@@ -13,10 +13,10 @@ use Rattle.store_care.specs.Batches.{AreBelow}
 abbrev Differ : Op → Op → Type 0
 Differ op other = block_of op ≢ block_of other
 
-rest_apart : (x : Op) (xs : List Op) → AreApart (x ∷ xs) → AreApart xs
+pub rest_apart : (x : Op) (xs : List Op) → AreApart (x ∷ xs) → AreApart xs
 rest_apart x xs h i j d lt within = h (suc i) (suc j) d (omega arith) (omega arith)
 
-first_apart : (x : Op) (xs : List Op) → AreApart (x ∷ xs) → All (Differ x) xs
+pub first_apart : (x : Op) (xs : List Op) → AreApart (x ∷ xs) → All (Differ x) xs
 first_apart x xs h k d within = h 0 (suc k) d (omega arith) (omega arith)
 
 apart_push : (xs : List Op) (y : Op) → AreApart xs → All (λ op. block_of op < block_of y) xs → AreApart (xs ++ y ∷ [])

@@ -1,18 +1,22 @@
-ghost use Rattle.std.specs.Prelude.{◌≡◌, ◌+◌, ◌-◌, ◌≤◌, ◌<◌, length, IfOk, OnOk};
-ghost use Rattle.wire_forms.specs.Ops.{Fits};
+ghost use Rattle.std.specs.Prelude.{◌≡◌, ◌+◌, ◌-◌, ◌≤◌, ◌<◌, ◌++◌, List, All, length, option_copied, IfOk, OnOk};
+ghost use Rattle.store_device.specs.Calls.{Call, Leads};
 ghost use Rattle.store_care.specs.Batches.{AreBelow};
+ghost use Rattle.store_care.specs.Prunes.{prune_by, prunes_by};
+ghost use Rattle.store_care.specs.Pruning.{ArePruning, IsReadAmong};
 
 use crate::blocks::{add, block_of};
+use crate::calls::{outcome_at, perform};
 use client_core::Outcome;
 use disk_model::Disk;
 use lists::NoMemory;
 use std::alloc::Global;
 use std::thread::Threads;
 use store_device::Store;
+use version_disk::Prune;
 use wire_forms::Op;
 
 /// Of `count` blocks from this one on reads those of which some node that is up keeps more than so many versions, and has each node that is
-/// up prune them by the stamps that the reads gave.
+/// up prune them by the stamps that the reads gave, all in one call.
 pub fn prune_due<D: Disk + Send, R: Threads + Sync>(
     rt: &R,
     alloc: Global,
@@ -24,24 +28,51 @@ pub fn prune_due<D: Disk + Send, R: Threads + Sync>(
     requires few { count ≤ 64 }
     requires there { first + count ≤ store.old.config.blocks }
     ensures config { store.new.config ≡ store.old.config }
+    // what it did to the store
+    ensures calls { (calls : List (Call D))
+        × Leads D.pending D.seen D.moment D.left_since store.old calls store.new
+        × ArePruning first count calls }
 {
     let due = due_reads(alloc, store, first, count, most)?;
-    let outcomes = store.perform(rt, &due)?;
-    for (k, outcome) in outcomes.into_iter().enumerate() {
-        if let Some(op) = due.get(k) {
-            prune_by(store, op, outcome);
-        }
-    }
+    let outcomes = perform(rt, store, &due)?;
+    let prunes = prunes_by(alloc, &due, &outcomes)?;
+    store.prune_all(rt, &prunes);
     Ok(())
 }
 
-// Prunes the block of a read by the stamp that the read gave, if it gave one.
-fn prune_by<D: Disk>(store: &mut Store<D>, op: &Op, outcome: Option<Outcome>)
-    requires { Fits store.old.config op.now }
-    ensures { store.new.config ≡ store.old.config }
+// The prunes that reads allow: of each block by the stamp that its read gave.
+fn prunes_by(
+    alloc: Global,
+    reads: &[Op],
+    outcomes: &[Option<Outcome>],
+) -> Result<Vec<Prune>, NoMemory>
+    ensures { IfOk result (λ prunes. prunes.items ≡ prunes_by reads.now outcomes.now) }
 {
-    if let Some(Outcome::Gave { stamp, .. }) = outcome {
-        store.prune(block_of(op), &stamp);
+    let mut prunes = Vec::new(alloc);
+    for (k, op) in reads.iter().enumerate() {
+        add_prune(&mut prunes, op, outcome_at(outcomes, k))?;
+    }
+    Ok(prunes)
+}
+
+// Adds the prune of a block that was read, by the stamp that the read gave, if it gave one.
+fn add_prune(prunes: &mut Vec<Prune>, read: &Op, outcome: Option<&Outcome>) -> Result<(), NoMemory>
+    ensures { OnOk result (prunes.new.items
+        ≡ prunes.old.items ++ prune_by read.now (option_copied outcome.entry)) }
+{
+    let Some(outcome) = outcome else {
+        return Ok(());
+    };
+    match outcome {
+        Outcome::Gave { stamp, .. } => {
+            let block = block_of(read);
+            prunes.push(Prune {
+                block,
+                stamp: *stamp,
+            })?;
+            Ok(())
+        }
+        _ => Ok(()),
     }
 }
 
@@ -57,6 +88,7 @@ fn due_reads<D: Disk>(
     ensures same { store.new ≡ store.old }
     ensures batch { IfOk result (λ ops. AreBelow store.old.config (first + count) ops.items) }
     ensures few { IfOk result (λ ops. length ops.items ≤ count) }
+    ensures among { IfOk result (λ ops. All (IsReadAmong first count) ops.items) }
 {
     let end = store.config().blocks().min(first + count);
     let mut due = Vec::new(alloc);

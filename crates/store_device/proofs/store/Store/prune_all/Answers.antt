@@ -46,7 +46,7 @@ returns-clause-seats g c =
 pub returns-clause-pruned : goal.returns-clause-pruned
 returns-clause-pruned g c =
     let D = g.D.Disk in
-    let disk = g.met.D.Disk in
+    let disk = g.met.D.Disk g.world.𝓛 g.world.𝓜 g.world.𝓡 ((λ s x. x), (λ x. x), (λ x. x), λ x. x) in
     let node = λ (seat : Seat g.row.D.Denot). seat.node in
     let own = c.self.inside in
     let now = c.args.self.now in
