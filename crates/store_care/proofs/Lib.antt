@@ -1,2 +1,10 @@
-mod PrunedBlocks
+mod Apart
 mod Rising
+mod Changing
+mod Reading
+mod Held
+mod Looked
+mod Written
+mod Block
+mod Looks
+mod Refused

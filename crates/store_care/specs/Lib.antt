@@ -1,4 +1,9 @@
 pub mod Batches
+pub mod Given
 pub mod Holdings
 pub mod Prunes
+pub mod Pruning
 pub mod Tallies
+pub mod Looking
+pub mod Steps
+pub mod Filling

@@ -12,11 +12,6 @@ abbrev pub prune_by : Op → Option Outcome → List Prune
 prune_by op (Some (Gave stamp value how rounds)) = record { block = block_of op; stamp = stamp } ∷ []
 prune_by op _ = []
 
--- the same where it is known how it ended
-abbrev pub prune_at : Op → Option (Option Outcome) → List Prune
-prune_at op None = []
-prune_at op (Some outcome) = prune_by op outcome
-
 -- the prunes by reads that ended so
 abbrev pub prunes_by : List Op → List (Option Outcome) → List Prune
 prunes_by (op ∷ ops) (outcome ∷ outcomes) = prune_by op outcome ++ prunes_by ops outcomes

@@ -4,6 +4,7 @@ ghost use Rattle.quorum_rules.specs.Limits.{Numbers};
 ghost use Rattle.wire_forms.specs.Ops.{Fits};
 ghost use Rattle.protocol.specs.Seen.{block_of};
 ghost use Rattle.store_care.specs.Batches.{AreBelow};
+ghost use Rattle.store_care.specs.Given.{reads_from};
 
 use lists::NoMemory;
 use std::alloc::Global;
@@ -18,7 +19,7 @@ pub(crate) fn reads_of(alloc: Global, first: u32, count: u32) -> Result<Vec<Op>,
     requires { first + count ≤ 65536 }
     ensures batch { IfOk result (λ ops. (c : Numbers) → first + count ≤ c.blocks
         → AreBelow c (first + count) ops.items) }
-    ensures count { IfOk result (λ ops. length ops.items ≡ count) }
+    ensures reads { IfOk result (λ ops. ops.items ≡ reads_from first count) }
 {
     let mut ops = Vec::with_capacity(alloc, count as usize)?;
     for block in first..first + count {

@@ -1,15 +1,25 @@
-ghost use Rattle.std.specs.Prelude.{◌≡◌, ◌+◌, ◌-◌, ◌≤◌, ◌<◌, length, IfOk, OnOk};
-ghost use Rattle.wire_forms.specs.Ops.{Fits};
+ghost use Rattle.std.specs.Prelude.{◌≡◌, ◌+◌, ◌≤◌, ◌<◌, [], ◌∷◌, ◌++◌, List, Option, Some, map, length, slice_index_or, false, is_none, option_copied, IfOk, OnOk};
+ghost use Rattle.std.specs.List.{range_with_len};
+ghost use Rattle.stamp_order.specs.declared.Stamp.{Stamp as AnyStamp};
+ghost use Rattle.protocol.specs.Operations.{Outcome as AnyOutcome};
+ghost use Rattle.store_device.specs.Stores.{SeenStore};
+ghost use Rattle.store_device.specs.Calls.{Call, Leads, HasPerformed};
 ghost use Rattle.store_care.specs.Batches.{AreBelow};
+ghost use Rattle.store_care.specs.Given.{given, given_by, written_by};
+ghost use Rattle.store_care.specs.Holdings.{made_of, newest_at, newest_of};
+ghost use Rattle.store_care.specs.Tallies.{AreChanged, holds_again, one_more_if, with_restored};
+ghost use Rattle.store_care.specs.Looking.{AreLook, HasCounted};
+ghost use Rattle.store_care.specs.Steps.{AreLacking, HasLooked, HasLookedAt, IsNoted, IsRestored};
 
-use crate::blocks::{add, block_of, reads_of};
-use crate::holding::{Holding, compared, newest};
+use crate::blocks::{block_of, reads_of};
+use crate::calls::{given, outcome_at, perform, written};
+use crate::newest::{Newest, newest_of_all};
 use crate::tally::NodeTally;
 use client_core::Outcome;
 use cross_sum::Bytes;
 use disk_model::Disk;
 use frag_check::{Summed, code_of, summed_block};
-use lists::NoMemory;
+use lists::{Copied, NoMemory};
 use quorum_rules::Config;
 use stamp_order::Stamp;
 use std::alloc::Global;
@@ -24,17 +34,17 @@ pub struct Care {
     pub failed: u64,
 }
 
-// Writes of blocks that nodes don't hold, and for each of them the seats of these nodes.
+// Writes of blocks that nodes don't hold, and for each of them by seat whether its node lacks the block.
 #[derive(Drop)]
 struct Lacking {
     again: Vec<Op>,
-    seats: Vec<Vec<usize>>,
+    seats: Vec<Vec<bool>>,
 }
 
 impl Care {
     /// Nothing was found yet, of so many seats.
     pub fn new(alloc: Global, seats: usize) -> Result<Care, NoMemory>
-        ensures { IfOk result (λ care. length care.tallies.items ≡ seats) }
+        ensures seats { IfOk result (λ care. length care.tallies.items ≡ seats) }
     {
         Ok(Care {
             tallies: vec![in alloc; NodeTally::default(); seats]?,
@@ -57,146 +67,112 @@ impl Care {
         requires there { first + count ≤ store.old.config.blocks }
         ensures config { store.new.config ≡ store.old.config }
         ensures seats { length self.new.tallies.items ≡ length self.old.tallies.items }
+        // what it did to the store, and what it counted
+        ensures calls { (calls : List (Call D))
+            × Leads D.pending D.seen D.moment D.left_since store.old calls store.new
+            × AreLook first count calls
+            × OnOk result (HasCounted first count self.old self.new store.old calls) }
     {
         let end = store.config().blocks().min(first + count);
         // A read may write back what it found, so what nodes hold is noted before.
         let before = newest_of_all(alloc, store, first, end)?;
         let reads = reads_of(alloc, first, count)?;
-        let outcomes = store.perform(rt, &reads)?;
-        let lacking = self.look_at_all(alloc, store, first, end, outcomes, &before)?;
+        let outcomes = perform(rt, store, &reads)?;
+        let lacking = self.look_at_all(alloc, store, first, &outcomes, &before)?;
         self.restore(rt, store, &lacking)
     }
 
-    // Looks at the blocks from the first up to the end, of which reads ended so. Gives those that are to be written again.
-    #[tactic(auto, using(crate::proofs::Rising::below_later, crate::proofs::Rising::none_below))]
+    // Looks at blocks from the first on, of which reads ended so, and of which nodes held this. Gives those that are to be written again.
     fn look_at_all<D: Disk>(
         &mut self,
         alloc: Global,
         store: &mut Store<D>,
         first: u32,
-        end: u32,
-        outcomes: Vec<Option<Outcome>>,
+        outcomes: &[Option<Outcome>],
         before: &[Newest],
     ) -> Result<Lacking, NoMemory>
-        requires order { first ≤ end }
-        requires there { end ≤ store.old.config.blocks }
+        requires few { first + length before.now ≤ 65536 }
+        requires there { first + length before.now ≤ store.old.config.blocks }
         ensures same { store.new ≡ store.old }
-        ensures batch { IfOk result (λ lacking. AreBelow store.old.config end lacking.again.items) }
-        ensures few { IfOk result (λ lacking. length lacking.again.items ≤ end - first) }
         ensures seats { length self.new.tallies.items ≡ length self.old.tallies.items }
+        ensures lacking { IfOk result (λ lacking. AreLacking store.old.config first
+            (length before.now) outcomes.now (length before.now) lacking) }
+        ensures looked { IfOk result (λ lacking. (old : SeenStore D) → old.config ≡ store.old.config
+            → map (λ newest. newest.items) before.now
+            ≡ map (newest_of old) (range_with_len first (length before.now))
+            → HasLooked old store.old first outcomes.now (length before.now) self.old self.new lacking) }
     {
         let mut lacking = Lacking {
             again: Vec::new(alloc),
             seats: Vec::new(alloc),
         };
         let mut block = first;
-        for (outcome, newest) in outcomes.into_iter().zip(before) {
-            if block < end {
-                self.look_at(alloc, store, block, outcome, newest, &mut lacking)?;
-                block += 1;
-            }
+        for (k, newest) in before.iter().enumerate() {
+            self.look_at(
+                alloc,
+                store,
+                block,
+                outcome_at(outcomes, k),
+                newest,
+                &mut lacking,
+            )?;
+            block += 1;
         }
         Ok(lacking)
     }
 
-    // Looks at one block, of which a read ended so.
-    #[tactic(auto, using(crate::proofs::Rising::below_later, crate::proofs::Rising::none_below))]
+    // Looks at one block, of which a read ended so, and of which nodes held this.
     fn look_at<D: Disk>(
         &mut self,
         alloc: Global,
         store: &mut Store<D>,
         block: u32,
-        outcome: Option<Outcome>,
-        newest: &Newest,
+        outcome: Option<&Outcome>,
+        newest: &[Option<Version>],
         lacking: &mut Lacking,
     ) -> Result<(), NoMemory>
-        requires there { block < store.old.config.blocks }
-        requires batch { AreBelow store.old.config block lacking.old.again.items }
-        ensures same { store.new ≡ store.old }
-        ensures batch { OnOk result (AreBelow store.old.config (block + 1) lacking.new.again.items) }
-        ensures few { OnOk result
-            (length lacking.new.again.items ≤ length lacking.old.again.items + 1) }
-        ensures seats { length self.new.tallies.items ≡ length self.old.tallies.items }
-    {
-        let Some(Outcome::Gave { stamp, value, .. }) = outcome else {
-            self.failed = self.failed.saturating_add(1);
-            return Ok(());
-        };
-        if value.len() != store.config().size() as usize {
-            self.failed = self.failed.saturating_add(1);
-            return Ok(());
-        }
-        let made = fragments(alloc, store.config(), &stamp, &value)?;
-        let lacked = self.count_all(alloc, newest, &stamp, made.as_ref())?;
-        let seats = self.still_lacking(alloc, store, &lacked, block, &stamp, made.as_ref())?;
-        if seats.is_empty() {
-            return Ok(());
-        }
-        add(&mut lacking.again, Op::Write { block, value })?;
-        lacking.seats.push(seats)?;
-        Ok(())
-    }
-
-    // Counts what nodes held of a block before it was read. Gives the seats of those that didn't hold what the read gave.
-    fn count_all(
-        &mut self,
-        alloc: Global,
-        newest: &[Option<Version>],
-        stamp: &Stamp,
-        made: Option<&Summed>,
-    ) -> Result<Vec<usize>, NoMemory>
-        ensures seats { length self.new.tallies.items ≡ length self.old.tallies.items }
-    {
-        let mut lacked = Vec::new(alloc);
-        for (seat, version) in newest.iter().enumerate() {
-            if let (Some(version), Some(tally)) = (version, self.tallies.get_mut(seat)) {
-                let holding = compared(version, seat, stamp, made);
-                tally.count(holding);
-                if holding != Holding::Sound {
-                    lacked.push(seat)?;
-                }
-            }
-        }
-        Ok(lacked)
-    }
-
-    // Counts those of these nodes that hold a block since it was read. Gives the seats of those that don't.
-    fn still_lacking<D: Disk>(
-        &mut self,
-        alloc: Global,
-        store: &mut Store<D>,
-        seats: &[usize],
-        block: u32,
-        stamp: &Stamp,
-        made: Option<&Summed>,
-    ) -> Result<Vec<usize>, NoMemory>
         requires { block < store.old.config.blocks }
         ensures same { store.new ≡ store.old }
         ensures seats { length self.new.tallies.items ≡ length self.old.tallies.items }
+        ensures looked { OnOk result (HasLookedAt store.old.config newest.now store.old block
+            (given store.old.config.size (option_copied outcome.entry)) self.old self.new lacking.old lacking.new) }
     {
-        let mut lacking = Vec::new(alloc);
-        for seat in seats {
-            match newest_at(store, *seat, block)? {
-                Some(version) if compared(&version, *seat, stamp, made) == Holding::Sound => {
-                    self.note_restored(*seat);
-                }
-                Some(_) => lacking.push(*seat)?,
-                None => {}
+        match given(outcome, store.config().size()) {
+            Some((stamp, value)) => {
+                self.look_at_value(alloc, store, block, stamp, value, newest, lacking)
+            }
+            None => {
+                self.failed = self.failed.saturating_add(1);
+                Ok(())
             }
         }
-        Ok(lacking)
     }
 
-    // Counts a block that the node of a seat holds again.
-    fn note_restored(&mut self, seat: usize)
-        ensures { length self.new.tallies.items ≡ length self.old.tallies.items }
+    // Looks at one block, of which a read gave this, and of which nodes held this.
+    fn look_at_value<D: Disk>(
+        &mut self,
+        alloc: Global,
+        store: &mut Store<D>,
+        block: u32,
+        stamp: &Stamp,
+        value: &Bytes,
+        newest: &[Option<Version>],
+        lacking: &mut Lacking,
+    ) -> Result<(), NoMemory>
+        requires { block < store.old.config.blocks }
+        ensures same { store.new ≡ store.old }
+        ensures seats { length self.new.tallies.items ≡ length self.old.tallies.items }
+        ensures looked { OnOk result (HasLookedAt store.old.config newest.now store.old block
+            (Some (given_by stamp.now value.now)) self.old self.new lacking.old lacking.new) }
     {
-        if let Some(tally) = self.tallies.get_mut(seat) {
-            tally.count_restored();
-        }
+        let summed = fragments(alloc, store.config(), stamp, value)?;
+        let made = summed.as_ref();
+        let lacked = self.count_all(alloc, newest, stamp, made)?;
+        let still = self.count_again(alloc, store, block, stamp, made, &lacked)?;
+        lacking.note(block, value, still)
     }
 
-    // Writes blocks again, and counts the nodes that hold them now and didn't.
+    // Writes blocks again, and counts the nodes that lacked them and hold them since.
     fn restore<D: Disk + Send, R: Threads + Sync>(
         &mut self,
         rt: &R,
@@ -205,91 +181,87 @@ impl Care {
     ) -> Result<(), NoMemory>
         requires batch { AreBelow store.old.config store.old.config.blocks lacking.now.again.items }
         requires few { length lacking.now.again.items ≤ 64 }
+        requires paired { length lacking.now.seats.items ≡ length lacking.now.again.items }
         ensures config { store.new.config ≡ store.old.config }
         ensures seats { length self.new.tallies.items ≡ length self.old.tallies.items }
+        ensures calls { (told : Option (List (Option AnyOutcome)))
+            × HasPerformed D.pending D.seen D.moment D.left_since lacking.now.again.items told store.old store.new
+            × OnOk result ((outcomes : List (Option AnyOutcome)) × (told ≡ Some outcomes)
+            × IsRestored store.old.config.n store.new lacking.now outcomes (length lacking.now.again.items) self.old self.new) }
     {
-        let outcomes = store.perform(rt, &lacking.again)?;
-        for (k, outcome) in outcomes.into_iter().enumerate() {
-            match (outcome, lacking.again.get(k), lacking.seats.get(k)) {
-                (Some(Outcome::Wrote(stamp)), Some(op), Some(seats)) => {
-                    self.count_restored(store, seats, block_of(op), &stamp)?;
-                }
-                _ => self.failed = self.failed.saturating_add(1),
-            }
-        }
-        Ok(())
+        let outcomes = perform(rt, store, &lacking.again)?;
+        self.count_written(store, lacking, &outcomes)
     }
 
-    // Counts those of these nodes that hold the version of this stamp of a block.
-    fn count_restored<D: Disk>(
+    // Counts the nodes that lacked blocks and hold them since they were written, which ended so, and the writes that weren't told of.
+    fn count_written<D: Disk>(
         &mut self,
         store: &mut Store<D>,
-        seats: &[usize],
-        block: u32,
-        stamp: &Stamp,
+        lacking: &Lacking,
+        outcomes: &[Option<Outcome>],
     ) -> Result<(), NoMemory>
+        requires batch { AreBelow store.old.config store.old.config.blocks lacking.now.again.items }
+        requires paired { length lacking.now.seats.items ≡ length lacking.now.again.items }
         ensures same { store.new ≡ store.old }
         ensures seats { length self.new.tallies.items ≡ length self.old.tallies.items }
+        ensures restored { OnOk result (IsRestored store.old.config.n store.old lacking.now outcomes.now
+            (length lacking.now.again.items) self.old self.new) }
     {
-        if block >= store.config().blocks() {
-            return Ok(());
-        }
-        for seat in seats {
-            match newest_at(store, *seat, block)? {
-                Some(version) if version.stamp == *stamp => self.note_restored(*seat),
-                _ => {}
-            }
+        for (k, op) in lacking.again.iter().enumerate() {
+            let outcome = outcome_at(outcomes, k);
+            self.count_write(store, block_of(op), &lacking.seats[k], outcome)?;
         }
         Ok(())
     }
+
+    // Counts the nodes that lacked a block, as it is told by seat, and hold it since it was written, which ended so.
+    fn count_write<D: Disk>(
+        &mut self,
+        store: &mut Store<D>,
+        block: u32,
+        lacked: &[bool],
+        outcome: Option<&Outcome>,
+    ) -> Result<(), NoMemory>
+        requires { block < store.old.config.blocks }
+        ensures same { store.new ≡ store.old }
+        ensures seats { length self.new.tallies.items ≡ length self.old.tallies.items }
+        ensures failed { OnOk result (self.new.failed
+            ≡ one_more_if (is_none (written_by (option_copied outcome.entry))) self.old.failed) }
+        ensures tallies { OnOk result (AreChanged (λ seat. with_restored (holds_again (slice_index_or lacked.now seat false)
+            (written_by (option_copied outcome.entry)) (newest_at store.old block seat)))
+            (length lacked.now) self.old.tallies.items self.new.tallies.items) }
+    {
+        match written(outcome) {
+            Some(stamp) => self.count_holding(store, lacked, block, stamp),
+            None => {
+                self.failed = self.failed.saturating_add(1);
+                Ok(())
+            }
+        }
+    }
 }
 
-/// The newest version of a block at each seat; None where no node is up there.
-type Newest = Vec<Option<Version>>;
-
-// The newest versions of the blocks from the first up to the end.
-fn newest_of_all<D: Disk>(
-    alloc: Global,
-    store: &mut Store<D>,
-    first: u32,
-    end: u32,
-) -> Result<Vec<Newest>, NoMemory>
-    requires { end ≤ store.old.config.blocks }
-    ensures same { store.new ≡ store.old }
-{
-    let mut all = Vec::new(alloc);
-    for block in first..end {
-        all.push(newest_of(alloc, store, block)?)?;
+impl Lacking {
+    // Notes a block with the value that a read of it gave, if by seat a node lacks it.
+    fn note(&mut self, block: u32, value: &Bytes, seats: Vec<bool>) -> Result<(), NoMemory>
+        ensures { OnOk result ((stamp : AnyStamp)
+            → IsNoted block (Some (given_by stamp value.now)) seats.items self.old self.new) }
+    {
+        if !seats.iter().any(|lacks| *lacks) {
+            return Ok(());
+        }
+        self.add(block, value.copy()?, seats)
     }
-    Ok(all)
-}
 
-fn newest_of<D: Disk>(alloc: Global, store: &mut Store<D>, block: u32) -> Result<Newest, NoMemory>
-    requires { block < store.old.config.blocks }
-    ensures same { store.new ≡ store.old }
-{
-    let mut newest = Vec::new(alloc);
-    for seat in 0..store.config().n() as usize {
-        newest.push(newest_at(store, seat, block)?)?;
-    }
-    Ok(newest)
-}
-
-// The newest version that the node of a seat keeps of a block, if it is up.
-fn newest_at<D: Disk>(
-    store: &mut Store<D>,
-    seat: usize,
-    block: u32,
-) -> Result<Option<Version>, NoMemory>
-    requires { block < store.old.config.blocks }
-    ensures same { store.new ≡ store.old }
-{
-    if !store.is_up(seat) {
-        return Ok(None);
-    }
-    match store.node(seat) {
-        Some(node) => newest(node, block),
-        None => Ok(None),
+    // Adds a write of a block with a value, and by seat whether its node lacks the block.
+    fn add(&mut self, block: u32, value: Bytes, seats: Vec<bool>) -> Result<(), NoMemory>
+        ensures again { OnOk result
+            (self.new.again.items ≡ self.old.again.items ++ Op.Write block value ∷ []) }
+        ensures seats { OnOk result (self.new.seats.items ≡ self.old.seats.items ++ seats ∷ []) }
+    {
+        self.again.push(Op::Write { block, value })?;
+        self.seats.push(seats)?;
+        Ok(())
     }
 }
 
@@ -299,7 +271,9 @@ fn fragments(
     config: &Config,
     stamp: &Stamp,
     value: &Bytes,
-) -> Result<Option<Summed>, NoMemory> {
+) -> Result<Option<Summed>, NoMemory>
+    ensures { IfOk result (λ made. made ≡ made_of config.now (given_by stamp.now value.now)) }
+{
     if stamp.time == 0 {
         return Ok(None);
     }

@@ -1,10 +1,15 @@
-ghost use Rattle.std.specs.Prelude.{◌≡◌, ◌+◌, ◌≤◌};
+ghost use Rattle.std.specs.Prelude.{◌≡◌, ◌+◌, ◌≤◌, ◌<◌, ℕ, [], ◌∷◌, ◌++◌, List, Option, Some, length, slice_index_or, is_none, option_copied, IfSome, IfOk, OnOk};
+ghost use Rattle.store_device.specs.Calls.{Call, Leads};
+ghost use Rattle.store_care.specs.Given.{given, given_by};
+ghost use Rattle.store_care.specs.Tallies.{failed_reads, one_more_if};
+ghost use Rattle.store_care.specs.Filling.{AreFill, AreFilling, HasKept, asks_by, asks_for, version_for, with_replies, with_reply};
 
-use crate::blocks::{MOST_BLOCKS, reads_of};
+use crate::blocks::{MOST_BLOCKS, block_of, reads_of};
+use crate::calls::{given, outcome_at, perform};
 use client_core::Outcome;
 use cross_sum::Bytes;
 use disk_model::Disk;
-use frag_check::{code_of, summed_block};
+use frag_check::{Summed, code_of, summed_block};
 use lists::{Copied, NoMemory};
 use quorum_rules::Config;
 use stamp_order::Stamp;
@@ -12,7 +17,7 @@ use std::alloc::Global;
 use std::thread::Threads;
 use store_device::Store;
 use version_disk::StoredNode;
-use wire_forms::{Ask, Reply, Request, Version};
+use wire_forms::{Ask, Op, Reply, Request, Version};
 
 /// What a new node was given: how many blocks it keeps now, and how many couldn't be read or weren't kept.
 #[derive(Clone, Copy, Debug, Default, PartialEq, Eq)]
@@ -74,72 +79,120 @@ impl Filled {
     ) -> Result<(), NoMemory>
         requires few { count ≤ 64 }
         requires there { first + count ≤ store.old.config.blocks }
+        requires numbers { first + count ≤ 65536 }
         ensures config { store.new.config ≡ store.old.config }
+        // what it did to the store, and what the node keeps of that
+        ensures calls { (calls : List (Call D))
+            × Leads D.pending D.seen D.moment D.left_since store.old calls store.new
+            × AreFill first count calls
+            × OnOk result ((length calls ≡ 1)
+            × AreFilling E.pending E.seen store.old.config number calls self.old self.new node.old node.new) }
     {
-        let end = store.config().blocks().min(first + count);
         let reads = reads_of(alloc, first, count)?;
-        let outcomes = store.perform(rt, &reads)?;
-        let asks = self.asks_of(alloc, store.config(), number, first, end, outcomes)?;
-        match node.handle_all(&asks) {
-            Ok(replies) => self.count_all(replies.as_slice()),
-            Err(_) => self.missed = self.missed.saturating_add(asks.len() as u64),
-        }
+        let outcomes = perform(rt, store, &reads)?;
+        let asks = self.asks_for(alloc, store.config(), number, &reads, &outcomes)?;
+        self.keep(node, &asks);
         Ok(())
     }
 
-    // What the node of this number is asked to keep, where reads of the blocks from the first up to the end ended so.
-    fn asks_of(
+    // What the node of this number is asked to keep, where reads ended so. Blocks of which they gave nothing are missed.
+    fn asks_for(
         &mut self,
         alloc: Global,
         config: &Config,
         number: usize,
-        first: u32,
-        end: u32,
-        outcomes: Vec<Option<Outcome>>,
-    ) -> Result<Vec<Ask>, NoMemory> {
+        reads: &[Op],
+        outcomes: &[Option<Outcome>],
+    ) -> Result<Vec<Ask>, NoMemory>
+        ensures asks { IfOk result (λ asks. asks.items
+            ≡ asks_for config.now number reads.now outcomes.now (length reads.now)) }
+        ensures missed { OnOk result (self.new ≡ record self.old {
+          missed
+              = failed_reads config.now.size outcomes.now (length reads.now) self.old.missed;
+        }) }
+    {
         let mut asks = Vec::new(alloc);
-        let mut block = first;
-        for outcome in outcomes {
-            if block < end {
-                self.add_ask(alloc, config, number, block, outcome, &mut asks)?;
-                block += 1;
-            }
+        for (k, op) in reads.iter().enumerate() {
+            let outcome = outcome_at(outcomes, k);
+            self.ask_of(alloc, config, number, block_of(op), outcome, &mut asks)?;
         }
         Ok(asks)
     }
 
-    // Asks the node of this number to keep what a read of a block gave, if that was written.
-    fn add_ask(
+    // Asks the node of this number to keep what a read of a block gave, which ended so. Where it gave nothing the block is missed.
+    fn ask_of(
         &mut self,
         alloc: Global,
         config: &Config,
         number: usize,
         block: u32,
-        outcome: Option<Outcome>,
+        outcome: Option<&Outcome>,
         asks: &mut Vec<Ask>,
-    ) -> Result<(), NoMemory> {
-        let Some(Outcome::Gave { stamp, value, .. }) = outcome else {
-            self.missed = self.missed.saturating_add(1);
-            return Ok(());
-        };
-        if value.len() != config.size() as usize {
-            self.missed = self.missed.saturating_add(1);
-        } else if stamp.time > 0 {
-            let version = version_of(alloc, config, number, stamp, &value)?;
-            let request = Request::Write(version);
-            asks.push(Ask { block, request })?;
-        }
-        Ok(())
-    }
-
-    fn count_all(&mut self, replies: &[Reply]) {
-        for reply in replies {
-            match reply {
-                Reply::Ack => self.kept = self.kept.saturating_add(1),
-                _ => self.missed = self.missed.saturating_add(1),
+    ) -> Result<(), NoMemory>
+        ensures asks { OnOk result (asks.new.items ≡ asks.old.items
+            ++ asks_by config.now number block (given config.now.size (option_copied outcome.entry))) }
+        ensures missed { OnOk result (self.new ≡ record self.old {
+          missed
+              = one_more_if (is_none (given config.now.size (option_copied outcome.entry))) self.old.missed;
+        }) }
+    {
+        match given(outcome, config.size()) {
+            Some((stamp, value)) => add_ask(alloc, config, number, block, stamp, value, asks),
+            None => {
+                self.missed = self.missed.saturating_add(1);
+                Ok(())
             }
         }
     }
+
+    // Has the node keep what it is asked to, and counts its answers.
+    fn keep<E: Disk>(&mut self, node: &mut StoredNode<E>, asks: &[Ask])
+        ensures { HasKept E.pending E.seen asks.now self.old self.new node.old node.new }
+    {
+        match node.handle_all(asks) {
+            Ok(replies) => self.count_all(replies.as_slice()),
+            Err(_) => self.missed = self.missed.saturating_add(asks.len() as u64),
+        }
+    }
+
+    fn count_all(&mut self, replies: &[Reply])
+        ensures { self.new ≡ with_replies self.old replies.now }
+    {
+        for reply in replies {
+            self.count(reply);
+        }
+    }
+
+    fn count(&mut self, reply: &Reply)
+        ensures { self.new ≡ with_reply self.old reply.now }
+    {
+        match reply {
+            Reply::Ack => self.kept = self.kept.saturating_add(1),
+            _ => self.missed = self.missed.saturating_add(1),
+        }
+    }
+}
+
+// Asks the node of this number to keep what a read of a block gave, if that was written.
+fn add_ask(
+    alloc: Global,
+    config: &Config,
+    number: usize,
+    block: u32,
+    stamp: &Stamp,
+    value: &Bytes,
+    asks: &mut Vec<Ask>,
+) -> Result<(), NoMemory>
+    ensures { OnOk result (asks.new.items ≡ asks.old.items
+        ++ asks_by config.now number block (Some (given_by stamp.now value.now))) }
+{
+    if stamp.time == 0 {
+        return Ok(());
+    }
+    let version = version_of(alloc, config, number, stamp, value)?;
+    let request = Request::Write(version);
+    asks.push(Ask { block, request })?;
+    Ok(())
 }
 
 // The version of a value that the node of this number keeps.
@@ -147,17 +200,27 @@ fn version_of(
     alloc: Global,
     config: &Config,
     number: usize,
-    stamp: Stamp,
+    stamp: &Stamp,
     value: &Bytes,
-) -> Result<Version, NoMemory> {
+) -> Result<Version, NoMemory>
+    ensures { IfOk result (λ version. version
+        ≡ version_for config.now number (given_by stamp.now value.now)) }
+{
     let summed = summed_block(alloc, &code_of(config), value)?;
-    let fragment = match summed.shares.get(number) {
-        Some(share) => share.copy()?,
-        None => Bytes::empty(),
-    };
+    let fragment = share_of(&summed, number)?;
     Ok(Version {
-        stamp,
+        stamp: *stamp,
         sum: summed.sum,
         fragment,
     })
+}
+
+// The fragment of this number, or no bytes where there is none.
+fn share_of(summed: &Summed, number: usize) -> Result<Bytes, NoMemory>
+    ensures { IfOk result (λ share. share ≡ slice_index_or summed.now.shares number []) }
+{
+    match summed.shares.get(number) {
+        Some(share) => share.copy(),
+        None => Ok(Bytes::empty()),
+    }
 }

@@ -1,5 +1,5 @@
 ghost use Rattle.std.specs.Prelude.{◌≡◌, ◌<◌, ◌↔◌, IsTrue, IfOk, Some, option_copied, slice_get};
-ghost use Rattle.store_care.specs.Holdings.{IsBeside, IsMade, newest_in};
+ghost use Rattle.store_care.specs.Holdings.{IsBeside, IsMade, holding_of, is_made, newest_in};
 
 use disk_model::Disk;
 use frag_check::Summed;
@@ -40,7 +40,8 @@ pub(crate) fn newest<D: Disk>(node: &StoredNode<D>, block: u32) -> Result<Option
 /// What the node of a seat is, whose newest version of a block this is, beside a read of it that gave this stamp and a value with these
 /// fragments. Where there are none the value is that of the first version.
 pub fn compared(version: &Version, seat: usize, stamp: &Stamp, made: Option<&Summed>) -> Holding
-    ensures { IsBeside seat stamp.now (option_copied made.entry) version.now result }
+    ensures beside { IsBeside seat stamp.now (option_copied made.entry) version.now result }
+    ensures holding { result ≡ holding_of seat stamp.now (option_copied made.entry) version.now }
 {
     match version.stamp.cmp(stamp) {
         Ordering::Less => Holding::Older,
@@ -57,7 +58,8 @@ pub fn compared(version: &Version, seat: usize, stamp: &Stamp, made: Option<&Sum
 
 // Whether a version's cross checksum and fragment are those of a value at this node; where there are none, any are.
 fn is_made(version: &Version, seat: usize, made: Option<&Summed>) -> bool
-    ensures { IsTrue result ↔ IsMade seat (option_copied made.entry) version.now }
+    ensures made { IsTrue result ↔ IsMade seat (option_copied made.entry) version.now }
+    ensures test { result ≡ is_made seat (option_copied made.entry) version.now }
 {
     match made {
         Some(summed) => is_of(version, seat, summed),

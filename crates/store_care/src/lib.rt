@@ -3,9 +3,12 @@
 #![tactic(auto)]
 
 mod blocks;
+mod calls;
 pub mod care;
+mod counting;
 pub mod filling;
 pub mod holding;
+mod newest;
 pub mod pruning;
 pub mod tally;
 

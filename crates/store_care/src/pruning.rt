@@ -1,8 +1,11 @@
-ghost use Rattle.std.specs.Prelude.{◌≡◌, ◌+◌, ◌-◌, ◌≤◌, ◌<◌, ◌++◌, length, option_map, IfOk, OnOk};
+ghost use Rattle.std.specs.Prelude.{◌≡◌, ◌+◌, ◌-◌, ◌≤◌, ◌<◌, ◌++◌, List, All, length, option_copied, IfOk, OnOk};
+ghost use Rattle.store_device.specs.Calls.{Call, Leads};
 ghost use Rattle.store_care.specs.Batches.{AreBelow};
-ghost use Rattle.store_care.specs.Prunes.{prune_at, prunes_by};
+ghost use Rattle.store_care.specs.Prunes.{prune_by, prunes_by};
+ghost use Rattle.store_care.specs.Pruning.{ArePruning, IsReadAmong};
 
 use crate::blocks::{add, block_of};
+use crate::calls::{outcome_at, perform};
 use client_core::Outcome;
 use disk_model::Disk;
 use lists::NoMemory;
@@ -25,9 +28,13 @@ pub fn prune_due<D: Disk + Send, R: Threads + Sync>(
     requires few { count ≤ 64 }
     requires there { first + count ≤ store.old.config.blocks }
     ensures config { store.new.config ≡ store.old.config }
+    // what it did to the store
+    ensures calls { (calls : List (Call D))
+        × Leads D.pending D.seen D.moment D.left_since store.old calls store.new
+        × ArePruning first count calls }
 {
     let due = due_reads(alloc, store, first, count, most)?;
-    let outcomes = store.perform(rt, &due)?;
+    let outcomes = perform(rt, store, &due)?;
     let prunes = prunes_by(alloc, &due, &outcomes)?;
     store.prune_all(rt, &prunes);
     Ok(())
@@ -43,31 +50,29 @@ fn prunes_by(
 {
     let mut prunes = Vec::new(alloc);
     for (k, op) in reads.iter().enumerate() {
-        add_prune(&mut prunes, op, outcomes.get(k))?;
+        add_prune(&mut prunes, op, outcome_at(outcomes, k))?;
     }
     Ok(prunes)
 }
 
-// Adds the prune that a read allows which ended so, if that is known.
-fn add_prune(
-    prunes: &mut Vec<Prune>,
-    op: &Op,
-    outcome: Option<&Option<Outcome>>,
-) -> Result<(), NoMemory>
-    ensures { OnOk result (prunes.new.items ≡ prunes.old.items
-        ++ prune_at op.now (option_map (λ o. o.now) outcome.entry)) }
+// Adds the prune of a block that was read, by the stamp that the read gave, if it gave one.
+fn add_prune(prunes: &mut Vec<Prune>, read: &Op, outcome: Option<&Outcome>) -> Result<(), NoMemory>
+    ensures { OnOk result (prunes.new.items
+        ≡ prunes.old.items ++ prune_by read.now (option_copied outcome.entry)) }
 {
+    let Some(outcome) = outcome else {
+        return Ok(());
+    };
     match outcome {
-        Some(Some(Outcome::Gave { stamp, .. })) => {
+        Outcome::Gave { stamp, .. } => {
+            let block = block_of(read);
             prunes.push(Prune {
-                block: block_of(op),
+                block,
                 stamp: *stamp,
             })?;
             Ok(())
         }
-        Some(Some(Outcome::Wrote(_) | Outcome::Spent | Outcome::Outvoted(_)) | None) | None => {
-            Ok(())
-        }
+        _ => Ok(()),
     }
 }
 
@@ -83,6 +88,7 @@ fn due_reads<D: Disk>(
     ensures same { store.new ≡ store.old }
     ensures batch { IfOk result (λ ops. AreBelow store.old.config (first + count) ops.items) }
     ensures few { IfOk result (λ ops. length ops.items ≤ count) }
+    ensures among { IfOk result (λ ops. All (IsReadAmong first count) ops.items) }
 {
     let end = store.config().blocks().min(first + count);
     let mut due = Vec::new(alloc);

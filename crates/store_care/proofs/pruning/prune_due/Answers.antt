@@ -1,34 +1,80 @@
-use Rattle.std.proofs.Common.{◌≡◌, ◌<◌, ℕ, ◌+◌, ◌≤◌, List, sym, ap, subst, ◌∙◌, arith}
+use Rattle.std.proofs.Common.{◌≡◌, ◌<◌, ◌≤◌, ◌+◌, ◌∷◌, [], ℕ, List, Option, None, Some, refl, sym, ap, subst, ◌∙◌, arith}
 use Rattle.std.specs.List.{All}
-use Rattle.std.specs.Prelude.{Option}
+use Rattle.std.proofs.lemmas.List.Elements.{All-weaker}
+use Rattle.quorum_rules.specs.Limits.{Numbers}
 use Rattle.wire_forms.specs.declared.op.Op.{Op}
 use Rattle.protocol.specs.Operations.{Outcome}
 use Rattle.protocol.specs.Seen.{block_of}
-use Rattle.std.proofs.lemmas.List.Elements.{All-weaker}
 use Rattle.version_disk.specs.declared.prune.Prune.{Prune}
+use Rattle.store_device.specs.Stores.{SeenStore}
 use Rattle.store_device.specs.Seating.{ArePrunesApart}
+use Rattle.store_device.specs.Calls.{HasPerformed, HasPruned}
+use Rattle.store_device.specs.Calls.Deed.{Prunes}
 use Rattle.store_care.specs.Prunes.{prunes_by}
-use Rattle.store_care.proofs.PrunedBlocks.{of_blocks, prunes_apart}
+use Rattle.store_care.proofs.Apart.{of_blocks, prunes_apart}
+use Rattle.store_care.proofs.Looks.{performed}
 use Rattle.store_care.proofs.pruning.prune_due.Goals as goal
 
-pub prune_all-requires-clause-apart : goal.prune_all-requires-clause-apart
-prune_all-requires-clause-apart g c lifetimes within =
-    let reads = c.in_ok-due.due.items in
+pub returns-in_err-outcomes-clause-calls : goal.returns-in_err-outcomes-clause-calls
+returns-in_err-outcomes-clause-calls g c =
+    let D = g.D.Disk in
+    let old = c.args.store.now in
+    let new = c.perform.new.store in
+    let due = c.in_ok-due.due.items in
+    let h : HasPerformed D.pending D.seen D.moment D.left_since due None old new =
+    subst (λ (s : SeenStore _). HasPerformed D.pending D.seen D.moment D.left_since due None s new) c.due_reads.ensures.same
+    (subst (λ (ops : List Op). HasPerformed D.pending D.seen D.moment D.left_since ops None c.due_reads.new.store new) c.deref.ensures.value c.in_err-outcomes.ensures.err) in
+    (performed due None new ∷ [], (h, refl), record { reads = due; among = c.in_ok-due.ensures.among; told = None; is = refl })
+
+pub returns-in_err-prunes-clause-calls : goal.returns-in_err-prunes-clause-calls
+returns-in_err-prunes-clause-calls g c =
+    let D = g.D.Disk in
+    let old = c.args.store.now in
+    let new = c.perform.new.store in
+    let due = c.in_ok-due.due.items in
     let outcomes = c.in_ok-outcomes.outcomes.items in
-    let is : c.deref-4.result.now ≡ prunes_by reads outcomes =
-    c.deref-4.ensures.value ∙ c.in_ok-prunes.ensures ∙ ap (λ (l : List Op). prunes_by l c.deref-3.result.now) c.deref-2.ensures.value ∙ ap (λ (l : List (Option Outcome)). prunes_by reads l) c.deref-3.ensures.value in
-    subst ArePrunesApart (sym is) (prunes_apart reads outcomes c.in_ok-due.ensures.batch.apart)
+    let h : HasPerformed D.pending D.seen D.moment D.left_since due (Some outcomes) old new =
+    subst (λ (s : SeenStore _). HasPerformed D.pending D.seen D.moment D.left_since due (Some outcomes) s new) c.due_reads.ensures.same
+    (subst (λ (ops : List Op). HasPerformed D.pending D.seen D.moment D.left_since ops (Some outcomes) c.due_reads.new.store new) c.deref.ensures.value c.in_ok-outcomes.ensures.ok) in
+    (performed due (Some outcomes) new ∷ [], (h, refl), record { reads = due; among = c.in_ok-due.ensures.among; told = Some outcomes; is = refl })
 
 pub prune_all-requires-clause-there : goal.prune_all-requires-clause-there
-prune_all-requires-clause-there g c lifetimes within =
-    let reads = c.in_ok-due.due.items in
+prune_all-requires-clause-there g c κs within =
+    let due = c.in_ok-due.due.items in
     let outcomes = c.in_ok-outcomes.outcomes.items in
-    let is : c.deref-4.result.now ≡ prunes_by reads outcomes =
-    c.deref-4.ensures.value ∙ c.in_ok-prunes.ensures ∙ ap (λ (l : List Op). prunes_by l c.deref-3.result.now) c.deref-2.ensures.value ∙ ap (λ (l : List (Option Outcome)). prunes_by reads l) c.deref-3.ensures.value in
-    let blocks = c.perform.new.self.config.blocks in
-    let same = c.perform.ensures.config in
-    let same_too = c.due_reads.ensures.same in
-    let there = c.requires.there in
-    let bound : c.args.first + c.args.count ≤ blocks = (let e = ap (λ s. s.config.blocks) same_too in let f = ap (λ k. k.blocks) same in omega (arith, e, f, there)) in
-    subst (λ (l : List Prune). All (λ p. p.block < blocks) l) (sym is)
-    (of_blocks (λ b. b < blocks) reads outcomes (All-weaker (λ (op : Op). block_of op < c.args.first + c.args.count) (λ (op : Op). block_of op < blocks) (λ op lt. omega arith) reads c.in_ok-due.ensures.batch.below))
+    let blocks = c.perform.new.store.config.blocks in
+    let are : c.deref-4.result.now ≡ prunes_by due outcomes = c.deref-4.ensures.value ∙ c.in_ok-prunes.ensures
+    ∙ ap (λ (ops : List Op). prunes_by ops c.deref-3.result.now) c.deref-2.ensures.value ∙ ap (prunes_by due) c.deref-3.ensures.value in
+    let within_blocks : c.args.first + c.args.count ≤ blocks =
+    omega (arith, c.requires.there, ap (λ (n : Numbers). n.blocks) c.perform.ensures.config, ap (λ (s : SeenStore _). s.config.blocks) c.due_reads.ensures.same) in
+    subst (All (λ (p : Prune). p.block < blocks)) (sym are)
+    (of_blocks (λ (b : ℕ). b < blocks) due outcomes
+    (All-weaker (λ (o : Op). block_of o < c.args.first + c.args.count) (λ (o : Op). block_of o < blocks) (λ o lt. omega (arith, lt, within_blocks)) due c.in_ok-due.ensures.batch.below))
+
+pub prune_all-requires-clause-apart : goal.prune_all-requires-clause-apart
+prune_all-requires-clause-apart g c κs within =
+    let due = c.in_ok-due.due.items in
+    let outcomes = c.in_ok-outcomes.outcomes.items in
+    let are : c.deref-4.result.now ≡ prunes_by due outcomes = c.deref-4.ensures.value ∙ c.in_ok-prunes.ensures
+    ∙ ap (λ (ops : List Op). prunes_by ops c.deref-3.result.now) c.deref-2.ensures.value ∙ ap (prunes_by due) c.deref-3.ensures.value in
+    subst ArePrunesApart (sym are) (prunes_apart due outcomes c.in_ok-due.ensures.batch.apart)
+
+pub returns-clause-calls : goal.returns-clause-calls
+returns-clause-calls g c =
+    let D = g.D.Disk in
+    let old = c.args.store.now in
+    let mid = c.perform.new.store in
+    let new = c.prune_all.new.self in
+    let due = c.in_ok-due.due.items in
+    let outcomes = c.in_ok-outcomes.outcomes.items in
+    let h : HasPerformed D.pending D.seen D.moment D.left_since due (Some outcomes) old mid =
+    subst (λ (s : SeenStore _). HasPerformed D.pending D.seen D.moment D.left_since due (Some outcomes) s mid) c.due_reads.ensures.same
+    (subst (λ (ops : List Op). HasPerformed D.pending D.seen D.moment D.left_since ops (Some outcomes) c.due_reads.new.store mid) c.deref.ensures.value c.in_ok-outcomes.ensures.ok) in
+    let are : c.deref-4.result.now ≡ prunes_by due outcomes = c.deref-4.ensures.value ∙ c.in_ok-prunes.ensures
+    ∙ ap (λ (ops : List Op). prunes_by ops c.deref-3.result.now) c.deref-2.ensures.value ∙ ap (prunes_by due) c.deref-3.ensures.value in
+    let pruned : HasPruned D.pending D.seen D.moment D.left_since (prunes_by due outcomes) mid new =
+    subst (λ (ps : List Prune). HasPruned D.pending D.seen D.moment D.left_since ps mid new) are c.prune_all.ensures.pruned in (
+      performed due (Some outcomes) mid ∷ record { deed = Prunes (prunes_by due outcomes); store = new } ∷ [],
+      (h, (pruned, refl)),
+      record { reads = due; among = c.in_ok-due.ensures.among; outcomes = outcomes; is = refl; by_reads = refl },
+    )

@@ -1,9 +1,6 @@
-use Rattle.std.proofs.Common.{◌≡◌, length, take}
+use Rattle.std.proofs.Common.{◌≡◌, take}
 use Rattle.store_care.specs.Prunes.{prunes_by}
 use Rattle.store_care.proofs.pruning.prunes_by.Given as goal
 
 abbrev pub invariant-loop-k : goal.invariant-loop-k
-invariant-loop-k l = record {
-  made : l.prunes.items ≡ prunes_by (take l.k l.reads) l.outcomes;
-  ends : l.k-end ≡ length l.reads;
-}
+invariant-loop-k l = l.prunes.items ≡ prunes_by (take l.k l.reads) l.outcomes

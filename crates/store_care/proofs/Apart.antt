@@ -1,20 +1,17 @@
 -- The prunes that reads allow are of blocks of their own.
-use Rattle.std.proofs.Common.{◌≡◌, ◌≢◌, ℕ, zero, suc, ◌+◌, ◌<◌, ◌≤◌, List, [], ◌∷◌, ◌++◌, length, take, Option, None, Some, refl, sym, ◌∙◌, ap, arith, append_assoc, Bor, get_or, ltb}
+use Rattle.std.proofs.Common.{◌≡◌, ◌≢◌, ℕ, zero, suc, ◌+◌, ◌<◌, ◌≤◌, List, [], ◌∷◌, ◌++◌, length, take, Option, None, Some, sym, ◌∙◌, ap, arith, append_assoc}
 use Rattle.std.specs.List.{All, slice_get}
-use Rattle.std.specs.Prelude.{IfSome, is_some, option_map}
-use Rattle.std.proofs.lemmas.Option.{slice_get_read}
-use Rattle.std.proofs.lemmas.Bool.Decides.{nat_tests}
 use Rattle.std.proofs.lemmas.List.{append-nil}
 use Rattle.std.proofs.lemmas.List.Elements.{All-cons, All-head, All-tail, All-nil}
 use Rattle.std.proofs.lemmas.List.Kept.{AllPairs-cons}
 use Rattle.wire_forms.specs.declared.op.Op.{Op}
-use Rattle.run_words.specs.declared.outcome.Outcome.TheVariants.{Gave, Wrote, Spent, Outvoted}
+use Rattle.run_words.specs.declared.outcome.Outcome.TheVariants.{Gave, Outvoted, Spent, Wrote}
 use Rattle.protocol.specs.Operations.{Outcome}
 use Rattle.protocol.specs.Seen.{block_of}
 use Rattle.version_disk.specs.declared.prune.Prune.{Prune}
 use Rattle.store_device.specs.Told.{AreApart}
 use Rattle.store_device.specs.Seating.{ArePrunesApart}
-use Rattle.store_care.specs.Prunes.{prune_by, prune_at, prunes_by}
+use Rattle.store_care.specs.Prunes.{prune_by, prunes_by}
 use Rattle.store_care.proofs.Rising.{rest_apart, first_apart}
 
 -- what is so of each block that is read is so of each that is pruned
@@ -45,6 +42,11 @@ prunes_apart (op ∷ reads) (outcome ∷ outcomes) apart =
     at (Some (Gave stamp value how rounds)) differ rest =
         AllPairs-cons (λ (p q : Prune). p.block ≢ q.block) (record { block = block_of op; stamp = stamp }) (prunes_by reads outcomes) differ rest
 
+-- the prune by one read, if its outcome is there
+abbrev pub prune_at : Op → Option (Option Outcome) → List Prune
+prune_at op None = []
+prune_at op (Some outcome) = prune_by op outcome
+
 -- one read more
 pub one_more : (reads : List Op) (outcomes : List (Option Outcome)) (k : ℕ) (op : Op) → slice_get reads k ≡ Some op
     → prunes_by (take (k + 1) reads) outcomes ≡ prunes_by (take k reads) outcomes ++ prune_at op (slice_get outcomes k)
@@ -59,13 +61,3 @@ one_more reads outcomes k op is = let next : k + 1 ≡ suc k = omega arith in ap
     at (x ∷ reads) (o ∷ outcomes) (suc k) op is =
         ap (λ (l : List Prune). prune_by x o ++ l) (at reads outcomes k op is)
         ∙ sym (append_assoc (prune_by x o) (prunes_by (take k reads) outcomes) (prune_at op (slice_get outcomes k)))
-
--- what a place of a list gives, as that is lent
-past : {X : Type 0} (xs : List X) (k : ℕ) → length xs ≤ k → slice_get xs k ≡ None
-past [] k le = refl
-past (x ∷ xs) zero le = absurd (omega arith)
-past (x ∷ xs) (suc k) le = past xs k (omega arith)
-
-pub got_is : {X : Type 0} (got : Option (Bor X)) (xs : List X) (k : ℕ) → is_some got ≡ ltb k (length xs) → IfSome got (λ x. x.now ≡ get_or xs k x.now) → option_map (λ x. x.now) got ≡ slice_get xs k
-got_is (Some x) xs k there is = sym (slice_get_read xs (length xs) k x.now refl (let lt : k < length xs = grind (arith, nat_tests) in lt) is)
-got_is None xs k there is = sym (past xs k (grind (arith, nat_tests)))

@@ -1,0 +1,20 @@
+use Rattle.std.proofs.Common.{◌≡◌, ℕ, List, true, inl, inr, sym, ap, ◌∙◌}
+use Rattle.protocol.specs.Messages.{Reply}
+use Rattle.store_care.specs.Filling.{with_replies}
+use Rattle.store_care.proofs.Refused.{refused}
+use Rattle.store_care.proofs.filling.Filled.keep.Goals as goal
+
+pub returns-in-Ok : goal.returns-in-Ok
+returns-in-Ok g c =
+    let e = c.in-Ok.ensures in
+    inl (e.state, e.done.state ∙ sym e.state, e.durable, c.count_all.ensures ∙ ap (with_replies c.args.self.now) (c.as_slice.ensures ∙ e.replies))
+
+pub returns-in-Err : goal.returns-in-Err
+returns-in-Err g c =
+    let was = c.args.node.now in
+    let is = c.handle_all.new.self in
+    let start = c.args.self.now in
+    inr (
+      refused (is ≡ was) (is.broken ≡ true) c.in-Err.field-0 c.in-Err.ensures.calm c.in-Err.ensures.breaks,
+      ap (λ (n : ℕ). record start { missed = n }) c.saturating_add-self.ensures,
+    )
