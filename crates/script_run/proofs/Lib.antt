@@ -8,3 +8,4 @@ mod LastWorlds
 mod Records
 mod Reports
 mod Telling
+mod Starting

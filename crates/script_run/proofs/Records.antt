@@ -1,7 +1,6 @@
 -- The records of a world are those of a run.
-use Rattle.std.proofs.Common.{◌≡◌, ℕ, ◌+◌, ◌*◌, ◌^◌, ◌-◌, ◌≤◌, ◌<◌, Bool, true, false, List, [], ◌∷◌, suc, length, map, Option, refl, cond, arith}
+use Rattle.std.proofs.Common.{◌≡◌, ℕ, ◌+◌, ◌*◌, ◌^◌, ◌-◌, ◌≤◌, ◌<◌, Bool, true, false, List, [], ◌∷◌, suc, length, Option, refl, cond, arith}
 use Rattle.std.specs.Prelude.{sum_by, not, ◌&&◌, ◌==◌}
-use Rattle.std.proofs.lemmas.List.{length-map}
 use Rattle.std.proofs.lemmas.Nat.{mul-le}
 use Rattle.std.proofs.lemmas.List.Sums.{sum_by-cons}
 use Rattle.std.specs.declared.option.Option.TheVariants.{None, Some}
@@ -12,7 +11,7 @@ use Rattle.protocol.specs.Operations.{Outcome}
 use Rattle.protocol.specs.World.{World, Record, Accepted, start_world}
 use Rattle.protocol.specs.Lines.{Line, IsRun}
 use Rattle.protocol.specs.Bounds.{pairs, different, is_among}
-use Rattle.protocol.specs.Report.{Ascend, rounds_of}
+use Rattle.protocol.specs.Report.{rounds_of}
 use Rattle.protocol.proofs.lemmas.Theorem.{run_keys, run_bounded, run_legal, run_in_time, run_sound}
 use Rattle.protocol.proofs.lemmas.Kept.{run_in_order, run_told}
 use Rattle.protocol.proofs.lemmas.SpentLies.{records_few as at_most_places}
@@ -22,7 +21,7 @@ use Rattle.script_run.specs.Registers.{AreRegisters}
 use Rattle.script_run.specs.Histories.{FitsHistory}
 use Rattle.protocol.specs.History.{Entry}
 use Rattle.script_run.proofs.Accepting.{accepted_few}
-use Rattle.lists.proofs.lemmas.Members.{Contains-head, Contains-rest, Contains-map_cases}
+use Rattle.lists.proofs.lemmas.Members.{Contains-head, Contains-rest}
 
 at_most_one : (b : Bool) (k n : ℕ) → k ≤ n → cond b 1 0 + k ≤ suc n
 at_most_one true k n h = omega (arith, h)

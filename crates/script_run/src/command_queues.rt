@@ -1,24 +1,22 @@
-ghost use Rattle.std.specs.Prelude.{◌≡◌, ◌≤◌, ◌<◌, ◌+◌, [], length, replicate, option_map, unwrap_or, slice_set, All, IfSome, IfNone, IfOk, OnOk, IsErrOf};
+ghost use Rattle.std.specs.Prelude.{◌≡◌, ◌≤◌, ◌<◌, ℕ, [], length, replicate, option_map, slice_set, All, IfSome, IfNone, IfOk, OnOk, IsErrOf};
 ghost use Rattle.std.specs.declared.option.Option.TheVariants.{None, Some};
+ghost use Rattle.std.specs.Option.{option_copied};
 ghost use Rattle.wire_forms.specs.Liars.{has_number, AreLiars};
 ghost use Rattle.protocol.specs.Instance.{setting_of};
-ghost use Rattle.protocol.specs.Lines.{FitsLine, fault, plays};
+ghost use Rattle.protocol.specs.Lines.{FitsLine, fault, plays, start_line};
 ghost use Rattle.block_device.specs.Ranges.{fault_of};
 ghost use Rattle.block_device.specs.Steps.{steps_of, Fits};
-ghost use Rattle.block_device.specs.Device.{merged};
-ghost use Rattle.protocol.specs.Setting.{zeros};
-ghost use Rattle.protocol.specs.Messages.{IsBytes};
-ghost use Rattle.run_words.specs.declared.line.Line.TheVariants.{Write};
+ghost use Rattle.block_device.specs.Ops.{changed};
 ghost use Rattle.event_lines.specs.declared.line.ReplayLine.TheVariants.{Plain};
 ghost use Rattle.line_forms.specs.declared.cause.Cause.TheVariants.{Step};
 ghost use Rattle.line_forms.specs.declared.cause.Cause.{Cause as Causes};
 ghost use Rattle.event_lines.specs.Lines.{IsEventLine};
 ghost use Rattle.world_state.specs.Worlds.{setting_in, world_in};
 ghost use Rattle.script_run.specs.Performing.{returning, start_queues, cause_of, after_line, started_by, run_line, next_line, command_cause, next_cause, begun, stepped, latest_read};
-ghost use Rattle.script_run.specs.CommandQueues.{queues_in};
+ghost use Rattle.script_run.specs.CommandQueues.{queues_in, HasBytes};
 
 use crate::latest::latest_read;
-use block_device::{BlockStep, Command, DeviceOp, DeviceRefusal, commands, merge, range_fault};
+use block_device::{BlockStep, Command, DeviceOp, DeviceRefusal, commands, range_fault};
 use cross_sum::Bytes;
 use event_lines::ReplayLine;
 use line_forms::{Cause, LineRefusal};
@@ -27,7 +25,7 @@ use quorum_rules::Config;
 use run_words::Line;
 use std::alloc::Global;
 use std::marker::Model;
-use wire_forms::Liars;
+use wire_forms::{Liars, Op};
 use world_steps::{StepRefusal, World};
 
 /// How many client numbers there are, with the first, which nobody has.
@@ -204,30 +202,19 @@ impl CommandQueues {
             (world_in self.now.world) client step) }
         ensures fits { IfOk result (λ line. FitsLine (setting_in self.now.world) line) }
     {
-        match step {
-            BlockStep::Read { block } => Ok(Line::Read { client, block }),
-            BlockStep::Whole { block, value } => Ok(write_of(client, block, value)),
-            BlockStep::Merge { block, at, bytes } => {
-                let value = self.merged(client, block, at, &bytes)?;
-                Ok(write_of(client, block, value))
-            }
-        }
+        let seen = self.seen(client, &step);
+        let op = step.into_op(self.alloc, &self.config, seen)?;
+        Ok(start_of(client, op))
     }
 
-    /// What the client's latest read of the block gave, or zeros where there is none, but for these bytes.
-    fn merged(&self, client: u32, block: u32, at: u32, bytes: &Bytes) -> Result<Bytes, NoMemory>
-        requires { at + length bytes.now ≤ self.now.world.config.size }
-        ensures value { IfOk result (λ value. value ≡ merged
-            (unwrap_or (latest_read client block self.now.world.seen.records)
-            (zeros (setting_in self.now.world))) at bytes.now) }
-        ensures len { IfOk result (λ value. length value ≡ self.now.world.config.size) }
+    /// What the client's latest read gave of the block that a step changes, if there are both.
+    fn seen<'a>(&'a self, client: u32, step: &BlockStep) -> Option<&'a Bytes>
+        ensures value { (k : ℕ) → changed step.now ≡ Some k
+            → option_copied result ≡ latest_read client k self.now.world.seen.records }
+        ensures len { IfSome result (λ old. length old.now ≡ self.now.world.config.size) }
     {
         self.world.is_reached();
-        let Some(old) = latest_read(self.world.records(), client, block) else {
-            let zeros = Bytes::zeros(self.alloc, self.config.size() as usize)?;
-            return merge(self.alloc, &zeros, at, bytes);
-        };
-        merge(self.alloc, old, at, bytes)
+        latest_read(self.world.records(), client, step.changed()?)
     }
 
     /// The world alone.
@@ -270,16 +257,21 @@ fn play(world: &mut World, place: u64, line: &Line) -> Result<(), LineRefusal>
     }
 }
 
-/// The line by which a client writes a value.
-fn write_of(client: u32, block: u32, value: Bytes) -> Line
-    ensures line { result ≡ Write client block value }
-    ensures bytes { IsBytes value }
+/// The line by which a client starts an operation.
+fn start_of(client: u32, op: Op) -> Line
+    ensures line { result ≡ start_line client op }
+    ensures bytes { HasBytes op }
 {
-    let _ = value.as_slice();
-    Line::Write {
-        client,
-        block,
-        value,
+    match op {
+        Op::Read { block } => Line::Read { client, block },
+        Op::Write { block, value } => {
+            let _bytes = value.as_slice();
+            Line::Write {
+                client,
+                block,
+                value,
+            }
+        }
     }
 }
 
