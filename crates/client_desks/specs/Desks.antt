@@ -3,6 +3,7 @@ use Rattle.std.specs.Prelude.{◌≡◌, ◌⊎◌, ℕ, ◌+◌, ◌-◌, ◌^�
 use Rattle.std.specs.declared.option.Option.TheVariants.{None, Some}
 use Rattle.protocol.specs.Messages.{Message}
 use Rattle.protocol.specs.Operations.{Outcome}
+use Rattle.protocol.specs.World.{Record}
 use Rattle.protocol.specs.Instance.{setting}
 use Rattle.protocol.specs.Seen.{SeenTask, Hearing, outstanding_of, has_answered, phase_of}
 use Rattle.protocol.specs.Seen.Hearing.{Ignored, Counted, Begins, Ended}
@@ -15,6 +16,7 @@ use Rattle.journals.specs.declared.desk.DeskAct.{DeskAct}
 use Rattle.journals.specs.declared.desk.DeskEntry.{DeskEntry}
 use Rattle.journals.specs.Acts.{act, answer_of, reply_in}
 use Rattle.journals.specs.Desks.{DeskState, new_desk, by_hearing, DeskKept, desk_after_all}
+use Rattle.journals.specs.Records.{client_records}
 use Rattle.journals.specs.declared.desk.DeskAct.TheVariants.{Start, Crash, Call}
 use Rattle.journals.specs.Steps.{side}
 use Rattle.locked_nodes.specs.Cells.{CellView, Rises, state_of, with_seen, with_entry}
@@ -43,6 +45,10 @@ state_at d = desk_after_all (new_desk d.config d.id) d.entries
 abbrev pub task_at : DeskView → Option SeenTask
 task_at d = (state_at d).client.seen.task
 
+-- the records of the client's operations, as its journal tells them
+abbrev pub records_at : DeskView → List Record
+records_at d = client_records d.id (state_at d)
+
 -- what the client's phase asks of a node, if it asks anything
 abbrev pub asks_of : DeskView → ℕ → Option Message
 asks_of d node = outstanding_of (setting d.config) d.id (task_at d) node
@@ -60,18 +66,19 @@ own_numbers (e ∷ es) = own_of e.number e.act ++ own_numbers es
 abbrev pub numbers_of : List DeskEntry → List ℕ
 numbers_of entries = map (λ e. e.number) entries
 
--- what a desk's type keeps: its journal is kept, the client is what the journal leaves, and the pass drew the numbers of starts
--- and crashes; all numbers ascend, below what the pass has seen
-pub record IsDesk (config : Numbers) (id : ℕ) (lying : Bool) (client : ClientView) (crashed : Bool) (entries : List DeskEntry) (pass : Holder) : Type 0 where
+-- what a desk's type keeps: its journal is kept, the client is what the journal leaves, the records are those that it tells, and the
+-- pass drew the numbers of starts and crashes; all numbers ascend, below what the pass has seen
+pub record IsDesk (config : Numbers) (id : ℕ) (lying : Bool) (client : ClientView) (crashed : Bool) (entries : List DeskEntry) (records : List Record) (pass : Holder) : Type 0 where
   pub kept : DeskKept lying (new_desk config id) entries
   pub left : client ≡ (desk_after_all (new_desk config id) entries).client
   pub fell : crashed ≡ (desk_after_all (new_desk config id) entries).crashed
+  pub told : records ≡ client_records id (desk_after_all (new_desk config id) entries)
   pub drawn : pass.drawn ≡ own_numbers entries
   pub rises : Rises 0 (numbers_of entries) pass.seen
 
 -- the same, of what contracts see
 abbrev pub KeptDesk : DeskView → Type 0
-KeptDesk d = IsDesk d.config d.id d.lying (state_at d).client (state_at d).crashed d.entries d.pass
+KeptDesk d = IsDesk d.config d.id d.lying (state_at d).client (state_at d).crashed d.entries (records_at d) d.pass
 
 -- a correct client that hasn't crashed
 pub record IsUp (d : DeskView) : Type 0 where

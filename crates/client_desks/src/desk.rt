@@ -1,26 +1,36 @@
-ghost use Rattle.std.specs.Prelude.{◌≡◌, ◌↔◌, IsTrue, ℕ, ◌<◌, ◌≤◌, ◌+◌, ◌-◌, ◌^◌, [], None, Some, Ok, Err, true, false, IfOk, OnOk, IfErr, OnErr, IfSome, IsSome, Option};
+ghost use Rattle.std.specs.Prelude.{◌≡◌, ◌↔◌, IsTrue, ℕ, ◌<◌, ◌≤◌, ◌+◌, ◌-◌, ◌^◌, [], None, Some, Ok, Err, true, false, IfOk, OnOk, IfErr, OnErr, IfSome, IsSome, Option, map};
 ghost use Rattle.protocol.specs.Messages.{IsFormedBody, Message as AnyMessage};
-ghost use Rattle.protocol.specs.Seen.{ops_of, phase_of};
+ghost use Rattle.protocol.specs.Seen.{ops_of, phase_of, record_of};
 ghost use Rattle.event_clock.specs.Passes.{left_of, met, sight_of};
 ghost use Rattle.receipt_lock.specs.Turns.{Begins};
 ghost use Rattle.journals.specs.Desks.{FitsOp, ActsAs};
 ghost use Rattle.locked_nodes.specs.Cells.{Serves, HoldsWhole, HasNoLateMail, items, number_of};
-ghost use Rattle.client_desks.specs.Desks.{DeskView, first_desk, met_desk, state_at, task_at, asks_of, IsUp, CanStart, CanCall, with_own, desk_entry, KeptDesk, AddPair, Calls, KeepsDesk, Delivers, with_call, reply_by, heard, ending};
+ghost use Rattle.client_desks.specs.Desks.{DeskView, first_desk, met_desk, state_at, task_at, records_at, asks_of, IsUp, CanStart, CanCall, with_own, desk_entry, KeptDesk, AddPair, Calls, KeepsDesk, Delivers, with_call, reply_by, ending};
 ghost use Rattle.locked_nodes.specs.Cells.{reply_told};
 
-use client_core::{Client, Heard};
+use crate::recording::{Foreseen, foresee, opened, take};
+use client_core::Client;
 use event_clock::{Clock, Note, Pass};
 use journals::{DeskAct, DeskEntry, DeskJournal, Way};
 use lists::{Copied, ItemList, NoMemory};
 use locked_nodes::{CellRefusal, Late, NodeCell, Told};
 use quorum_rules::Config;
-use run_words::Outcome;
+use run_words::{Outcome, Record};
 use std::alloc::Global;
 use std::marker::Model;
 use wire_forms::{Message, Op};
 
+/// What a desk leaves: the client's journal, the records that it tells, and the pass.
+#[derive(Drop)]
+pub struct Finished {
+    pub journal: DeskJournal,
+    pub records: ItemList<Record>,
+    pub pass: Pass,
+}
+
 /// One client's journal and its pass, which one thread owns. A correct client's desk also has the client, which is what its
-/// journal leaves. Contracts see the cluster, the client's number and whether it lies, the journal and the pass.
+/// journal leaves, and the records of its operations, which are those that the journal tells. Contracts see the cluster, the client's
+/// number and whether it lies, the journal and the pass.
 pub struct Desk {
     config: Config,
     id: u32,
@@ -29,6 +39,8 @@ pub struct Desk {
     client: Client,
     crashed: bool,
     entries: Vec<DeskEntry>,
+    /// In the order of their starts; the last one is open while its operation is under way.
+    records: Vec<Record>,
     pass: Pass,
 }
 
@@ -42,19 +54,22 @@ impl Drop for Desk {
             client: _client,
             crashed: _crashed,
             entries: _entries,
+            records: _records,
             pass: _pass,
         } = self;
     }
 }
 
 impl Model for Desk {
+    ghost use Rattle.std.specs.Prelude.{map};
+    ghost use Rattle.protocol.specs.Seen.{record_of};
     ghost use Rattle.client_desks.specs.Desks.{DeskView, IsDesk};
 
     ghost Value = { DeskView };
 
     ghost view = { λ d. record { config = d.config; id = d.id; lying = d.lying; entries = d.entries.items; pass = d.pass } };
 
-    ghost invariant = { λ d. IsDesk d.config d.id d.lying d.client d.crashed d.entries.items d.pass };
+    ghost invariant = { λ d. IsDesk d.config d.id d.lying d.client d.crashed d.entries.items (map record_of d.records.items) d.pass };
 }
 
 impl Desk {
@@ -91,6 +106,7 @@ impl Desk {
             client: Client::new(alloc, config, id)?,
             crashed: false,
             entries: Vec::new(alloc),
+            records: Vec::new(alloc),
             pass,
         })
     }
@@ -143,6 +159,13 @@ impl Desk {
         self.entries.as_slice()
     }
 
+    /// The records of the operations that the client started so far, in order.
+    pub fn records(&self) -> &[Record]
+        ensures { map record_of result.now ≡ records_at self.now }
+    {
+        self.records.as_slice()
+    }
+
     /// What each desk keeps, whatever was done with it.
     pub fn known(&self)
         ensures { KeptDesk self.now }
@@ -187,11 +210,12 @@ impl Desk {
         self.pass.seen() <= number
     }
 
-    /// The journal, and the pass, which drew the numbers of its starts and crashes.
-    pub fn finish(self) -> (DeskJournal, Pass)
-        ensures client { result.0.client ≡ self.id }
-        ensures entries { result.0.entries ≡ self.entries }
-        ensures pass { result.1 ≡ self.pass }
+    /// The journal and the records that it tells, and the pass, which drew the numbers of its starts and crashes.
+    pub fn finish(self) -> Finished
+        ensures client { result.journal.client ≡ self.id }
+        ensures entries { result.journal.entries ≡ self.entries }
+        ensures records { map record_of result.records ≡ records_at self }
+        ensures pass { result.pass ≡ self.pass }
         ensures kept { KeptDesk self }
     {
         let Desk {
@@ -201,13 +225,17 @@ impl Desk {
             client: _,
             crashed: _,
             entries,
+            records,
             pass,
         } = self;
-        let journal = DeskJournal {
-            client: id,
-            entries: ItemList::from_vec(entries),
-        };
-        (journal, pass)
+        Finished {
+            journal: DeskJournal {
+                client: id,
+                entries: ItemList::from_vec(entries),
+            },
+            records: ItemList::from_vec(records),
+            pass,
+        }
     }
 
     /// Starts an operation. `ClockFull` comes exactly where the pass can't draw.
@@ -225,13 +253,18 @@ impl Desk {
             return Err(CellRefusal::ClockFull);
         }
         self.entries.reserve(1)?;
+        self.records.reserve(1)?;
         let noted = op.copy()?;
+        let told = op.copy()?;
         let _mail = self.client.start(op)?;
         let number = clock.draw(&mut self.pass);
         self.entries.push_reserved(DeskEntry {
             number,
             act: DeskAct::Start { op: noted },
         });
+        // Places count from 1, and numbers from 0.
+        self.records
+            .push_reserved(opened(self.id, number + 1, told));
         Ok(())
     }
 
@@ -446,26 +479,13 @@ impl Desk {
         ensures err { OnErr result (self.new ≡ self.old) }
     {
         self.entries.reserve(1)?;
-        let outcome = listen(&mut self.client, &told)?;
+        let Foreseen { step, outcome } = foresee(&self.client, &told)?;
         clock.heed(&mut self.pass, note);
         self.entries.push_reserved(entry_of(way, ask, told));
+        // The place after the number of the entry.
+        let place = self.pass.seen();
+        take(&mut self.client, &mut self.records, place, step);
         Ok(outcome)
-    }
-}
-
-// Hears the reply that is told, if there is one.
-fn listen(client: &mut Client, told: &Told) -> Result<Option<Outcome>, NoMemory>
-    requires { phase_of client.old.seen.task < 2 ^ 64 - 1 }
-    ensures outcome { IfOk result (λ outcome. outcome ≡ ending client.old (reply_told told.now)) }
-    ensures ok { OnOk result (client.new ≡ heard client.old (reply_told told.now)) }
-    ensures err { OnErr result (client.new ≡ client.old) }
-{
-    let Told::Answered { number: _, reply } = told else {
-        return Ok(None);
-    };
-    match client.hear(reply)? {
-        Heard::Unchanged | Heard::More | Heard::Send(_) => Ok(None),
-        Heard::Ended(outcome) => Ok(Some(outcome)),
     }
 }
 

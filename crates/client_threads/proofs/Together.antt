@@ -1,5 +1,5 @@
--- The passes of a run, when they are put together and its clock is closed.
-use Rattle.std.proofs.Common.{◌≡◌, ℕ, ◌+◌, List, [], ◌∷◌, ◌++◌, map, refl, sym, ◌∙◌, ap, subst, arith}
+-- The passes of a run, when they are put together and its clock is closed; and the journals and records of its desks.
+use Rattle.std.proofs.Common.{◌≡◌, ℕ, ◌+◌, List, [], ◌∷◌, ◌++◌, map, refl, sym, ◌∙◌, ap, subst, arith, append_assoc, append-nil}
 use Rattle.std.specs.List.{Contains, All}
 use Rattle.std.proofs.lemmas.List.{map_push}
 use Rattle.std.proofs.lemmas.List.Sums.{sum_by_push}
@@ -9,17 +9,20 @@ use Rattle.event_clock.specs.declared.rule.Share.{Share}
 use Rattle.event_clock.specs.Passes.{ClockId, Holder, HasFullPass, IsOneFull, Tally, share_of}
 use Rattle.event_clock.specs.Views.{times, times_drawn, IsDrawnOnce}
 use Rattle.locked_nodes.specs.Cells.{CellView, KeptCell}
-use Rattle.client_desks.specs.Desks.{DeskView, KeptDesk, own_numbers}
+use Rattle.protocol.specs.World.{Record}
+use Rattle.client_desks.specs.Desks.{DeskView, KeptDesk, own_numbers, records_at}
 use Rattle.phase_threads.specs.Standing.{IsDeskAt, AreCells, journal_at}
 use Rattle.journals.specs.declared.desk.DeskJournal.{DeskJournal}
+use Rattle.journals.specs.Desks.{new_desk, desk_after_all}
+use Rattle.journals.specs.Records.{client_records, records_in, told_records}
 use Rattle.phase_threads.specs.declared.duty.Seat.{Seat}
 use Rattle.client_work.specs.declared.work.Work.{Work}
-use Rattle.client_threads.specs.Running.{desks_of}
+use Rattle.client_threads.specs.Running.{desks_of, kept_records}
 use Rattle.client_threads.proofs.Threading.{desks_pushed}
 use Rattle.client_threads.proofs.Rounds.{cells_tick}
 use Rattle.crews.proofs.lemmas.Places.{Walked, walk_on}
 use Rattle.client_threads.proofs.Walking.{made_more}
-use Rattle.lists.proofs.lemmas.Members.{Contains-map_cases, Contains-map}
+use Rattle.lists.proofs.lemmas.Members.{Contains-head, Contains-rest, Contains-map_cases, Contains-map}
 
 -- all passes, in the order in which they are put together
 abbrev pub passes_of : List CellView → List DeskView → Holder → Holder → List Holder
@@ -92,21 +95,34 @@ full_share t passes is full = record {
   full = full.full;
 }
 
--- the desks of the seats so far gave their journals and passes
-abbrev pub Finished : List (Seat Work) → List Holder → List (Seat Work) → ℕ → List DeskJournal → List Holder → Type 0
-Finished all old rest n desks passes =
-    (done : List (Seat Work)) × Walked all done rest n × (desks ≡ map journal_at (desks_of done)) × (passes ≡ old ++ map (λ d. d.pass) (desks_of done)) × All KeptDesk (desks_of done)
+-- the desks of the seats so far gave their journals, passes and records
+abbrev pub Finished : List (Seat Work) → List Holder → List (Seat Work) → ℕ → List DeskJournal → List Holder → List Record → Type 0
+Finished all old rest n desks passes records =
+    (done : List (Seat Work)) × Walked all done rest n × (desks ≡ map journal_at (desks_of done)) × (passes ≡ old ++ map (λ d. d.pass) (desks_of done)) × All KeptDesk (desks_of done) × (records ≡ kept_records (desks_of done))
 
-pub one_finished : (all : List (Seat Work)) (old : List Holder) (rest next : List (Seat Work)) (n m : ℕ) (desks more : List DeskJournal) (passes others : List Holder) (seat : Seat Work) (journal : DeskJournal) (pass : Holder)
-    → Finished all old rest n desks passes → rest ≡ seat ∷ next → m + 1 ≡ n → more ≡ desks ++ journal ∷ [] → journal.client ≡ seat.desk.id → journal.entries ≡ seat.desk.entries
-    → others ≡ passes ++ pass ∷ [] → pass ≡ seat.desk.pass → KeptDesk seat.desk → Finished all old next m more others
-one_finished all old rest next n m desks more passes others seat journal pass inv is one added client entries put its kept =
+kept_more : (ds : List DeskView) (d : DeskView) → kept_records (ds ++ d ∷ []) ≡ kept_records ds ++ records_at d
+kept_more [] d = append-nil (records_at d)
+kept_more (x ∷ ds) d = ap (λ (l : List Record). records_at x ++ l) (kept_more ds d) ∙ sym (append_assoc (records_at x) (kept_records ds) (records_at d))
+
+pub one_finished : (all : List (Seat Work)) (old : List Holder) (rest next : List (Seat Work)) (n m : ℕ) (desks more : List DeskJournal) (passes others : List Holder) (records told : List Record) (seat : Seat Work) (journal : DeskJournal) (pass : Holder)
+    → Finished all old rest n desks passes records → rest ≡ seat ∷ next → m + 1 ≡ n → more ≡ desks ++ journal ∷ [] → journal.client ≡ seat.desk.id → journal.entries ≡ seat.desk.entries
+    → others ≡ passes ++ pass ∷ [] → pass ≡ seat.desk.pass → KeptDesk seat.desk → told ≡ records ++ records_at seat.desk → Finished all old next m more others told
+one_finished all old rest next n m desks more passes others records told seat journal pass inv is one added client entries put its kept with =
     let was = desks_of inv.0 in
     let same = sym (desks_pushed inv.0 seat) in
-    let told : journal ≡ journal_at seat.desk = λ i. record { client = client i; entries = entries i } in (
+    let given : journal ≡ journal_at seat.desk = λ i. record { client = client i; entries = entries i } in (
       inv.0 ++ seat ∷ [],
       walk_on all inv.0 rest next seat n m inv.1 is one,
-      made_more journal_at [] desks more was seat.desk journal added inv.2 told ∙ ap (map journal_at) same,
+      made_more journal_at [] desks more was seat.desk journal added inv.2 given ∙ ap (map journal_at) same,
       made_more (λ (x : DeskView). x.pass) old passes others was seat.desk pass put inv.3 its ∙ ap (λ (l : List DeskView). old ++ map (λ (x : DeskView). x.pass) l) same,
       subst (All KeptDesk) same (All-push KeptDesk was seat.desk inv.4 kept),
+      with ∙ ap (λ (l : List Record). l ++ records_at seat.desk) inv.5 ∙ sym (kept_more was seat.desk) ∙ ap kept_records same,
     )
+
+-- the records that desks of one cluster keep are those that their journals tell
+pub kept_told : (config : Numbers) (ds : List DeskView) → ((d : DeskView) → Contains ds d → d.config ≡ config) → kept_records ds ≡ told_records config (map journal_at ds)
+kept_told config [] same = refl
+kept_told config (d ∷ ds) same =
+    let own : records_at d ≡ records_in config (journal_at d) = ap (λ (k : Numbers). client_records d.id (desk_after_all (new_desk k d.id) d.entries)) (same d (Contains-head d ds)) in
+    let rest = kept_told config ds (λ x k. same x (Contains-rest x d ds k)) in
+    λ i. own i ++ rest i

@@ -1,6 +1,6 @@
 -- A run of a plan, between its phases and in them.
 use Rattle.std.specs.Prelude.{◌≡◌, ◌⊎◌, ℕ, ◌+◌, ◌<◌, ◌≤◌, true, List, [], ◌++◌, length, map, count_by, All}
-use Rattle.std.specs.List.{AllZip, Contains, range_with_len}
+use Rattle.std.specs.List.{AllZip, Contains, flat_map, range_with_len}
 use Rattle.wire_forms.specs.Liars.{has_number}
 use Rattle.event_clock.specs.declared.rule.Share.{Share}
 use Rattle.event_clock.specs.Passes.{share_of}
@@ -8,7 +8,8 @@ use Rattle.journals.specs.declared.whole.Journals.{Journals}
 use Rattle.journals.specs.Phases.{Phase}
 use Rattle.journals.specs.declared.node.NodeEntry.{NodeEntry}
 use Rattle.locked_nodes.specs.Cells.{CellView}
-use Rattle.client_desks.specs.Desks.{DeskView}
+use Rattle.protocol.specs.World.{Record}
+use Rattle.client_desks.specs.Desks.{DeskView, records_at}
 use Rattle.client_desks.specs.Later.{IsLater}
 use Rattle.plan_words.specs.declared.plan.Plan.{Plan}
 use Rattle.plan_words.specs.Named.{is_phase, clients}
@@ -37,6 +38,10 @@ plan_of run = run.plan.value
 -- what the passes of cells and clients drew
 abbrev pub shares_of : Run → List Share
 shares_of run = map (λ c. share_of c.pass) run.cells.items ++ map (λ d. share_of d.pass) (clients_of run)
+
+-- the records that the desks keep, one client's after another's
+abbrev pub kept_records : List DeskView → List Record
+kept_records desks = flat_map records_at desks
 
 -- the journals of so many nodes
 abbrev pub node_journals : List CellView → ℕ → List (List NodeEntry)

@@ -1,14 +1,16 @@
-//! The end of a run: journals and passes are taken out, and the clock is closed.
+//! The end of a run: journals, records and passes are taken out, and the clock is closed.
 ghost use Rattle.std.specs.Prelude.{◌≡◌, ◌<◌, ◌++◌, [], map, All, length, replicate, slice_set, slice_index_or, true, IsTrue, IfOk, OnOk};
+ghost use Rattle.protocol.specs.Seen.{record_of};
 ghost use Rattle.event_clock.specs.Passes.{HasFullPass, IsOneFull, Tally};
 ghost use Rattle.event_clock.specs.Views.{IsDrawnOnce};
 ghost use Rattle.locked_nodes.specs.Cells.{KeptCell};
 ghost use Rattle.client_desks.specs.Desks.{KeptDesk};
-ghost use Rattle.client_threads.specs.Running.{IsOpen, desks_of, node_journals, plan_of, shares_of};
+ghost use Rattle.client_threads.specs.Running.{IsOpen, desks_of, node_journals, kept_records, plan_of, shares_of};
 ghost use Rattle.phase_threads.specs.Standing.{journal_at};
 ghost use Rattle.locked_nodes.specs.Joined as joined;
 
 use crate::state::Run;
+use client_desks::Finished;
 use client_work::Work;
 use event_clock::{Drawn, Passes, RunRefusal};
 use journals::{DeskJournals, NodeJournal, NodeJournals};
@@ -16,6 +18,7 @@ use lists::{ItemList, NoMemory};
 use locked_nodes::{CellRefusal, NodeCell, join};
 use phase_threads::Seat;
 use plan_words::Plan;
+use run_words::Record;
 use std::alloc::Global;
 
 /// What a run leaves when its clock is closed.
@@ -23,17 +26,28 @@ use std::alloc::Global;
 pub(crate) struct Closed {
     pub(crate) nodes: NodeJournals,
     pub(crate) desks: DeskJournals,
+    /// The records that the desks kept, one client's after another's.
+    pub(crate) records: ItemList<Record>,
     pub(crate) drawn: Drawn,
     /// Whether a pass has drawn as many numbers as it may.
     pub(crate) full: bool,
 }
 
-/// Takes all journals out of the plan's run, and closes its clock.
+// What the desks of a run leave.
+#[derive(Drop)]
+struct Desks {
+    journals: DeskJournals,
+    records: ItemList<Record>,
+}
+
+/// Takes all journals and records out of the plan's run, and closes its clock.
 pub(crate) fn close(alloc: Global, plan: &Plan, run: Run) -> Result<Closed, NoMemory>
     requires opened { IsOpen run }
     requires plan { plan_of run ≡ plan.now }
     ensures nodes { IfOk result (λ r. r.nodes ≡ node_journals run.cells.items plan.now.config.n) }
     ensures desks { IfOk result (λ r. r.desks ≡ map journal_at (desks_of run.clients.items)) }
+    ensures records { IfOk result (λ r.
+        map record_of r.records ≡ kept_records (desks_of run.clients.items)) }
     ensures drawn { IfOk result (λ r.
         run.courier.entries ≡ [] → IsDrawnOnce r.drawn.count (shares_of run)) }
     ensures full { IfOk result (λ r. r.full ≡ true → HasFullPass r.drawn) }
@@ -52,14 +66,19 @@ pub(crate) fn close(alloc: Global, plan: &Plan, run: Run) -> Result<Closed, NoMe
     let mut passes = ItemList::new(alloc);
     let nodes = finish_cells(alloc, plan.config.n(), cells, &mut passes)?;
     let desks = finish_desks(alloc, clients, &mut passes)?;
-    let (_empty, pass) = courier.finish();
+    let Finished {
+        journal: _empty,
+        records: _none,
+        pass,
+    } = courier.finish();
     passes.push(pass)?;
     passes.push(keeper)?;
     let full = is_one_full(&passes);
     let drawn = clock.close(passes);
     Ok(Closed {
         nodes,
-        desks,
+        desks: desks.journals,
+        records: desks.records,
         drawn,
         full,
     })
@@ -130,25 +149,29 @@ fn add_journal(
     Ok(())
 }
 
-// The journals of the desks, whose passes are added to the others.
+// The journals and the records of the desks, whose passes are added to the others.
 fn finish_desks(
     alloc: Global,
     seats: Vec<Seat<Work>>,
     passes: &mut Passes,
-) -> Result<DeskJournals, NoMemory>
-    ensures desks { IfOk result (λ desks. desks ≡ map journal_at (desks_of seats.items)) }
+) -> Result<Desks, NoMemory>
+    ensures desks { IfOk result (λ r. r.journals ≡ map journal_at (desks_of seats.items)) }
+    ensures records { IfOk result (λ r.
+        map record_of r.records ≡ kept_records (desks_of seats.items)) }
     ensures passes { OnOk result
         (passes.new ≡ passes.old ++ map (λ d. d.pass) (desks_of seats.items)) }
     ensures kept { OnOk result (All KeptDesk (desks_of seats.items)) }
 {
-    let mut desks = ItemList::new(alloc);
+    let mut journals = ItemList::new(alloc);
+    let mut records = ItemList::new(alloc);
     for seat in seats {
         let Seat { desk, duty: _ } = seat;
-        let (journal, pass) = desk.finish();
-        passes.push(pass)?;
-        desks.push(journal)?;
+        let mut finished = desk.finish();
+        records.append(&mut finished.records)?;
+        passes.push(finished.pass)?;
+        journals.push(finished.journal)?;
     }
-    Ok(desks)
+    Ok(Desks { journals, records })
 }
 
 // Whether one of the passes has drawn as many numbers as it may.

@@ -1,7 +1,9 @@
 //! A plan, run in threads.
-ghost use Rattle.std.specs.Prelude.{◌≡◌, ◌+◌, ◌≤◌, ℕ, IfOk, IfErr, Err};
+ghost use Rattle.std.specs.Prelude.{◌≡◌, ◌+◌, ◌≤◌, ℕ, IfOk, IfErr, Err, map};
 ghost use Rattle.std.specs.Thread.{IsSync};
 ghost use Rattle.event_clock.specs.Passes.{HasFullPass, Tally};
+ghost use Rattle.protocol.specs.Seen.{record_of};
+ghost use Rattle.journals.specs.Records.{AreTold};
 ghost use Rattle.plan_words.specs.Plans.{Fits};
 ghost use Rattle.plan_followed.specs.Followed.{AreOfPlan};
 ghost use Rattle.phase_threads.specs.Phases.{MayPhase, HasPhased};
@@ -19,12 +21,13 @@ use client_work::Work;
 use crews::Gate;
 use event_clock::{Clock, Drawn, RunRefusal};
 use journals::Journals;
-use lists::NoMemory;
+use lists::{ItemList, NoMemory};
 use locked_nodes::NodeCell;
 use phase_threads::laws::{phases_work, runs_end};
 use phase_threads::{Seat, run_phase};
 use plan_followed::laws::phases_close;
 use plan_words::{Job, Plan};
+use run_words::Record;
 use std::alloc::Global;
 use std::sync::Wait;
 use std::thread::Threads;
@@ -34,6 +37,8 @@ use wire_forms::Liars;
 #[derive(Drop)]
 pub struct Ran {
     pub journals: Journals,
+    /// The records that the journals tell, one client's after another's.
+    pub records: ItemList<Record>,
     pub drawn: Drawn,
 }
 
@@ -43,7 +48,8 @@ const SHARDS: u32 = 4;
 /// Runs a plan that fits: a thread for each client and one for a courier, phase by phase, on the cells of all nodes.
 ///
 /// Its journals are those of a run of the plan: each is kept, they agree in pairs, their numbers are those below the count of what was
-/// drawn, each once, and they follow the plan. `ClockFull` comes only where a pass has drawn 2^40 numbers.
+/// drawn, each once, and they follow the plan. Its records are those that the journals tell. `ClockFull` comes only where a pass has
+/// drawn 2^40 numbers.
 pub fn run_plan<R: Threads + Wait + Sync, G: Gate + Sync>(
     rt: &R,
     alloc: Global,
@@ -52,6 +58,7 @@ pub fn run_plan<R: Threads + Wait + Sync, G: Gate + Sync>(
 ) -> Result<Ran, RunRefusal>
     requires { Fits plan.now }
     ensures followed { IfOk result (λ r. AreOfPlan plan.now r.journals r.drawn.count) }
+    ensures records { IfOk result (λ r. AreTold r.journals (map record_of r.records)) }
     ensures full { (drawn : Tally) → result ≡ Err (RunRefusal.ClockFull drawn) → HasFullPass drawn }
 {
     let phase = |clock: Clock, cells: Vec<NodeCell>, seats: Vec<Seat<Work>>| -> Phased
@@ -76,6 +83,7 @@ pub fn run_by<R: Wait, F: Fn(Clock, Vec<NodeCell>, Vec<Seat<Work>>) -> Phased>(
     requires phase { DoesPhases (F.pre phase.now) (F.post phase.now) }
     requires shards { (1 ≤ shards) × (shards ≤ 256) }
     ensures followed { IfOk result (λ r. AreOfPlan plan.now r.journals r.drawn.count) }
+    ensures records { IfOk result (λ r. AreTold r.journals (map record_of r.records)) }
     ensures full { (drawn : Tally) → result ≡ Err (RunRefusal.ClockFull drawn) → HasFullPass drawn }
 {
     let liars = liars_of(alloc, plan)?;
@@ -140,6 +148,7 @@ fn finish(alloc: Global, plan: &Plan, liars: Liars, run: Run) -> Result<Ran, Run
     requires liars { liars ≡ plan.now.liars }
     requires worked { IsWorked (cuts plan.now) run }
     ensures followed { IfOk result (λ r. AreOfPlan plan.now r.journals r.drawn.count) }
+    ensures records { IfOk result (λ r. AreTold r.journals (map record_of r.records)) }
     ensures memory { IfErr result (λ e. e ≡ RunRefusal.NoMemory) }
 {
     runs_end();
@@ -152,6 +161,7 @@ fn finish(alloc: Global, plan: &Plan, liars: Liars, run: Run) -> Result<Ran, Run
     };
     Ok(Ran {
         journals,
+        records: closed.records,
         drawn: closed.drawn,
     })
 }

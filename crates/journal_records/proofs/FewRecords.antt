@@ -36,11 +36,11 @@ use Rattle.plan_followed.specs.Asked.{steps_for, steps_in, conduct_of}
 use Rattle.plan_followed.specs.Clients.{GoesByPlan, IsNextStart, starts, times}
 use Rattle.plan_followed.specs.Followed.{AreOfPlan}
 use Rattle.plan_followed.specs.Laws.{PlansRun}
-use Rattle.journal_records.specs.Records.{record_of_task, client_records, last_desk, AreAllRecords}
-use Rattle.journal_records.specs.Telling.{told_by, told_records}
+use Rattle.journals.specs.Records.{record_of_task, client_records, records_in, told_records}
+use Rattle.journal_records.specs.Records.{AreAllRecords}
 use Rattle.journal_records.specs.Few.{RecordsFitHistory}
 use Rattle.journal_records.proofs.Operations.{What, of_ended, of_task, begun_by, begun_all, started_in, started_count, kth_started}
-use Rattle.journal_records.proofs.Together.{kept_desks, has_told}
+use Rattle.journal_records.proofs.Together.{kept_desks, no_records, has_told}
 use Rattle.journal_records.proofs.Completing.{follows}
 use Rattle.journal_records.proofs.Places.{desk_below}
 use Rattle.journal_records.proofs.Rounds.{rounds_told}
@@ -131,18 +131,18 @@ records_differ (r ∷ rs) up = (
   records_differ rs up.1,
 )
 
-all_few : (f : Record → ℕ) (most : ℕ) (j : Journals) (ds : List DeskJournal) → ((d : DeskJournal) → Contains ds d → total f (told_by j d) ≤ most) → total f (told_records j ds) ≤ length ds * most
-all_few f most j [] each = omega arith
-all_few f most j (d ∷ ds) each =
-    let rest = all_few f most j ds (λ x k. each x (Contains-rest x d ds k)) in
+all_few : (f : Record → ℕ) (most : ℕ) (config : Numbers) (ds : List DeskJournal) → ((d : DeskJournal) → Contains ds d → total f (records_in config d) ≤ most) → total f (told_records config ds) ≤ length ds * most
+all_few f most config [] each = omega arith
+all_few f most config (d ∷ ds) each =
+    let rest = all_few f most config ds (λ x k. each x (Contains-rest x d ds k)) in
     let one = each d (Contains-head d ds) in
-    let both = total_append f (told_by j d) (told_records j ds) in
+    let both = total_append f (records_in config d) (told_records config ds) in
     let e : (suc (length ds)) * most ≡ most + length ds * most = grind (arith) in
     omega (arith, rest, one, both, e)
 
-told_few : (f : Record → ℕ) (most : ℕ) (b : Bool) (rs : List Record) → (b ≡ false → total f rs ≤ most) → total f (cond b [] rs) ≤ most
-told_few f most true rs h = omega arith
-told_few f most false rs h = h refl
+told_few : (f : Record → ℕ) (most : ℕ) (b : Bool) (rs : List Record) → (b ≡ true → rs ≡ []) → (b ≡ false → total f rs ≤ most) → total f rs ≤ most
+told_few f most true rs none h = subst (λ (l : List Record). total f l ≤ most) (sym (none refl)) (omega arith)
+told_few f most false rs none h = h refl
 
 module _ (runs : PlansRun) (plan : Plan) (j : Journals) (drawn : ℕ) (h : AreOfPlan plan j drawn) (low : drawn ≤ 2 ^ 56) where
   order : Ascend (map (λ d. d.client) j.desks)
@@ -172,14 +172,14 @@ module _ (runs : PlansRun) (plan : Plan) (j : Journals) (drawn : ℕ) (h : AreOf
     own : at_desk j d.client ≡ d.entries
     own = own_entries j.desks order d there
 
-    count_few : total (λ r. 1) (told_by j d) ≤ 4000
+    count_few : total (λ r. 1) (records_in j.config d) ≤ 4000
     count_few =
-        told_few (λ r. 1) 4000 ((setting_for j).lying_client d.client) (client_records d.client (last_desk j d))
+        told_few (λ r. 1) 4000 ((setting_for j).lying_client d.client) (records_in j.config d) (no_records (conduct_of plan.rules) j of order d there)
         (λ e.
         let count = record_count d.client j.config d.entries (kept_desks (conduct_of plan.rules) j of order d there e) in
         let most = started_most plan j drawn h d.client (right d.client e) in
         let same = ap (λ (es : List DeskEntry). length (started_in es)) own in
-        let all = total_count (client_records d.client (last_desk j d)) in
+        let all = total_count (records_in j.config d) in
         omega (arith, count, most, same, all))
 
     entries_few : length d.entries ≤ drawn + 1
@@ -192,27 +192,25 @@ module _ (runs : PlansRun) (plan : Plan) (j : Journals) (drawn : ℕ) (h : AreOf
         let e = length-map d.entries (λ (e : DeskEntry). e.number) in
         omega (arith, few, e)
 
-    rounds_few : total (λ r. rounds_of r.outcome) (told_by j d) ≤ 72057594037927937
+    rounds_few : total (λ r. rounds_of r.outcome) (records_in j.config d) ≤ 72057594037927937
     rounds_few =
-        told_few (λ r. rounds_of r.outcome) 72057594037927937 ((setting_for j).lying_client d.client) (client_records d.client (last_desk j d))
-        (λ e.
         let told = rounds_told d.client (new_desk j.config d.client) d.entries refl refl in
         let few = entries_few in
-        omega (arith, told, few, low))
+        omega (arith, told, few, low)
 
   module _ (records : List Record) (all : AreAllRecords j records) where
-    there_told : (r : Record) → Contains records r → Contains (told_records j j.desks) r
-    there_told r k = let is = all.only r k in has_told j j.desks is.desk r is.there is.correct is.told
+    there_told : (r : Record) → Contains records r → Contains (told_records j.config j.desks) r
+    there_told r k = let is = all.only r k in has_told j.config j.desks is.desk r is.there is.told
 
     are_few : (length records < 2 ^ 31) × (sum_by (λ r. rounds_of r.outcome) records < 2 ^ 64)
     are_few =
         let apart = records_differ records all.ascend in
         let desks = desks_few in
-        let count = total_within (λ (r : Record). 1) records (told_records j j.desks) apart there_told in
-        let counts = all_few (λ (r : Record). 1) 4000 j j.desks count_few in
+        let count = total_within (λ (r : Record). 1) records (told_records j.config j.desks) apart there_told in
+        let counts = all_few (λ (r : Record). 1) 4000 j.config j.desks count_few in
         let as_many = total_count records in
-        let rounds = total_within (λ (r : Record). rounds_of r.outcome) records (told_records j j.desks) apart there_told in
-        let sums = all_few (λ (r : Record). rounds_of r.outcome) 72057594037927937 j j.desks rounds_few in
+        let rounds = total_within (λ (r : Record). rounds_of r.outcome) records (told_records j.config j.desks) apart there_told in
+        let sums = all_few (λ (r : Record). rounds_of r.outcome) 72057594037927937 j.config j.desks rounds_few in
         let sum = total_is (λ (r : Record). rounds_of r.outcome) records in
         (omega (arith, count, counts, as_many, desks), omega (arith, rounds, sums, sum, desks))
 

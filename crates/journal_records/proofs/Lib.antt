@@ -3,8 +3,6 @@ mod SameMessages
 mod Counting
 pub mod LastDesks
 pub mod Owning
-pub mod Following
-pub mod Replies
 pub mod Starts
 pub mod Together
 mod Operations

@@ -22,7 +22,8 @@ use Rattle.journals.specs.declared.whole.Journals.{Journals}
 use Rattle.journals.specs.Journals.{setting_for, entries_of, cluster_at, IsMerge, AreOfRun}
 use Rattle.journals.proofs.lemmas.Picks.{same_ascending}
 use Rattle.journal_records.specs.Open.{RecordsTellTasks, TasksAreRecorded, RecordsAreOfCorrect}
-use Rattle.journal_records.specs.Records.{record_of_task, client_records, last_desk, IsDeskRecord, AreAllRecords, WorldsHaveAllRecords, RecordsAreThose}
+use Rattle.journals.specs.Records.{record_of_task, client_records, last_desk}
+use Rattle.journal_records.specs.Records.{IsDeskRecord, AreAllRecords, WorldsHaveAllRecords, RecordsAreThose}
 use Rattle.journal_records.proofs.LastDesks.{limit, desk, desk_is, desk_agrees, first_life, tells_alike}
 use Rattle.lists.proofs.lemmas.Members.{Contains-head, Contains-none, Contains-rest, Contains-cons_cases, Contains-one, Contains-map_cases, Contains-map}
 use Rattle.lists.proofs.lemmas.Tests.{eqb_self}
@@ -66,7 +67,7 @@ module _ (reach : OfMerged AllReach) (recorded : OfMerged AllRecorded) (tell : I
   abbrev last : ℕ → DeskState
   last = desk reach conduct j lines w of_run merge run
 
-  last_is : (d : DeskJournal) → Contains j.desks d → last_desk j d ≡ last d.client
+  last_is : (d : DeskJournal) → Contains j.desks d → last_desk j.config d ≡ last d.client
   last_is d there = ap (desk_after_all (new_desk j.config d.client)) (sym (own_entries j.desks order d there))
 
   -- ---- what journals tell is recorded

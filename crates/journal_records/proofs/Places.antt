@@ -1,4 +1,4 @@
--- Each entry of a client has a number that was drawn, so its line has a place.
+-- Each entry of a client has a number that was drawn.
 use Rattle.std.proofs.Common.{◌≡◌, ◌⊎◌, ℕ, ◌<◌, ◌^◌, ◌-◌, List, length, map, get_or, sym, subst, inl, inr, arith}
 use Rattle.std.specs.Prelude.{All}
 use Rattle.std.specs.List.{Contains}
@@ -11,7 +11,6 @@ use Rattle.journals.specs.Steps.{IsOwn}
 use Rattle.journals.specs.Steps.Step.{AtNode, AtDesk}
 use Rattle.journals.specs.Journals.{at_desk, HasSide, PairsAgree, NumbersBelow}
 use Rattle.journals.proofs.lemmas.Lists.{own_entries}
-use Rattle.journal_records.specs.Telling.{HavePlaces}
 
 -- what holds of each member holds of all
 all_members : {X : Type 0} (P : X → Type 0) (xs : List X) → ((x : X) → Contains xs x → P x) → All P xs
@@ -30,8 +29,3 @@ module _ (j : Journals) (pairs : PairsAgree j) (order : Ascend (map (λ d. d.cli
   desk_below d there =
       subst (λ (es : List DeskEntry). All (λ e. e.number < drawn) es) (own_entries j.desks order d there)
       (all_members (λ (e : DeskEntry). e.number < drawn) (at_desk j d.client) (λ e k. entry_below d.client e k))
-
-  pub have_places : drawn < 2 ^ 64 → All (λ d. HavePlaces d.entries) j.desks
-  have_places few =
-      all_members (λ (d : DeskJournal). HavePlaces d.entries) j.desks
-      (λ d there k e l. let below = desk_below d there k e l in omega (arith, below, few))

@@ -30,7 +30,7 @@ use Rattle.journals.specs.declared.desk.DeskAct.{DeskAct}
 use Rattle.journals.specs.declared.desk.DeskAct.TheVariants.{Start, Crash, Call}
 use Rattle.journals.specs.Desks.{DeskState, Ended, by_hearing, ended_by, desk_heard, desk_after, desk_after_all}
 use Rattle.journals.specs.Agreement.{ended_record}
-use Rattle.journal_records.specs.Records.{record_of_task, client_records}
+use Rattle.journals.specs.Records.{record_of_task, client_records}
 use Rattle.journal_records.proofs.Operations.{task_after, task_is}
 use Rattle.journal_records.proofs.Totals.{total, total_append}
 

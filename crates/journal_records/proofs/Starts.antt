@@ -17,7 +17,7 @@ use Rattle.journals.specs.declared.desk.DeskEntry.{DeskEntry}
 use Rattle.journals.specs.Desks.{DeskState, Ended, desk_heard, desk_after, desk_after_all, DeskGoes, DeskKept}
 use Rattle.journals.specs.Steps.{IsOwn}
 use Rattle.journals.specs.Agreement.{ended_record}
-use Rattle.journal_records.specs.Records.{record_of_task, client_records}
+use Rattle.journals.specs.Records.{record_of_task, client_records}
 use Rattle.lists.proofs.lemmas.Members.{Contains-head, Contains-none, Contains-rest, Contains-cons_cases}
 
 abbrev pub starts : List Record → List ℕ

@@ -1,42 +1,21 @@
--- The records of a run, as its clients' journals tell them.
-use Rattle.std.specs.Prelude.{◌≡◌, ℕ, ◌+◌, false, List, [], ◌∷◌, ◌++◌, map, Option}
-use Rattle.std.specs.declared.option.Option.TheVariants.{None, Some}
+-- The records of a run, as its correct clients' journals tell them.
+use Rattle.std.specs.Prelude.{◌≡◌, ℕ, false, List, map}
 use Rattle.std.specs.List.{Contains}
-use Rattle.protocol.specs.Operations.{Task}
-use Rattle.protocol.specs.World.{World, Record, open_record}
+use Rattle.protocol.specs.World.{World, Record}
 use Rattle.protocol.specs.Lines.{Line, IsRun}
 use Rattle.protocol.specs.Report.{Ascend}
-use Rattle.protocol.specs.Seen.{started_task}
 use Rattle.journals.specs.declared.desk.DeskJournal.{DeskJournal}
-use Rattle.journals.specs.Desks.{DeskState, new_desk, desk_after_all}
 use Rattle.journals.specs.Steps.{Conduct}
-use Rattle.journals.specs.Agreement.{ended_record}
+use Rattle.journals.specs.Records.{records_in}
 use Rattle.journals.specs.declared.whole.Journals.{Journals}
 use Rattle.journals.specs.Journals.{setting_for, IsMerge, AreOfRun}
-
--- the record of an operation under way, if there is one
-abbrev pub record_of_task : ℕ → Option Task → List Record
-record_of_task c None = []
-record_of_task c (Some task) = open_record c task ∷ []
-
--- the record of what the client has under way, if anything: places count lines from 1, and numbers count from 0
-abbrev pub open_records : ℕ → DeskState → List Record
-open_records c d = record_of_task c (started_task (d.began + 1) d.client.seen.task)
-
--- the records of a client: of the operations that it ended, in order, and of the one that it left open
-abbrev pub client_records : ℕ → DeskState → List Record
-client_records c d = map (ended_record c) d.ended ++ open_records c d
-
--- the client after its whole journal
-abbrev pub last_desk : Journals → DeskJournal → DeskState
-last_desk j d = desk_after_all (new_desk j.config d.client) d.entries
 
 -- the record is one of a correct client of the journals
 pub record IsDeskRecord (j : Journals) (r : Record) : Type 0 where
   pub desk : DeskJournal
   pub there : Contains j.desks desk
   pub correct : (setting_for j).lying_client desk.client ≡ false
-  pub told : Contains (client_records desk.client (last_desk j desk)) r
+  pub told : Contains (records_in j.config desk) r
 
 -- the records are those of all correct clients of the journals, by start
 pub record AreAllRecords (j : Journals) (records : List Record) : Type 0 where

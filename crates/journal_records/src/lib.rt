@@ -1,19 +1,14 @@
-//! The records of a run in threads, made out of its clients' journals alone, and what the lines and the history of a run of a plan
-//! have.
+//! The records of a run in threads, as its clients' desks kept them, and what the lines and the history of a run of a plan have.
 //!
 //! The lines of all journals are a run, whose last world has the records of its history. These are known without that world: they
-//! are the records of the operations that correct clients ended, and of those that they left open (specs/Records). The contracts of
-//! `laws` say so, and that journals of a run have lines.
-//!
-//! So each correct client goes through its own journal once more (`retelling`), and the records of all clients are put in the
-//! order of their starts (`telling`). No node and no message is played again.
+//! are the records of the operations that correct clients ended, and of those that they left open (specs/Records), so those of all
+//! desks in the order of their starts (`telling`). The contracts of `laws` say so, and that journals of a run have lines.
 //!
 //! Where the run is one of a plan, each operation of a client that neither lies nor crashed in it stands in the history (specs/Shown), and
 //! each line is one that a script may have (specs/Told).
 #![tactic(auto)]
 
 pub mod laws;
-pub mod retelling;
 pub mod telling;
 
-pub use telling::records_of;
+pub use telling::by_start;

@@ -6,3 +6,4 @@ pub mod Agreement
 pub mod Journals
 pub mod Merged
 pub mod Phases
+pub mod Records

@@ -1,7 +1,9 @@
 //! A plan, run with each node in a thread of its own.
-ghost use Rattle.std.specs.Prelude.{◌≡◌, Err, IfOk};
+ghost use Rattle.std.specs.Prelude.{◌≡◌, Err, IfOk, map};
 ghost use Rattle.std.specs.Thread.{IsSync};
 ghost use Rattle.event_clock.specs.Passes.{HasFullPass, Tally};
+ghost use Rattle.protocol.specs.Seen.{record_of};
+ghost use Rattle.journals.specs.Records.{AreTold};
 ghost use Rattle.plan_words.specs.Plans.{Fits};
 ghost use Rattle.plan_followed.specs.Followed.{AreOfPlan};
 ghost use Rattle.phase_threads.specs.Phases.{MayPhase, HasPhased};
@@ -26,7 +28,8 @@ const SHARDS: u32 = 1;
 /// answers into the clients' inboxes. Where not all threads of a phase can be made, the phase is done by locks.
 ///
 /// Its journals are those of a run of the plan: each is kept, they agree in pairs, their numbers are those below the count of what was
-/// drawn, each once, and they follow the plan. `ClockFull` comes only where a pass has drawn 2^40 numbers.
+/// drawn, each once, and they follow the plan. Its records are those that the journals tell. `ClockFull` comes only where a pass has
+/// drawn 2^40 numbers.
 pub fn run_workers<R: Threads + Wait + Sync, G: Gate + Sync>(
     rt: &R,
     alloc: Global,
@@ -35,6 +38,7 @@ pub fn run_workers<R: Threads + Wait + Sync, G: Gate + Sync>(
 ) -> Result<Ran, RunRefusal>
     requires { Fits plan.now }
     ensures followed { IfOk result (λ r. AreOfPlan plan.now r.journals r.drawn.count) }
+    ensures records { IfOk result (λ r. AreTold r.journals (map record_of r.records)) }
     ensures full { (drawn : Tally) → result ≡ Err (RunRefusal.ClockFull drawn) → HasFullPass drawn }
 {
     let phase = |clock: Clock, cells: Vec<NodeCell>, seats: Vec<Seat<Work>>| -> Phased

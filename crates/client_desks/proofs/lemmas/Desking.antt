@@ -4,6 +4,7 @@ use Rattle.std.specs.declared.option.Option.TheVariants.{None, Some}
 use Rattle.std.specs.Prelude.{if◌then◌else◌, nat_lt, IfSome, IsSome, IfOk, OnOk, OnErr}
 use Rattle.lists.specs.declared.memory.NoMemory.{NoMemory}
 use Rattle.protocol.specs.Operations.{Outcome}
+use Rattle.protocol.specs.World.{Record}
 use Rattle.protocol.specs.Setting.{Setting}
 use Rattle.protocol.specs.Instance.{setting}
 use Rattle.protocol.specs.Operations.{outstanding}
@@ -35,6 +36,7 @@ use Rattle.journals.specs.declared.node.NodeAct.TheVariants.{Silent, CrashedAt, 
 use Rattle.journals.specs.declared.node.NodeEntry.{NodeEntry}
 use Rattle.journals.specs.Acts.{NodeState, is_spent, lied, answers, handles, act, late_act, answer_of, reply_in}
 use Rattle.journals.specs.Desks.{DeskState, new_desk, by_hearing, desk_told, desk_after, desk_after_all, ActsAs, LiarCalls, DeskKept}
+use Rattle.journals.specs.Records.{client_records}
 use Rattle.journals.specs.Steps.{side}
 use Rattle.locked_nodes.specs.declared.charter.Item.TheVariants.{Head, Entry}
 use Rattle.locked_nodes.specs.Cells.{CellView, CameLate, state_of, loses, Rises, told_as, with_seen, with_entry, entry, items}
@@ -90,18 +92,20 @@ told_crashed d n None = refl
 told_crashed d n (Some m) = refl
 
 -- a desk with one more entry
-pub desk_grows : (config : Numbers) (id : ℕ) (lying : Bool) (client now : ClientView) (crashed fell : Bool) (es gs : List DeskEntry) (p q : Holder) (n : ℕ) (a : DeskAct)
-    → IsDesk config id lying client crashed es p → ActsAs lying (desk_after_all (new_desk config id) es) a → p.seen ≤ n → q.seen ≡ n + 1 → q.drawn ≡ p.drawn ++ own_of n a
+pub desk_grows : (config : Numbers) (id : ℕ) (lying : Bool) (client now : ClientView) (crashed fell : Bool) (es gs : List DeskEntry) (rs ts : List Record) (p q : Holder) (n : ℕ) (a : DeskAct)
+    → IsDesk config id lying client crashed es rs p → ActsAs lying (desk_after_all (new_desk config id) es) a → p.seen ≤ n → q.seen ≡ n + 1 → q.drawn ≡ p.drawn ++ own_of n a
     → now ≡ (desk_after (desk_after_all (new_desk config id) es) n a).client → fell ≡ (desk_after (desk_after_all (new_desk config id) es) n a).crashed → gs ≡ es ++ desk_entry n a ∷ []
-    → IsDesk config id lying now fell gs q
-desk_grows config id lying client now crashed fell es gs p q n a desk may le seen drawn to falls list =
+    → ts ≡ client_records id (desk_after (desk_after_all (new_desk config id) es) n a)
+    → IsDesk config id lying now fell gs ts q
+desk_grows config id lying client now crashed fell es gs rs ts p q n a desk may le seen drawn to falls list told =
     let d = new_desk config id in
     let e = desk_entry n a in
     let numbers : numbers_of (es ++ e ∷ []) ≡ numbers_of es ++ n ∷ [] = map-append (λ (x : DeskEntry). x.number) es (e ∷ []) in
-    subst (λ l. IsDesk config id lying now fell l q) (sym list) (record {
+    subst (λ l. IsDesk config id lying now fell l ts q) (sym list) (record {
       kept = kept_snoc lying d es e desk.kept may;
       left = to ∙ sym (ap (λ (s : DeskState). s.client) (state_snoc d es e));
       fell = falls ∙ sym (ap (λ (s : DeskState). s.crashed) (state_snoc d es e));
+      told = told ∙ sym (ap (client_records id) (state_snoc d es e));
       drawn = drawn ∙ ap (λ l. l ++ own_of n a) desk.drawn ∙ sym (own_snoc es e);
       rises = subst (λ h. Rises 0 (numbers_of (es ++ e ∷ [])) h) (sym seen) (subst (λ l. Rises 0 l (n + 1)) (sym numbers) (rises_snoc 0 (numbers_of es) p.seen n desk.rises le));
     })
@@ -111,13 +115,14 @@ pub heeds_call : (p : Holder) (seen n : ℕ) → p.seen ≤ n → seen ≡ n + 1
 heeds_call p seen n le is = ap (λ m. with_seen p m) (omega (arith, le, is))
 
 -- a desk that did nothing, but whose pass has seen more
-pub desk_stays : (config : Numbers) (id : ℕ) (lying : Bool) (client now : ClientView) (crashed : Bool) (es gs : List DeskEntry) (p q : Holder)
-    → IsDesk config id lying client crashed es p → now ≡ client → gs ≡ es → p.seen ≤ q.seen → q.drawn ≡ p.drawn → IsDesk config id lying now crashed gs q
-desk_stays config id lying client now crashed es gs p q desk same list le drawn =
-    subst (λ l. IsDesk config id lying now crashed l q) (sym list) (subst (λ k. IsDesk config id lying k crashed es q) (sym same) (record {
+pub desk_stays : (config : Numbers) (id : ℕ) (lying : Bool) (client now : ClientView) (crashed : Bool) (es gs : List DeskEntry) (rs : List Record) (p q : Holder)
+    → IsDesk config id lying client crashed es rs p → now ≡ client → gs ≡ es → p.seen ≤ q.seen → q.drawn ≡ p.drawn → IsDesk config id lying now crashed gs rs q
+desk_stays config id lying client now crashed es gs rs p q desk same list le drawn =
+    subst (λ l. IsDesk config id lying now crashed l rs q) (sym list) (subst (λ k. IsDesk config id lying k crashed es rs q) (sym same) (record {
       kept = desk.kept;
       left = desk.left;
       fell = desk.fell;
+      told = desk.told;
       drawn = drawn ∙ desk.drawn;
       rises = rises_more 0 (numbers_of es) p.seen q.seen desk.rises le;
     }))
@@ -278,7 +283,7 @@ liar_calls d ask reply lying own formed =
     subst (λ b. ActsAs b (state_at d) (Call ByCall ask reply)) (sym lying) calls
 
 -- a desk whose pass meets another one
-pub desk_meets : (config : Numbers) (id : ℕ) (lying : Bool) (client : ClientView) (crashed : Bool) (es : List DeskEntry) (pass other : Holder)
-    → IsDesk config id lying client crashed es pass → IsDesk config id lying client crashed es (met pass other)
-desk_meets config id lying client crashed es pass other h =
-    record { kept = h.kept; left = h.left; fell = h.fell; drawn = h.drawn; rises = rises_more 0 (numbers_of es) pass.seen (met pass other).seen h.rises (omega arith) }
+pub desk_meets : (config : Numbers) (id : ℕ) (lying : Bool) (client : ClientView) (crashed : Bool) (es : List DeskEntry) (rs : List Record) (pass other : Holder)
+    → IsDesk config id lying client crashed es rs pass → IsDesk config id lying client crashed es rs (met pass other)
+desk_meets config id lying client crashed es rs pass other h =
+    record { kept = h.kept; left = h.left; fell = h.fell; told = h.told; drawn = h.drawn; rises = rises_more 0 (numbers_of es) pass.seen (met pass other).seen h.rises (omega arith) }

@@ -19,6 +19,7 @@ use Rattle.journals.specs.contracts.node.Silence as silence
 use Rattle.journals.specs.contracts.node.NodeAct as act
 use Rattle.journals.specs.contracts.node.NodeEntry as node_entry
 use Rattle.journals.specs.contracts.desk.DeskEntry as desk_entry
+use Rattle.run_words.specs.contracts.record.Record as told
 use Rattle.locked_nodes.specs.contracts.charter.Terms as terms
 use Rattle.locked_nodes.specs.contracts.state.State as state
 use Rattle.locked_nodes.specs.contracts.cell.NodeCell as cell
@@ -99,8 +100,11 @@ cell_send = search (all, terms_send, state_send, node_entry_send, pass_send) dep
 pub desk_entry_send : IsSend desk_entry.the_row
 desk_entry_send = search (all, message_send) depth 60 fits 50000
 
+pub record_send : IsSend told.the_row
+record_send = search (all, bytes_send) depth 60 fits 50000
+
 pub desk_send : IsSend desk.the_row
-desk_send = search (all, client_send, desk_entry_send, pass_send) depth 40
+desk_send = search (all, client_send, desk_entry_send, record_send, pass_send) depth 40 fits 50000
 
 pub mail_send : IsSend mail.the_row
 mail_send = search (all, asked_send, answered_send, putter_send, taker_send) depth 40

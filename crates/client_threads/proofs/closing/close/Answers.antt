@@ -18,7 +18,7 @@ pub close-drawn-requires-clause-own : goal.close-drawn-requires-clause-own
 close-drawn-requires-clause-own c =
     let run = c.args.run in
     let desks = desks_of run.clients.items in
-    let all = together run.cells.items desks run.courier.pass c.finish-empty.result.1 run.keeper c.new-passes.result c.finish_cells.new.passes c.finish_desks.new.passes c.push.new.self c.push-2.new.self
+    let all = together run.cells.items desks run.courier.pass c.finish-empty.result.pass run.keeper c.new-passes.result c.finish_cells.new.passes c.finish_desks.new.passes c.push.new.self c.push-2.new.self
     c.new-passes.ensures c.in_ok-nodes.ensures.passes c.in_ok-desks.ensures.passes c.in_ok-push.ensures.ok c.finish-empty.ensures.pass c.in_ok-push-2.ensures.ok in
     subst (All (λ (p : Holder). p.clock ≡ run.clock)) (sym all)
     (all_tick (plan_of run).config run.clock run.cells.items desks run.courier.pass run.keeper c.requires.opened.cells c.in_ok-nodes.ensures.kept c.requires.opened.desks c.requires.opened.courier.ticks c.requires.opened.keeper.0)
@@ -27,7 +27,7 @@ pub returns-clause-drawn : goal.returns-clause-drawn
 returns-clause-drawn c quiet =
     let run = c.args.run in
     let desks = desks_of run.clients.items in
-    let all = together run.cells.items desks run.courier.pass c.finish-empty.result.1 run.keeper c.new-passes.result c.finish_cells.new.passes c.finish_desks.new.passes c.push.new.self c.push-2.new.self
+    let all = together run.cells.items desks run.courier.pass c.finish-empty.result.pass run.keeper c.new-passes.result c.finish_cells.new.passes c.finish_desks.new.passes c.push.new.self c.push-2.new.self
     c.new-passes.ensures c.in_ok-nodes.ensures.passes c.in_ok-desks.ensures.passes c.in_ok-push.ensures.ok c.finish-empty.ensures.pass c.in_ok-push-2.ensures.ok in
     let count = c.close-drawn.result.count in
     drawn_once count run.cells.items desks run.courier.pass run.keeper (quiet_drawn run.courier c.finish-empty.ensures.kept quiet) c.requires.opened.keeper.1

@@ -1,4 +1,5 @@
-use Rattle.std.proofs.Common.{ap, subst, refl}
+use Rattle.std.proofs.Common.{ap, subst, refl, map}
+use Rattle.protocol.specs.Seen.{record_of}
 use Rattle.client_desks.specs.Desks.{DeskView, KeepsDesk}
 use Rattle.client_desks.proofs.lemmas.Desking.{late_does, desk_stays}
 use Rattle.client_desks.proofs.desk.Desk.deliver.Goals as goal
@@ -7,7 +8,7 @@ pub invariant_of-self : goal.invariant_of-self
 invariant_of-self c =
     let was = c.self.inside in
     let does = late_does c.late.result c.args.cell.now c.late.new.self was.pass c.late.new.caller c.late.ensures.delivered c.late.ensures.lost c.late.ensures.same c.late.ensures.err in
-    desk_stays was.config was.id was.lying was.client was.client was.crashed was.entries.items was.entries.items was.pass c.late.new.caller c.self.invariant refl refl does.2 (ap (λ p. p.drawn) does.1)
+    desk_stays was.config was.id was.lying was.client was.client was.crashed was.entries.items was.entries.items (map record_of was.records.items) was.pass c.late.new.caller c.self.invariant refl refl does.2 (ap (λ p. p.drawn) does.1)
 
 pub returns-clause-kept : goal.returns-clause-kept
 returns-clause-kept c =
