@@ -6,3 +6,4 @@ mod Ending
 mod Sessions
 mod RunsOfPlans
 mod Tracing
+mod Called
