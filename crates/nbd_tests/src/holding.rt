@@ -53,10 +53,12 @@ fn meet_cut(
     ensures { IfOk result (λ left. left ≡ server) }
 {
     match server.serve_one(alloc, source, sink) {
-        Err(Stopped {
-            end: SessionEnd::CutRequest { .. },
-            server: Some(left),
-        }) => Ok(left),
+        Err(
+            Stopped {
+                end: SessionEnd::CutRequest { .. },
+                server: Some(left),
+            },
+        ) => Ok(left),
         _ => Err(Unmade),
     }
 }
@@ -100,6 +102,11 @@ pub fn is_left_by_a_cut_write(alloc: Global) -> Result<bool, Unmade> {
 pub fn is_unwritten(alloc: Global) -> Result<bool, Unmade> {
     let server = small_server(alloc)?;
     let mut sink = MemorySink::new(alloc, 4096, Calls::new(alloc));
-    let server = serve_next(server, alloc, &mut source_of(alloc, EMPTY_WRITE)?, &mut sink)?;
+    let server = serve_next(
+        server,
+        alloc,
+        &mut source_of(alloc, EMPTY_WRITE)?,
+        &mut sink,
+    )?;
     Ok(is(&server.held(2, 0)?, 0, &[0]))
 }
