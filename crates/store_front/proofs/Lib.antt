@@ -1,4 +1,12 @@
+pub mod Answering
+pub mod Asking
+pub mod Ending
+pub mod Hearing
+pub mod Living
 pub mod Reaching
 pub mod Replying
 pub mod Rounding
+pub mod Serving
+pub mod Touching
 pub mod Valuing
+pub mod Waiting

@@ -1,12 +1,16 @@
 -- Replies to requests.
-use Rattle.std.proofs.Common.{◌≡◌, ℕ, zero, suc, ◌<◌, ◌≤◌, ◌+◌, ◌-◌, ◌*◌, Bool, true, false, ◌==◌, if◌then◌else◌, List, ◌++◌, refl, sym, ap, ◌∙◌, subst, arith, inl, inr, Option}
-use Rattle.std.specs.List.{flat_map, list_all, range_with_len}
+use Rattle.std.proofs.Common.{◌≡◌, ℕ, zero, suc, ◌<◌, ◌≤◌, ◌+◌, ◌-◌, ◌*◌, Bool, true, false, ◌==◌, if◌then◌else◌, List, [], ◌∷◌, ◌++◌, length, take, get_or, refl, sym, ap, ◌∙◌, subst, arith, inl, inr, Option}
+use Rattle.std.specs.List.{All, flat_map, list_all, range_with_len}
 use Rattle.std.proofs.lemmas.Bool.{cases_lt, and_right}
-use Rattle.std.proofs.lemmas.List.{flat_map_more}
+use Rattle.std.proofs.lemmas.List.{append-nil, flat_map_more, map-append, take_more}
+use Rattle.std.proofs.lemmas.Grind.{flat_map-append}
 use Rattle.quorum_rules.specs.Limits.{Numbers}
 use Rattle.block_device.proofs.lemmas.Touching.{range_more}
 use Rattle.nbd_front.specs.declared.request.Request.{Request}
+use Rattle.nbd_front.specs.Requests.{request_of}
 use Rattle.nbd_front.specs.Replies.{error_of}
+use Rattle.store_front.specs.declared.round.Asked.{Asked}
+use Rattle.store_front.specs.Rounds.{IsAsked, bytes_of, requests_of}
 use Rattle.store_front.specs.Blocks.{first_of, end_of, blocks_of}
 use Rattle.store_front.specs.Replies.{failed, is_done, answer_error}
 
@@ -45,3 +49,24 @@ data_more f old now new first k low before here =
     ∙ flat_map_more f old (range_with_len first (k - first)) k
     ∙ ap (λ z. old ++ flat_map f z) (sym (range_more first (k - first) k place))
     ∙ ap (λ n. old ++ flat_map f (range_with_len first n)) longer
+
+-- one reply more
+pub replies_more : (f : Request → List ℕ) (now new : List ℕ) (asked : List Asked) (next : Asked) → next.request ≡ request_of next.bytes.now
+    → now ≡ flat_map (λ bytes. f (request_of bytes)) (requests_of asked) → new ≡ now ++ f next.request
+    → new ≡ flat_map (λ bytes. f (request_of bytes)) (requests_of (asked ++ next ∷ []))
+replies_more f now new asked next is before here =
+    let g : List ℕ → List ℕ = λ bytes. f (request_of bytes) in
+    let bytes = next.bytes.now in
+    here
+    ∙ ap (λ z. z ++ f next.request) before
+    ∙ ap (λ r. flat_map g (requests_of asked) ++ f r) is
+    ∙ ap (λ z. flat_map g (requests_of asked) ++ z) (sym (append-nil (g bytes)))
+    ∙ sym (flat_map-append g (requests_of asked) (bytes ∷ []))
+    ∙ ap (flat_map g) (sym (map-append bytes_of asked (next ∷ [])))
+
+pub replies_at : (f : Request → List ℕ) (now new : List ℕ) (asked : List Asked) (i : ℕ) (d : Asked) → i < length asked → All IsAsked asked
+    → now ≡ flat_map (λ bytes. f (request_of bytes)) (requests_of (take i asked)) → new ≡ now ++ f (get_or asked i d).request
+    → new ≡ flat_map (λ bytes. f (request_of bytes)) (requests_of (take (i + 1) asked))
+replies_at f now new asked i d high all before here =
+    replies_more f now new (take i asked) (get_or asked i d) (all i d high).is before here
+    ∙ ap (λ z. flat_map (λ bytes. f (request_of bytes)) (requests_of z)) (sym (take_more asked i d high))

@@ -19,7 +19,7 @@ use Rattle.store_front.specs.declared.round.Asked.{Asked}
 use Rattle.store_front.specs.declared.standing.Standing.TheVariants.{Whole}
 use Rattle.store_front.specs.Standings.{IsStanding}
 use Rattle.store_front.specs.Blocks.{first_of, end_of}
-use Rattle.store_front.specs.Rounds.{bytes_of, needs, needed, with_blocks}
+use Rattle.store_front.specs.Rounds.{bytes_of, requests_of, blocks_read, needs, needed, with_blocks}
 
 pub with_append : (old xs ys : List ℕ) → with_blocks old (xs ++ ys) ≡ with_blocks (with_blocks old xs) ys
 with_append old [] ys = refl
@@ -80,16 +80,17 @@ one_request input asked next len end order before here =
     ∙ ap concat (sym (map-append bytes_of asked (next ∷ [])))
 
 pub one_touched : (c : Numbers) (asked : List Asked) (next : Asked) (old new : List ℕ)
-    → old ≡ with_blocks [] (flat_map (λ (a : Asked). needed c a.request) asked) → new ≡ with_blocks old (needed c next.request)
-    → new ≡ with_blocks [] (flat_map (λ (a : Asked). needed c a.request) (asked ++ next ∷ []))
+    → old ≡ blocks_read c (requests_of asked) → new ≡ with_blocks old (needed c (request_of next.bytes.now))
+    → new ≡ blocks_read c (requests_of (asked ++ next ∷ []))
 one_touched c asked next old new before here =
-    let f : Asked → List ℕ = λ a. needed c a.request in
-    let last : f next ≡ flat_map f (next ∷ []) = sym (append-nil (f next)) in
+    let f : List ℕ → List ℕ = λ bytes. needed c (request_of bytes) in
+    let bytes = next.bytes.now in
     here
-    ∙ ap (λ z. with_blocks z (needed c next.request)) before
-    ∙ sym (with_append [] (flat_map f asked) (f next))
-    ∙ ap (λ z. with_blocks [] (flat_map f asked ++ z)) last
-    ∙ ap (with_blocks []) (sym (flat_map-append f asked (next ∷ [])))
+    ∙ ap (λ z. with_blocks z (f bytes)) before
+    ∙ sym (with_append [] (flat_map f (requests_of asked)) (f bytes))
+    ∙ ap (λ z. with_blocks [] (flat_map f (requests_of asked) ++ z)) (sym (append-nil (f bytes)))
+    ∙ ap (with_blocks []) (sym (flat_map-append f (requests_of asked) (bytes ∷ [])))
+    ∙ ap (λ z. with_blocks [] (flat_map f z)) (sym (map-append bytes_of asked (next ∷ [])))
 
 -- ---- blocks that are read are the cluster's
 module _ (P : ℕ → Type 0) where
@@ -128,9 +129,10 @@ module _ (P : ℕ → Type 0) where
 below_all : (c : Numbers) (r : Request) → end_of c r ≤ c.blocks → AllByRecursion (λ k. k < c.blocks) (needed c r)
 below_all c r last = all_filter (λ k. k < c.blocks) (needs c r) (first_of c r) (end_of c r - first_of c r) (λ k low high. omega (arith, last))
 
-pub round_below : (c : Numbers) (read : List ℕ) (asked : List Asked) → ((r : Request) → end_of c r ≤ c.blocks)
-    → read ≡ with_blocks [] (flat_map (λ (a : Asked). needed c a.request) asked) → All (λ k. k < c.blocks) read
-round_below c read asked last h =
+pub round_below : (c : Numbers) (read : List ℕ) (requests : List (List ℕ)) → ((r : Request) → end_of c r ≤ c.blocks)
+    → read ≡ blocks_read c requests → All (λ k. k < c.blocks) read
+round_below c read requests last h =
     let P : ℕ → Type 0 = λ k. k < c.blocks in
+    let f : List ℕ → List ℕ = λ bytes. needed c (request_of bytes) in
     All-from_recursion P read (subst (AllByRecursion P) (sym h)
-    (all_with P [] (flat_map (λ (a : Asked). needed c a.request) asked) tt (all_flat P (λ (a : Asked). needed c a.request) (λ a. below_all c a.request (last a.request)) asked)))
+    (all_with P [] (flat_map f requests) tt (all_flat P f (λ bytes. below_all c (request_of bytes) (last (request_of bytes))) requests)))

@@ -1,6 +1,11 @@
 -- Values of blocks.
-use Rattle.std.proofs.Common.{◌≡◌, ℕ, ◌<◌, ◌≤◌, ◌+◌, ◌-◌, drop, Bool, true, false, List, [], ◌∷◌, length, map, cond, get_or, refl, sym, ap, ◌∙◌, subst, arith, Option, Some, None, Bor}
-use Rattle.std.specs.List.{All, AllByRecursion, slice_range}
+use Rattle.std.proofs.Common.{◌≡◌, ℕ, ◌<◌, ◌≤◌, ◌+◌, ◌-◌, take, drop, Bool, true, false, List, [], ◌∷◌, ◌++◌, length, map, cond, get_or, refl, sym, ap, ◌∙◌, subst, arith, Option, Some, None, Bor}
+use Rattle.std.specs.List.{All, AllByRecursion, flat_map, range_with_len, slice_range}
+use Rattle.std.proofs.lemmas.List.{append-nil, map-append, take_more}
+use Rattle.std.proofs.lemmas.Grind.{flat_map-append}
+use Rattle.block_device.proofs.lemmas.Touching.{range_more}
+use Rattle.store_front.specs.declared.round.Asked.{Asked}
+use Rattle.store_front.specs.Rounds.{bytes_of, requests_of}
 use Rattle.std.specs.Ordering.{nat_cmp, match_ordering}
 use Rattle.std.specs.declared.cmp.Ordering.TheVariants.{Less, Equal, Greater}
 use Rattle.std.specs.BTreeMap.{BTreeMap, get, insert_entry}
@@ -18,7 +23,7 @@ use Rattle.wire_forms.specs.declared.op.Op.TheVariants.{Read}
 use Rattle.wire_forms.specs.Ops.{Fits}
 use Rattle.protocol.specs.Seen.{block_of}
 use Rattle.store_device.specs.Told.{AreApart}
-use Rattle.store_front.specs.Values.{IsBlockValue, AreBlocks, write_of}
+use Rattle.store_front.specs.Values.{IsBlockValue, AreBlocks, write_of, with_values}
 
 -- ---- a value that is found has the length of a block
 sized_in : (c : Numbers) (es : List (ℕ × List ℕ)) (test : ℕ → Bool) (v : List ℕ) → AllByRecursion (IsBlockValue c) es → lookup test es ≡ Some v → length v ≡ c.size
@@ -108,3 +113,41 @@ put_in c (e ∷ es) k v there long h =
 pub put_blocks : (c : Numbers) (es new : List (ℕ × List ℕ)) (k : ℕ) (v : List ℕ) → new ≡ insert_entry nat_cmp es k v → k < c.blocks → length v ≡ c.size → All (IsBlockValue c) es → All (IsBlockValue c) new
 put_blocks c es new k v is there long h =
     subst (All (IsBlockValue c)) (sym is) (All-from_recursion (IsBlockValue c) (insert_entry nat_cmp es k v) (put_in c es k v there long (recursion_from_All (IsBlockValue c) es h)))
+
+-- ---- values that are put one after the other
+pub values_append : (old xs ys : List (ℕ × List ℕ)) → with_values old (xs ++ ys) ≡ with_values (with_values old xs) ys
+values_append old [] ys = refl
+values_append old (x ∷ xs) ys = values_append (insert_entry nat_cmp old x.0 x.1) xs ys
+
+pub values_put : (old now new more : List (ℕ × List ℕ)) (e : List (ℕ × List ℕ)) → now ≡ with_values old more → new ≡ with_values now e → new ≡ with_values old (more ++ e)
+values_put old now new more e before here = here ∙ ap (λ z. with_values z e) before ∙ sym (values_append old more e)
+
+-- the walk over the blocks of a request comes one block further
+pub one_value_more : (f : ℕ → List (ℕ × List ℕ)) (old now new : List (ℕ × List ℕ)) (first k : ℕ) → first ≤ k
+    → now ≡ with_values old (flat_map f (range_with_len first (k - first))) → new ≡ with_values now (f k)
+    → new ≡ with_values old (flat_map f (range_with_len first (k + 1 - first)))
+one_value_more f old now new first k low before here =
+    let longer : (k - first) + 1 ≡ k + 1 - first = omega arith in
+    let place : first + (k - first) ≡ k = omega arith in
+    let front = range_with_len first (k - first) in
+    values_put old now new (flat_map f front) (f k) before here
+    ∙ ap (with_values old) (ap (λ z. flat_map f front ++ z) (sym (append-nil (f k))) ∙ sym (flat_map-append f front (k ∷ [])))
+    ∙ ap (λ z. with_values old (flat_map f z)) (sym (range_more first (k - first) k place))
+    ∙ ap (λ n. with_values old (flat_map f (range_with_len first n))) longer
+
+-- the walk over requests comes one further
+pub one_left_more : (f : List ℕ → List (ℕ × List ℕ)) (now new : List (ℕ × List ℕ)) (asked : List Asked) (next : Asked)
+    → now ≡ with_values [] (flat_map f (requests_of asked)) → new ≡ with_values now (f next.bytes.now)
+    → new ≡ with_values [] (flat_map f (requests_of (asked ++ next ∷ [])))
+one_left_more f now new asked next before here =
+    let bytes = next.bytes.now in
+    values_put [] now new (flat_map f (requests_of asked)) (f bytes) before here
+    ∙ ap (with_values []) (ap (λ z. flat_map f (requests_of asked) ++ z) (sym (append-nil (f bytes))) ∙ sym (flat_map-append f (requests_of asked) (bytes ∷ [])))
+    ∙ ap (λ z. with_values [] (flat_map f z)) (sym (map-append bytes_of asked (next ∷ [])))
+
+pub one_left_at : (f : List ℕ → List (ℕ × List ℕ)) (now new : List (ℕ × List ℕ)) (asked : List Asked) (i : ℕ) (d : Asked) → i < length asked
+    → now ≡ with_values [] (flat_map f (requests_of (take i asked))) → new ≡ with_values now (f (get_or asked i d).bytes.now)
+    → new ≡ with_values [] (flat_map f (requests_of (take (i + 1) asked)))
+one_left_at f now new asked i d high before here =
+    one_left_more f now new (take i asked) (get_or asked i d) before here
+    ∙ ap (λ z. with_values [] (flat_map f (requests_of z))) (sym (take_more asked i d high))

@@ -23,6 +23,10 @@ end_of c r = if is_served c r then div_ceil (r.offset + r.len) c.size else 0
 abbrev pub blocks_of : Numbers → Request → List ℕ
 blocks_of c r = range_with_len (first_of c r) (end_of c r - first_of c r)
 
+-- it touches block k
+abbrev pub touches : Numbers → Request → ℕ → Bool
+touches c r k = nat_le (first_of c r) k && nat_lt k (end_of c r)
+
 -- a block that it touches
 pub record Reaches (c : Numbers) (r : Request) (block : ℕ) : Type 0 where
   pub some : 0 < r.len

@@ -1,6 +1,9 @@
+pub mod Asking
 pub mod Blocks
 pub mod Inputs
 pub mod Replies
 pub mod Rounds
+pub mod Sessions
 pub mod Standings
+pub mod Touching
 pub mod Values

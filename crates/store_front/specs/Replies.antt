@@ -1,19 +1,22 @@
--- Replies to requests, by what the block operations of their round came to: the values that were read of blocks, and which blocks were
+-- Replies to requests, by what the store told of the block operations of their round: the values that reads gave, and which blocks were
 -- written.
-use Rattle.std.specs.Prelude.{◌≡◌, ℕ, ◌*◌, ◌==◌, ◌&&◌, if◌then◌else◌, Bool, is_some, unwrap_or, List, [], ◌++◌, Option}
-use Rattle.std.specs.List.{flat_map, list_all, slice_range}
-use Rattle.std.specs.BTreeMap.{BTreeMap}
-use Rattle.std.specs.BTreeSet.{BTreeSet}
+use Rattle.std.specs.Prelude.{◌≡◌, ℕ, ◌<◌, ◌≤◌, ◌*◌, ◌==◌, ◌&&◌, if◌then◌else◌, Bool, is_some, unwrap_or, List, [], ◌++◌, length, take, Option, Result, Ok, Err}
+use Rattle.std.specs.List.{concat, flat_map, list_all, slice_range}
 use Rattle.quorum_rules.specs.Limits.{Numbers}
+use Rattle.disk_model.specs.Crash.{Pending}
 use Rattle.outside_io.specs.Written.{Adds, TakesPrefix}
 use Rattle.nbd_front.specs.declared.request.Request.{Request}
+use Rattle.nbd_front.specs.Requests.{request_of}
 use Rattle.nbd_front.specs.Replies.{error_of, reply_head}
 use Rattle.nbd_front.specs.Sessions.{read_kind}
-use Rattle.store_front.specs.declared.round.Asked.{Asked}
-use Rattle.store_front.specs.declared.round.Round.{Round}
+use Rattle.nbd_front.specs.declared.ending.SessionEnd.{SessionEnd}
+use Rattle.nbd_front.specs.declared.ending.SessionEnd.TheVariants.{NoMemory, ReadFault, WriteFault, BadMagic, CutRequest, TooManyRequests}
+use Rattle.store_device.specs.Stores.{SeenStore}
+use Rattle.store_device.specs.Calls.{Leads}
+use Rattle.store_front.specs.Asking.{IsFront}
 use Rattle.store_front.specs.Blocks.{blocks_of, piece_of}
-use Rattle.store_front.specs.Rounds.{IsRound}
-use Rattle.store_front.specs.Values.{AreBlocks, read_of, written_of}
+use Rattle.store_front.specs.Rounds.{BeginsWithRequest, Exchange, IsExchange, IsBegun, calls_of}
+use Rattle.store_front.specs.Values.{given_by, wrote_by}
 
 -- the error of a request of which a block operation failed
 abbrev pub failed : ℕ
@@ -42,25 +45,39 @@ module _ (c : Numbers) (read : ℕ → Option (List ℕ)) (wrote : ℕ → Bool)
   abbrev pub reply_of : Request → List ℕ
   reply_of r = reply_head (answer_error r) r.handle ++ sent_of r
 
-  -- the replies to requests, one after the other
-  abbrev pub replies_of : List Asked → List ℕ
-  replies_of asked = flat_map (λ (a : Asked). reply_of a.request) asked
+  -- the replies to requests, each the bytes that it has, one after the other
+  abbrev pub replies_of : List (List ℕ) → List ℕ
+  replies_of requests = flat_map (λ bytes. reply_of (request_of bytes)) requests
 
--- the text is the replies to these requests, by values that were found of blocks, and blocks that were written
-abbrev pub AreReplies : Numbers → List Asked → List ℕ → Type 0
-AreReplies c asked text =
-    (found : BTreeMap ℕ (List ℕ)) × (written : BTreeSet ℕ) × AreBlocks c found × (text ≡ replies_of c (read_of found) (written_of written) asked)
+-- the replies to the requests of a round, by what was told of its calls
+abbrev pub text_of : {D : Type 0} → Numbers → Exchange D → List ℕ
+text_of c e = replies_of c (given_by c e.reads) (wrote_by e.writes) e.requests
 
--- the text is the replies to the requests at the front of the input that have so many bytes and are done together
-pub record IsAnswer (c : Numbers) (input : List ℕ) (len : ℕ) (text : List ℕ) : Type 0 where
-  pub round : Round
-  pub front : IsRound c input round
-  pub long : len ≡ round.len
-  pub replies : AreReplies c round.asked.items text
+module _ {D : Type 0} (pending : D → Pending) (seen : D → List ℕ) (moment : D → ℕ) (left_since : D → ℕ → List ℕ → Type 0) where
+  -- a round was done whose requests are the first bytes of the input, so many, and its calls lead from the one store to the other
+  pub record IsDone (c : Numbers) (input : List ℕ) (len : ℕ) (old new : SeenStore D) (round : Exchange D) : Type 0 where
+    pub is : IsExchange c round
+    pub some : BeginsWithRequest input → 0 < length round.requests
+    pub fits : len ≤ length input
+    pub front : take len input ≡ concat round.requests
+    pub calls : Leads pending seen moment left_since old (calls_of round) new
 
--- the sink took the replies to the requests of so many bytes at the front of the input, or a beginning of the replies to some of them
-abbrev pub HasReplied : Numbers → List ℕ → (taken taken_after : Option (List ℕ)) → ℕ → Type 0
-HasReplied c input taken taken_after len = (text : List ℕ) × IsAnswer c input len text × Adds taken taken_after text
+  -- a round was begun whose requests are the first of the input's, and nothing was told of it
+  pub record IsCutOff (c : Numbers) (input : List ℕ) (old new : SeenStore D) (round : Exchange D) : Type 0 where
+    pub is : IsBegun c round
+    pub front : IsFront (concat round.requests) input
+    pub calls : Leads pending seen moment left_since old (calls_of round) new
 
-abbrev pub HasBegun : Numbers → List ℕ → (taken taken_after : Option (List ℕ)) → Type 0
-HasBegun c input taken taken_after = (len : ℕ) × (text : List ℕ) × IsAnswer c input len text × TakesPrefix taken taken_after text
+  -- What became of a round: the sink took the replies to requests of so many bytes, or a beginning of them where it failed; where memory
+  -- was wanting, it took none.
+  abbrev pub ServesRound : Numbers → List ℕ → SeenStore D → SeenStore D → (taken taken_after : Option (List ℕ)) → Result ℕ SessionEnd → Type 0
+  ServesRound c input old new taken taken_after (Ok len) =
+      (round : Exchange D) × IsDone c input len old new round × Adds taken taken_after (text_of c round)
+  ServesRound c input old new taken taken_after (Err WriteFault) =
+      (round : Exchange D) × (len : ℕ) × IsDone c input len old new round × TakesPrefix taken taken_after (text_of c round)
+  ServesRound c input old new taken taken_after (Err NoMemory) =
+      (round : Exchange D) × IsCutOff c input old new round × Adds taken taken_after []
+  ServesRound c input old new taken taken_after (Err ReadFault) = ⊥
+  ServesRound c input old new taken taken_after (Err (BadMagic at)) = ⊥
+  ServesRound c input old new taken taken_after (Err (CutRequest at)) = ⊥
+  ServesRound c input old new taken taken_after (Err TooManyRequests) = ⊥

@@ -1,7 +1,8 @@
 //! The input that was read and isn't served yet.
-ghost use Rattle.std.specs.Prelude.{◌≡◌, ◌≢◌, ◌≤◌, ◌<◌, ◌↔◌, ◌++◌, ℕ, List, IsTrue, Ok, Err, true, length, drop, [], IfOk, OnOk, OnErr, IfErr, IsErrOf};
+ghost use Rattle.std.specs.Prelude.{◌≡◌, ◌≢◌, ◌≤◌, ◌<◌, ◌↔◌, ◌++◌, ◌⊎◌, ℕ, List, IsTrue, Ok, Err, true, length, drop, [], IfOk, OnOk, OnErr, IfErr, IsErrOf};
 ghost use Rattle.outside_io.specs.Causes.{Rose};
 ghost use Rattle.store_front.specs.Inputs.{HasRead};
+ghost use Rattle.store_front.specs.Sessions.{HasReadOn, HasLost};
 
 use lists::NoMemory;
 use nbd_front::SessionEnd;
@@ -65,7 +66,11 @@ impl Input {
         ensures read { IfOk result (λ more.
             HasRead self.old self.new (S.left source.old) (S.left source.new) more) }
         ensures longer { result ≡ Ok true → length self.old < length self.new }
-        ensures unwritten { result ≢ Err SessionEnd.WriteFault }
+        ensures failed { IsErrOf result SessionEnd.ReadFault
+            → (self.new ≡ self.old) × HasReadOn self.old self.new (S.left source.old) (S.left source.new) }
+        ensures lost { IsErrOf result SessionEnd.NoMemory
+            → HasLost self.old self.new (S.left source.old) (S.left source.new) }
+        ensures ends { IfErr result (λ end. (end ≡ SessionEnd.ReadFault) ⊎ (end ≡ SessionEnd.NoMemory)) }
         ensures fault { IsErrOf result SessionEnd.ReadFault
             → Rose S.last (S.faults source.old) (S.faults source.new) }
         ensures calm { result ≢ Err SessionEnd.ReadFault

@@ -5,6 +5,7 @@
 mod answer;
 mod blocks;
 mod input;
+pub mod laws;
 mod operations;
 mod replies;
 mod round;

@@ -1,11 +1,16 @@
-//! Block operations, done in batches.
-ghost use Rattle.std.specs.Prelude.{◌≡◌, ◌<◌, ◌≤◌, ℕ, length, map, IfOk, IfSome, OnOk, All};
+//! Block operations, done in batches, and what the store told of them.
+ghost use Rattle.std.specs.Prelude.{◌≡◌, ◌<◌, ◌&&◌, ◌==◌, ℕ, List, [], nat_lt, length, map, if◌then◌else◌, IfOk, IfSome, OnOk, All};
 ghost use Rattle.std.specs.Ordering.{nat_cmp};
-ghost use Rattle.std.specs.BTreeMap.{IsOrdered as HasOrder};
+ghost use Rattle.std.specs.List.{zip};
+ghost use Rattle.std.specs.BTreeMap.{IsOrdered as HasOrder, insert_entry};
 ghost use Rattle.std.specs.BTreeSet.{IsOrdered};
-ghost use Rattle.quorum_rules.specs.Limits.{Numbers};
 ghost use Rattle.std.specs.Option.{option_copied};
-ghost use Rattle.store_front.specs.Values.{read_of, write_of, AreBlocks};
+ghost use Rattle.quorum_rules.specs.Limits.{Numbers};
+ghost use Rattle.wire_forms.specs.Ops.{Fits};
+ghost use Rattle.store_device.specs.Told.{AreApart};
+ghost use Rattle.store_device.specs.Calls.{Call, Leads};
+ghost use Rattle.store_front.specs.Asking.{told_in, AreAsked, AreHeard};
+ghost use Rattle.store_front.specs.Values.{read_of, write_of, AreBlocks, found_with, found_in, written_with, written_in};
 
 use client_core::Outcome;
 use cross_sum::Bytes;
@@ -41,9 +46,119 @@ pub(crate) fn put_value(
     requires block { block < config.now.blocks }
     requires len { length value ≡ config.now.size }
     requires values { AreBlocks config.now values.old }
-    ensures { OnOk result (AreBlocks config.now values.new) }
+    ensures put { OnOk result (values.new.entries
+        ≡ insert_entry nat_cmp values.old.entries block value) }
+    ensures blocks { OnOk result (AreBlocks config.now values.new) }
 {
     values.insert(block, value)?;
+    Ok(())
+}
+
+/// What the block operations of a round came to: the values that reads gave, and the blocks that were written.
+#[derive(Drop)]
+pub(crate) struct Done {
+    pub found: Values,
+    pub written: BTreeSet<u32>,
+}
+
+impl Done {
+    /// Nothing was done.
+    fn new(alloc: Global) -> Done
+        ensures found { result.found.entries ≡ [] }
+        ensures written { result.written.keys ≡ [] }
+    {
+        Done {
+            found: BTreeMap::new(alloc),
+            written: BTreeSet::new(alloc),
+        }
+    }
+
+    /// A read gave this value of a block. What isn't a block of the device is none.
+    fn find(&mut self, config: &Config, block: u32, value: Bytes) -> Result<(), NoMemory>
+        requires { AreBlocks config.now self.old.found }
+        ensures found { OnOk result (self.new.found.entries
+            ≡ (if nat_lt block config.now.blocks && length value == config.now.size
+            then insert_entry nat_cmp self.old.found.entries block value
+            else self.old.found.entries)) }
+        ensures blocks { OnOk result (AreBlocks config.now self.new.found) }
+        ensures written { self.new.written ≡ self.old.written }
+    {
+        if block >= config.blocks() || value.len() != config.size() as usize {
+            return Ok(());
+        }
+        put_value(&mut self.found, config, block, value)
+    }
+
+    /// Hears what was told of an operation.
+    fn hear(&mut self, config: &Config, op: &Op, outcome: Option<Outcome>) -> Result<(), NoMemory>
+        requires { AreBlocks config.now self.old.found }
+        ensures found { OnOk result (self.new.found.entries
+            ≡ found_with config.now self.old.found.entries op.now outcome) }
+        ensures valid { OnOk result (AreBlocks config.now self.new.found) }
+        ensures written { OnOk result (self.new.written.keys
+            ≡ written_with self.old.written.keys op.now outcome) }
+    {
+        match (op, outcome) {
+            (Op::Read { block }, Some(Outcome::Gave { value, .. })) => {
+                self.find(config, *block, value)
+            }
+            (Op::Write { block, .. }, Some(Outcome::Wrote(_))) => {
+                self.written.insert(*block)?;
+                Ok(())
+            }
+            _ => Ok(()),
+        }
+    }
+
+    /// Hears what was told of operations, one after the other.
+    fn hear_all(
+        &mut self,
+        config: &Config,
+        ops: &[Op],
+        outcomes: Vec<Option<Outcome>>,
+    ) -> Result<(), NoMemory>
+        requires { AreBlocks config.now self.old.found }
+        ensures found { OnOk result (self.new.found.entries
+            ≡ found_in config.now self.old.found.entries (zip ops.now outcomes.items)) }
+        ensures blocks { OnOk result (AreBlocks config.now self.new.found) }
+        ensures written { OnOk result (self.new.written.keys
+            ≡ written_in self.old.written.keys (zip ops.now outcomes.items)) }
+    {
+        for (op, outcome) in ops.iter().zip(outcomes) {
+            self.hear(config, op, outcome)?;
+        }
+        Ok(())
+    }
+}
+
+/// Performs operations in batches, and hears what was told of each.
+fn perform_all<D: Disk + Send, R: Threads + Sync>(
+    rt: &R,
+    store: &mut Store<D>,
+    ops: &[Op],
+    done: &mut Done,
+) -> Result<(), NoMemory>
+    requires fits { All (Fits store.old.config) ops.now }
+    requires apart { AreApart ops.now }
+    requires blocks { AreBlocks store.old.config done.old.found }
+    ensures config { store.new.config ≡ store.old.config }
+    ensures blocks { OnOk result (AreBlocks store.old.config done.new.found) }
+    ensures calls { (calls : List (Call D))
+        × Leads D.pending D.seen D.moment D.left_since store.old calls store.new
+        × AreAsked ops.now calls
+        × OnOk result (AreHeard ops.now calls
+        × (done.new.found.entries
+        ≡ found_in store.old.config done.old.found.entries (told_in calls))
+        × (done.new.written.keys ≡ written_in done.old.written.keys (told_in calls))) }
+{
+    let config = *store.config();
+    let mut at = 0;
+    while at < ops.len() {
+        let batch = &ops[at..ops.len().min(at + MOST_OPERATIONS)];
+        let outcomes = store.perform(rt, batch)?;
+        done.hear_all(&config, batch, outcomes)?;
+        at += batch.len();
+    }
     Ok(())
 }
 
@@ -53,44 +168,44 @@ pub(crate) fn read_blocks<D: Disk + Send, R: Threads + Sync>(
     alloc: Global,
     store: &mut Store<D>,
     blocks: &BTreeSet<u32>,
-) -> Result<Values, NoMemory>
+) -> Result<Done, NoMemory>
     requires { All (λ k. k < store.old.config.blocks) blocks.now.keys }
     ensures config { store.new.config ≡ store.old.config }
-    ensures values { IfOk result (λ values. AreBlocks store.old.config values) }
+    ensures blocks { IfOk result (λ done. AreBlocks store.old.config done.found) }
+    ensures calls { (calls : List (Call D))
+        × Leads D.pending D.seen D.moment D.left_since store.old calls store.new
+        × AreAsked (map Op.Read blocks.now.keys) calls
+        × IfOk result (λ done. AreHeard (map Op.Read blocks.now.keys) calls
+        × (done.found.entries ≡ found_in store.old.config [] (told_in calls))
+        × (done.written.keys ≡ [])) }
 {
-    let config = *store.config();
     let ops = reads_of(alloc, blocks)?;
-    let mut values = BTreeMap::new(alloc);
-    let mut at = 0;
-    while at < ops.len() {
-        let chunk = &ops[at..ops.len().min(at + MOST_OPERATIONS)];
-        let outcomes = store.perform(rt, chunk)?;
-        put_values(&mut values, &config, chunk, outcomes)?;
-        at += chunk.len();
-    }
-    Ok(values)
+    let mut done = Done::new(alloc);
+    perform_all(rt, store, &ops, &mut done)?;
+    Ok(done)
 }
 
-/// Writes blocks. Gives those of which the write ended well.
+/// Writes blocks, and hears which of the writes were done.
 pub(crate) fn write_blocks<D: Disk + Send, R: Threads + Sync>(
     rt: &R,
     alloc: Global,
     store: &mut Store<D>,
     values: Values,
-) -> Result<BTreeSet<u32>, NoMemory>
-    requires { AreBlocks store.old.config values }
+    done: &mut Done,
+) -> Result<(), NoMemory>
+    requires values { AreBlocks store.old.config values }
+    requires blocks { AreBlocks store.old.config done.old.found }
     ensures config { store.new.config ≡ store.old.config }
+    ensures found { OnOk result (done.new.found.entries ≡ done.old.found.entries) }
+    ensures blocks { OnOk result (AreBlocks store.old.config done.new.found) }
+    ensures calls { (calls : List (Call D))
+        × Leads D.pending D.seen D.moment D.left_since store.old calls store.new
+        × AreAsked (map write_of values.entries) calls
+        × OnOk result (AreHeard (map write_of values.entries) calls
+        × (done.new.written.keys ≡ written_in done.old.written.keys (told_in calls))) }
 {
     let ops = writes_of(alloc, values)?;
-    let mut written = BTreeSet::new(alloc);
-    let mut at = 0;
-    while at < ops.len() {
-        let chunk = &ops[at..ops.len().min(at + MOST_OPERATIONS)];
-        let outcomes = store.perform(rt, chunk)?;
-        put_written(&mut written, chunk, &outcomes)?;
-        at += chunk.len();
-    }
-    Ok(written)
+    perform_all(rt, store, &ops, done)
 }
 
 /// A read of each block.
@@ -117,60 +232,4 @@ fn writes_of(alloc: Global, values: Values) -> Result<Vec<Op>, NoMemory>
         .map(|(block, value)| Op::Write { block, value })
         .collect(alloc)?;
     Ok(ops)
-}
-
-/// Adds what reads gave.
-fn put_values(
-    values: &mut Values,
-    config: &Config,
-    ops: &[Op],
-    outcomes: Vec<Option<Outcome>>,
-) -> Result<(), NoMemory>
-    requires { AreBlocks config.now values.old }
-    ensures { OnOk result (AreBlocks config.now values.new) }
-{
-    for (op, outcome) in ops.iter().zip(outcomes) {
-        put_outcome(values, config, block_of(op), outcome)?;
-    }
-    Ok(())
-}
-
-/// Adds what a read of a block gave.
-fn put_outcome(
-    values: &mut Values,
-    config: &Config,
-    block: u32,
-    outcome: Option<Outcome>,
-) -> Result<(), NoMemory>
-    requires { AreBlocks config.now values.old }
-    ensures { OnOk result (AreBlocks config.now values.new) }
-{
-    let Some(Outcome::Gave { value, .. }) = outcome else {
-        return Ok(());
-    };
-    if block >= config.blocks() || value.len() != config.size() as usize {
-        return Ok(());
-    }
-    put_value(values, config, block, value)
-}
-
-/// Adds the blocks that writes wrote.
-fn put_written(
-    written: &mut BTreeSet<u32>,
-    ops: &[Op],
-    outcomes: &[Option<Outcome>],
-) -> Result<(), NoMemory> {
-    for (op, outcome) in ops.iter().zip(outcomes) {
-        if let Some(Outcome::Wrote(_)) = outcome {
-            written.insert(block_of(op))?;
-        }
-    }
-    Ok(())
-}
-
-/// The block of an operation.
-fn block_of(op: &Op) -> u32 {
-    match op {
-        Op::Read { block } | Op::Write { block, .. } => *block,
-    }
 }

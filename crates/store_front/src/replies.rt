@@ -1,29 +1,22 @@
 //! Replies.
-ghost use Rattle.std.specs.Prelude.{◌≡◌, ◌++◌, IfOk, OnOk};
+ghost use Rattle.std.specs.Prelude.{◌≡◌, ◌++◌, IfOk, OnOk, All};
 ghost use Rattle.std.specs.List.{flat_map};
 ghost use Rattle.store_front.specs.Blocks.{blocks_of, Reaches};
+ghost use Rattle.store_front.specs.Rounds.{IsAsked, requests_of};
 ghost use Rattle.store_front.specs.Values.{AreBlocks, read_of, written_of};
 ghost use Rattle.store_front.specs.Replies.{is_done, answer_error, part_of, reply_of, replies_of};
 
 use crate::blocks::{READ, blocks_of, device_len, piece_of};
-use crate::operations::{Values, value_in};
+use crate::operations::{Done, value_in};
 use crate::round::Asked;
 use lists::NoMemory;
 use nbd_front::reply::push_head;
 use nbd_front::request::Request;
 use quorum_rules::Config;
 use std::alloc::Global;
-use std::collections::BTreeSet;
 
 /// The error of a request of which a block operation failed.
 const FAILED: u32 = 5;
-
-/// What the block operations of a round came to: the values that were read of blocks, and the blocks that were written.
-#[derive(Drop)]
-pub(crate) struct Done {
-    pub found: Values,
-    pub written: BTreeSet<u32>,
-}
 
 impl Done {
     /// Whether a block was read, or written, as a request of this kind asks.
@@ -122,9 +115,10 @@ impl Done {
         config: &Config,
         asked: &[Asked<'_>],
     ) -> Result<Vec<u8>, NoMemory>
-        requires { AreBlocks config.now self.now.found }
+        requires found { AreBlocks config.now self.now.found }
+        requires asked { All IsAsked asked.now }
         ensures { IfOk result (λ text. text.items ≡ replies_of config.now
-            (read_of self.now.found) (written_of self.now.written) asked.now) }
+            (read_of self.now.found) (written_of self.now.written) (requests_of asked.now)) }
     {
         let mut text = Vec::new(alloc);
         for one in asked {

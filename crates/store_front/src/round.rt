@@ -1,9 +1,10 @@
 //! Rounds: requests whose block operations are done together.
-ghost use Rattle.std.specs.Prelude.{◌≡◌, ◌+◌, ◌≤◌, ◌<◌, ◌-◌, [], length, take, IfOk, OnOk, All, if◌then◌else◌};
+ghost use Rattle.std.specs.Prelude.{◌≡◌, ◌+◌, ◌≤◌, ◌<◌, ◌-◌, ℕ, true, [], length, take, IfOk, OnOk, All, if◌then◌else◌};
 ghost use Rattle.std.specs.Ordering.{nat_cmp};
 ghost use Rattle.std.specs.BTreeSet.{insert_key};
 ghost use Rattle.store_front.specs.Blocks.{Reaches};
-ghost use Rattle.store_front.specs.Rounds.{needs, needed, with_blocks, IsAsked, IsRound};
+ghost use Rattle.store_front.specs.Rounds.{BeginsWithRequest, needs, needed, with_blocks, IsAsked, IsRound};
+ghost use Rattle.store_front.specs.Touching.{IsFree, HasRoom, HasTouched, Knows, KnowsMore};
 ghost use Rattle.store_front.specs.Standings.{IsStanding};
 ghost use Rattle.nbd_front.specs.Requests.{head_len, data_len};
 
@@ -53,6 +54,9 @@ impl Touched {
     /// they touch few blocks together.
     fn takes(&self, blocks: Blocks, kind: u16) -> bool
         requires { blocks.first ≤ blocks.end }
+        ensures room { result ≡ true → (k : ℕ) → blocks.first ≤ k → k < blocks.end
+            → HasRoom self.now kind k }
+        ensures first { self.now.count ≡ 0 → result ≡ true }
     {
         if self.count == 0 {
             return true;
@@ -69,14 +73,18 @@ impl Touched {
     }
 
     /// Whether a request of this kind may touch a block.
-    fn is_free(&self, block: u32, kind: u16) -> bool {
+    fn is_free(&self, block: u32, kind: u16) -> bool
+        ensures { result ≡ true → IsFree self.now kind block }
+    {
         !self.written.contains(&block) && (kind == READ || !self.read.contains(&block))
     }
 
     /// Adds the blocks of a request.
     fn add(&mut self, config: &Config, request: &Request) -> Result<(), NoMemory>
-        ensures { OnOk result (self.new.read.keys
+        ensures read { OnOk result (self.new.read.keys
             ≡ with_blocks self.old.read.keys (needed config.now request.now)) }
+        ensures more { OnOk result (KnowsMore self.old self.new) }
+        ensures touched { OnOk result (HasTouched config.now self.new request.now) }
     {
         let blocks = blocks_of(config, request);
         for block in blocks.first..blocks.end {
@@ -89,19 +97,37 @@ impl Touched {
     /// Adds a block of a request.
     fn add_block(&mut self, config: &Config, request: &Request, block: u32) -> Result<(), NoMemory>
         requires { Reaches config.now request.now block }
-        ensures { OnOk result (self.new.read.keys
+        ensures read { OnOk result (self.new.read.keys
             ≡ (if needs config.now request.now block then insert_key nat_cmp self.old.read.keys block
             else self.old.read.keys)) }
+        ensures more { OnOk result (KnowsMore self.old self.new) }
+        ensures known { OnOk result (Knows self.new request.now.kind block) }
+        ensures count { OnOk result (self.new.count ≡ self.old.count) }
     {
-        let piece = piece_of(config, request, block);
-        if request.kind == WRITE {
-            self.written.insert(block)?;
-        }
-        if request.kind == READ || piece.to - piece.from < config.size() as usize {
-            self.read.insert(block)?;
-        }
+        add_if(&mut self.written, request.kind == WRITE, block)?;
+        add_if(&mut self.read, needs_read(config, request, block), block)?;
         Ok(())
     }
+}
+
+/// Whether a block is to be read for a request: it reads it, or writes only a part of it.
+fn needs_read(config: &Config, request: &Request, block: u32) -> bool
+    requires { Reaches config.now request.now block }
+    ensures { result ≡ needs config.now request.now block }
+{
+    let piece = piece_of(config, request, block);
+    request.kind == READ || piece.to - piece.from < config.size() as usize
+}
+
+/// Adds a block to a set where it belongs there.
+fn add_if(blocks: &mut BTreeSet<u32>, belongs: bool, block: u32) -> Result<(), NoMemory>
+    ensures { OnOk result (blocks.new.keys
+        ≡ (if belongs then insert_key nat_cmp blocks.old.keys block else blocks.old.keys)) }
+{
+    if belongs {
+        blocks.insert(block)?;
+    }
+    Ok(())
 }
 
 /// Requests that are done together. A block that one of them writes no other one touches.
@@ -137,6 +163,7 @@ pub(crate) fn take_round<'a>(
 ) -> Result<Round<'a>, NoMemory>
     ensures round { IfOk result (IsRound config.now input.now) }
     ensures blocks { IfOk result (λ round. All (λ k. k < config.now.blocks) round.read.keys) }
+    ensures some { BeginsWithRequest input.now → IfOk result (λ round. 0 < round.len) }
 {
     let _valid = config.size();
     let mut asked = Vec::new(alloc);

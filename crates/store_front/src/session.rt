@@ -1,9 +1,11 @@
 //! A whole session: the greeting, and then rounds of requests and replies.
-ghost use Rattle.std.specs.Prelude.{◌≡◌, ◌≢◌, ◌≤◌, ◌<◌, ◌*◌, [], Ok, Err, true, false, length, drop, OnOk, OnErr, IfOk, IfErr, IsErrOf};
+ghost use Rattle.std.specs.Prelude.{◌≡◌, ◌≢◌, ◌⊎◌, ◌↔◌, ◌≤◌, ◌<◌, ◌*◌, ◌+◌, ℕ, List, [], Some, Result, Ok, Err, true, false, length, drop, IsTrue, OnOk, OnErr, IfOk, IfErr, IsErrOf};
 ghost use Rattle.outside_io.specs.Causes.{Rose};
 ghost use Rattle.outside_io.specs.Written.{Adds, AllFlushed, TakesPrefix};
 ghost use Rattle.nbd_front.specs.Replies.{greeting};
-ghost use Rattle.store_front.specs.Replies.{HasReplied, HasBegun};
+ghost use Rattle.nbd_front.specs.Sessions.{IsPart};
+ghost use Rattle.store_front.specs.Replies.{ServesRound};
+ghost use Rattle.store_front.specs.Sessions.{EndsSo, EndsWait, IsSession, told_place};
 
 use crate::answer::answer;
 use crate::blocks::device_len;
@@ -15,15 +17,24 @@ use nbd_front::SessionEnd;
 use nbd_front::reply::greeting;
 use outside_io::{Sink, Source, write_all};
 use std::alloc::Global;
+use std::marker::Model;
 use std::thread::Threads;
 use store_device::Store;
 
-/// A session that has begun. Its rounds are served one by one, so that a caller may look after the store between two.
+/// A session that has begun. Its rounds are served one by one, so that a caller may look after the store between two. Contracts see
+/// the input that was read and isn't served yet, and how many bytes of requests were served.
 #[derive(Drop)]
 pub struct Session {
     input: Input,
-    /// How many bytes of requests were served.
     place: u64,
+}
+
+impl Model for Session {
+    ghost use Rattle.store_front.specs.Sessions.{SeenSession};
+
+    ghost Value = { SeenSession };
+
+    ghost view = { λ s. record { input = s.input; place = s.place } };
 }
 
 impl Session {
@@ -33,13 +44,16 @@ impl Session {
         store: &Store<D>,
         sink: &mut K,
     ) -> Result<Session, SessionEnd>
+        ensures fresh { IfOk result (λ session. session ≡ record { input = []; place = 0 }) }
         ensures greeted { OnOk result (Adds (K.taken sink.old) (K.taken sink.new)
             (greeting (store.now.config.size * store.now.config.blocks))) }
+        ensures prefix { TakesPrefix (K.taken sink.old) (K.taken sink.new)
+            (greeting (store.now.config.size * store.now.config.blocks)) }
+        ensures ends { IfErr result (λ end. (end ≡ SessionEnd.WriteFault) ⊎ (end ≡ SessionEnd.NoMemory)) }
         ensures flushed { OnOk result (AllFlushed (K.taken sink.new) (K.flushed sink.new)) }
         ensures write_fault { IsErrOf result SessionEnd.WriteFault
             → Rose K.last (K.faults sink.old) (K.faults sink.new) }
         ensures calm { result ≢ Err SessionEnd.WriteFault → K.faults sink.new ≡ K.faults sink.old }
-        ensures unread { result ≢ Err SessionEnd.ReadFault }
     {
         write_or_end(sink, &greeting(device_len(store.config())))?;
         Ok(Session {
@@ -49,17 +63,21 @@ impl Session {
     }
 
     /// Whether something is at hand that ends the wait, so that nothing is to be read first.
-    pub fn is_ready(&self) -> bool {
+    pub fn is_ready(&self) -> bool
+        ensures { IsTrue result ↔ (IsPart self.now.input → ⊥) }
+    {
         at_front(self.input.at_hand()) != Standing::Part
     }
 
     /// Reads until a whole request is at hand. False where the client leaves, or the input has ended.
     pub fn wait<S: Source>(&mut self, source: &mut S) -> Result<bool, SessionEnd>
+        ensures waited { EndsWait result self.old.place self.old.input self.new.input
+            (S.left source.old) (S.left source.new) }
+        ensures place { self.new.place ≡ self.old.place }
         ensures fault { IsErrOf result SessionEnd.ReadFault
             → Rose S.last (S.faults source.old) (S.faults source.new) }
         ensures calm { result ≢ Err SessionEnd.ReadFault
             → S.faults source.new ≡ S.faults source.old }
-        ensures unwritten { result ≢ Err SessionEnd.WriteFault }
     {
         has_next(&mut self.input, source, self.place)
     }
@@ -74,18 +92,16 @@ impl Session {
         sink: &mut K,
     ) -> Result<usize, SessionEnd>
         ensures config { store.new.config ≡ store.old.config }
-        // the sink takes the replies to these requests, or a beginning of them
-        ensures replied { IfOk result (HasReplied store.old.config self.old.input
-            (K.taken sink.old) (K.taken sink.new)) }
-        ensures begun { IsErrOf result SessionEnd.WriteFault
-            → HasBegun store.old.config self.old.input (K.taken sink.old) (K.taken sink.new) }
+        // the replies to these requests, by what the store told of the calls that were made for them
+        ensures round { ServesRound D.pending D.seen D.moment D.left_since store.old.config
+            self.old.input store.old store.new (K.taken sink.old) (K.taken sink.new) result }
         // they are served
         ensures served { IfOk result (λ len. self.new.input ≡ drop len self.old.input) }
+        ensures place { IfOk result (λ len. self.new.place ≡ told_place (self.old.place + len)) }
         ensures flushed { OnOk result (AllFlushed (K.taken sink.new) (K.flushed sink.new)) }
         ensures write_fault { IsErrOf result SessionEnd.WriteFault
             → Rose K.last (K.faults sink.old) (K.faults sink.new) }
         ensures calm { result ≢ Err SessionEnd.WriteFault → K.faults sink.new ≡ K.faults sink.old }
-        ensures unread { result ≢ Err SessionEnd.ReadFault }
     {
         let len = serve_round(rt, alloc, store, self.input.at_hand(), sink)?;
         self.input.drop_front(len);
@@ -102,6 +118,9 @@ pub fn serve<D: Disk + Send, S: Source, K: Sink, R: Threads + Sync>(
     source: &mut S,
     sink: &mut K,
 ) -> Result<(), SessionEnd>
+    ensures session { IsSession D.pending D.seen D.moment D.left_since store.old.config store.old
+        store.new result (S.left source.old) (S.left source.new) (K.taken sink.old)
+        (K.taken sink.new) }
     ensures config { store.new.config ≡ store.old.config }
     // faults
     ensures read_fault { IsErrOf result SessionEnd.ReadFault
@@ -111,9 +130,15 @@ pub fn serve<D: Disk + Send, S: Source, K: Sink, R: Threads + Sync>(
     ensures calm_source { result ≢ Err SessionEnd.ReadFault
         → S.faults source.new ≡ S.faults source.old }
     ensures calm_sink { result ≢ Err SessionEnd.WriteFault → K.faults sink.new ≡ K.faults sink.old }
+    // where there is memory, an input that meets no fault is served to its end, and that is how it says
+    ensures complete { (input : List ℕ) (end : Result Unit SessionEnd)
+        → S.left source.old ≡ Some input → EndsSo end input
+        → (Rose S.last (S.faults source.old) (S.faults source.new) → ⊥)
+        → (Rose K.last (K.faults sink.old) (K.faults sink.new) → ⊥)
+        → (result ≡ end) ⊎ ((result ≡ Err SessionEnd.NoMemory) ⊎ (result ≡ Err SessionEnd.TooManyRequests)) }
 {
     let mut session = Session::begin(alloc, store, sink)?;
-    for _ in 0..u64::MAX {
+    for _round in 0..u64::MAX {
         if !session.wait(source)? {
             return Ok(());
         }
@@ -124,10 +149,11 @@ pub fn serve<D: Disk + Send, S: Source, K: Sink, R: Threads + Sync>(
 
 /// Reads until a whole request is at hand. False where the client leaves, or the input has ended. The input at hand begins at `place`.
 fn has_next<S: Source>(input: &mut Input, source: &mut S, place: u64) -> Result<bool, SessionEnd>
+    ensures waited { EndsWait result place input.old input.new (S.left source.old)
+        (S.left source.new) }
     ensures fault { IsErrOf result SessionEnd.ReadFault
         → Rose S.last (S.faults source.old) (S.faults source.new) }
     ensures calm { result ≢ Err SessionEnd.ReadFault → S.faults source.new ≡ S.faults source.old }
-    ensures unwritten { result ≢ Err SessionEnd.WriteFault }
 {
     loop {
         match at_front(input.at_hand()) {
@@ -147,6 +173,7 @@ fn at_end(at_hand: &[u8], place: u64) -> Result<bool, SessionEnd>
     ensures none { result ≡ Ok false → at_hand.now ≡ [] }
     ensures some { result ≢ Ok true }
     ensures cut { IfErr result (λ end. end ≡ SessionEnd.CutRequest place) }
+    ensures rest { OnErr result (0 < length at_hand.now) }
 {
     if at_hand.is_empty() {
         return Ok(false);
@@ -164,12 +191,9 @@ fn serve_round<D: Disk + Send, K: Sink, R: Threads + Sync>(
 ) -> Result<usize, SessionEnd>
     ensures len { IfOk result (λ len. len ≤ length at_hand.now) }
     ensures config { store.new.config ≡ store.old.config }
-    ensures replied { IfOk result (HasReplied store.old.config at_hand.now
-        (K.taken sink.old) (K.taken sink.new)) }
-    ensures begun { IsErrOf result SessionEnd.WriteFault
-        → HasBegun store.old.config at_hand.now (K.taken sink.old) (K.taken sink.new) }
+    ensures round { ServesRound D.pending D.seen D.moment D.left_since store.old.config at_hand.now
+        store.old store.new (K.taken sink.old) (K.taken sink.new) result }
     ensures flushed { OnOk result (AllFlushed (K.taken sink.new) (K.flushed sink.new)) }
-    ensures unread { result ≢ Err SessionEnd.ReadFault }
     ensures fault { IsErrOf result SessionEnd.WriteFault
         → Rose K.last (K.faults sink.old) (K.faults sink.new) }
     ensures calm { result ≢ Err SessionEnd.WriteFault → K.faults sink.new ≡ K.faults sink.old }

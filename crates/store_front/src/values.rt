@@ -1,10 +1,11 @@
 //! The values that blocks are left with by writes.
-ghost use Rattle.std.specs.Prelude.{◌≡◌, ◌+◌, ◌≤◌, length, IfOk, OnOk, IfSome, All};
+ghost use Rattle.std.specs.Prelude.{◌≡◌, ◌+◌, ◌≤◌, [], length, IfOk, OnOk, IfSome, All};
+ghost use Rattle.std.specs.Option.{option_copied};
 ghost use Rattle.block_device.specs.Device.{merged};
 ghost use Rattle.store_front.specs.Blocks.{Reaches};
 ghost use Rattle.nbd_front.specs.Requests.{write_kind};
-ghost use Rattle.store_front.specs.Rounds.{IsAsked};
-ghost use Rattle.store_front.specs.Values.{AreBlocks};
+ghost use Rattle.store_front.specs.Rounds.{IsAsked, requests_of, value_after, left_at, left_by, values_left};
+ghost use Rattle.store_front.specs.Values.{AreBlocks, read_of, with_values};
 
 use crate::blocks::{WRITE, blocks_of, piece_of};
 use crate::operations::{Values, put_value, value_in};
@@ -26,18 +27,18 @@ pub(crate) fn values_of(
 ) -> Result<Values, NoMemory>
     requires found { AreBlocks config.now found.now }
     requires asked { All IsAsked asked.now }
-    ensures { IfOk result (λ values. AreBlocks config.now values) }
+    ensures values { IfOk result (λ values. values.entries
+        ≡ values_left config.now (read_of found.now) (requests_of asked.now)) }
+    ensures blocks { IfOk result (λ values. AreBlocks config.now values) }
 {
     let mut values = BTreeMap::new(alloc);
     for one in asked {
-        if one.request.kind == WRITE {
-            put_values(alloc, config, one, found, &mut values)?;
-        }
+        put_values(alloc, config, one, found, &mut values)?;
     }
     Ok(values)
 }
 
-/// Adds the values to be written for a request.
+/// Adds the values to be written for a request, where it is a write.
 fn put_values(
     alloc: Global,
     config: &Config,
@@ -48,9 +49,13 @@ fn put_values(
     requires found { AreBlocks config.now found.now }
     requires values { AreBlocks config.now values.old }
     requires asked { IsAsked asked.now }
-    requires writes { asked.now.request.kind ≡ write_kind }
-    ensures { OnOk result (AreBlocks config.now values.new) }
+    ensures put { OnOk result (values.new.entries ≡ with_values values.old.entries
+        (left_by config.now (read_of found.now) asked.now.bytes.now)) }
+    ensures blocks { OnOk result (AreBlocks config.now values.new) }
 {
+    if asked.request.kind != WRITE {
+        return Ok(());
+    }
     let blocks = blocks_of(config, &asked.request);
     for block in blocks.first..blocks.end {
         put_block(alloc, config, asked, block, found, values)?;
@@ -72,7 +77,9 @@ fn put_block(
     requires values { AreBlocks config.now values.old }
     requires asked { IsAsked asked.now }
     requires writes { asked.now.request.kind ≡ write_kind }
-    ensures { OnOk result (AreBlocks config.now values.new) }
+    ensures put { OnOk result (values.new.entries ≡ with_values values.old.entries
+        (left_at config.now (read_of found.now) asked.now.bytes.now block)) }
+    ensures blocks { OnOk result (AreBlocks config.now values.new) }
 {
     let Some(value) = value_of(alloc, config, asked, block, value_in(found, block))? else {
         return Ok(());
@@ -92,7 +99,9 @@ fn value_of(
     requires asked { IsAsked asked.now }
     requires writes { asked.now.request.kind ≡ write_kind }
     requires old { IfSome old (λ value. length value.now ≡ config.now.size) }
-    ensures { IfOk result (λ value. IfSome value (λ bytes. length bytes ≡ config.now.size)) }
+    ensures value { IfOk result (λ value. value
+        ≡ value_after config.now asked.now.bytes.now block (option_copied old.entry)) }
+    ensures sized { IfOk result (λ value. IfSome value (λ bytes. length bytes ≡ config.now.size)) }
 {
     let piece = piece_of(config, &asked.request, block);
     let bytes = &asked.bytes[HEAD + piece.from..HEAD + piece.to];

@@ -2,7 +2,7 @@ use Rattle.std.proofs.Common.{◌≡◌, ◌∙◌, ◌*◌, ap, sym, arith}
 use Rattle.nbd_front.specs.Replies.{error_of}
 use Rattle.store_front.specs.Values.{read_of, written_of}
 use Rattle.store_front.proofs.Replying.{error_none, error_some}
-use Rattle.store_front.proofs.replies.Done.error.Goals as goal
+use Rattle.store_front.proofs.operations.Done.error.Goals as goal
 
 pub returns-then-not-has : goal.returns-then-not-has
 returns-then-not-has c =

@@ -4,7 +4,7 @@ use Rattle.store_front.specs.Blocks.{end_of}
 use Rattle.store_front.specs.Values.{read_of}
 use Rattle.store_front.specs.Replies.{part_of}
 use Rattle.store_front.proofs.Replying.{data_more}
-use Rattle.store_front.proofs.replies.Done.push_data.Goals as goal
+use Rattle.store_front.proofs.operations.Done.push_data.Goals as goal
 
 pub push_part-requires-clause-reaches : goal.push_part-requires-clause-reaches
 push_part-requires-clause-reaches c = c.blocks_of-blocks.ensures.reached c.loop-block.block c.loop-block.auto.block c.loop-block-test.true
