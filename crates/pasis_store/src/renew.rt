@@ -119,11 +119,11 @@ fn filled<T: Threads + Sync>(
         }
     };
     match fill_disk(threads, rt.alloc(), store, number, disk) {
-        Ok(filled) if filled.missed == 0 => DONE,
-        Ok(filled) => {
+        Ok(done) if done.filled.missed == 0 => DONE,
+        Ok(done) => {
             let _ = eprintln!(rt;
                 "pasis_store: {} blocks couldn't be read or kept",
-                filled.missed
+                done.filled.missed
             );
             TOO_FEW
         }
