@@ -1,5 +1,5 @@
 -- What is counted and noted of one block, of which a read gave something.
-use Rattle.std.proofs.Common.{◌≡◌, ◌&&◌, ◌<◌, ℕ, Bool, false, List, map, length, get_or, Option, Some, None, refl, sym, ap, subst, ◌∙◌, arith}
+use Rattle.std.proofs.Common.{◌≡◌, ◌&&◌, ℕ, Bool, false, List, map, length, get_or, Option, Some, None, ap, subst, ◌∙◌, arith}
 use Rattle.std.specs.List.{range_with_len}
 use Rattle.std.specs.Option.{option_map}
 use Rattle.quorum_rules.specs.Limits.{Numbers}
@@ -8,7 +8,7 @@ use Rattle.protocol.specs.Messages.{Version}
 use Rattle.store_device.specs.Stores.{SeenStore}
 use Rattle.store_care.specs.Given.{Given}
 use Rattle.store_care.specs.Holdings.{holding_of, made_of, newest_at}
-use Rattle.store_care.specs.Tallies.{AreChanged, is_sound, lacks, lacks_still, with_block, with_holding, with_restored}
+use Rattle.store_care.specs.Tallies.{AreChanged, is_sound, lacks, with_holding, with_restored}
 use Rattle.store_care.specs.Steps.{HasLookedAt, IsNoted, by_seat, holding_in}
 use Rattle.store_care.specs.declared.care.Care.{Care}
 use Rattle.store_care.specs.declared.care.Lacking.{Lacking}

@@ -1,5 +1,5 @@
 -- What a version is beside what a read gave, as a test.
-use Rattle.std.proofs.Common.{◌≡◌, ℕ, Bool, true, false, ◌&&◌, List, Option, Some, None, Less, Greater, Equal, inl, inr, refl, sym, ap, subst, ◌∙◌, IsTrue, ◌↔◌}
+use Rattle.std.proofs.Common.{◌≡◌, ℕ, Bool, true, false, ◌&&◌, List, Option, Some, None, inl, inr, refl, sym, ap, ◌∙◌, IsTrue, ◌↔◌}
 use Rattle.std.specs.declared.cmp.Ordering.{Ordering}
 use Rattle.std.specs.List.{slice_get}
 use Rattle.std.proofs.lemmas.Bool.{false≢true, cases_Bool}
@@ -7,7 +7,7 @@ use Rattle.stamp_order.specs.declared.Stamp.{Stamp}
 use Rattle.stamp_order.specs.Stamps.{stamp_cmp}
 use Rattle.frag_check.specs.declared.summed.Summed.{Summed}
 use Rattle.protocol.specs.Messages.{Version}
-use Rattle.protocol.specs.Setting.{same, same_digests}
+use Rattle.protocol.specs.Setting.{same_digests}
 use Rattle.protocol.proofs.lemmas.Rounds.{same-≡, same-refl, same_digests-≡, same_digests-refl}
 use Rattle.store_care.specs.Holdings.{IsMade, is_made, is_share, holding_by, holding_of}
 use Rattle.store_care.specs.declared.holding.Holding.{Holding}

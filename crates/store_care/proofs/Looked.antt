@@ -1,5 +1,5 @@
 -- A block more that was looked at, and what is noted of it.
-use Rattle.std.proofs.Common.{◌≡◌, ℕ, zero, suc, ◌+◌, ◌-◌, ◌<◌, ◌≤◌, ◌==◌, Bool, true, false, cond, inl, inr, List, [], ◌∷◌, ◌++◌, map, length, get_or, Option, None, Some, is_none, add-one, refl, sym, ap, subst, ◌∙◌, arith}
+use Rattle.std.proofs.Common.{◌≡◌, ℕ, zero, suc, ◌+◌, ◌-◌, ◌<◌, ◌≤◌, ◌==◌, Bool, inl, inr, List, [], ◌∷◌, ◌++◌, map, length, get_or, Option, None, Some, is_none, add-one, refl, sym, ap, subst, ◌∙◌, arith}
 use Rattle.std.specs.List.{All, range_with_len}
 use Rattle.std.proofs.lemmas.Bool.{cases_Bool}
 use Rattle.std.proofs.lemmas.Bool.Decides.{nat_tests}
@@ -8,14 +8,14 @@ use Rattle.std.proofs.lemmas.List.Elements.{All-push}
 use Rattle.std.proofs.lemmas.List.FromFn.{get_or-map-range_with_len, length-map-range_with_len}
 use Rattle.quorum_rules.specs.Limits.{Numbers}
 use Rattle.wire_forms.specs.declared.op.Op.{Op}
-use Rattle.wire_forms.specs.declared.op.Op.TheVariants.{Read, Write}
+use Rattle.wire_forms.specs.declared.op.Op.TheVariants.{Write}
 use Rattle.run_words.specs.declared.outcome.Outcome.TheVariants.{Wrote, Spent, Gave, Outvoted}
 use Rattle.protocol.specs.Messages.{Version}
 use Rattle.protocol.specs.Operations.{Outcome, How}
 use Rattle.protocol.specs.Seen.{block_of}
 use Rattle.store_device.specs.Stores.{SeenStore}
 use Rattle.store_care.specs.Batches.{AreBelow}
-use Rattle.store_care.specs.Given.{Given, given, outcome_at, reads_from, HasGiven, IsWrittenBack}
+use Rattle.store_care.specs.Given.{Given, given, outcome_at, reads_from, IsWrittenBack}
 use Rattle.store_care.specs.Holdings.{newest_at, newest_of}
 use Rattle.store_care.specs.Tallies.{AreChanged, one_more, one_more_if, with_block, with_blocks, failed_reads, given_at, lacks_still, still_lacks}
 use Rattle.store_care.specs.Steps.{AreLacking, IsNoted, HasLooked, HasLookedAt, by_seat}

@@ -15,7 +15,7 @@ use Rattle.store_device.specs.Calls.Deed.{Performs}
 use Rattle.store_care.specs.Given.{reads_from, IsWrittenBack}
 use Rattle.store_care.specs.Tallies.{with_blocks, with_writes, still_lacks, failed_writes}
 use Rattle.store_care.specs.Looking.{AreLook, HasCounted}
-use Rattle.store_care.specs.Steps.{AreLacking, HasLooked, IsRestored}
+use Rattle.store_care.specs.Steps.{HasLooked, IsRestored}
 use Rattle.store_care.specs.declared.care.Care.{Care}
 use Rattle.store_care.specs.declared.care.Lacking.{Lacking}
 use Rattle.store_care.proofs.Changing.{then_changed}

@@ -1,7 +1,6 @@
 -- A write more that was told of, or wasn't.
-use Rattle.std.proofs.Common.{◌≡◌, ℕ, ◌+◌, ◌<◌, Bool, false, List, [], map, length, get_or, Option, is_none, add-one, refl, sym, ap, subst, ◌∙◌, arith}
+use Rattle.std.proofs.Common.{◌≡◌, ℕ, ◌+◌, ◌<◌, Bool, false, List, [], map, length, get_or, Option, is_none, add-one, refl, sym, ap, subst, ◌∙◌}
 use Rattle.std.proofs.lemmas.List.{get_or-map}
-use Rattle.stamp_order.specs.declared.Stamp.{Stamp}
 use Rattle.protocol.specs.Operations.{Outcome}
 use Rattle.store_device.specs.Stores.{SeenStore}
 use Rattle.store_care.specs.Given.{block_at, outcome_at, written_by}
@@ -10,7 +9,6 @@ use Rattle.store_care.specs.Tallies.{AreChanged, failed_writes, holds_again, one
 use Rattle.store_care.specs.Steps.{HasRestored, by_seat}
 use Rattle.store_care.specs.declared.care.Care.{Care}
 use Rattle.store_care.specs.declared.care.Lacking.{Lacking}
-use Rattle.store_care.specs.declared.tally.NodeTally.{NodeTally}
 use Rattle.store_care.proofs.Changing.{then_changed, changed_alike, same_changed, noted_at, noted_length}
 
 -- two lists that are alike by these are so at each place

@@ -1,6 +1,6 @@
 -- The prunes that reads allow.
 use Rattle.std.specs.Prelude.{List, [], ◌∷◌, ◌++◌, Option}
-use Rattle.std.specs.declared.option.Option.TheVariants.{None, Some}
+use Rattle.std.specs.declared.option.Option.TheVariants.{Some}
 use Rattle.wire_forms.specs.declared.op.Op.{Op}
 use Rattle.protocol.specs.Operations.{Outcome}
 use Rattle.protocol.specs.Seen.{block_of}

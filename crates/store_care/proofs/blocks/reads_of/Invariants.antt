@@ -1,4 +1,4 @@
-use Rattle.std.proofs.Common.{◌≡◌, ℕ, ◌+◌, ◌-◌, ◌≤◌, length}
+use Rattle.std.proofs.Common.{◌≡◌, ◌+◌, ◌-◌, ◌≤◌}
 use Rattle.quorum_rules.specs.Limits.{Numbers}
 use Rattle.store_care.specs.Batches.{AreBelow}
 use Rattle.store_care.specs.Given.{reads_from}

@@ -1,4 +1,4 @@
-use Rattle.std.proofs.Common.{◌≡◌, Bool, Less, Greater, Equal, option_copied, refl, sym, ap, ◌∙◌}
+use Rattle.std.proofs.Common.{Bool, Less, Greater, Equal, option_copied, refl, sym, ap, ◌∙◌}
 use Rattle.std.proofs.lemmas.Bool.{false≢true}
 use Rattle.stamp_order.specs.Stamps.{stamp_cmp}
 use Rattle.store_care.specs.Holdings.{holding_by}

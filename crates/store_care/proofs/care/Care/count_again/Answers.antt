@@ -1,12 +1,10 @@
-use Rattle.std.proofs.Common.{◌≡◌, ◌<◌, ◌&&◌, ℕ, Bool, false, List, length, get_or, map, Option, option_copied, refl, sym, ap, subst, ◌∙◌, arith}
-use Rattle.std.specs.List.{range_with_len}
+use Rattle.std.proofs.Common.{◌≡◌, ◌<◌, ◌&&◌, ℕ, Bool, false, length, get_or, Option, option_copied, ap, subst, ◌∙◌}
 use Rattle.std.specs.Option.{option_map}
 use Rattle.protocol.specs.Messages.{Version}
 use Rattle.store_device.specs.Stores.{SeenStore}
 use Rattle.store_care.specs.Holdings.{holding_of, newest_at}
 use Rattle.store_care.specs.Steps.{IsChangedAt}
-use Rattle.store_care.specs.Tallies.{AreChanged, is_sound, lacks, with_restored}
-use Rattle.store_care.specs.declared.tally.NodeTally.{NodeTally}
+use Rattle.store_care.specs.Tallies.{is_sound, lacks, with_restored}
 use Rattle.store_care.proofs.Changing.{one_more_changed, noted_more}
 use Rattle.store_care.proofs.care.Care.count_again.Goals as goal
 

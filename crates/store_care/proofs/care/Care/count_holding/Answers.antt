@@ -1,4 +1,4 @@
-use Rattle.std.proofs.Common.{◌≡◌, ◌&&◌, ℕ, Bool, false, get_or, Option, option_copied, ap, subst, ◌∙◌}
+use Rattle.std.proofs.Common.{◌≡◌, ◌&&◌, Bool, false, get_or, Option, ap, subst, ◌∙◌}
 use Rattle.protocol.specs.Messages.{Version}
 use Rattle.protocol.specs.Nodes.{carries}
 use Rattle.store_device.specs.Stores.{SeenStore}

@@ -1,7 +1,6 @@
-use Rattle.std.proofs.Common.{◌≡◌, ℕ, OnOk, Option, None, Some, option_copied, inl, is_none, refl, sym, ap, subst, ◌∙◌}
+use Rattle.std.proofs.Common.{◌≡◌, ℕ, OnOk, Option, None, Some, option_copied, refl, ap, subst, ◌∙◌}
 use Rattle.quorum_rules.specs.Limits.{Numbers}
 use Rattle.store_care.specs.Given.{Given, given, given_by}
-use Rattle.store_care.specs.Tallies.{one_more_if}
 use Rattle.store_care.specs.Steps.{HasLookedAt}
 use Rattle.store_care.proofs.Looked.{nothing_given}
 use Rattle.store_care.proofs.care.Care.look_at.Goals as goal

@@ -1,14 +1,12 @@
-use Rattle.std.proofs.Common.{◌≡◌, ◌<◌, ◌≤◌, ◌+◌, ℕ, List, [], length, get_or, map, Option, option_copied, Vec, Global, refl, sym, ap, subst, ◌∙◌, arith}
+use Rattle.std.proofs.Common.{◌<◌, ◌+◌, ℕ, List, [], length, get_or, Option, Vec, Global, refl, sym, ap, subst, ◌∙◌, arith}
 use Rattle.std.proofs.lemmas.List.{get_or-map}
 use Rattle.std.proofs.lemmas.List.FromFn.{get_or-map-range_with_len}
-use Rattle.std.specs.List.{range_with_len}
 use Rattle.protocol.specs.Messages.{Version}
 use Rattle.protocol.specs.Operations.{Outcome}
 use Rattle.store_device.specs.Stores.{SeenStore}
 use Rattle.store_care.specs.Given.{given, outcome_at}
 use Rattle.store_care.specs.Holdings.{newest_of}
 use Rattle.store_care.specs.Steps.{HasLookedAt}
-use Rattle.store_care.specs.Tallies.{lacks_still}
 use Rattle.store_care.specs.declared.care.Lacking.{Lacking}
 use Rattle.store_care.proofs.Looked.{none_lacking, one_more_lacking, none_looked, one_more_looked}
 use Rattle.store_care.proofs.care.Care.look_at_all.Goals as goal

@@ -3,7 +3,6 @@ use Rattle.std.proofs.lemmas.List.{append-nil}
 use Rattle.store_care.specs.Given.{Given, given, given_by}
 use Rattle.store_care.specs.Tallies.{one_more_if}
 use Rattle.store_care.specs.Filling.{asks_by}
-use Rattle.store_care.specs.declared.filling.Filled.{Filled}
 use Rattle.store_care.proofs.Looks.{always}
 use Rattle.store_care.proofs.filling.Filled.ask_of.Goals as goal
 

@@ -1,9 +1,9 @@
-use Rattle.std.proofs.Common.{◌≡◌, ◌<◌, ◌+◌, ◌++◌, ℕ, List, length, get_or, map, Option, is_none, option_copied, add-one, refl, sym, ap, ◌∙◌, arith}
+use Rattle.std.proofs.Common.{◌≡◌, ◌<◌, ◌++◌, ℕ, List, length, Option, is_none, option_copied, add-one, sym, ap, ◌∙◌}
 use Rattle.std.proofs.lemmas.List.{get_or-map}
 use Rattle.protocol.specs.Messages.{Ask}
 use Rattle.protocol.specs.Operations.{Outcome}
 use Rattle.protocol.specs.Seen.{block_of}
-use Rattle.store_care.specs.Given.{block_at, given, outcome_at}
+use Rattle.store_care.specs.Given.{block_at, given}
 use Rattle.store_care.specs.Tallies.{failed_reads, one_more_if}
 use Rattle.store_care.specs.Filling.{asks_by, asks_for}
 use Rattle.store_care.specs.declared.filling.Filled.{Filled}

@@ -1,5 +1,4 @@
-use Rattle.std.proofs.Common.{◌≡◌, ℕ, List, true, inl, inr, sym, ap, ◌∙◌}
-use Rattle.protocol.specs.Messages.{Reply}
+use Rattle.std.proofs.Common.{◌≡◌, ℕ, true, inl, inr, sym, ap, ◌∙◌}
 use Rattle.store_care.specs.Filling.{with_replies}
 use Rattle.store_care.proofs.Refused.{refused}
 use Rattle.store_care.proofs.filling.Filled.keep.Goals as goal
