@@ -137,7 +137,10 @@ fn filled<T: Threads + Sync>(
             return Ok(Status::Failed);
         }
     };
-    match fill_disk(threads, rt.alloc(), store, number, disk)?.missed {
+    match fill_disk(threads, rt.alloc(), store, number, disk)?
+        .filled
+        .missed
+    {
         0 => Ok(Status::Done),
         blocks => Err(Refusal::Unread { blocks }),
     }

@@ -8,3 +8,4 @@ mod Written
 mod Block
 mod Looks
 mod Refused
+mod Groups

@@ -1,5 +1,5 @@
 -- What a new node is asked to keep of what reads gave, and what is counted of it.
-use Rattle.std.specs.Prelude.{◌≡◌, ◌⊎◌, ℕ, zero, suc, ◌+◌, ◌-◌, ◌^◌, ◌==◌, ⊤, min, true, if◌then◌else◌, List, [], ◌∷◌, ◌++◌, length, slice_index_or, Option}
+use Rattle.std.specs.Prelude.{◌≡◌, ◌⊎◌, ℕ, zero, suc, ◌+◌, ◌-◌, ◌^◌, ◌*◌, ◌/◌, ◌==◌, ⊤, min, true, false, if◌then◌else◌, List, [], ◌∷◌, ◌++◌, length, slice_index_or, Option}
 use Rattle.std.specs.declared.option.Option.TheVariants.{None, Some}
 use Rattle.quorum_rules.specs.Limits.{Numbers}
 use Rattle.gf_field.specs.Fragments.{fragments_of}
@@ -34,6 +34,10 @@ module _ (c : Numbers) (number : ℕ) where
   abbrev pub asks_for : List Op → List (Option Outcome) → ℕ → List Ask
   asks_for reads outcomes zero = []
   asks_for reads outcomes (suc k) = asks_for reads outcomes k ++ asks_by (block_at reads k) (given_at c.size outcomes k)
+
+-- nothing was kept or missed yet
+abbrev pub nothing : Filled
+nothing = record { kept = 0; missed = 0 }
 
 -- one block more was kept where the node acknowledged it, or else missed
 abbrev pub with_reply : Filled → Reply → Filled
@@ -74,9 +78,40 @@ module _ {E : Type 0} (pending : E → Pending) (seen : E → List ℕ) where
     AreFilling (call ∷ calls) old new was is =
         (mid : Filled) × (between : Stored E) × IsFilling call old mid was between × AreFilling calls mid new between is
 
+-- the groups of at most 64 blocks in which a device's blocks are read
+abbrev pub first_of : (blocks group : ℕ) → ℕ
+first_of blocks group = min blocks (group * 64)
+
+abbrev pub count_of : (blocks group : ℕ) → ℕ
+count_of blocks group = min 64 (blocks - first_of blocks group)
+
+abbrev pub groups_of : ℕ → ℕ
+groups_of blocks = (blocks + 63) / 64
+
 module _ {D : Type 0} where
+  -- the calls read the blocks of groups, from this one on
+  abbrev pub AreGroups : (blocks group : ℕ) → List (Call D) → Type 0
+  AreGroups blocks group [] = ⊤
+  AreGroups blocks group (call ∷ calls) =
+      IsReading (first_of blocks group) (count_of blocks group) call × AreGroups blocks (group + 1) calls
+
   -- the call reads so many blocks, from one on, and is the only one, if there is one
   abbrev pub AreFill : (first count : ℕ) → List (Call D) → Type 0
   AreFill first count [] = ⊤
   AreFill first count (read ∷ []) = IsReading first count read
   AreFill first count _ = ⊥
+
+module _ {E : Type 0} (pending : E → Pending) (seen : E → List ℕ) (c : Numbers) (number : ℕ) (bytes : List ℕ) where
+  -- the node of this number, as the bytes of its disk held it, safe from a crash
+  pub record IsOpened (node : Stored E) : Type 0 where
+    pub state : node.node ≡ held c number bytes
+    pub whole : node.broken ≡ false
+    pub on_disk : held c number (seen node.disk) ≡ node.node
+    pub durable : pending node.disk ≡ settled (seen node.disk)
+
+  -- A disk with these bytes was filled in these calls: it couldn't be opened, and all blocks are missed, or it was, and all blocks were read.
+  abbrev pub HasFilledBy : {D : Type 0} → List (Call D) → Filled → Option (Stored E) → Type 0
+  HasFilledBy calls filled None = (calls ≡ []) × (filled ≡ record { kept = 0; missed = c.blocks })
+  HasFilledBy calls filled (Some node) =
+      (opened : Stored E) × IsOpened opened × (length calls ≡ groups_of c.blocks)
+      × AreFilling pending seen c number calls nothing filled opened node

@@ -2,7 +2,7 @@ ghost use Rattle.std.specs.Prelude.{◌≡◌, ◌+◌, ◌≤◌, ◌<◌, ℕ,
 ghost use Rattle.store_device.specs.Calls.{Call, Leads};
 ghost use Rattle.store_care.specs.Given.{given, given_by};
 ghost use Rattle.store_care.specs.Tallies.{failed_reads, one_more_if};
-ghost use Rattle.store_care.specs.Filling.{AreFill, AreFilling, HasKept, asks_by, asks_for, version_for, with_replies, with_reply};
+ghost use Rattle.store_care.specs.Filling.{AreFill, AreFilling, AreGroups, HasFilledBy, HasKept, IsOpened, groups_of, nothing, asks_by, asks_for, version_for, with_replies, with_reply};
 
 use crate::blocks::{MOST_BLOCKS, block_of, reads_of};
 use crate::calls::{given, outcome_at, perform};
@@ -26,6 +26,13 @@ pub struct Filled {
     pub missed: u64,
 }
 
+/// A disk that was filled: what its node was given, and the node, if the disk could be opened.
+#[derive(Drop)]
+pub struct FilledDisk<E: Disk> {
+    pub filled: Filled,
+    pub node: Option<StoredNode<E>>,
+}
+
 /// Opens a disk as a node that doesn't sit in the store, and has it keep what reads of all blocks give. A disk that can't be opened keeps none.
 pub fn fill_disk<D: Disk + Send, E: Disk + Drop, R: Threads + Sync>(
     rt: &R,
@@ -33,20 +40,51 @@ pub fn fill_disk<D: Disk + Send, E: Disk + Drop, R: Threads + Sync>(
     store: &mut Store<D>,
     number: u8,
     disk: E,
-) -> Result<Filled, NoMemory>
-    ensures { store.new.config ≡ store.old.config }
+) -> Result<FilledDisk<E>, NoMemory>
+    ensures config { store.new.config ≡ store.old.config }
+    // what it did to the store, and what the disk holds of that
+    ensures calls { (calls : List (Call D))
+        × Leads D.pending D.seen D.moment D.left_since store.old calls store.new
+        × AreGroups store.old.config.blocks 0 calls
+        × IfOk result (λ done. HasFilledBy E.pending E.seen store.old.config number (E.seen disk) calls
+        done.filled done.node) }
 {
-    let mut filled = Filled::default();
     let config = *store.config();
     let Some(mut node) = opened(alloc, &config, number, disk) else {
-        filled.missed = u64::from(config.blocks());
-        return Ok(filled);
+        let missed = u64::from(config.blocks());
+        return Ok(FilledDisk {
+            filled: Filled { kept: 0, missed },
+            node: None,
+        });
     };
-    let blocks = config.blocks();
+    let filled = fill_all(rt, alloc, store, number, &mut node)?;
+    Ok(FilledDisk {
+        filled,
+        node: Some(node),
+    })
+}
+
+// Has a node that doesn't sit in the store keep what reads of all blocks give.
+fn fill_all<D: Disk + Send, E: Disk, R: Threads + Sync>(
+    rt: &R,
+    alloc: Global,
+    store: &mut Store<D>,
+    number: u8,
+    node: &mut StoredNode<E>,
+) -> Result<Filled, NoMemory>
+    ensures config { store.new.config ≡ store.old.config }
+    ensures calls { (calls : List (Call D))
+        × Leads D.pending D.seen D.moment D.left_since store.old calls store.new
+        × AreGroups store.old.config.blocks 0 calls
+        × IfOk result (λ filled. (length calls ≡ groups_of store.old.config.blocks)
+        × AreFilling E.pending E.seen store.old.config number calls nothing filled node.old node.new) }
+{
+    let mut filled = Filled::default();
+    let blocks = store.config().blocks();
     for group in 0..blocks.div_ceil(MOST_BLOCKS) {
         let first = blocks.min(group * MOST_BLOCKS);
         let count = MOST_BLOCKS.min(blocks - first);
-        filled.fill(rt, alloc, store, &mut node, number as usize, first, count)?;
+        filled.fill(rt, alloc, store, node, number as usize, first, count)?;
     }
     Ok(filled)
 }
@@ -57,7 +95,9 @@ fn opened<E: Disk + Drop>(
     config: &Config,
     number: u8,
     disk: E,
-) -> Option<StoredNode<E>> {
+) -> Option<StoredNode<E>>
+    ensures { IfSome result (IsOpened E.pending E.seen config.now number (E.seen disk)) }
+{
     if u32::from(number) >= config.n() || disk.room() == 0 {
         return None;
     }

@@ -14,7 +14,7 @@ pub mod tally;
 
 pub use blocks::MOST_BLOCKS;
 pub use care::Care;
-pub use filling::{Filled, fill_disk};
+pub use filling::{Filled, FilledDisk, fill_disk};
 pub use holding::Holding;
 pub use pruning::{later_versions, prune_due};
 pub use tally::NodeTally;
