@@ -6,8 +6,6 @@ use Rattle.quorum_rules.specs.declared.Edition.TheVariants.{One}
 use Rattle.quorum_rules.specs.Limits.{Numbers, IsValid}
 use Rattle.command_texts.specs.declared.words.Serving.{Serving}
 use Rattle.command_texts.specs.declared.words.Serving.TheVariants.{ByLocks, ByWorkers}
-use Rattle.command_texts.specs.declared.words.Form.{Form}
-use Rattle.command_texts.specs.declared.words.Form.TheVariants.{Text, Session}
 use Rattle.command_texts.specs.declared.words.Command.{Command}
 use Rattle.command_texts.specs.declared.words.Command.TheVariants.{Replay, Run, Trace, Check, Sum, Soak}
 
@@ -80,8 +78,3 @@ pub record IsNbd (words : List (List ℕ)) (c : Numbers) : Type 0 where
 -- the words are those of `nbd` with some configuration
 abbrev pub IsNbdForm : List (List ℕ) → Type 0
 IsNbdForm words = (c : Numbers) × IsNbd words c
-
--- the words are of this form: those of a command that writes a text, or of `nbd`
-abbrev pub IsOf : List (List ℕ) → Form → Type 0
-IsOf words (Text command) = IsCommand command × (words ≡ words_of command)
-IsOf words (Session c) = IsNbd words c

@@ -16,7 +16,7 @@ use cross_sum::Bytes;
 use history_book::print;
 use journals::Journals;
 use lists::NoMemory;
-use merge_trace::{MergedRun, merge};
+use merge_trace::{MergedRun, merge_run};
 use plan_words::Plan;
 use script_run::history_of;
 use std::alloc::Global;
@@ -42,7 +42,7 @@ fn merged(
     journal_records::laws::merged_lines();
     journal_records::laws::all_records();
     journal_records::laws::few_records();
-    let merged_run = merge(alloc, journals)?;
+    let merged_run = merge_run(alloc, journals)?;
     Ok(merged_run)
 }
 

@@ -1,9 +1,6 @@
 ghost use Rattle.std.specs.Prelude.{◌≡◌, ◌↔◌, [], ◌∷◌, IsTrue, IfSome, IfNone, codes};
-ghost use Rattle.command_texts.specs.Words.{texts, IsForm, IsCommand, RunsThreads, words_of, IsNamed, IsOf};
-ghost use Rattle.command_texts.specs.declared.words.Form.{Form as Forms};
+ghost use Rattle.command_texts.specs.Words.{texts, IsForm, IsCommand, RunsThreads, words_of, IsNamed};
 
-use crate::nbd::nbd_of;
-use quorum_rules::Config;
 use text_lines::number;
 
 /// How the nodes of a run serve its clients.
@@ -15,7 +12,7 @@ pub enum Serving {
     ByWorkers,
 }
 
-/// A command that writes a text.
+/// What the program's words ask for.
 #[derive(Clone, Copy, Debug, PartialEq, Eq)]
 pub enum Command {
     /// Replays a script, and writes the report of its history.
@@ -39,26 +36,6 @@ impl Command {
     {
         matches!(self, Command::Run(_) | Command::Trace(_) | Command::Soak(_))
     }
-}
-
-/// What the program's words ask for.
-#[derive(Clone, Copy)]
-pub enum Form {
-    /// A text.
-    Text(Command),
-    /// `nbd`: a session of requests to a device of this configuration.
-    Session(Config),
-}
-
-/// The form that the words are of.
-pub fn form_of(words: &[String]) -> Option<Form>
-    ensures some { IfSome result (IsOf (texts words.now)) }
-    ensures none { IfNone result ((form : Forms) → IsOf (texts words.now) form → ⊥) }
-{
-    if let Some(config) = nbd_of(words) {
-        return Some(Form::Session(config));
-    }
-    Some(Form::Text(command_of(words)?))
 }
 
 // The command of a single word.
@@ -105,7 +82,7 @@ fn paired(word: &str, second: &str) -> Option<Command>
 }
 
 /// The command that the words are the form of.
-fn command_of(words: &[String]) -> Option<Command>
+pub fn command_of(words: &[String]) -> Option<Command>
     ensures some { IfSome result (λ command.
         IsCommand command × (texts words.now ≡ words_of command)) }
     ensures none { IfNone result (IsForm (texts words.now) → ⊥) }

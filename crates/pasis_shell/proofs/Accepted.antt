@@ -11,7 +11,7 @@ use Rattle.plan_words.specs.declared.plan.Plan.{Plan}
 use Rattle.plan_words.specs.Plans.{Fits}
 use Rattle.plan_text.specs.Plans.{Spells as SpellsPlan}
 use Rattle.command_texts.specs.Texts.{Refuses, ReadsInput, AnswersFor, IsAccepted, IsRefusedFor, GivesAll}
-use Rattle.pasis_shell.specs.Calls.{Ends, IsAnswered, IsRun}
+use Rattle.pasis_shell.specs.Calls.{Ends}
 use Rattle.command_texts.proofs.lemmas.Commands.{plans_only, plan_form, loads_only, load_form}
 use Rattle.command_texts.proofs.lemmas.Alone.{RunsPlan}
 use Rattle.pasis_shell.proofs.WellFormed.{plan_is_no_bad_script}
@@ -58,6 +58,10 @@ fault_memory fault e = cc
 clock_memory : (drawn : Tally) → refusals.ClockFull drawn ≡ refusals.NoMemory → ⊥
 clock_memory drawn e = cc
 
+-- an accepted input is answered, or memory was wanting
+abbrev IsAnswered : Status → Type 0
+IsAnswered status = (status ≡ Done) ⊎ ((flaw : Flaw) × (status ≡ Illegal flaw)) ⊎ (status ≡ NoMemory)
+
 module _ (words : List (List ℕ)) (before after taken taken_after : Option (List ℕ)) (flushed flushed_after : ℕ) (input : List ℕ) where
   pub complete : (status : Status) → Ends words status before after taken taken_after flushed flushed_after → IsForm words → before ≡ Some input → length input ≤ LIMIT → IsAccepted words input → (status ≡ ReadFault → ⊥) → (status ≡ WriteFault → ⊥) → IsAnswered status
   complete Done h form e small accepted read wrote = inl refl
@@ -72,6 +76,12 @@ module _ (words : List (List ℕ)) (before after taken taken_after : Option (Lis
   complete (BadMagic at) h form e small accepted read wrote = absurd h
   complete (CutRequest at) h form e small accepted read wrote = absurd h
   complete TooManyRequests h form e small accepted read wrote = absurd h
+
+-- the same, of a status that there is
+pub some_answered : (status : Status) → IsAnswered status → (Some status ≡ Some Done) ⊎ ((flaw : Flaw) × (Some status ≡ Some (Illegal flaw))) ⊎ (Some status ≡ Some NoMemory)
+some_answered status (inl e) = inl (ap Some e)
+some_answered status (inr (inl h)) = inr (inl (h.0, ap Some h.1))
+some_answered status (inr (inr e)) = inr (inr (ap Some e))
 
 -- ---- a plan that meets no fault
 
@@ -116,7 +126,7 @@ no_flaw (Soak n) runs before after text flaw h = absurd runs
 
 module _ (words : List (List ℕ)) (before after taken taken_after : Option (List ℕ)) (flushed flushed_after : ℕ) (input : List ℕ) (plan : Plan) (fits : Fits plan) (spelled : SpellsPlan input plan) (ask : AskForPlan words) where
   pub plan_runs : (status : Status) → Ends words status before after taken taken_after flushed flushed_after → before ≡ Some input → length input ≤ LIMIT → (status ≡ ReadFault → ⊥) → (status ≡ WriteFault → ⊥)
-      → IsRun status
+      → (status ≡ Done) ⊎ (status ≡ NoMemory) ⊎ ((drawn : Tally) × (status ≡ ClockFull drawn))
   plan_runs Done h e small read wrote = inl refl
   plan_runs NoMemory h e small read wrote = inr (inl refl)
   plan_runs (ClockFull drawn) h e small read wrote = inr (inr (drawn, refl))
@@ -150,7 +160,7 @@ module _ (command : Command) (is : (number : ℕ) × (command ≡ Soak number)) 
 
 module _ (words : List (List ℕ)) (before after taken taken_after : Option (List ℕ)) (flushed flushed_after : ℕ) (ask : AskForLoad words) where
   pub load_runs : (status : Status) → Ends words status before after taken taken_after flushed flushed_after → (status ≡ WriteFault → ⊥)
-      → IsRun status
+      → (status ≡ Done) ⊎ (status ≡ NoMemory) ⊎ ((drawn : Tally) × (status ≡ ClockFull drawn))
   load_runs Done h wrote = inl refl
   load_runs NoMemory h wrote = inr (inl refl)
   load_runs (ClockFull drawn) h wrote = inr (inr (drawn, refl))

@@ -6,4 +6,3 @@ mod Ending
 mod Sessions
 mod RunsOfPlans
 mod Tracing
-mod Called

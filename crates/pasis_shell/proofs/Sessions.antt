@@ -46,3 +46,12 @@ told_end status end (Err ends.WriteFault) over told (inr none) = absurd cc
 told_end status end (Err (ends.BadMagic at)) over told (inr none) = absurd cc
 told_end status end (Err (ends.CutRequest at)) over told (inr none) = absurd cc
 told_end status end (Err ends.TooManyRequests) over told (inr none) = absurd cc
+
+-- the same of a call that answers it
+pub told_some : (status : Status) (end : Result Served SessionEnd) → (status ≡ status_of_session end) ⊎ (status ≡ NoMemory) → (Some status ≡ Some (status_of_session end)) ⊎ (Some status ≡ Some NoMemory)
+told_some status end (inl same) = inl (ap Some same)
+told_some status end (inr none) = inr (ap Some none)
+
+pub told_alone : (status : Status) (end : Result Served SessionEnd) → (Some status ≡ Some (status_of_session end)) ⊎ (Some status ≡ Some NoMemory) → (status ≡ status_of_session end) ⊎ (status ≡ NoMemory)
+told_alone status end (inl same) = inl cc
+told_alone status end (inr none) = inr cc

@@ -12,9 +12,7 @@ use Rattle.quorum_rules.specs.declared.Edition.TheVariants.{One}
 use Rattle.quorum_rules.proofs.lemmas.FaultLaws.{size_at_most, blocks_at_most}
 use Rattle.text_lines.specs.Fields.{number_of}
 use Rattle.text_lines.proofs.lemmas.Numbers.{number_of-some, number_of-text}
-use Rattle.command_texts.specs.Words.{texts, words_of, nbd_words, IsForm, IsNbd, IsNbdForm, IsOf, AskForThreads}
-use Rattle.command_texts.specs.declared.words.Form.{Form}
-use Rattle.command_texts.specs.declared.words.Form.TheVariants.{Text, Session}
+use Rattle.command_texts.specs.Words.{texts, words_of, nbd_words, IsForm, IsNbd, IsNbdForm, AskForThreads}
 use Rattle.command_texts.specs.declared.words.Serving.TheVariants.{ByLocks, ByWorkers}
 use Rattle.command_texts.specs.declared.words.Command.{Command}
 use Rattle.command_texts.specs.declared.words.Command.TheVariants.{Replay, Run, Trace, Check, Sum, Soak}
@@ -35,11 +33,6 @@ no_command words form nbd = more_words form.0 nbd.0 (sym form.2 ∙ nbd.1.spelle
 
 pub no_threads : (words : List (List ℕ)) → AskForThreads words → IsNbdForm words → ⊥
 no_threads words ask nbd = more_words ask.0 nbd.0 (sym ask.3 ∙ nbd.1.spelled)
-
--- words of neither are of no form
-pub no_form : (words : List (List ℕ)) → (IsForm words → ⊥) → (IsNbdForm words → ⊥) → (form : Form) → IsOf words form → ⊥
-no_form words command nbd (Text c) of = command (c, of.0, of.1)
-no_form words command nbd (Session c) of = nbd (c, of)
 
 -- eight words one by one
 pub eight_texts : (words : List (String Global)) (a b c d e f g h : String Global) → length words ≡ 8

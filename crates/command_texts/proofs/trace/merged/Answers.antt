@@ -4,27 +4,17 @@ use Rattle.merge_trace.specs.Traces.{placed}
 use Rattle.command_texts.proofs.Told.{fits_history}
 use Rattle.command_texts.proofs.trace.merged.Goals as goal
 
-pub merge-requires-clause-desks : goal.merge-requires-clause-desks
-merge-requires-clause-desks c = c.requires.run.follows.are_for.ascend
+pub merge_run-requires-clause-desks : goal.merge_run-requires-clause-desks
+merge_run-requires-clause-desks c = c.requires.run.follows.are_for.ascend
 
-pub merge-requires-clause-liars : goal.merge-requires-clause-liars
-merge-requires-clause-liars c = plan_liars c.plans.ensures.liars c.args.plan.now c.args.journals.now (c.args.drawn, c.requires.run)
+pub merge_run-requires-clause-liars : goal.merge_run-requires-clause-liars
+merge_run-requires-clause-liars c = plan_liars c.plans.ensures.liars c.args.plan.now c.args.journals.now (c.args.drawn, c.requires.run)
 
-pub merge-requires-clause-once : goal.merge-requires-clause-once
-merge-requires-clause-once c = (plan_run c.followed_plans.ensures.of_run c.args.plan.now c.args.journals.now (c.args.drawn, c.requires.run)).1.numbers.once
-
-pub merge-requires-clause-kept : goal.merge-requires-clause-kept
-merge-requires-clause-kept c =
-    let of_run = plan_run c.followed_plans.ensures.of_run c.args.plan.now c.args.journals.now (c.args.drawn, c.requires.run) in
-    (of_run.0, of_run.1.kept)
-
-pub merge-requires-clause-pairs : goal.merge-requires-clause-pairs
-merge-requires-clause-pairs c = (plan_run c.followed_plans.ensures.of_run c.args.plan.now c.args.journals.now (c.args.drawn, c.requires.run)).1.pairs
+pub merge_run-requires-clause-of_run : goal.merge_run-requires-clause-of_run
+merge_run-requires-clause-of_run c = plan_run c.followed_plans.ensures.of_run c.args.plan.now c.args.journals.now (c.args.drawn, c.requires.run)
 
 pub returns-clause-run : goal.returns-clause-run
-returns-clause-run c =
-    let of_run = plan_run c.followed_plans.ensures.of_run c.args.plan.now c.args.journals.now (c.args.drawn, c.requires.run) in
-    record { merged = c.in_ok-merged_run.ensures.lines; setting = c.in_ok-merged_run.ensures.setting; run = c.in_ok-merged_run.ensures.run of_run }
+returns-clause-run c = record { merged = c.in_ok-merged_run.ensures.lines; setting = c.in_ok-merged_run.ensures.setting; run = c.in_ok-merged_run.ensures.run }
 
 pub returns-clause-told : goal.returns-clause-told
 returns-clause-told c = told_lines c.told_lines.ensures c.args.plan.now c.args.journals.now (c.args.drawn, c.requires.run) c.in_ok-merged_run.merged_run.lines c.in_ok-merged_run.ensures.lines
@@ -32,6 +22,5 @@ returns-clause-told c = told_lines c.told_lines.ensures c.args.plan.now c.args.j
 pub returns-clause-fits : goal.returns-clause-fits
 returns-clause-fits c =
     let m = c.in_ok-merged_run in
-    let of_run = plan_run c.followed_plans.ensures.of_run c.args.plan.now c.args.journals.now (c.args.drawn, c.requires.run) in
     fits_history c.followed_plans.ensures.of_run c.merged_lines.ensures.place c.all_records.ensures.had c.few_records.ensures c.args.plan.now c.args.journals.now c.args.drawn c.requires.run c.requires.clock
-    (placed 0 m.merged_run.lines) (world_in m.merged_run.world) m.ensures.lines (m.ensures.run of_run)
+    (placed 0 m.merged_run.lines) (world_in m.merged_run.world) m.ensures.lines m.ensures.run
