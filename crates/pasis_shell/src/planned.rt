@@ -1,6 +1,8 @@
 //! What the commands that run threads write.
-ghost use Rattle.std.specs.Prelude.{◌≡◌, ◌<◌, ◌^◌, ℕ, List, None, Err, length, IfOk, IfErr};
+ghost use Rattle.std.specs.Prelude.{◌≡◌, ◌<◌, ◌^◌, ℕ, List, None, Err, length, map, IfOk, IfErr};
 ghost use Rattle.event_clock.specs.Passes.{HasFullPass, Tally};
+ghost use Rattle.protocol.specs.Seen.{record_of};
+ghost use Rattle.journals.specs.Records.{AreTold};
 ghost use Rattle.plan_words.specs.Plans.{Fits};
 ghost use Rattle.plan_followed.specs.Followed.{AreOfPlan};
 ghost use Rattle.command_texts.specs.PlanRuns.{Soaks};
@@ -29,6 +31,7 @@ fn run_served<R: Threads + Wait + Sync, G: Gate + Sync>(
 ) -> Result<Ran, RunRefusal>
     requires { Fits plan.now }
     ensures followed { IfOk result (λ r. AreOfPlan plan.now r.journals r.drawn.count) }
+    ensures records { IfOk result (λ r. AreTold r.journals (map record_of r.records)) }
     ensures full { (drawn : Tally) → result ≡ Err (RunRefusal.ClockFull drawn) → HasFullPass drawn }
 {
     match serving {
@@ -51,7 +54,8 @@ fn run_of<R: Threads + Wait + Sync, G: Gate + Sync>(
 {
     let plan = read_plan(alloc, input.as_slice())?;
     let ran = run_served(rt, alloc, serving, &plan, gate)?;
-    let text = run_text(alloc, &plan, &ran.journals, ran.drawn.count())?;
+    let drawn = ran.drawn.count();
+    let text = run_text(alloc, &plan, &ran.journals, ran.records, drawn)?;
     Ok(Answer::of(text))
 }
 
@@ -87,7 +91,8 @@ fn soak_of<R: Threads + Wait + Sync, G: Gate + Sync>(
 {
     let load = load_of(alloc, number)?;
     let ran = run_plan(rt, alloc, &load, gate)?;
-    let text = load_text(alloc, number, &load, &ran.journals, ran.drawn.count())?;
+    let drawn = ran.drawn.count();
+    let text = load_text(alloc, number, &load, &ran.journals, ran.records, drawn)?;
     Ok(Answer::of(text))
 }
 

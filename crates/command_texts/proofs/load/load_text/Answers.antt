@@ -2,7 +2,7 @@ use Rattle.command_texts.proofs.Loads.{tells_load}
 use Rattle.command_texts.proofs.load.load_text.Goals as goal
 
 pub told_history-requires : goal.told_history-requires
-told_history-requires c = record { run = c.requires.run; clock = c.requires.clock }
+told_history-requires c = record { run = c.requires.run; records = c.requires.records; clock = c.requires.clock }
 
 pub returns : goal.returns
 returns c =
