@@ -29,10 +29,10 @@ use Rattle.quorum_rules.specs.Limits.{Numbers}
 use Rattle.locked_nodes.specs.declared.slot.Slot.{Slot}
 use Rattle.locked_nodes.specs.Slots.{IsPlace}
 use Rattle.inboxes.specs.Sides.{Putting, InboxId, took}
-use Rattle.node_serving.specs.declared.asked.Asked.{Asked}
-use Rattle.node_serving.specs.declared.asked.NodePlace.{NodePlace}
-use Rattle.node_serving.specs.declared.answered.Answered.{Answered}
-use Rattle.node_serving.specs.declared.answered.ClientPlace.{ClientPlace}
+use Rattle.desk_keys.specs.declared.asked.Asked.{Asked}
+use Rattle.desk_keys.specs.declared.asked.NodePlace.{NodePlace}
+use Rattle.desk_keys.specs.declared.answered.Answered.{Answered}
+use Rattle.desk_keys.specs.declared.answered.ClientPlace.{ClientPlace}
 use Rattle.desk_keys.specs.declared.mail.ByMail.{ByMail}
 use Rattle.desk_keys.specs.Keys.{FloorView, IsHead, IsFloor, KeysView, Knows, IsSide, Agree, Agrees, AreKeys, IsByChits, IsByMail, IsAskPlace, Reaches, Fit, refusal_in, HasAsked, HasCalled, HasSent, AddSides, AddCall, AddSent, AddAnswer, AddHeard, AddTold, IsSameMail, HasEnded, LeavesNoSide}
 use Rattle.desk_keys.proofs.lemmas.Mailing.{agree_answer, agree_own_mail, agree_ended}

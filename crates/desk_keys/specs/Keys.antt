@@ -30,11 +30,11 @@ use Rattle.locked_nodes.specs.declared.slot.Slot.{Slot}
 use Rattle.locked_nodes.specs.Slots.{slot_of, IsFor, Cover}
 use Rattle.client_desks.specs.Desks.{DeskView, state_at, asks_of, desk_entry, with_call, ending}
 use Rattle.locked_nodes.specs.Cells.{reply_told}
-use Rattle.node_serving.specs.declared.asked.Asked.{Asked}
-use Rattle.node_serving.specs.declared.asked.NodePlace.{NodePlace}
-use Rattle.node_serving.specs.declared.answered.Answered.{Answered}
-use Rattle.node_serving.specs.declared.answered.ClientPlace.{ClientPlace}
-use Rattle.node_serving.specs.Mail.{IsAskAt}
+use Rattle.desk_keys.specs.declared.asked.Asked.{Asked}
+use Rattle.desk_keys.specs.declared.asked.NodePlace.{NodePlace}
+use Rattle.desk_keys.specs.declared.answered.Answered.{Answered}
+use Rattle.desk_keys.specs.declared.answered.ClientPlace.{ClientPlace}
+use Rattle.desk_keys.specs.Mail.{IsAskAt}
 use Rattle.desk_keys.specs.declared.mail.ByMail.{ByMail}
 
 -- how the list of the cell in a slot begins, in a cluster of these numbers, by this clock: with a charter for the slot

@@ -7,7 +7,7 @@ use event_clock::Clock;
 use inboxes::Taker;
 use lists::ItemList;
 use locked_nodes::{NodeCell, Slot, place_of};
-use node_serving::Answered;
+use crate::answered::Answered;
 use receipt_lock::Vault;
 use std::alloc::Global;
 use std::marker::Model;

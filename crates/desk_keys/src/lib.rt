@@ -3,10 +3,14 @@
 //! that it took, until a refusal comes.
 #![tactic(auto)]
 
+pub mod answered;
+pub mod asked;
 pub mod floor;
 pub mod keys;
 pub mod mail;
 
+pub use answered::{Answered, ClientPlace};
+pub use asked::{Asked, NodePlace};
 pub use floor::Floor;
 pub use keys::Keys;
 pub use mail::ByMail;

@@ -1,3 +1,4 @@
+mod Answering
 mod Opening
 mod Settling
 mod Working

@@ -7,11 +7,11 @@ use Rattle.crews.specs.Crews.{Beside}
 use Rattle.crews.proofs.lemmas.Places.{same_at, get_snoc}
 use Rattle.event_clock.specs.Passes.{ClockId}
 use Rattle.inboxes.specs.Sides.{Putting, Taking, new_putter}
-use Rattle.node_serving.specs.declared.answered.Answered.{Answered}
-use Rattle.node_serving.specs.declared.answered.ClientPlace.{ClientPlace}
+use Rattle.desk_keys.specs.declared.answered.Answered.{Answered}
+use Rattle.desk_keys.specs.declared.answered.ClientPlace.{ClientPlace}
 use Rattle.phase_threads.specs.declared.duty.Seat.{Seat}
 use Rattle.desk_keys.specs.Keys.{KeysView}
-use Rattle.node_serving.specs.Workers.{WorkerView}
+use Rattle.node_workers.specs.Workers.{WorkerView}
 use Rattle.node_workers.specs.declared.crew.Post.{Post}
 use Rattle.node_workers.specs.declared.crew.Post.TheVariants.{Client, Node}
 use Rattle.node_workers.specs.Posts.{nodes_in, clients_in}

@@ -19,11 +19,11 @@ use Rattle.client_desks.specs.Desks.{DeskView, desk_entry}
 use Rattle.locked_nodes.specs.Cells.{reply_told}
 use Rattle.client_desks.specs.Later.{IsLater}
 use Rattle.crews.specs.Crews.{Beside}
-use Rattle.node_serving.specs.declared.answered.Answered.{Answered}
+use Rattle.desk_keys.specs.declared.answered.Answered.{Answered}
 use Rattle.desk_keys.specs.declared.mail.ByMail.{ByMail}
 use Rattle.desk_keys.specs.Keys.{AgreeByMail, HasAnswer, call_told}
-use Rattle.node_serving.specs.Workers.{AnswerPutter, Tells, TellsOf, WasTold, HasAnswered}
-use Rattle.node_serving.proofs.lemmas.Answering.{none_in}
+use Rattle.node_workers.specs.Workers.{AnswerPutter, Tells, TellsOf, WasTold, HasAnswered}
+use Rattle.node_workers.proofs.Answering.{none_in}
 use Rattle.phase_threads.specs.Standing.{HasSideIn, HasSideOn, PairsStand}
 use Rattle.crews.proofs.lemmas.Places.{same_at, right_of, left_of}
 use Rattle.lists.proofs.lemmas.Members.{place_of, all_at, at_place, within, Contains-slice_get}

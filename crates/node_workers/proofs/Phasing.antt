@@ -15,13 +15,13 @@ use Rattle.locked_nodes.specs.Slots.{slot_of, slots_of, Cover}
 use Rattle.locked_nodes.specs.Cells.{CellView}
 use Rattle.client_desks.specs.Desks.{DeskView}
 use Rattle.client_desks.specs.Later.{IsLater}
-use Rattle.node_serving.specs.declared.asked.Asked.{Asked}
-use Rattle.node_serving.specs.declared.asked.NodePlace.{NodePlace}
-use Rattle.node_serving.specs.declared.answered.Answered.{Answered}
-use Rattle.node_serving.specs.declared.answered.ClientPlace.{ClientPlace}
+use Rattle.desk_keys.specs.declared.asked.Asked.{Asked}
+use Rattle.desk_keys.specs.declared.asked.NodePlace.{NodePlace}
+use Rattle.desk_keys.specs.declared.answered.Answered.{Answered}
+use Rattle.desk_keys.specs.declared.answered.ClientPlace.{ClientPlace}
 use Rattle.desk_keys.specs.declared.mail.ByMail.{ByMail}
 use Rattle.desk_keys.specs.Keys.{KeysView, FloorView, IsFloor, Fit, IsByMail, IsAskPlace, AgreeByMail}
-use Rattle.node_serving.specs.Workers.{AnswerPutter, WorkerView, CanServe, IsPutterTo, IsSamePutter, HasServed, HasAnswered}
+use Rattle.node_workers.specs.Workers.{AnswerPutter, WorkerView, CanServe, IsPutterTo, IsSamePutter, HasServed, HasAnswered}
 use Rattle.phase_threads.specs.declared.duty.Seat.{Seat}
 use Rattle.phase_threads.specs.Standing.{AreCells, IsCellOf, IsDeskAt, PairsStand, HasWorked}
 use Rattle.node_workers.specs.Hands.{AreSpread}

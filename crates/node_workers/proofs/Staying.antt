@@ -10,13 +10,13 @@ use Rattle.crews.proofs.lemmas.Places.{all_from, map_get, right_of, left_of}
 use Rattle.event_clock.specs.Passes.{ClockId}
 use Rattle.inboxes.specs.Sides.{Putting, Taking}
 use Rattle.locked_nodes.specs.Cells.{CellView}
-use Rattle.node_serving.specs.declared.asked.Asked.{Asked}
-use Rattle.node_serving.specs.declared.asked.NodePlace.{NodePlace}
-use Rattle.node_serving.specs.declared.answered.Answered.{Answered}
-use Rattle.node_serving.specs.declared.answered.ClientPlace.{ClientPlace}
+use Rattle.desk_keys.specs.declared.asked.Asked.{Asked}
+use Rattle.desk_keys.specs.declared.asked.NodePlace.{NodePlace}
+use Rattle.desk_keys.specs.declared.answered.Answered.{Answered}
+use Rattle.desk_keys.specs.declared.answered.ClientPlace.{ClientPlace}
 use Rattle.desk_keys.specs.declared.mail.ByMail.{ByMail}
 use Rattle.desk_keys.specs.Keys.{KeysView, FloorView}
-use Rattle.node_serving.specs.Workers.{AnswerPutter, WorkerView}
+use Rattle.node_workers.specs.Workers.{AnswerPutter, WorkerView}
 use Rattle.locked_nodes.specs.declared.slot.Slot.{Slot}
 use Rattle.client_desks.specs.Desks.{DeskView}
 use Rattle.phase_threads.specs.declared.duty.Seat.{Seat}

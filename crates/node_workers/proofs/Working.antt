@@ -12,11 +12,11 @@ use Rattle.locked_nodes.specs.declared.charter.Item.{Item}
 use Rattle.locked_nodes.specs.declared.slot.Slot.{Slot}
 use Rattle.client_desks.specs.Desks.{DeskView}
 use Rattle.inboxes.specs.Sides.{Taking}
-use Rattle.node_serving.specs.declared.answered.Answered.{Answered}
-use Rattle.node_serving.specs.declared.answered.ClientPlace.{ClientPlace}
+use Rattle.desk_keys.specs.declared.answered.Answered.{Answered}
+use Rattle.desk_keys.specs.declared.answered.ClientPlace.{ClientPlace}
 use Rattle.desk_keys.specs.declared.mail.ByMail.{ByMail}
 use Rattle.desk_keys.specs.Keys.{KeysView, FloorView, Fit, Reaches, HaveEnded}
-use Rattle.node_serving.specs.Workers.{WorkerView, CanServe, HasServed}
+use Rattle.node_workers.specs.Workers.{WorkerView, CanServe, HasServed}
 use Rattle.node_workers.specs.declared.crew.Post.{Post}
 use Rattle.node_workers.specs.declared.crew.Post.TheVariants.{Client, Node}
 use Rattle.node_workers.specs.Posts.{nodes_in, clients_in, IsReady, HasDone, HasTakenAll, CanWork, DidWork}

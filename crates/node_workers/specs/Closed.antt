@@ -3,7 +3,7 @@ use Rattle.std.specs.Prelude.{◌≡◌, ℕ, List, slice_get}
 use Rattle.std.specs.declared.option.Option.TheVariants.{Some}
 use Rattle.inboxes.specs.Sides.{took, items_from}
 use Rattle.desk_keys.specs.declared.mail.ByMail.{ByMail}
-use Rattle.node_serving.specs.Workers.{AnswerPutter}
+use Rattle.node_workers.specs.Workers.{AnswerPutter}
 
 -- the putter goes to the inbox out of which the client took
 abbrev pub IsOfMail : ℕ → ByMail → AnswerPutter → Type 0

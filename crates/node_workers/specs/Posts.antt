@@ -6,11 +6,11 @@ use Rattle.locked_nodes.specs.Cells.{CellView}
 use Rattle.inboxes.specs.Sides.{Taking, took, IsDone}
 use Rattle.client_desks.specs.Desks.{DeskView}
 use Rattle.client_desks.specs.Later.{IsLater}
-use Rattle.node_serving.specs.declared.answered.Answered.{Answered}
-use Rattle.node_serving.specs.declared.answered.ClientPlace.{ClientPlace}
+use Rattle.desk_keys.specs.declared.answered.Answered.{Answered}
+use Rattle.desk_keys.specs.declared.answered.ClientPlace.{ClientPlace}
 use Rattle.desk_keys.specs.declared.mail.ByMail.{ByMail}
 use Rattle.desk_keys.specs.Keys.{KeysView, FloorView, Fit}
-use Rattle.node_serving.specs.Workers.{WorkerView, CanServe, HasServed}
+use Rattle.node_workers.specs.Workers.{WorkerView, CanServe, HasServed}
 use Rattle.phase_threads.specs.declared.duty.Seat.{Seat}
 use Rattle.node_workers.specs.declared.crew.Post.{Post}
 use Rattle.node_workers.specs.declared.crew.Post.TheVariants.{Client, Node}

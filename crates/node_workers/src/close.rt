@@ -8,11 +8,10 @@ ghost use Rattle.node_workers.specs.Posts.{nodes_in, clients_in, seat_of};
 ghost use Rattle.node_workers.specs.Closed.{AreSeated, IsOfMail, HasAllOf};
 
 use crate::crew::Post;
-use desk_keys::ByMail;
+use desk_keys::{Answered, ByMail};
 use inboxes::{Sents, settle};
 use lists::{ItemList, NoMemory};
 use locked_nodes::{CellRefusal, NodeCell};
-use node_serving::Answered;
 use phase_threads::{Duty, Seat, first_refusal};
 use std::alloc::Global;
 

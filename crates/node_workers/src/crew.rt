@@ -1,8 +1,8 @@
 //! A thread for each desk and each node.
 
+use crate::worker::NodeWorker;
 use crews::{Crew, Gate};
 use desk_keys::{Floor, Keys};
-use node_serving::NodeWorker;
 use phase_threads::Duty;
 use std::sync::Wait;
 

@@ -8,12 +8,12 @@ ghost use Rattle.node_workers.specs.Posts.{nodes_in, clients_in};
 ghost use Rattle.node_workers.specs.Opened.{IsAskBox, IsAnswerBox, IsWorkerOf, IsClientOf, ArePosts};
 
 use crate::crew::Post;
-use desk_keys::{ByMail, Floor, Keys};
+use crate::worker::NodeWorker;
+use desk_keys::{Answered, Asked, ByMail, ClientPlace, Floor, Keys, NodePlace};
 use event_clock::Clock;
 use inboxes::{Inbox, Putter, Putters, Taker};
 use lists::{ItemList, NoMemory};
 use locked_nodes::{NodeCell, Slot, slots_in};
-use node_serving::{Answered, Asked, ClientPlace, NodePlace, NodeWorker};
 use phase_threads::{Duty, Hands, Seat, deal, empty_hands};
 use std::alloc::Global;
 use std::snapshot::Snapshot;

@@ -24,10 +24,10 @@ use Rattle.locked_nodes.specs.Slots.{IsFor, IsPlace, IsWholeAt}
 use Rattle.client_desks.specs.Desks.{DeskView, task_at, asks_of, desk_entry, with_own}
 use Rattle.locked_nodes.specs.Cells.{reply_told}
 use Rattle.client_desks.proofs.lemmas.Desking.{asks_node, asks_client}
-use Rattle.node_serving.specs.declared.asked.Asked.{Asked}
-use Rattle.node_serving.specs.declared.asked.NodePlace.{NodePlace}
-use Rattle.node_serving.specs.declared.answered.Answered.{Answered}
-use Rattle.node_serving.specs.declared.answered.ClientPlace.{ClientPlace}
+use Rattle.desk_keys.specs.declared.asked.Asked.{Asked}
+use Rattle.desk_keys.specs.declared.asked.NodePlace.{NodePlace}
+use Rattle.desk_keys.specs.declared.answered.Answered.{Answered}
+use Rattle.desk_keys.specs.declared.answered.ClientPlace.{ClientPlace}
 use Rattle.desk_keys.specs.declared.mail.ByMail.{ByMail}
 use Rattle.desk_keys.specs.Keys.{FloorView, IsAskOn, AsksOn, IsAskPlace, IsByMail, CanAsk, call_told, HasAnswer, AgreeByMail, IsSameMail, HasTaken, AddAnswer}
 use Rattle.desk_keys.proofs.Turns.{on_shard, is_whole}

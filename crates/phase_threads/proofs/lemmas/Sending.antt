@@ -24,7 +24,7 @@ use Rattle.locked_nodes.specs.contracts.state.State as state
 use Rattle.locked_nodes.specs.contracts.cell.NodeCell as cell
 use Rattle.client_desks.specs.contracts.desk.Desk as desk
 use Rattle.inboxes.proofs.lemmas.CrossesThreads.{taker_send, putter_send}
-use Rattle.node_serving.proofs.lemmas.Sending.{all, pass_send, bytes_send, sum_send, version_send, message_send, asked_send, answered_send}
+use Rattle.desk_keys.proofs.lemmas.Sending.{all, pass_send, bytes_send, sum_send, version_send, message_send, asked_send, answered_send}
 use Rattle.desk_keys.specs.contracts.mail.ByMail as mail
 use Rattle.desk_keys.specs.contracts.keys.Keys as keys
 use Rattle.desk_keys.specs.contracts.floor.Floor as floor

@@ -9,7 +9,7 @@ use Rattle.std.proofs.lemmas.List.Elements.{All-push}
 use Rattle.crews.proofs.lemmas.Places.{walk_on, walk_end}
 use Rattle.desk_keys.specs.declared.mail.ByMail.{ByMail}
 use Rattle.desk_keys.specs.Keys.{KeysView, AgreeByMail}
-use Rattle.node_serving.specs.Workers.{WorkerView}
+use Rattle.node_workers.specs.Workers.{WorkerView}
 use Rattle.node_workers.specs.declared.crew.Post.{Post}
 use Rattle.node_workers.specs.Posts.{nodes_in, clients_in, seat_of}
 use Rattle.node_workers.proofs.Opening.{node_nodes, node_clients, client_nodes, client_clients, client_at, map_more}

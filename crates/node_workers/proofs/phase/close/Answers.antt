@@ -1,7 +1,7 @@
 use Rattle.std.proofs.Common.{List, sym, ap, subst, ◌∙◌, All}
 use Rattle.std.specs.Prelude.{slice_get}
 use Rattle.crews.specs.Crews.{Beside}
-use Rattle.node_serving.specs.Workers.{AnswerPutter}
+use Rattle.node_workers.specs.Workers.{AnswerPutter}
 use Rattle.node_workers.specs.Closed.{AreSeated, IsOfMail, HasAllOf}
 use Rattle.node_workers.proofs.phase.close.Goals as goal
 

@@ -1,5 +1,5 @@
-use Rattle.node_serving.proofs.lemmas.Answering.{IsServing}
-use Rattle.node_serving.proofs.worker.NodeWorker.serve.Given as goal
+use Rattle.node_workers.proofs.Answering.{IsServing}
+use Rattle.node_workers.proofs.worker.NodeWorker.serve.Given as goal
 
 -- what was asked so far is answered
 abbrev pub invariant-loop : goal.invariant-loop

@@ -1,6 +1,6 @@
 //! What a node answers a client.
 ghost use Rattle.std.specs.Prelude.{◌≡◌, ◌↔◌, IsTrue};
-ghost use Rattle.node_serving.specs.Mail.{IsAnswerTo};
+ghost use Rattle.desk_keys.specs.Mail.{IsAnswerTo};
 
 use client_desks::Desk;
 use event_clock::{Clock, Note};

@@ -1,14 +1,14 @@
 //! What a node's thread has in hand, and what it does.
 ghost use Rattle.std.specs.Prelude.{◌≡◌, ◌+◌, [], Ok, IfOk};
-ghost use Rattle.node_serving.specs.Mail.{IsAskAt};
-ghost use Rattle.node_serving.specs.declared.asked.NodePlace.{NodePlace};
+ghost use Rattle.desk_keys.specs.Mail.{IsAskAt};
+ghost use Rattle.desk_keys.specs.declared.asked.NodePlace.{NodePlace};
 ghost use Rattle.locked_nodes.specs.declared.answers.Told.{Told};
 ghost use Rattle.journals.specs.Acts.{act, answer_of};
 ghost use Rattle.locked_nodes.specs.Cells.{HasMoreAside, number_of, state_of, told_as, with_entry};
 ghost use Rattle.locked_nodes.specs.Slots.{slot_of};
-ghost use Rattle.node_serving.specs.Workers.{CanServe, HasMet, HasServed};
+ghost use Rattle.node_workers.specs.Workers.{CanServe, HasMet, HasServed};
 
-use crate::{Answered, Asked};
+use desk_keys::{Answered, Asked};
 use crews::{Edge, Gate};
 use event_clock::Clock;
 use inboxes::{Putter, Sent, Taker};
@@ -42,7 +42,7 @@ impl Drop for NodeWorker {
 
 impl Model for NodeWorker {
     ghost use Rattle.std.specs.Prelude.{◌+◌, ◌≤◌, vec_len, vec_capacity};
-    ghost use Rattle.node_serving.specs.Workers.{WorkerView};
+    ghost use Rattle.node_workers.specs.Workers.{WorkerView};
 
     ghost Value = { WorkerView };
 

@@ -1,5 +1,5 @@
-use Rattle.node_serving.proofs.lemmas.Answering.{came_aside}
-use Rattle.node_serving.proofs.worker.bring_one.Goals as goal
+use Rattle.node_workers.proofs.Answering.{came_aside}
+use Rattle.node_workers.proofs.worker.bring_one.Goals as goal
 
 pub returns-in-Ok-Delivered : goal.returns-in-Ok-Delivered
 returns-in-Ok-Delivered c =

@@ -1,5 +1,5 @@
 use Rattle.std.proofs.Common.{◌≡◌, ◌+◌, ◌≤◌, ◌++◌, reverse, vec_len, vec_capacity}
-use Rattle.node_serving.proofs.worker.NodeWorker.end.Given as goal
+use Rattle.node_workers.proofs.worker.NodeWorker.end.Given as goal
 
 -- the putters that had their last word stand behind, the last seat's first
 abbrev pub invariant-loop-putter : goal.invariant-loop-putter

@@ -7,9 +7,9 @@ use Rattle.inboxes.specs.Sides.{took, put_more, IsDone}
 use Rattle.locked_nodes.specs.declared.charter.Charter.{Charter}
 use Rattle.locked_nodes.specs.Slots.{slot_of}
 use Rattle.protocol.specs.Messages.{Message}
-use Rattle.node_serving.specs.Workers.{HasAnswered, AreAnswered, clients_of}
-use Rattle.node_serving.proofs.lemmas.Answering.{IsServing, serving_none, answered_more, answered_late, asked_more, seat_within, putter_of}
-use Rattle.node_serving.proofs.worker.NodeWorker.serve.Goals as goal
+use Rattle.node_workers.specs.Workers.{HasAnswered, AreAnswered, clients_of}
+use Rattle.node_workers.proofs.Answering.{IsServing, serving_none, answered_more, answered_late, asked_more, seat_within, putter_of}
+use Rattle.node_workers.proofs.worker.NodeWorker.serve.Goals as goal
 
 pub loop-init : goal.loop-init
 loop-init g c = serving_none c.args.clock.now c.args.self.now c.requires

@@ -27,9 +27,9 @@ use Rattle.journals.specs.declared.desk.DeskAct.TheVariants.{Call}
 use Rattle.journals.specs.Acts.{act, late_act, answer_of}
 use Rattle.locked_nodes.specs.Cells.{reply_told}
 use Rattle.client_desks.proofs.lemmas.Desking.{act_side, late_side, told_reply}
-use Rattle.node_serving.specs.declared.asked.Asked.{Asked}
-use Rattle.node_serving.specs.declared.answered.Answered.{Answered}
-use Rattle.node_serving.specs.Workers.{AnswerPutter, WorkerView, clients_of, CanServe, IsPutterTo, Tells, WasTold, TellsOf, IsSamePutter, HasAnswered, HasMet, asks_from, asks_told, AreAnswered}
+use Rattle.desk_keys.specs.declared.asked.Asked.{Asked}
+use Rattle.desk_keys.specs.declared.answered.Answered.{Answered}
+use Rattle.node_workers.specs.Workers.{AnswerPutter, WorkerView, clients_of, CanServe, IsPutterTo, Tells, WasTold, TellsOf, IsSamePutter, HasAnswered, HasMet, asks_from, asks_told, AreAnswered}
 use Rattle.lists.proofs.lemmas.Members.{set_at, at_place, within}
 
 set_elsewhere : {A : Type 0} (xs : List A) (k i : ℕ) (x y : A) → i ≢ k → slice_get xs i ≡ Some x → slice_get (slice_set xs k y) i ≡ Some x

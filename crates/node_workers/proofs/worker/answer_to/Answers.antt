@@ -1,5 +1,5 @@
-use Rattle.node_serving.proofs.lemmas.Answering.{has_met}
-use Rattle.node_serving.proofs.worker.answer_to.Goals as goal
+use Rattle.node_workers.proofs.Answering.{has_met}
+use Rattle.node_workers.proofs.worker.answer_to.Goals as goal
 
 pub returns-clause-met : goal.returns-clause-met
 returns-clause-met c =

@@ -21,8 +21,8 @@ use Rattle.wire_forms.specs.contracts.message.Message as message
 use Rattle.event_clock.specs.contracts.clock.Pass as pass
 use Rattle.event_clock.specs.contracts.clock.Note as note
 use Rattle.locked_nodes.specs.contracts.answers.Told as told
-use Rattle.node_serving.specs.contracts.asked.Asked as asked
-use Rattle.node_serving.specs.contracts.answered.Answered as answered
+use Rattle.desk_keys.specs.contracts.asked.Asked as asked
+use Rattle.desk_keys.specs.contracts.answered.Answered as answered
 
 pub table_seat_send : (S V : RattleType) → IsSend S → IsSend (table_seat.the_row S V)
 table_seat_send S V s = record { owned = λ d vs. ((λ vss. (tt, ((λ uss. (tt, tt)), tt))), seat_keyless S s V.coded.code d.table_id d.id d.me); leaving = λ k f vs. tt }

@@ -1,5 +1,5 @@
 //! What clients ask of a node.
-ghost use Rattle.node_serving.specs.Mail.{IsAskAt};
+ghost use Rattle.desk_keys.specs.Mail.{IsAskAt};
 
 use event_clock::{Clock, Note};
 use inboxes::Mail;

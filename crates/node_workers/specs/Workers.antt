@@ -16,10 +16,10 @@ use Rattle.locked_nodes.specs.Cells.{CellView, number_of}
 use Rattle.locked_nodes.specs.Slots.{slot_of}
 use Rattle.locked_nodes.specs.Cells.{reply_told}
 use Rattle.protocol.specs.Messages.{Message}
-use Rattle.node_serving.specs.declared.asked.Asked.{Asked}
-use Rattle.node_serving.specs.declared.asked.NodePlace.{NodePlace}
-use Rattle.node_serving.specs.declared.answered.Answered.{Answered}
-use Rattle.node_serving.specs.declared.answered.ClientPlace.{ClientPlace}
+use Rattle.desk_keys.specs.declared.asked.Asked.{Asked}
+use Rattle.desk_keys.specs.declared.asked.NodePlace.{NodePlace}
+use Rattle.desk_keys.specs.declared.answered.Answered.{Answered}
+use Rattle.desk_keys.specs.declared.answered.ClientPlace.{ClientPlace}
 
 -- one who puts answers into a client's inbox: before its last word or after it
 abbrev pub AnswerPutter : Type 0
