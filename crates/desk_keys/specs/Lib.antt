@@ -1,2 +1,4 @@
-pub mod Keys
 pub mod Mail
+pub mod Asking
+pub mod Transports
+pub mod Keys

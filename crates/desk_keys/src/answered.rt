@@ -2,7 +2,6 @@
 ghost use Rattle.std.specs.Prelude.{◌≡◌, ◌↔◌, IsTrue};
 ghost use Rattle.desk_keys.specs.Mail.{IsAnswerTo};
 
-use client_desks::Desk;
 use event_clock::{Clock, Note};
 use inboxes::Mail;
 use journals::Way;
@@ -10,12 +9,11 @@ use locked_nodes::{CellRefusal, Told};
 use std::snapshot::Snapshot;
 use wire_forms::Message;
 
-/// Where the answers to one client lie: by which clock, the client's number, and its desk as it was before the first ask.
+/// Where the answers to one client lie: by which clock, and the client's number.
 #[derive(Drop)]
 pub struct ClientPlace {
     pub clock: Snapshot<Clock>,
     pub client: u32,
-    pub began: Snapshot<Desk>,
 }
 
 /// A node's answer on its way to a client: what the node's cell told or refused, and the ask itself, with the way that it went.

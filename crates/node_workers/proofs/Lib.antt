@@ -2,7 +2,7 @@ mod Answering
 mod Opening
 mod Settling
 mod Working
-mod Pairing
+mod Telling
 mod Phasing
 mod Locking
 mod Staying

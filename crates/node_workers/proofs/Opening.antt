@@ -146,4 +146,4 @@ map_more f xs l x ys zs y are is more grew = grew ∙ (λ j. are j ++ is j ∷ [
 
 -- the inbox of a seat's client, whatever the seat's place
 pub answer_at : {T : Type 0} (of : ClockId) (senders i k : ℕ) (seat : Seat T) (box : Taking Answered ClientPlace) → IsAnswerBox of senders i seat box → IsAnswerBox of senders k seat box
-answer_at of senders i k seat box is = record { ticks = is.ticks; client = is.client; began = is.began; count = is.count; new = is.new }
+answer_at of senders i k seat box is = record { ticks = is.ticks; client = is.client; count = is.count; new = is.new }

@@ -18,7 +18,7 @@ impl<T: Duty> Crew<Post<T>> for Floor {
 
     ghost can_work = { CanWork T.ready };
 
-    ghost works = { DidWork T.done };
+    ghost works = { λ f. DidWork T.done };
 
     fn work<R: Wait, G: Gate>(&self, rt: &R, gate: &G, post: &mut Post<T>) {
         match post {

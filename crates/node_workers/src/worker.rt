@@ -8,8 +8,8 @@ ghost use Rattle.locked_nodes.specs.Cells.{HasMoreAside, number_of, state_of, to
 ghost use Rattle.locked_nodes.specs.Slots.{slot_of};
 ghost use Rattle.node_workers.specs.Workers.{CanServe, HasMet, HasServed};
 
-use desk_keys::{Answered, Asked};
 use crews::{Edge, Gate};
+use desk_keys::{Answered, Asked};
 use event_clock::Clock;
 use inboxes::{Putter, Sent, Taker};
 use lists::NoMemory;

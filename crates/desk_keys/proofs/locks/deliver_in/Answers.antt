@@ -1,6 +1,6 @@
 -- Lemmas of `Turns`.
 use Rattle.desk_keys.proofs.Turns.{delivered_back, leaves_no_side}
-use Rattle.desk_keys.proofs.keys.deliver_in.Goals as goal
+use Rattle.desk_keys.proofs.locks.deliver_in.Goals as goal
 
 pub give-requires-clause-grew : goal.give-requires-clause-grew
 give-requires-clause-grew g c = delivered_back c.take-cell.result c.deliver-answer.new.cell c.args.chit.now c.take-cell.new.chit c.take-cell.ensures.chit c.deliver-answer.ensures.cell
