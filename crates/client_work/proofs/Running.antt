@@ -19,7 +19,7 @@ use Rattle.journals.specs.declared.desk.Way.{Way}
 use Rattle.journals.specs.declared.desk.DeskAct.TheVariants.{Start, Crash, Call}
 use Rattle.journals.specs.Desks.{new_desk}
 use Rattle.client_desks.specs.Desks.{DeskView, CanStart, state_at, task_at, with_own, desk_entry}
-use Rattle.desk_keys.specs.Keys.{KeysView, FloorView, Fit, HasCalled, refusal_in}
+use Rattle.desk_keys.specs.Keys.{KeysView, FloorView, Fit, HasCalled, fixed, refusal_in}
 use Rattle.client_desks.specs.Later.{IsLater}
 use Rattle.plan_followed.specs.Clients.{IsNext, client_after, op_of, last_of, turn_after, times, starts}
 use Rattle.client_work.specs.declared.worker.ClientWorker.{ClientWorker}
@@ -113,6 +113,7 @@ call_ends w w' d d' node way block outcome m on h l whole =
 
 -- a worker that asks nodes in an operation on the block, from when it began to
 pub record IsAsking (from w : ClientWorker) (first keys : KeysView) (floor : FloorView) (block : ℕ) : Type 0 where
+  pub stays : fixed keys ≡ fixed first
   pub fit : Fit keys floor
   pub sound : keys.refused ≡ None
   pub later : IsLater first.desk keys.desk
@@ -141,10 +142,11 @@ may_call w w' d seen node way g up e below c next = record {
 
 module _ (from w w' : ClientWorker) (first keys keys' : KeysView) (floor : FloorView) (block node : ℕ) (way : Way) (a : IsAsking from w first keys floor block) (m : MayCall w w' keys.desk node way) where
   -- it asks on
-  pub asking_on : (answer : Option Outcome) → answer ≡ None → HasCalled keys.desk node way answer keys'.desk → Fit keys' floor → keys'.refused ≡ None → IsLater first.desk keys'.desk → IsAsking from w' first keys' floor block
-  asking_on answer e h fit sound later =
+  pub asking_on : (answer : Option Outcome) → answer ≡ None → HasCalled keys.desk node way answer keys'.desk → fixed keys' ≡ fixed keys → Fit keys' floor → keys'.refused ≡ None → IsLater first.desk keys'.desk → IsAsking from w' first keys' floor block
+  asking_on answer e h stays fit sound later =
       let x = call_on w w' keys.desk keys'.desk node way block m a.on (subst (λ (o : Option Outcome). HasCalled keys.desk node way o keys'.desk) e h) in
       record {
+        stays = stays ∙ a.stays;
         fit = fit;
         sound = sound;
         later = later;

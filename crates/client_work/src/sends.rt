@@ -1,7 +1,7 @@
 //! The messages of a lying client, and the rounds of the courier.
 ghost use Rattle.std.specs.Prelude.{◌≡◌, None};
 ghost use Rattle.client_desks.specs.Later.{IsLater};
-ghost use Rattle.desk_keys.specs.Keys.{Fit};
+ghost use Rattle.desk_keys.specs.Keys.{Fit, fixed};
 ghost use Rattle.client_work.specs.Work.{HasMail, HasSentAll};
 
 use crate::liar::Liar;
@@ -15,6 +15,7 @@ impl Liar {
         requires fit { Fit keys.old floor.now }
         requires sound { keys.old.refused ≡ None }
         requires mail { HasMail self.old keys.old.desk }
+        ensures stays { fixed keys.new ≡ fixed keys.old }
         ensures fit { Fit keys.new floor.now }
         ensures later { IsLater keys.old.desk keys.new.desk }
         ensures done { keys.new.refused ≡ None →
@@ -36,6 +37,7 @@ const ROUNDS: u32 = 64;
 pub fn carry<R: Wait>(rt: &R, floor: &Floor, keys: &mut Keys)
     requires fit { Fit keys.old floor.now }
     requires sound { keys.old.refused ≡ None }
+    ensures stays { fixed keys.new ≡ fixed keys.old }
     ensures fit { Fit keys.new floor.now }
     ensures later { IsLater keys.old.desk keys.new.desk }
     ensures same { keys.new.desk.entries ≡ keys.old.desk.entries }

@@ -4,7 +4,7 @@ ghost use Rattle.block_device.specs.Steps.{Fits as StepFits};
 ghost use Rattle.client_desks.specs.Desks.{CanStart, state_at};
 ghost use Rattle.client_desks.specs.Later.{IsLater};
 ghost use Rattle.plan_followed.specs.Clients.{starts, times};
-ghost use Rattle.desk_keys.specs.Keys.{Fit};
+ghost use Rattle.desk_keys.specs.Keys.{Fit, fixed};
 ghost use Rattle.client_work.specs.Work.{every_step, Goes, IsSame, IsReady, HasWorked, HasStepped, IsOn, IsAmidOrOff, HoldsWhole, HasAskedOn, StepsFit, block_in};
 
 use crate::turns::next_node;
@@ -24,6 +24,7 @@ impl ClientWorker {
         requires sound { keys.old.refused ≡ None }
         requires ready { IsReady self.old keys.old.desk }
         requires whole { HoldsWhole self.old floor.now.slots }
+        ensures stays { fixed keys.new ≡ fixed keys.old }
         ensures fit { Fit keys.new floor.now }
         ensures later { IsLater keys.old.desk keys.new.desk }
         ensures done { keys.new.refused ≡ None → HasWorked self.old self.new keys.new.desk }
@@ -48,6 +49,7 @@ impl ClientWorker {
         requires amid { IsAmidOrOff self.old steps keys.old.desk }
         requires steps { StepsFit self.old.plan.value self.old.client self.old.phases.items steps }
         requires whole { HoldsWhole self.old floor.now.slots }
+        ensures stays { fixed keys.new ≡ fixed keys.old }
         ensures fit { Fit keys.new floor.now }
         ensures later { IsLater keys.old.desk keys.new.desk }
         ensures same { keys.new.refused ≡ None →
@@ -85,6 +87,7 @@ impl ClientWorker {
             (times starts keys.old.desk.entries) ≡ Some step }
         requires fits { StepFits self.old.plan.value.config step }
         requires whole { HoldsWhole self.old floor.now.slots }
+        ensures stays { fixed keys.new ≡ fixed keys.old }
         ensures fit { Fit keys.new floor.now }
         ensures later { IsLater keys.old.desk keys.new.desk }
         ensures stepped { keys.new.refused ≡ None →
@@ -121,6 +124,7 @@ impl ClientWorker {
         requires on { IsOn block keys.old.desk }
         requires there { block < self.old.plan.value.config.blocks }
         requires whole { HoldsWhole self.old floor.now.slots }
+        ensures stays { fixed keys.new ≡ fixed keys.old }
         ensures fit { Fit keys.new floor.now }
         ensures later { IsLater keys.old.desk keys.new.desk }
         ensures asked { keys.new.refused ≡ None →

@@ -1,28 +1,30 @@
--- What a turn at a cell leaves in a chit and at a desk.
-use Rattle.std.proofs.Common.{◌≡◌, ℕ, ◌%◌, List, [], ◌∷◌, ◌++◌, length, map, Option, Result, Ok, Err, refl, sym, ap, subst, ◌∙◌, inl, inr, append-nil}
+-- What a turn at a cell leaves in a chit.
+use Rattle.std.proofs.Common.{◌≡◌, ℕ, ◌%◌, List, [], ◌∷◌, ◌++◌, length, map, Result, Ok, Err, refl, sym, ap, subst, ◌∙◌, inl, inr, append-nil}
 use Rattle.std.specs.declared.option.Option.TheVariants.{Some}
-use Rattle.std.specs.Prelude.{IfOk, OnOk, drop}
+use Rattle.std.specs.Prelude.{IfOk, OnErr, drop}
 use Rattle.quorum_rules.specs.Limits.{Numbers}
-use Rattle.protocol.specs.Operations.{Outcome}
-use Rattle.protocol.specs.Instance.{setting}
 use Rattle.protocol.specs.Messages.{Message, Body}
 use Rattle.wire_forms.specs.declared.message.Body.TheVariants.{Ask as Asks, Answer as Answers}
-use Rattle.event_clock.specs.Passes.{ClockId}
+use Rattle.event_clock.specs.Passes.{ClockId, Sight}
 use Rattle.receipt_lock.specs.Turns.{Begins, new_entries, placed_from}
 use Rattle.receipt_lock.specs.Chits.{Holder as Chit, took, gave, found_list}
 use Rattle.journals.specs.declared.desk.Way.{Way}
 use Rattle.journals.specs.declared.desk.Way.TheVariants.{Call as ByCall, Lose, Hold}
+use Rattle.journals.specs.declared.desk.DeskAct.TheVariants.{Call}
 use Rattle.journals.specs.declared.node.NodeAct.{NodeAct}
+use Rattle.journals.specs.Acts.{answer_of}
 use Rattle.locked_nodes.specs.declared.answers.CellRefusal.{CellRefusal}
+use Rattle.locked_nodes.specs.declared.answers.Told.{Told}
 use Rattle.locked_nodes.specs.declared.charter.Charter.{Charter}
 use Rattle.locked_nodes.specs.declared.charter.Item.{Item}
 use Rattle.locked_nodes.specs.declared.charter.Item.TheVariants.{Head, Entry}
-use Rattle.locked_nodes.specs.Cells.{CellView, IsShare, IsWhole, Serves, HoldsWhole, entry, items, with_entry}
+use Rattle.locked_nodes.specs.Cells.{CellView, IsShare, IsWhole, Serves, HoldsWhole, entry, items, with_entry, state_of, number_of, told_as, reply_told}
 use Rattle.locked_nodes.specs.declared.slot.Slot.{Slot}
 use Rattle.locked_nodes.specs.Slots.{slot_of, IsFor}
-use Rattle.client_desks.proofs.lemmas.Desking.{asks_node, items_snoc}
-use Rattle.client_desks.specs.Desks.{DeskView, CanCall, state_at, task_at, asks_of, done_by, reply_by, ending, AddPair, Calls, Delivers}
-use Rattle.desk_keys.specs.Keys.{IsHead, IsAskOn, AsksOn, HasLeft, AddSides, AddCall, AddSent, LeavesNoSide}
+use Rattle.client_desks.proofs.lemmas.Desking.{items_snoc, items_grew, items_same, told_reply, act_side}
+use Rattle.client_desks.specs.Desks.{done_by, reply_by, Delivers}
+use Rattle.desk_keys.specs.Transports.{call_of, HasLeft, LeavesSide, LeavesNoSide}
+use Rattle.desk_keys.specs.Keys.{IsHead, IsAskOn}
 
 -- an ask on the block is of the shard of the slot for it
 pub on_shard : (slot : Slot) (node block : ℕ) → IsFor slot node block → (body : Body) → IsAskOn block body → IsShare slot.shard slot.shards body
@@ -55,14 +57,6 @@ module _ (config : Numbers) (clock : ClockId) (slot : Slot) (begun : List Item) 
     pub serves : (m : Message) → m.node ≡ node → IsAskOn block m.body → Serves cell.charter m
     serves m to on = (to ∙ sym number_is, subst (λ (s : Slot). IsShare s.shard s.shards m.body) (sym slot_is) (on_shard slot node block is m.body on))
 
-    pub can_call : (d : DeskView) → CanCall d node → CanCall d cell.charter.number
-    can_call d can = subst (CanCall d) (sym number_is) can
-
-    pub serves_asked : (d : DeskView) → AsksOn d node block → (ask : Message) → asks_of d cell.charter.number ≡ Some ask → Serves cell.charter ask
-    serves_asked d on ask asked =
-        let at : asks_of d node ≡ Some ask = ap (asks_of d) (sym number_is) ∙ asked in
-        serves ask (asks_node (setting d.config) d.id (task_at d) node ask at) (on ask at)
-
   pub whole_way : (way : Way) → (way ≡ Hold → slot.shards ≡ 1) → HoldsWhole cell.charter way
   whole_way way may = subst (λ (s : Slot). IsWhole s.shards way) (sym slot_is) (is_whole slot way may)
 
@@ -86,33 +80,29 @@ none_left cell now was held after take give same =
     let more : new_entries (items cell) (items now) ≡ [] = ap (new_entries (items cell)) list ∙ ap (placed_from (length (items cell))) (drop_front (items cell) []) in
     ap (λ (h : Chit Item). h.mine) give ∙ ap (λ (h : Chit Item). h.mine ++ new_entries (found_list h.holds) (items now)) take ∙ ap (λ l. was.mine ++ l) more ∙ append-nil was.mine
 
--- the two sides of a pair
-add_sides : (old new : DeskView) (cell now : CellView) (way : Way) (ask : Message) (was held after : Chit Item) → held ≡ took was (items cell) → after ≡ gave held (items now) → AddPair old cell way ask new now
-    → AddSides old was way ask (reply_by cell way ask) new after
-add_sides old new cell now way ask was held after take give pair = record {
-  call = record { number = pair.number; later = pair.later; desk = pair.desk };
-  act = done_by cell way ask;
-  left = one_left cell now pair.number (done_by cell way ask) was held after take give pair.cell;
-  agree = pair.agree;
-}
+-- what was found begins what is given back
+pub gives_back : (cell now : CellView) (was held : Chit Item) → held ≡ took was (items cell) → Begins (items cell) (items now) → Begins (found_list held.holds) (items now)
+gives_back cell now was held take begins = subst (λ (h : Chit Item). Begins (found_list h.holds) (items now)) (sym take) begins
 
-pub on_ok_called : (answer : Result (Option Outcome) CellRefusal) (node : ℕ) (way : Way) (old new : DeskView) (cell now : CellView) (was held after : Chit Item) → held ≡ took was (items cell) → after ≡ gave held (items now) → cell.charter.number ≡ node
-    → OnOk answer (Calls old cell way new now)
-    → IfOk answer (λ o. (m : Message) → asks_of old cell.charter.number ≡ Some m → o ≡ ending (state_at old).client (reply_by cell way m))
-    → IfOk answer (λ o. AddCall old was node way o new after)
-on_ok_called (Ok o) node way old new cell now was held after take give number calls ended = record {
-  ask = calls.ask;
-  asked = sym (ap (asks_of old) number) ∙ calls.asked;
-  reply = reply_by cell way calls.ask;
-  sides = add_sides old new cell now way calls.ask was held after take give calls.pair;
-  ended = ended calls.ask calls.asked;
-}
-on_ok_called (Err e) node way old new cell now was held after take give number calls ended = tt
+-- what is told of what the cell's node did is the client's side of the entry
+module _ (answer : Result Told CellRefusal) (cell now : CellView) (way : Way) (ask : Message) (before after : Sight)
+    (grew : IfOk answer (λ t. now ≡ with_entry cell (number_of t) (done_by cell way ask))) (err : OnErr answer ((now ≡ cell) × (after ≡ before))) where
+  pub answer_back : (was held : Chit Item) → held ≡ took was (items cell) → Begins (found_list held.holds) (items now)
+  answer_back was held take = gives_back cell now was held take (at answer grew err)
+    where
+      at : (r : Result Told CellRefusal) → IfOk r (λ t. now ≡ with_entry cell (number_of t) (done_by cell way ask)) → OnErr r ((now ≡ cell) × (after ≡ before)) → Begins (items cell) (items now)
+      at (Ok t) more same = items_grew cell now (number_of t) (done_by cell way ask) more
+      at (Err e) more same = items_same cell now same.0
 
-pub on_ok_sent : {A : Type 0} (answer : Result A CellRefusal) (ask : Message) (old new : DeskView) (cell now : CellView) (was held after : Chit Item) → held ≡ took was (items cell) → after ≡ gave held (items now)
-    → OnOk answer (AddPair old cell ByCall ask new now) → OnOk answer (AddSent old was ask new after)
-on_ok_sent (Ok x) ask old new cell now was held after take give pair = (reply_by cell ByCall ask, add_sides old new cell now ByCall ask was held after take give pair)
-on_ok_sent (Err e) ask old new cell now was held after take give pair = tt
+pub leaves_side : (cell now : CellView) (way : Way) (ask : Message) (told : Told) (was held last : Chit Item) → held ≡ took was (items cell) → last ≡ gave held (items now) → now ≡ with_entry cell (number_of told) (done_by cell way ask)
+    → told ≡ told_as (number_of told) (answer_of (done_by cell way ask)) → LeavesSide was ask.client (call_of way ask told) last
+leaves_side cell now way ask told was held last take give grew tells =
+    let replied : reply_told told ≡ reply_by cell way ask = ap reply_told tells ∙ told_reply (number_of told) (answer_of (done_by cell way ask)) in
+    record {
+      act = done_by cell way ask;
+      left = one_left cell now (number_of told) (done_by cell way ask) was held last take give grew;
+      agree = act_side (state_of cell) cell.charter.nature way ask ∙ ap (λ r. Some (ask.client, Call way ask r)) (sym replied);
+    }
 
 pub leaves_no_side : (cell now : CellView) (was held after : Chit Item) → held ≡ took was (items cell) → after ≡ gave held (items now) → Delivers cell now → LeavesNoSide was after
 leaves_no_side cell now was held after take give (inl same) = inl (none_left cell now was held after take give same)
@@ -121,10 +111,6 @@ leaves_no_side cell now was held after take give (inr d) = inr (d.0, d.1, one_le
 grown : (cell now : CellView) → Delivers cell now → Begins (items cell) (items now)
 grown cell now (inl same) = ([], ap items same ∙ sym (append-nil (items cell)))
 grown cell now (inr d) = (Entry (entry d.0 d.1) ∷ [], ap items d.2 ∙ items_snoc cell d.0 d.1)
-
--- what was found begins what is given back
-pub gives_back : (cell now : CellView) (was held : Chit Item) → held ≡ took was (items cell) → Begins (items cell) (items now) → Begins (found_list held.holds) (items now)
-gives_back cell now was held take begins = subst (λ (h : Chit Item). Begins (found_list h.holds) (items now)) (sym take) begins
 
 pub delivered_back : (cell now : CellView) (was held : Chit Item) → held ≡ took was (items cell) → Delivers cell now → Begins (found_list held.holds) (items now)
 delivered_back cell now was held take delivers = gives_back cell now was held take (grown cell now delivers)

@@ -1,2 +1,3 @@
 -- What proofs of other crates may cite.
 pub mod Mailing
+pub mod Sending

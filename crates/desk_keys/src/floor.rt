@@ -1,25 +1,48 @@
 //! What the threads of a run share.
-ghost use Rattle.std.specs.Prelude.{◌≡◌, ◌<◌, ℕ, [], length, Some, All, slice_get};
+ghost use Rattle.std.specs.Prelude.{◌≡◌, ◌<◌, ℕ, length, Some, All, slice_get};
 ghost use Rattle.locked_nodes.specs.Slots.{IsPlace};
-ghost use Rattle.desk_keys.specs.Keys.{FloorView};
+ghost use Rattle.desk_keys.specs.Keys.{FloorView, AreInVaults, vaults_in};
 
 use event_clock::Clock;
-use inboxes::Taker;
-use lists::ItemList;
 use locked_nodes::{NodeCell, Slot, place_of};
-use node_serving::Answered;
 use receipt_lock::Vault;
-use std::alloc::Global;
 use std::marker::Model;
-use std::snapshot::Snapshot;
 
-/// The slots of all cells, place by place, and the clock; and the cells' vaults, by the same places, or, where nodes run in threads
-/// of their own, the takers of the clients' answers as they were at first, by seat. Threads share it by reference. Contracts see
-/// which clock, slots, vaults and takers these are; the takers are kept in proofs alone.
+/// Where the cells are.
+pub enum Cells {
+    /// In vaults, by the slots' places.
+    Vaults(Vec<Vault<NodeCell>>),
+    /// In the hands of threads of their own.
+    Threads,
+}
+
+// By hand, since a derived drop is proved anew wherever one is let go.
+impl Drop for Cells {
+    fn drop(self) {
+        match self {
+            Cells::Vaults(_vaults) => {}
+            Cells::Threads => {}
+        }
+    }
+}
+
+impl Cells {
+    /// The vaults.
+    pub fn into_vaults(self) -> Vec<Vault<NodeCell>>
+        requires { AreInVaults self }
+        ensures { self ≡ Cells.Vaults result }
+    {
+        match self {
+            Cells::Vaults(vaults) => vaults,
+            Cells::Threads => unreachable!(),
+        }
+    }
+}
+
+/// The slots of all cells, place by place, where the cells are, and the clock. Threads share it by reference. Contracts see these.
 pub struct Floor {
     slots: Vec<Slot>,
-    vaults: Vec<Vault<NodeCell>>,
-    answers: Option<Snapshot<ItemList<Taker<Answered>>>>,
+    cells: Cells,
     clock: Clock,
 }
 
@@ -28,57 +51,28 @@ impl Drop for Floor {
     fn drop(self) {
         let Floor {
             slots: _slots,
-            vaults: _vaults,
-            answers: _answers,
+            cells: _cells,
             clock: _clock,
         } = self;
     }
 }
 
 impl Model for Floor {
-    ghost use Rattle.desk_keys.specs.Keys.{FloorView, takers_in};
+    ghost use Rattle.desk_keys.specs.Keys.{FloorView};
 
     ghost Value = { FloorView };
 
-    ghost view = { λ f. record { clock = f.clock; slots = f.slots.items; vaults = f.vaults.items; answers = takers_in f.answers } };
+    ghost view = { λ f. record { clock = f.clock; slots = f.slots.items; cells = f.cells } };
 }
 
 impl Floor {
-    /// The floor with this clock and these vaults, of cells in these slots.
-    pub fn new(clock: Clock, slots: Vec<Slot>, vaults: Vec<Vault<NodeCell>>) -> Floor
-        ensures { result ≡ record {
-          clock = clock;
-          slots = slots.items;
-          vaults = vaults.items;
-          answers = [];
-        } }
+    /// The floor with this clock, of cells in these slots, which are there.
+    pub fn new(clock: Clock, slots: Vec<Slot>, cells: Cells) -> Floor
+        ensures { result ≡ record { clock = clock; slots = slots.items; cells = cells } }
     {
         Floor {
             slots,
-            vaults,
-            answers: None,
-            clock,
-        }
-    }
-
-    /// The floor with this clock, of cells in these slots, which threads own, and clients who take answers so.
-    pub fn by_mail(
-        alloc: Global,
-        clock: Clock,
-        slots: Vec<Slot>,
-        answers: &ItemList<Taker<Answered>>,
-    ) -> Floor
-        ensures { result ≡ record {
-          clock = clock;
-          slots = slots.items;
-          vaults = [];
-          answers = answers.now;
-        } }
-    {
-        Floor {
-            slots,
-            vaults: Vec::new(alloc),
-            answers: Some(Snapshot::of(answers)),
+            cells,
             clock,
         }
     }
@@ -92,9 +86,12 @@ impl Floor {
 
     /// How many vaults there are.
     pub fn places(&self) -> usize
-        ensures { result ≡ length self.now.vaults }
+        ensures { result ≡ length (vaults_in self.now.cells) }
     {
-        self.vaults.len()
+        match &self.cells {
+            Cells::Vaults(vaults) => vaults.len(),
+            Cells::Threads => 0,
+        }
     }
 
     /// The place of the cell that serves this block of this node.
@@ -108,23 +105,25 @@ impl Floor {
 
     /// The vault at a place.
     pub fn vault(&self, place: usize) -> &Vault<NodeCell>
-        requires { place < length self.now.vaults }
-        ensures { slice_get self.now.vaults place ≡ Some result.now }
+        requires { place < length (vaults_in self.now.cells) }
+        ensures { slice_get (vaults_in self.now.cells) place ≡ Some result.now }
     {
-        &self.vaults[place]
+        match &self.cells {
+            Cells::Vaults(vaults) => &vaults[place],
+            Cells::Threads => unreachable!(),
+        }
     }
 
-    /// The clock and the vaults.
-    pub fn into_parts(self) -> (Clock, Vec<Vault<NodeCell>>)
+    /// The clock, and where the cells are.
+    pub fn into_parts(self) -> (Clock, Cells)
         ensures clock { result.0 ≡ self.clock }
-        ensures vaults { result.1.items ≡ self.vaults }
+        ensures cells { result.1 ≡ self.cells }
     {
         let Floor {
             slots: _slots,
-            vaults,
-            answers: _,
+            cells,
             clock,
         } = self;
-        (clock, vaults)
+        (clock, cells)
     }
 }

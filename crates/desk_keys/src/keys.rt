@@ -1,40 +1,37 @@
 //! A client's desk, with its way to the nodes.
-ghost use Rattle.std.specs.Prelude.{◌≡◌, ◌↔◌, ℕ, ◌<◌, ◌≤◌, All, [], None, Some, Ok, Err, true, IfOk, OnOk, OnErr, IsSome, length};
+ghost use Rattle.std.specs.Prelude.{◌≡◌, ◌↔◌, ℕ, ◌<◌, ◌≤◌, None, Some, Err, true, IfOk, OnOk, OnErr, length};
 ghost use Rattle.protocol.specs.Messages.{IsFormedBody, IsAsk};
 ghost use Rattle.event_clock.specs.Passes.{left_of};
 ghost use Rattle.journals.specs.Desks.{FitsOp};
 ghost use Rattle.client_desks.specs.Desks.{IsUp, CanStart, CanCall, with_own, KeepsDesk};
 ghost use Rattle.client_desks.specs.Later.{IsLater};
-ghost use Rattle.locked_nodes.specs.declared.slot.Slot.{Slot};
 ghost use Rattle.locked_nodes.specs.Slots.{IsWholeAt};
-ghost use Rattle.inboxes.specs.Sides.{took};
-ghost use Rattle.desk_keys.specs.Keys.{KeysView, IsHead, Agree, AgreeByMail, Fit, refusal_in, IsAskOn, AsksOn, CanMeet, CanTake, HasCalled, HasSent, HaveEnded, AddCall, AddSent, LeavesNoSide};
+ghost use Rattle.desk_keys.specs.Transports.{route, AtRest, IsNew, HaveEnded};
+ghost use Rattle.desk_keys.specs.Keys.{KeysView, Agree, Fit, Reaches, IsFloor, fixed, vaults_of, refusal_in, IsAskOn, AsksOn, HasCalled, HasSent, AddBoth};
 
 use crate::floor::Floor;
-use crate::mail::{ByMail, call_by, send_by};
+use crate::transport::Transport;
 use client_desks::Desk;
 use client_desks::laws::desks_go_on;
-use crews::{Edge, Gate};
-use event_clock::Clock;
+use crews::{Gate, OpenGate};
 use journals::{DeskAct, Way};
-use locked_nodes::{CellRefusal, Late, NodeCell};
-use receipt_lock::{Chit, Vault};
+use lists::Copied;
+use locked_nodes::{CellRefusal, Late};
 use run_words::Outcome;
-use std::alloc::Global;
 use std::marker::Model;
+use std::snapshot::Snapshot;
 use std::sync::Wait;
 use wire_forms::{Body, Message, Op};
 
-/// A client's desk, with its way to the nodes: a chit for each cell, or inboxes, where nodes run in threads of their own. Contracts
-/// see the desk, the chits or the inboxes, and the first refusal, after which the keys do nothing more.
+/// A client's desk, with its transport to the nodes. Contracts see both, the desk as it was before the first ask, and the first
+/// refusal, after which the keys do nothing more.
 ///
-/// Until a refusal comes, each entry that a chit left and of which a client has a side stands on the desk, and each entry of the
-/// desk is its own or the side of one that a cell has. By mail, the call that each answer told stands on the desk, and each entry
-/// of the desk is its own, or of before the first ask, or such a call.
+/// Until a refusal comes, each call that nodes told through the transport stands on the desk, and each entry of the desk is its own,
+/// or of before the first ask, or such a call.
 pub struct Keys {
+    began: Snapshot<Desk>,
     desk: Desk,
-    chits: Vec<Chit<NodeCell>>,
-    mail: Option<ByMail>,
+    transport: Transport,
     refused: Option<CellRefusal>,
 }
 
@@ -42,9 +39,9 @@ pub struct Keys {
 impl Drop for Keys {
     fn drop(self) {
         let Keys {
+            began: _began,
             desk: _desk,
-            chits: _chits,
-            mail: _mail,
+            transport: _transport,
             refused: _refused,
         } = self;
     }
@@ -55,41 +52,27 @@ impl Model for Keys {
 
     ghost Value = { KeysView };
 
-    ghost view = { λ k. record { desk = k.desk; chits = k.chits.items; mail = k.mail; refused = k.refused } };
+    ghost view = { λ k. record { began = k.began.value; desk = k.desk; transport = k.transport; refused = k.refused } };
 
-    ghost invariant = { λ k. AreKeys k.desk k.chits.items k.mail k.refused };
+    ghost invariant = { λ k. AreKeys k.began.value k.desk k.transport k.refused };
 }
 
 impl Keys {
-    /// The keys of a desk and chits that agree. The chits stand in the cells' order.
-    pub fn new(desk: Desk, chits: Vec<Chit<NodeCell>>) -> Keys
-        requires rest { All (λ c. c.holds ≡ None) chits.items }
-        requires agree { Agree desk chits.items }
+    /// The keys of a desk and a transport through which nodes have told nothing.
+    pub fn new(desk: Desk, transport: Transport) -> Keys
+        requires rest { AtRest transport }
+        requires new { IsNew transport }
         ensures { result ≡ record {
+          began = desk;
           desk = desk;
-          chits = chits.items;
-          mail = None;
+          transport = transport;
           refused = None;
         } }
     {
         Keys {
+            began: Snapshot::of(&desk),
             desk,
-            chits,
-            mail: None,
-            refused: None,
-        }
-    }
-
-    /// The keys of a desk and the inboxes by which it reaches nodes, before it took an answer.
-    pub fn by_mail(alloc: Global, desk: Desk, mail: ByMail) -> Keys
-        requires new { took mail.answers ≡ [] }
-        requires began { desk.entries ≡ mail.answers.inbox.place.began.value.entries }
-        ensures { result ≡ record { desk = desk; chits = []; mail = Some mail; refused = None } }
-    {
-        Keys {
-            desk,
-            chits: Vec::new(alloc),
-            mail: Some(mail),
+            transport,
             refused: None,
         }
     }
@@ -129,7 +112,8 @@ impl Keys {
         ensures err { OnErr result (self.new.desk ≡ self.old.desk) }
         ensures refused { self.new.refused ≡ refusal_in result }
         ensures later { IsLater self.old.desk self.new.desk }
-        ensures chits { self.new.chits ≡ self.old.chits }
+        ensures transport { self.new.transport ≡ self.old.transport }
+        ensures stays { fixed self.new ≡ fixed self.old }
         ensures fit { Fit self.new floor.now }
     {
         desks_go_on();
@@ -150,7 +134,8 @@ impl Keys {
         ensures err { OnErr result (self.new.desk ≡ self.old.desk) }
         ensures refused { self.new.refused ≡ refusal_in result }
         ensures later { IsLater self.old.desk self.new.desk }
-        ensures chits { self.new.chits ≡ self.old.chits }
+        ensures transport { self.new.transport ≡ self.old.transport }
+        ensures stays { fixed self.new ≡ fixed self.old }
         ensures fit { Fit self.new floor.now }
     {
         desks_go_on();
@@ -159,11 +144,10 @@ impl Keys {
         answer
     }
 
-    /// Waits for the node's cell for the block of the operation under way, asks the node what the client's phase asks of it, hears the
-    /// reply, if there is one, and gives the cell back; by mail, it puts the ask into the cell's inbox, and waits for the answer. An
-    /// ask is held back only by a node with one cell. It answers the outcome exactly where the reply ends the operation. `ClockFull`
-    /// comes where the cell's pass or the chit is used up, each after more than 10^12 calls, or where the node's thread says so; no
-    /// clause says when.
+    /// Asks the node, through its cell for the block of the operation under way, what the client's phase asks of it, waits for what
+    /// is told, and hears the reply, if there is one. An ask is held back only by a node with one cell. It answers the outcome
+    /// exactly where the reply ends the operation. `ClockFull` comes where the cell's pass or a chit is used up, each after more than
+    /// 10^12 calls, or where the node's thread says so; no clause says when.
     pub fn call<R: Wait, G: Gate>(
         &mut self,
         rt: &R,
@@ -184,32 +168,27 @@ impl Keys {
         ensures err { OnErr result (KeepsDesk self.old.desk self.new.desk) }
         ensures refused { self.new.refused ≡ refusal_in result }
         ensures later { IsLater self.old.desk self.new.desk }
+        ensures stays { fixed self.new ≡ fixed self.old }
         ensures fit { Fit self.new floor.now }
     {
-        let place = floor.place(node, block);
         desks_go_on();
-        if let Some(mail) = &mut self.mail {
-            let answer = call_by(rt, floor.clock(), mail, place, &mut self.desk, node, way);
-            self.refused = refusal_of(&answer);
-            return answer;
-        }
-        let answer = call_in(
+        let answer = call_by(
             rt,
             gate,
-            floor.vault(place),
-            floor.clock(),
-            &mut self.chits[place],
+            floor,
             &mut self.desk,
+            &mut self.transport,
             node,
+            block,
             way,
         );
         self.refused = refusal_of(&answer);
         answer
     }
 
-    /// Waits for the cell that serves a lying client's ask, sends the ask, and gives the cell back; by mail, it puts the ask into the
-    /// cell's inbox, and waits for the answer. `ClockFull` comes where the cell's pass or the chit is used up, each after more than
-    /// 10^12 calls, or where the node's thread says so; no clause says when.
+    /// Sends a lying client's ask to its node, through the cell that serves it, and waits for what is told. `ClockFull` comes where
+    /// the cell's pass or a chit is used up, each after more than 10^12 calls, or where the node's thread says so; no clause says
+    /// when.
     pub fn send<R: Wait>(&mut self, rt: &R, floor: &Floor, ask: &Message) -> Result<(), CellRefusal>
         requires fit { Fit self.old floor.now }
         requires sound { self.old.refused ≡ None }
@@ -222,23 +201,11 @@ impl Keys {
         ensures err { OnErr result (KeepsDesk self.old.desk self.new.desk) }
         ensures refused { self.new.refused ≡ refusal_in result }
         ensures later { IsLater self.old.desk self.new.desk }
+        ensures stays { fixed self.new ≡ fixed self.old }
         ensures fit { Fit self.new floor.now }
     {
-        let place = floor.place(ask.node, block_of(ask));
         desks_go_on();
-        if let Some(mail) = &mut self.mail {
-            let answer = send_by(rt, floor.clock(), mail, place, &mut self.desk, ask);
-            self.refused = refusal_of(&answer);
-            return answer;
-        }
-        let answer = send_in(
-            rt,
-            floor.vault(place),
-            floor.clock(),
-            &mut self.chits[place],
-            &mut self.desk,
-            ask,
-        );
+        let answer = send_by(rt, floor, &mut self.desk, &mut self.transport, ask);
         self.refused = refusal_of(&answer);
         answer
     }
@@ -254,73 +221,48 @@ impl Keys {
     ) -> Result<Late, CellRefusal>
         requires fit { Fit self.old floor.now }
         requires sound { self.old.refused ≡ None }
-        requires place { place < length floor.now.vaults }
+        requires place { place < length (vaults_of floor.now) }
         ensures kept { KeepsDesk self.old.desk self.new.desk }
         ensures refused { self.new.refused ≡ refusal_in result }
         ensures later { IsLater self.old.desk self.new.desk }
+        ensures stays { fixed self.new ≡ fixed self.old }
         ensures fit { Fit self.new floor.now }
     {
         desks_go_on();
-        let answer = deliver_in(
-            rt,
-            floor.vault(place),
-            floor.clock(),
-            &mut self.chits[place],
-            &mut self.desk,
-        );
+        let answer = self.transport.deliver(rt, floor, place, &mut self.desk);
         self.refused = refusal_of(&answer);
         answer
     }
 
     /// By mail, puts the client's last word into each inbox, and takes its own up to the last word of each node; an answer that is
-    /// still there, which no node puts unasked, is a refusal. With chits it does nothing.
+    /// still there, which no node puts unasked, is a refusal. By locks there is nothing to end.
     pub fn end<R: Wait>(&mut self, rt: &R)
+        ensures began { self.new.began ≡ self.old.began }
         ensures desk { self.new.desk ≡ self.old.desk }
-        ensures chits { self.new.chits ≡ self.old.chits }
-        ensures ended { HaveEnded self.old.mail self.new.mail }
+        ensures ended { HaveEnded self.old.transport self.new.transport }
         ensures refused { self.new.refused ≡ None → self.old.refused ≡ None }
     {
-        if let Some(mail) = &mut self.mail {
+        if let Transport::Mail(mail) = &mut self.transport {
             if !mail.end(rt) {
                 self.refused = Some(CellRefusal::NoMemory);
             }
         }
     }
 
-    /// The desk and the chits, which agree if no refusal came.
-    pub fn into_parts(self) -> (Desk, Vec<Chit<NodeCell>>)
-        requires chits { self.mail ≡ None }
+    /// The desk and the transport, which agree if no refusal came.
+    pub fn into_parts(self) -> (Desk, Transport)
         ensures desk { result.0 ≡ self.desk }
-        ensures chits { result.1.items ≡ self.chits }
-        ensures rest { All (λ c. c.holds ≡ None) self.chits }
-        ensures agree { self.refused ≡ None → Agree self.desk self.chits }
+        ensures transport { result.1 ≡ self.transport }
+        ensures rest { AtRest self.transport }
+        ensures agree { self.refused ≡ None → Agree self.began self.desk self.transport }
     {
         let Keys {
+            began: _,
             desk,
-            chits,
-            mail: _,
+            transport,
             refused: _,
         } = self;
-        (desk, chits)
-    }
-
-    /// The desk and the inboxes, which agree if no refusal came.
-    pub fn into_mail(self) -> (Desk, ByMail)
-        requires mail { IsSome self.mail }
-        ensures desk { result.0 ≡ self.desk }
-        ensures mail { self.mail ≡ Some result.1 }
-        ensures agree { self.refused ≡ None → AgreeByMail self.desk result.1 }
-    {
-        let Keys {
-            desk,
-            chits: _,
-            mail,
-            refused: _,
-        } = self;
-        match mail {
-            Some(mail) => (desk, mail),
-            None => unreachable!(),
-        }
+        (desk, transport)
     }
 }
 
@@ -344,90 +286,64 @@ fn refusal_of<T>(answer: &Result<T, CellRefusal>) -> Option<CellRefusal>
     }
 }
 
-// Calls a node in its cell. The chit gets the receipt of what the desk gets.
-fn call_in<R: Wait, G: Gate>(
+// Asks a node what the client's phase asks of it, and hears what is told.
+fn call_by<R: Wait, G: Gate>(
     rt: &R,
     gate: &G,
-    vault: &Vault<NodeCell>,
-    clock: &Clock,
-    chit: &mut Chit<NodeCell>,
+    floor: &Floor,
     desk: &mut Desk,
+    transport: &mut Transport,
     node: u8,
+    block: u32,
     way: Way,
 ) -> Result<Option<Outcome>, CellRefusal>
-    requires own { chit.old.vault ≡ vault.now.id }
-    requires rests { chit.old.holds ≡ None }
-    requires meets { CanMeet desk.old clock.now node way vault.now.id.begun }
-    requires clock { desk.old.pass.clock ≡ clock.now }
+    requires floor { IsFloor desk.old.config floor.now }
+    requires reach { Reaches desk.old.id (route transport.old) floor.now }
+    requires clock { desk.old.pass.clock ≡ floor.now.clock }
+    requires rest { AtRest transport.old }
+    requires node { node < desk.old.config.n }
     requires can { CanCall desk.old node }
-    ensures own { chit.new.vault ≡ chit.old.vault }
-    ensures rests { chit.new.holds ≡ None }
-    ensures both { IfOk result (λ outcome.
-        AddCall desk.old chit.old node way outcome desk.new chit.new) }
+    requires on { AsksOn desk.old node block }
+    requires whole { way ≡ Way.Hold → IsWholeAt floor.now.slots node }
+    ensures called { IfOk result (λ outcome. HasCalled desk.old node way outcome desk.new) }
+    ensures both { OnOk result (AddBoth desk.old transport.old desk.new transport.new) }
     ensures kept { OnErr result (KeepsDesk desk.old desk.new) }
+    ensures route { route transport.new ≡ route transport.old }
+    ensures rest { AtRest transport.new }
 {
-    if chit.left() == 0 {
-        return Err(CellRefusal::ClockFull);
-    }
-    let mut cell = vault.take(rt, chit);
-    gate.at(desk.id(), desk.ops(), Edge::Locked(node));
-    let answer = desk.call(clock, &mut cell, way);
-    vault.give(chit, cell);
-    answer
+    let asked = desk.asks(node)?;
+    let Some(ask) = asked else { unreachable!() };
+    let (told, note) = transport.ask(rt, gate, floor, desk, block, way, &ask)?;
+    let outcome = desk.hear(floor.clock(), way, ask, told, note)?;
+    Ok(outcome)
 }
 
-// Sends an ask to a node in its cell. The chit gets the receipt of what the desk gets.
-fn send_in<R: Wait>(
+// Sends an ask of a lying client to its node, and notes what is told.
+fn send_by<R: Wait>(
     rt: &R,
-    vault: &Vault<NodeCell>,
-    clock: &Clock,
-    chit: &mut Chit<NodeCell>,
+    floor: &Floor,
     desk: &mut Desk,
+    transport: &mut Transport,
     ask: &Message,
 ) -> Result<(), CellRefusal>
-    requires own { chit.old.vault ≡ vault.now.id }
-    requires rests { chit.old.holds ≡ None }
-    requires takes { CanTake desk.old clock.now ask.now vault.now.id.begun }
-    requires clock { desk.old.pass.clock ≡ clock.now }
+    requires floor { IsFloor desk.old.config floor.now }
+    requires reach { Reaches desk.old.id (route transport.old) floor.now }
+    requires clock { desk.old.pass.clock ≡ floor.now.clock }
+    requires rest { AtRest transport.old }
     requires lying { desk.old.lying ≡ true }
-    requires client { ask.now.client ≡ desk.old.id }
+    requires own { ask.now.client ≡ desk.old.id }
     requires formed { IsFormedBody ask.now.body }
-    ensures own { chit.new.vault ≡ chit.old.vault }
-    ensures rests { chit.new.holds ≡ None }
-    ensures both { OnOk result (AddSent desk.old chit.old ask.now desk.new chit.new) }
+    requires asks { IsAsk ask.now.body }
+    requires node { ask.now.node < desk.old.config.n }
+    ensures sent { OnOk result (HasSent desk.old ask.now desk.new) }
+    ensures both { OnOk result (AddBoth desk.old transport.old desk.new transport.new) }
     ensures kept { OnErr result (KeepsDesk desk.old desk.new) }
+    ensures route { route transport.new ≡ route transport.old }
+    ensures rest { AtRest transport.new }
 {
-    if chit.left() == 0 {
-        return Err(CellRefusal::ClockFull);
-    }
-    let mut cell = vault.take(rt, chit);
-    let answer = desk.send(clock, &mut cell, ask);
-    vault.give(chit, cell);
-    answer
-}
-
-// Lets a held ask come late in its cell.
-fn deliver_in<R: Wait>(
-    rt: &R,
-    vault: &Vault<NodeCell>,
-    clock: &Clock,
-    chit: &mut Chit<NodeCell>,
-    desk: &mut Desk,
-) -> Result<Late, CellRefusal>
-    requires own { chit.old.vault ≡ vault.now.id }
-    requires rests { chit.old.holds ≡ None }
-    requires head { (slot : Slot) × IsHead desk.old.config clock.now slot vault.now.id.begun }
-    requires clock { desk.old.pass.clock ≡ clock.now }
-    ensures own { chit.new.vault ≡ chit.old.vault }
-    ensures rests { chit.new.holds ≡ None }
-    ensures none { LeavesNoSide chit.old chit.new }
-    ensures kept { KeepsDesk desk.old desk.new }
-{
-    if chit.left() == 0 {
-        return Err(CellRefusal::ClockFull);
-    }
-    let mut cell = vault.take(rt, chit);
-    let answer = desk.deliver(clock, &mut cell);
-    vault.give(chit, cell);
-    answer
+    let kept = ask.copy()?;
+    let block = block_of(ask);
+    let (told, note) = transport.ask(rt, &OpenGate, floor, desk, block, Way::Call, ask)?;
+    desk.note_sent(floor.clock(), kept, told, note)?;
+    Ok(())
 }

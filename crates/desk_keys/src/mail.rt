@@ -1,21 +1,19 @@
 //! A client's way to nodes that run in threads of their own.
-ghost use Rattle.std.specs.Prelude.{◌≡◌, ◌≤◌, ◌<◌, ◌+◌, Some, true, IfOk, OnOk, OnErr, length, slice_get};
-ghost use Rattle.protocol.specs.Messages.{IsFormedBody, Message as AnyMessage};
+ghost use Rattle.std.specs.Prelude.{◌≡◌, ◌≤◌, ◌<◌, ◌+◌, Some, true, IfOk, length, slice_get};
 ghost use Rattle.inboxes.specs.Sides.{took, Putting};
 ghost use Rattle.locked_nodes.specs.Cells.{number_of};
-ghost use Rattle.client_desks.specs.Desks.{CanCall, KeepsDesk, asks_of};
-ghost use Rattle.node_serving.specs.declared.asked.Asked.{Asked as AnyAsked};
-ghost use Rattle.node_serving.specs.declared.asked.NodePlace.{NodePlace};
-ghost use Rattle.desk_keys.specs.Keys.{CanAsk, HasTaken, IsSameMail, HasEnded, AddHeard, AddTold};
+ghost use Rattle.desk_keys.specs.declared.asked.Asked.{Asked as AnyAsked};
+ghost use Rattle.desk_keys.specs.declared.asked.NodePlace.{NodePlace};
+ghost use Rattle.desk_keys.specs.Asking.{CanAsk, HasTaken, IsSameMail, HasEnded};
 
+use crate::answered::Answered;
+use crate::asked::Asked;
 use client_desks::Desk;
 use event_clock::{Clock, Note};
 use inboxes::{Putter, Taker};
 use journals::Way;
 use lists::Copied;
 use locked_nodes::{CellRefusal, Told};
-use node_serving::{Answered, Asked};
-use run_words::Outcome;
 use std::sync::Wait;
 use wire_forms::Message;
 
@@ -41,7 +39,7 @@ impl Drop for ByMail {
 
 impl ByMail {
     // Asks the cell at a place, and waits for what is told, with a note that has seen it.
-    fn ask<R: Wait>(
+    pub(crate) fn ask<R: Wait>(
         &mut self,
         rt: &R,
         clock: &Clock,
@@ -112,61 +110,4 @@ fn number_in(told: &Told) -> u64
     match told {
         Told::Answered { number, .. } | Told::Silent { number, .. } => *number,
     }
-}
-
-/// Asks the cell at a place what the client's phase asks of the node, and hears what it answers.
-pub(crate) fn call_by<R: Wait>(
-    rt: &R,
-    clock: &Clock,
-    mail: &mut ByMail,
-    place: usize,
-    desk: &mut Desk,
-    node: u8,
-    way: Way,
-) -> Result<Option<Outcome>, CellRefusal>
-    requires place { place < length mail.old.asks.items }
-    requires clock { desk.old.pass.clock ≡ clock.now }
-    requires can { CanCall desk.old node }
-    requires asks { (ask : AnyMessage) (p : Putting AnyAsked NodePlace) →
-        asks_of desk.old node ≡ Some ask → slice_get mail.old.asks.items place ≡ Some p →
-        CanAsk clock.now mail.old.seat way ask p.inbox.place }
-    requires answers { mail.old.answers.inbox.place.clock.value ≡ clock.now }
-    ensures heard { IfOk result (λ outcome.
-        AddHeard desk.old mail.old node way outcome desk.new mail.new) }
-    ensures kept { OnErr result (KeepsDesk desk.old desk.new) }
-    ensures same { IsSameMail mail.old mail.new }
-{
-    let asked = desk.asks(node)?;
-    let Some(ask) = asked else { unreachable!() };
-    let (told, note) = mail.ask(rt, clock, place, desk, way, &ask)?;
-    let outcome = desk.hear(clock, way, ask, told, note)?;
-    Ok(outcome)
-}
-
-/// Sends an ask of a lying client to the cell at a place, and notes what it answers.
-pub(crate) fn send_by<R: Wait>(
-    rt: &R,
-    clock: &Clock,
-    mail: &mut ByMail,
-    place: usize,
-    desk: &mut Desk,
-    ask: &Message,
-) -> Result<(), CellRefusal>
-    requires place { place < length mail.old.asks.items }
-    requires clock { desk.old.pass.clock ≡ clock.now }
-    requires lying { desk.old.lying ≡ true }
-    requires client { ask.now.client ≡ desk.old.id }
-    requires formed { IsFormedBody ask.now.body }
-    requires asks { (p : Putting AnyAsked NodePlace) →
-        slice_get mail.old.asks.items place ≡ Some p →
-        CanAsk clock.now mail.old.seat Way.Call ask.now p.inbox.place }
-    requires answers { mail.old.answers.inbox.place.clock.value ≡ clock.now }
-    ensures sent { OnOk result (AddTold desk.old mail.old ask.now desk.new mail.new) }
-    ensures kept { OnErr result (KeepsDesk desk.old desk.new) }
-    ensures same { IsSameMail mail.old mail.new }
-{
-    let kept = ask.copy()?;
-    let (told, note) = mail.ask(rt, clock, place, desk, Way::Call, ask)?;
-    desk.note_sent(clock, kept, told, note)?;
-    Ok(())
 }

@@ -1,12 +1,13 @@
 -- Posts whose threads have all worked, as they are closed.
-use Rattle.std.proofs.Common.{◌≡◌, ℕ, List, sym, ap, subst, ◌∙◌}
+use Rattle.std.proofs.Common.{◌≡◌, ℕ, List, All, sym, ap, subst, ◌∙◌}
 use Rattle.std.specs.List.{AllZip}
 use Rattle.crews.specs.Crews.{Beside}
 use Rattle.event_clock.specs.Passes.{ClockId}
 use Rattle.locked_nodes.specs.Cells.{CellView}
 use Rattle.client_desks.specs.Desks.{DeskView}
 use Rattle.client_desks.specs.Later.{IsLater}
-use Rattle.desk_keys.specs.Keys.{FloorView}
+use Rattle.desk_keys.specs.Transports.{IsByMail}
+use Rattle.desk_keys.specs.Keys.{KeysView, FloorView}
 use Rattle.phase_threads.specs.Standing.{PairsStand, HasWorked}
 use Rattle.phase_threads.specs.declared.duty.Seat.{Seat}
 use Rattle.phase_threads.specs.declared.phase.Left.{Left}
@@ -16,26 +17,32 @@ use Rattle.node_workers.specs.Posts.{nodes_in, clients_in, cells_at, DidWork}
 use Rattle.node_workers.specs.Opened.{ArePosts}
 use Rattle.node_workers.specs.Ended.{MayClose, HasClosed}
 use Rattle.node_workers.proofs.Working.{nodes_worked, clients_worked, ways_worked, mails_of}
+use Rattle.node_workers.proofs.Staying.{all_by_mail}
 use Rattle.node_workers.proofs.Phasing.{mails_done, rows_own, cells_worked, desks_later, duties_done, pairs_again}
 use Rattle.phase_threads.proofs.lemmas.Phasing.{desks_of}
 
 module _ {T : Type 0} (done : T → DeskView → T → DeskView → Type 0) (of : ClockId) (cells : List CellView) (seats : List (Seat T)) (floor : FloorView) (posts : List (Post T)) (h : ArePosts of cells seats floor posts)
-    (last : List (Post T)) (whole : Beside (λ (i : ℕ) (p q : Post T). DidWork done floor p q) posts last) where
+    (last : List (Post T)) (whole : Beside (λ (i : ℕ) (p q : Post T). DidWork done p q) posts last) where
+  by_mail : All (λ (x : KeysView × T). IsByMail x.0.transport) (clients_in last)
+  by_mail =
+      ways_worked done (clients_in posts) (clients_in last) (clients_worked done posts last whole)
+      (all_by_mail h.config of cells seats h.boxes h.rows h.hands (nodes_in posts) (clients_in posts) floor h.opened)
+
   pub may_close : MayClose last
   may_close =
-      let served = nodes_worked done floor posts last whole in
-      let worked = clients_worked done floor posts last whole in
+      let served = nodes_worked done posts last whole in
+      let worked = clients_worked done posts last whole in
       record {
-        ways = ways_worked done floor (clients_in posts) (clients_in last) worked;
+        ways = by_mail;
         done = λ mails ways. mails_done h.config of cells seats h.boxes h.rows h.hands (nodes_in posts) (clients_in posts) floor h.opened (nodes_in last) (clients_in last) done served worked mails ways;
-        own = λ mails ways seated. rows_own h.config of cells seats h.boxes h.rows h.hands (nodes_in posts) (clients_in posts) floor h.opened (nodes_in last) (clients_in last) done served worked mails ways seated;
+        own = λ mails ways. rows_own h.config of cells seats h.boxes h.rows h.hands (nodes_in posts) (clients_in posts) floor h.opened (nodes_in last) (clients_in last) done served worked mails ways;
       }
 
   pub has_phased : (clock : ClockId) (left : Left T) → clock ≡ floor.clock → HasClosed last left → PairsStand cells (desks_of seats) → HasPhased done of cells seats clock left
   has_phased clock left ticks closed pairs =
-      let served = nodes_worked done floor posts last whole in
-      let worked = clients_worked done floor posts last whole in
-      let went = mails_of (clients_in last) (ways_worked done floor (clients_in posts) (clients_in last) worked) in
+      let served = nodes_worked done posts last whole in
+      let worked = clients_worked done posts last whole in
+      let went = mails_of (clients_in last) by_mail in
       record {
         clock = ticks ∙ ap (λ (f : FloorView). f.clock) h.opened.is;
         cells = subst (AllZip HasWorked cells) (sym closed.cells) (cells_worked h.config of cells seats h.boxes h.rows h.hands (nodes_in posts) (clients_in posts) floor h.opened (nodes_in last) (clients_in last) done served worked went.0 went.1);
@@ -44,5 +51,5 @@ module _ {T : Type 0} (done : T → DeskView → T → DeskView → Type 0) (of 
         pairs = λ none.
             let s = closed.settled none in
             subst (λ (l : List CellView). PairsStand l (desks_of left.seats.items)) (sym closed.cells) (subst (λ (l : List (Seat T)). PairsStand (cells_at last) (desks_of l)) (sym closed.seats)
-            (pairs_again h.config of cells seats h.boxes h.rows h.hands (nodes_in posts) (clients_in posts) floor h.opened (nodes_in last) (clients_in last) done served worked s.mails s.ways s.seated s.settled s.sound s.agree pairs));
+            (pairs_again h.config of cells seats h.boxes h.rows h.hands (nodes_in posts) (clients_in posts) floor h.opened (nodes_in last) (clients_in last) done served worked s.mails s.ways s.settled s.sound s.agree pairs));
       }

@@ -1,7 +1,8 @@
+mod Answering
 mod Opening
 mod Settling
 mod Working
-mod Pairing
+mod Telling
 mod Phasing
 mod Locking
 mod Staying

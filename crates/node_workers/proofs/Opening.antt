@@ -8,11 +8,11 @@ use Rattle.crews.specs.Crews.{Beside}
 use Rattle.crews.proofs.lemmas.Places.{same_at, get_snoc}
 use Rattle.event_clock.specs.Passes.{ClockId}
 use Rattle.inboxes.specs.Sides.{Putting, Taking, new_putter}
-use Rattle.node_serving.specs.declared.answered.Answered.{Answered}
-use Rattle.node_serving.specs.declared.answered.ClientPlace.{ClientPlace}
+use Rattle.desk_keys.specs.declared.answered.Answered.{Answered}
+use Rattle.desk_keys.specs.declared.answered.ClientPlace.{ClientPlace}
 use Rattle.phase_threads.specs.declared.duty.Seat.{Seat}
 use Rattle.desk_keys.specs.Keys.{KeysView}
-use Rattle.node_serving.specs.Workers.{WorkerView}
+use Rattle.node_workers.specs.Workers.{WorkerView}
 use Rattle.node_workers.specs.declared.crew.Post.{Post}
 use Rattle.node_workers.specs.declared.crew.Post.TheVariants.{Client, Node}
 use Rattle.node_workers.specs.Posts.{nodes_in, clients_in}
@@ -147,4 +147,4 @@ map_more f xs l x ys zs y are is more grew = grew ∙ (λ j. are j ++ is j ∷ [
 
 -- the inbox of a seat's client, whatever the seat's place
 pub answer_at : {T : Type 0} (of : ClockId) (senders i k : ℕ) (seat : Seat T) (box : Taking Answered ClientPlace) → IsAnswerBox of senders i seat box → IsAnswerBox of senders k seat box
-answer_at of senders i k seat box is = record { ticks = is.ticks; client = is.client; began = is.began; count = is.count; new = is.new }
+answer_at of senders i k seat box is = record { ticks = is.ticks; client = is.client; count = is.count; new = is.new }

@@ -1,8 +1,7 @@
 -- A phase by mail from its opening to its closing.
 use Rattle.std.proofs.Common.{◌≡◌, ℕ, ◌<◌, List, [], ◌++◌, length, map, refl, sym, ap, subst, ◌∙◌, arith}
-use Rattle.std.specs.declared.option.Option.{Option}
 use Rattle.std.specs.declared.option.Option.TheVariants.{None, Some}
-use Rattle.std.specs.Prelude.{slice_get, All, IsSome}
+use Rattle.std.specs.Prelude.{slice_get, All}
 use Rattle.std.specs.List.{AllZip}
 use Rattle.std.proofs.lemmas.List.{length-map}
 use Rattle.std.proofs.lemmas.Option.{slice_get_within}
@@ -16,29 +15,36 @@ use Rattle.locked_nodes.specs.Slots.{slot_of, slots_of, Cover}
 use Rattle.locked_nodes.specs.Cells.{CellView}
 use Rattle.client_desks.specs.Desks.{DeskView}
 use Rattle.client_desks.specs.Later.{IsLater}
-use Rattle.node_serving.specs.declared.asked.Asked.{Asked}
-use Rattle.node_serving.specs.declared.asked.NodePlace.{NodePlace}
-use Rattle.node_serving.specs.declared.answered.Answered.{Answered}
-use Rattle.node_serving.specs.declared.answered.ClientPlace.{ClientPlace}
+use Rattle.desk_keys.specs.declared.asked.Asked.{Asked}
+use Rattle.desk_keys.specs.declared.asked.NodePlace.{NodePlace}
+use Rattle.desk_keys.specs.declared.answered.Answered.{Answered}
+use Rattle.desk_keys.specs.declared.answered.ClientPlace.{ClientPlace}
 use Rattle.desk_keys.specs.declared.mail.ByMail.{ByMail}
-use Rattle.desk_keys.specs.Keys.{KeysView, FloorView, IsFloor, Fit, IsByMail, IsAskPlace, AgreeByMail}
-use Rattle.node_serving.specs.Workers.{AnswerPutter, WorkerView, CanServe, IsPutterTo, IsSamePutter, HasServed, HasAnswered}
+use Rattle.desk_keys.specs.declared.floor.Cells.TheVariants.{Threads}
+use Rattle.desk_keys.specs.declared.transport.Transport.{Transport}
+use Rattle.desk_keys.specs.declared.transport.Transport.TheVariants.{Mail}
+use Rattle.desk_keys.specs.Asking.{HasEnded}
+use Rattle.desk_keys.specs.Transports.{inboxes_of}
+use Rattle.desk_keys.specs.Keys.{KeysView, FloorView, IsFloor, Fit, AreItsInboxes, IsAskPlace, Agree}
+use Rattle.node_workers.specs.Workers.{AnswerPutter, WorkerView, CanServe, IsPutterTo, IsSamePutter, HasServed, HasAnswered}
 use Rattle.phase_threads.specs.declared.duty.Seat.{Seat}
 use Rattle.phase_threads.specs.Standing.{AreCells, IsCellOf, IsDeskAt, PairsStand, HasWorked}
 use Rattle.node_workers.specs.Hands.{AreSpread}
 use Rattle.node_workers.specs.Opened.{IsAnswerBox, IsWorkerOf, IsClientOf, ids_of, Opened}
-use Rattle.node_workers.specs.Posts.{IsReady, HasDone, HasAll, HasTakenAll, seat_of}
+use Rattle.node_workers.specs.Posts.{IsReady, HasDone, seat_of}
 use Rattle.node_workers.specs.Closed.{IsOfMail, HasAllOf}
-use Rattle.node_workers.proofs.Pairing.{IsServed, IsHeard, Phase, pairs_stand}
+use Rattle.phase_threads.specs.Told.{HasHeard}
+use Rattle.phase_threads.proofs.lemmas.Pairing.{pairs_stand}
+use Rattle.node_workers.proofs.Telling.{IsServed, IsHeard, Phase, just_told}
 use Rattle.lists.proofs.lemmas.Members.{all_at, at_place}
 use Rattle.phase_threads.proofs.lemmas.Phasing.{desks_of}
 
-abbrev pub mail_floor : ClockId → List (Taking Answered ClientPlace) → List Slot → FloorView
-mail_floor of boxes slots = record { clock = of; slots = slots; vaults = []; answers = boxes }
+abbrev pub mail_floor : ClockId → List Slot → FloorView
+mail_floor of slots = record { clock = of; slots = slots; cells = Threads }
 
 pub open_all : {T : Type 0} {config : Numbers} {of at : ClockId} {cells : List CellView} {seats slice : List (Seat T)} {boxes : List (Taking Answered ClientPlace)} {rows : List (List AnswerPutter)} {hands : List (List (Putting Asked NodePlace))} {now workers : List WorkerView} {clients : List (KeysView × T)} {floor : FloorView} {nodes : ℕ} {ids : List ℕ}
     → length rows ≡ length cells → slice ≡ seats → ids ≡ ids_of seats → at ≡ of → workers ≡ now → Beside (IsAnswerBox of nodes) slice boxes → AreSpread nodes boxes rows → Beside (IsWorkerOf at ids rows) cells now → AreSpread (length ids) (map (λ (w : WorkerView). w.asks) now) hands
-    → Beside (IsClientOf boxes hands) seats clients → floor ≡ mail_floor of boxes (slots_of cells) → AreCells config of cells → All (λ (s : Seat T). IsDeskAt config of s.desk) seats → Opened config of cells seats boxes rows hands workers clients floor
+    → Beside (IsClientOf boxes hands) seats clients → floor ≡ mail_floor of (slots_of cells) → AreCells config of cells → All (λ (s : Seat T). IsDeskAt config of s.desk) seats → Opened config of cells seats boxes rows hands workers clients floor
 open_all {T = T} {of = of} {at = at} {cells = cells} {seats = seats} {slice = slice} {boxes = boxes} {rows = rows} {hands = hands} {now = now} {nodes = nodes} {ids = ids} all list is same kept answers answer_putters served asks seated floor are desks =
     let count : nodes ≡ length cells = sym answer_putters.count ∙ all in
     record {
@@ -123,17 +129,14 @@ module _ {T : Type 0} (config : Numbers) (of : ClockId) (row : List CellView) (s
       subst (λ (z : Slot). IsAskPlace of z m.seat s.desk.id p.inbox.place) cell.2 (ask_to i k s m cell.0 w.0 p at seat asks here w.1 w.2)
 
   -- the keys of a client reach the cells by mail
-  reaches : (i : ℕ) (s : Seat T) (m : ByMail) → slice_get seats i ≡ Some s → m.seat ≡ i → slice_get hands i ≡ Some m.asks.items → slice_get boxes i ≡ Some m.answers → IsAnswerBox of (length row) i s m.answers → IsByMail s.desk.id m (mail_floor of boxes (slots_of row))
+  reaches : (i : ℕ) (s : Seat T) (m : ByMail) → slice_get seats i ≡ Some s → m.seat ≡ i → slice_get hands i ≡ Some m.asks.items → slice_get boxes i ≡ Some m.answers → IsAnswerBox of (length row) i s m.answers → AreItsInboxes s.desk.id (inboxes_of m) (mail_floor of (slots_of row))
   reaches i s m at seat asks here box = record {
-    vaults = refl;
-    first = m.answers;
-    there = ap (slice_get boxes) seat ∙ here;
-    inbox = refl;
-    senders = refl;
     client = box.client;
     ticks = box.ticks;
-    count = o.asks.full i m.asks.items asks ∙ length-map workers (λ (w : WorkerView). w.asks) ∙ sym o.nodes.count ∙ sym (length-map row (λ (y : CellView). slot_of y.charter));
-    each = ask_place i s m at seat asks;
+    count = length-map m.asks.items (λ (p : Putting Asked NodePlace). p.inbox) ∙ o.asks.full i m.asks.items asks ∙ length-map workers (λ (w : WorkerView). w.asks) ∙ sym o.nodes.count ∙ sym (length-map row (λ (y : CellView). slot_of y.charter));
+    each = λ k inbox slot there to.
+        let p = map_get (λ (x : Putting Asked NodePlace). x.inbox) m.asks.items k inbox there in
+        subst (λ (b : InboxId Asked NodePlace). IsAskPlace of slot m.seat s.desk.id b.place) p.2 (ask_place i s m at seat asks k p.0 slot p.1 to);
   }
 
   has_shards : (k : ℕ) (slot : Slot) → slice_get (slots_of row) k ≡ Some slot → 0 < slot.shards
@@ -141,7 +144,7 @@ module _ {T : Type 0} (config : Numbers) (of : ClockId) (row : List CellView) (s
       let cell = map_get (λ (z : CellView). slot_of z.charter) row k slot there in
       subst (λ (u : Slot). 0 < u.shards) cell.2 (all_at (IsCellOf config of) row k cell.0 o.are.each cell.1).some
 
-  covers : (s : Seat T) → IsDeskAt config of s.desk → IsFloor s.desk.config (mail_floor of boxes (slots_of row))
+  covers : (s : Seat T) → IsDeskAt config of s.desk → IsFloor s.desk.config (mail_floor of (slots_of row))
   covers s desk = record {
     some = all_from (λ (y : Slot). 0 < y.shards) (slots_of row) has_shards;
     cover = subst (λ (n : Numbers). Cover n.n (slots_of row)) (sym desk.cluster) o.are.cover;
@@ -150,12 +153,12 @@ module _ {T : Type 0} (config : Numbers) (of : ClockId) (row : List CellView) (s
 
   fit_of : (i : ℕ) (s : Seat T) (x : KeysView × T) → IsClientOf boxes hands i s x → slice_get seats i ≡ Some s → IsDeskAt config of s.desk → Fit x.0 floor
   fit_of i s x c at desk =
-      let fit : Fit (record { desk = s.desk; chits = []; mail = Some c.mail; refused = None }) (mail_floor of boxes (slots_of row)) = record {
+      let fit : Fit (record { began = s.desk; desk = s.desk; transport = Mail c.mail; refused = None }) (mail_floor of (slots_of row)) = record {
         floor = covers s desk;
         ticks = desk.ticks;
         own = reaches i s c.mail at c.seat c.asks c.answers (o.answers.each i s c.mail.answers at c.answers);
       } in
-      subst (Fit x.0) (sym o.is) (subst (λ (ks : KeysView). Fit ks (mail_floor of boxes (slots_of row))) (sym c.keys) fit)
+      subst (Fit x.0) (sym o.is) (subst (λ (ks : KeysView). Fit ks (mail_floor of (slots_of row))) (sym c.keys) fit)
 
   -- and the client is ready, where its seat was
   ready_as : (ready : T → List Slot → DeskView → Type 0) (i : ℕ) (s : Seat T) (x : KeysView × T) → IsClientOf boxes hands i s x → ready s.duty (slots_of row) s.desk → ready x.1 floor.slots x.0.desk
@@ -167,7 +170,6 @@ module _ {T : Type 0} (config : Numbers) (of : ClockId) (row : List CellView) (s
   ready_at ready i s x c at desk can = record {
     fit = fit_of i s x c at desk;
     sound = ap (λ (ks : KeysView). ks.refused) c.keys;
-    mail = subst (λ (m : Option ByMail). IsSome m) (sym (ap (λ (ks : KeysView). ks.mail) c.keys)) refl;
     ready = ready_as ready i s x c can;
   }
 
@@ -177,13 +179,13 @@ module _ {T : Type 0} (config : Numbers) (of : ClockId) (row : List CellView) (s
       ready_at ready i s.0 x s.2 s.1 (all_at (λ (y : Seat T). IsDeskAt config of y.desk) seats i s.0 o.desks s.1) (all_at (λ (y : Seat T). ready y.duty (slots_of row) y.desk) seats i s.0 all s.1)
 
   -- and after the threads have ended
-  module _ (ends : List WorkerView) (lasts : List (KeysView × T)) (done : T → DeskView → T → DeskView → Type 0) (served : Beside (λ (i : ℕ) (w v : WorkerView). HasServed w v) workers ends) (worked : Beside (λ (i : ℕ) (x y : KeysView × T). HasDone done floor x.0 x.1 y.0 y.1) clients lasts)
-      (mails : List ByMail) (ways : map (λ (m : ByMail). Some m) mails ≡ map (λ (x : KeysView × T). x.0.mail) lasts) where
+  module _ (ends : List WorkerView) (lasts : List (KeysView × T)) (done : T → DeskView → T → DeskView → Type 0) (served : Beside (λ (i : ℕ) (w v : WorkerView). HasServed w v) workers ends) (worked : Beside (λ (i : ℕ) (x y : KeysView × T). HasDone done x.0 x.1 y.0 y.1) clients lasts)
+      (mails : List ByMail) (ways : map (λ (m : ByMail). Mail m) mails ≡ map (λ (x : KeysView × T). x.0.transport) lasts) where
     -- seat i, before and after
     record Way (i : ℕ) (s : Seat T) (y : KeysView × T) : Type 0 where
       x : KeysView × T
       client : IsClientOf boxes hands i s x
-      goes : HasDone done floor x.0 x.1 y.0 y.1
+      goes : HasDone done x.0 x.1 y.0 y.1
 
     way : (i : ℕ) (s : Seat T) (y : KeysView × T) → slice_get seats i ≡ Some s → slice_get lasts i ≡ Some y → Way i s y
     way i s y at there =
@@ -213,139 +215,99 @@ module _ {T : Type 0} (config : Numbers) (of : ClockId) (row : List CellView) (s
         let y = map_get seat_of lasts i t there in
         subst (λ (u : Seat T). done s.duty s.desk u.duty u.desk) y.2 (done_on i s y.0 (way i s y.0 at y.1) (all_at (λ (z : KeysView × T). z.0.refused ≡ None) lasts i y.0 sound y.1)))
 
+    -- a client after the phase, and its seat before it
+    record Ended (i : ℕ) (y : KeysView × T) : Type 0 where
+      seat : Seat T
+      here : slice_get seats i ≡ Some seat
+      x : KeysView × T
+      client : IsClientOf boxes hands i seat x
+      goes : HasDone done x.0 x.1 y.0 y.1
+
+    ended : (i : ℕ) (y : KeysView × T) → slice_get lasts i ≡ Some y → Ended i y
+    ended i y at =
+        let x = left_of (λ (j : ℕ) (a b : KeysView × T). HasDone done a.0 a.1 b.0 b.1) clients lasts i y worked at in
+        let s = left_of (IsClientOf boxes hands) seats clients i x.0 o.seated x.1 in
+        record { seat = s.0; here = s.1; x = x.0; client = s.2; goes = x.2 }
+
     -- the way by mail of a client after the phase
     record MailAt (i : ℕ) (m : ByMail) (y : KeysView × T) : Type 0 where
       there : slice_get lasts i ≡ Some y
-      is : y.0.mail ≡ Some m
-      all : HasAll floor m
+      from : Ended i y
+      all : HasEnded from.client.mail m
 
-    all_of : (mail : Option ByMail) (m : ByMail) → mail ≡ Some m → HasTakenAll floor mail → HasAll floor m
-    all_of None m is all = absurd cc
-    all_of (Some n) m is all = let e : n ≡ m = cc in subst (HasAll floor) e all
+    same_mail : (t : Transport) (m n : ByMail) → t ≡ Mail m → t ≡ Mail n → n ≡ m
+    same_mail t m n one other = let e : Mail n ≡ Mail m = sym other ∙ one in cc
+
+    mail_of : (i : ℕ) (m : ByMail) (y : KeysView × T) → slice_get lasts i ≡ Some y → y.0.transport ≡ Mail m → Ended i y → MailAt i m y
+    mail_of i m y at is e =
+        let n = e.goes.all e.client.mail (ap (λ (ks : KeysView). ks.transport) e.client.keys) in
+        record { there = at; from = e; all = subst (HasEnded e.client.mail) (same_mail y.0.transport m n.0 is n.1) n.2 }
 
     mail_at : (i : ℕ) (m : ByMail) → slice_get mails i ≡ Some m → (y : KeysView × T) × MailAt i m y
     mail_at i m at =
-        let y = map_get (λ (x : KeysView × T). x.0.mail) lasts i (Some m) (ap (λ (l : List (Option ByMail)). slice_get l i) (sym ways) ∙ get_map (λ (z : ByMail). Some z) mails i m at) in
-        let x = left_of (λ (j : ℕ) (a b : KeysView × T). HasDone done floor a.0 a.1 b.0 b.1) clients lasts i y.0 worked y.1 in
-        (y.0, record { there = y.1; is = y.2; all = all_of y.0.0.mail m y.2 x.2.all })
+        let y = map_get (λ (x : KeysView × T). x.0.transport) lasts i (Mail m) (ap (λ (l : List Transport). slice_get l i) (sym ways) ∙ get_map (λ (z : ByMail). Mail z) mails i m at) in
+        (y.0, mail_of i m y.0 y.1 y.2 (ended i y.0 y.1))
 
     count_mails : length mails ≡ length lasts
-    count_mails = sym (length-map mails (λ (m : ByMail). Some m)) ∙ ap length ways ∙ length-map lasts (λ (x : KeysView × T). x.0.mail)
+    count_mails = sym (length-map mails (λ (m : ByMail). Mail m)) ∙ ap length ways ∙ length-map lasts (λ (x : KeysView × T). x.0.transport)
 
     pub mails_done : All (λ (m : ByMail). IsDone m.answers) mails
     mails_done = all_from (λ (m : ByMail). IsDone m.answers) mails (λ i m at. (mail_at i m at).1.all.done)
 
-    -- where each is at its seat
-    module _ (seated : (i : ℕ) (m : ByMail) → slice_get mails i ≡ Some m → m.seat ≡ i) where
-      box_of : (i : ℕ) (m : ByMail) (all : HasAll floor m) → slice_get mails i ≡ Some m → slice_get boxes i ≡ Some all.first
-      box_of i m all at = ap (slice_get boxes) (sym (seated i m at)) ∙ ap (λ (f : FloorView). slice_get f.answers m.seat) (sym o.is) ∙ all.there
+    goes_to : (k i : ℕ) (m : ByMail) (y : KeysView × T) (all : MailAt i m y) (first answer_putter : AnswerPutter) → PutterAt k i first → answer_putter.inbox ≡ first.inbox → IsOfMail i m answer_putter
+    goes_to k i m y all first answer_putter l inbox =
+        inbox ∙ ap (λ (x : AnswerPutter). x.inbox) l.is ∙ ap (λ (b : Taking Answered ClientPlace). b.inbox) (same_at boxes i l.box all.from.client.mail.answers l.here all.from.client.answers) ∙ sym all.all.inbox
 
-      goes_to : (k i : ℕ) (m : ByMail) (all : HasAll floor m) (first answer_putter : AnswerPutter) → PutterAt k i first → slice_get boxes i ≡ Some all.first → answer_putter.inbox ≡ first.inbox → IsOfMail i m answer_putter
-      goes_to k i m all first answer_putter l here inbox = inbox ∙ ap (λ (x : AnswerPutter). x.inbox) l.is ∙ ap (λ (b : Taking Answered ClientPlace). b.inbox) (same_at boxes i l.box all.first l.here here) ∙ sym all.inbox
+    own_of : (k : ℕ) (cell : CellView) (w v : WorkerView) → IsWorkerOf of (ids_of seats) rows k cell w → HasServed w v → (i : ℕ) (m : ByMail) (answer_putter : AnswerPutter) → slice_get mails i ≡ Some m → slice_get v.sents i ≡ Some answer_putter → IsOfMail i m answer_putter
+    own_of k cell w v worker goes i m answer_putter to there =
+        let first = left_of (λ (j : ℕ) (a b : AnswerPutter). IsSamePutter j a b) w.answers v.sents i answer_putter goes.answered.same there in
+        let y = mail_at i m to in
+        goes_to k i m y.0 y.1 first.0 answer_putter (putter_at k cell w i first.0 worker first.1) first.2.inbox
 
-      own_of : (k : ℕ) (cell : CellView) (w v : WorkerView) → IsWorkerOf of (ids_of seats) rows k cell w → HasServed w v → (i : ℕ) (m : ByMail) (answer_putter : AnswerPutter) → slice_get mails i ≡ Some m → slice_get v.sents i ≡ Some answer_putter → IsOfMail i m answer_putter
-      own_of k cell w v worker goes i m answer_putter to there =
-          let first = left_of (λ (j : ℕ) (a b : AnswerPutter). IsSamePutter j a b) w.answers v.sents i answer_putter goes.answered.same there in
-          let all = (mail_at i m to).1.all in
-          goes_to k i m all first.0 answer_putter (putter_at k cell w i first.0 worker first.1) (box_of i m all to) first.2.inbox
+    rows_of : (k : ℕ) (cell : CellView) (w v : WorkerView) → IsWorkerOf of (ids_of seats) rows k cell w → HasServed w v → Beside IsOfMail mails v.sents
+    rows_of k cell w v worker goes = record {
+      count = count_mails ∙ sym count_lasts ∙ sym (putters_count k cell w worker) ∙ goes.answered.same.count;
+      each = own_of k cell w v worker goes;
+    }
 
-      rows_of : (k : ℕ) (cell : CellView) (w v : WorkerView) → IsWorkerOf of (ids_of seats) rows k cell w → HasServed w v → Beside IsOfMail mails v.sents
-      rows_of k cell w v worker goes = record {
-        count = count_mails ∙ sym count_lasts ∙ sym (putters_count k cell w worker) ∙ goes.answered.same.count;
-        each = own_of k cell w v worker goes;
-      }
+    row_own : (k : ℕ) (v : WorkerView) → slice_get ends k ≡ Some v → Beside IsOfMail mails v.sents
+    row_own k v at =
+        let w = left_of (λ (j : ℕ) (a b : WorkerView). HasServed a b) workers ends k v served at in
+        let cell = left_of (IsWorkerOf of (ids_of seats) rows) row workers k w.0 o.nodes w.1 in
+        rows_of k cell.0 w.0 v cell.2 w.2
 
-      row_own : (k : ℕ) (v : WorkerView) → slice_get ends k ≡ Some v → Beside IsOfMail mails v.sents
-      row_own k v at =
-          let w = left_of (λ (j : ℕ) (a b : WorkerView). HasServed a b) workers ends k v served at in
-          let cell = left_of (IsWorkerOf of (ids_of seats) rows) row workers k w.0 o.nodes w.1 in
-          rows_of k cell.0 w.0 v cell.2 w.2
+    pub rows_own : All (λ (r : List AnswerPutter). Beside IsOfMail mails r) (map (λ (v : WorkerView). v.sents) ends)
+    rows_own = all_from (λ (r : List AnswerPutter). Beside IsOfMail mails r) (map (λ (v : WorkerView). v.sents) ends) (λ k r at.
+        let v = map_get (λ (x : WorkerView). x.sents) ends k r at in
+        subst (λ (l : List AnswerPutter). Beside IsOfMail mails l) v.2 (row_own k v.0 v.1))
 
-      pub rows_own : All (λ (r : List AnswerPutter). Beside IsOfMail mails r) (map (λ (v : WorkerView). v.sents) ends)
-      rows_own = all_from (λ (r : List AnswerPutter). Beside IsOfMail mails r) (map (λ (v : WorkerView). v.sents) ends) (λ k r at.
-          let v = map_get (λ (x : WorkerView). x.sents) ends k r at in
-          subst (λ (l : List AnswerPutter). Beside IsOfMail mails l) v.2 (row_own k v.0 v.1))
+    rows_count : length row ≡ length (map (λ (v : WorkerView). v.sents) ends)
+    rows_count = o.nodes.count ∙ served.count ∙ sym (length-map ends (λ (v : WorkerView). v.sents))
 
-      rows_count : length row ≡ length (map (λ (v : WorkerView). v.sents) ends)
-      rows_count = o.nodes.count ∙ served.count ∙ sym (length-map ends (λ (v : WorkerView). v.sents))
+    -- a worker that served its cell
+    served_cell : (k : ℕ) (old : CellView) (w v : WorkerView) → slice_get row k ≡ Some old → IsWorkerOf of (ids_of seats) rows k old w → HasServed w v → IsServed (ids_of seats) row k v.sents v.cell
+    served_cell k old w v there worker goes = record {
+      old = old;
+      there = there;
+      first = w.answers;
+      numbers = λ i answer_putter here. ap (λ (x : AnswerPutter). x.number) (putter_at k old w i answer_putter worker here).is;
+      count = putters_count k old w worker ∙ sym (length-map seats (λ (s : Seat T). s.desk.id));
+      answered = subst (λ (c : CellView). HasAnswered (ids_of seats) c w.answers v.cell v.sents) worker.is (subst (λ (l : List ℕ). HasAnswered l w.cell w.answers v.cell v.sents) worker.box.clients goes.answered);
+    }
 
-      -- a worker that served its cell
-      served_cell : (k : ℕ) (old : CellView) (w v : WorkerView) → slice_get row k ≡ Some old → IsWorkerOf of (ids_of seats) rows k old w → HasServed w v → IsServed (ids_of seats) row k v.sents v.cell
-      served_cell k old w v there worker goes = record {
-        old = old;
-        there = there;
-        first = w.answers;
-        numbers = λ i answer_putter here. ap (λ (x : AnswerPutter). x.number) (putter_at k old w i answer_putter worker here).is;
-        count = putters_count k old w worker ∙ sym (length-map seats (λ (s : Seat T). s.desk.id));
-        answered = subst (λ (c : CellView). HasAnswered (ids_of seats) c w.answers v.cell v.sents) worker.is (subst (λ (l : List ℕ). HasAnswered l w.cell w.answers v.cell v.sents) worker.box.clients goes.answered);
-      }
+    served_at : (k : ℕ) (v : WorkerView) → slice_get ends k ≡ Some v → IsServed (ids_of seats) row k v.sents v.cell
+    served_at k v at =
+        let w = left_of (λ (j : ℕ) (a b : WorkerView). HasServed a b) workers ends k v served at in
+        let old = left_of (IsWorkerOf of (ids_of seats) rows) row workers k w.0 o.nodes w.1 in
+        served_cell k old.0 w.0 v old.1 old.2 w.2
 
-      served_at : (k : ℕ) (v : WorkerView) → slice_get ends k ≡ Some v → IsServed (ids_of seats) row k v.sents v.cell
-      served_at k v at =
-          let w = left_of (λ (j : ℕ) (a b : WorkerView). HasServed a b) workers ends k v served at in
-          let old = left_of (IsWorkerOf of (ids_of seats) rows) row workers k w.0 o.nodes w.1 in
-          served_cell k old.0 w.0 v old.1 old.2 w.2
+    served_as : (k : ℕ) (v : WorkerView) (r : List AnswerPutter) (cell : CellView) → slice_get ends k ≡ Some v → v.sents ≡ r → slice_get (map (λ (x : WorkerView). x.cell) ends) k ≡ Some cell → IsServed (ids_of seats) row k r cell
+    served_as k v r cell at is to =
+        subst (λ (c : CellView). IsServed (ids_of seats) row k r c) (same_at (map (λ (x : WorkerView). x.cell) ends) k v.cell cell (get_map (λ (x : WorkerView). x.cell) ends k v at) to)
+        (subst (λ (l : List AnswerPutter). IsServed (ids_of seats) row k l v.cell) is (served_at k v at))
 
-      served_as : (k : ℕ) (v : WorkerView) (r : List AnswerPutter) (cell : CellView) → slice_get ends k ≡ Some v → v.sents ≡ r → slice_get (map (λ (x : WorkerView). x.cell) ends) k ≡ Some cell → IsServed (ids_of seats) row k r cell
-      served_as k v r cell at is to =
-          subst (λ (c : CellView). IsServed (ids_of seats) row k r c) (same_at (map (λ (x : WorkerView). x.cell) ends) k v.cell cell (get_map (λ (x : WorkerView). x.cell) ends k v at) to)
-          (subst (λ (l : List AnswerPutter). IsServed (ids_of seats) row k l v.cell) is (served_at k v at))
-
-      is_served : (k : ℕ) (r : List AnswerPutter) (cell : CellView) → slice_get (map (λ (v : WorkerView). v.sents) ends) k ≡ Some r → slice_get (map (λ (v : WorkerView). v.cell) ends) k ≡ Some cell → IsServed (ids_of seats) row k r cell
-      is_served k r cell at to = let v = map_get (λ (x : WorkerView). x.sents) ends k r at in served_as k v.0 r cell v.1 v.2 to
-
-      module _ (settled : All (λ (r : List AnswerPutter). Beside HasAllOf mails r) (map (λ (v : WorkerView). v.sents) ends)) (sound : All (λ (y : KeysView × T). y.0.refused ≡ None) lasts)
-          (agree : All (λ (y : KeysView × T). y.0.refused ≡ None → (m : ByMail) → y.0.mail ≡ Some m → AgreeByMail y.0.desk m) lasts) where
-        -- a desk that heard what was put into its client's inbox
-        heard_desk : (i : ℕ) (m : ByMail) (s : Seat T) (y : KeysView × T) (all : HasAll floor m) → slice_get mails i ≡ Some m → slice_get seats i ≡ Some s → IsLater s.desk y.0.desk → AgreeByMail y.0.desk m → IsAnswerBox of (length row) i s all.first
-            → IsHeard (ids_of seats) (desks_of seats) (map (λ (v : WorkerView). v.sents) ends) i m y.0.desk
-        heard_desk i m s y all at there later right box =
-            let senders : m.answers.senders ≡ length (map (λ (v : WorkerView). v.sents) ends) = all.senders ∙ box.count ∙ rows_count in
-            record {
-              client = id_at i s there ∙ ap (λ (n : ℕ). Some n) (sym later.id);
-              old = s.desk;
-              there = get_map (λ (x : Seat T). x.desk) seats i s there;
-              later = later;
-              began = ap (λ (b : InboxId Answered ClientPlace). b.place.began.value.entries) all.inbox ∙ ap (λ (e : DeskView). e.entries) box.began;
-              agree = right;
-              senders = subst (λ (n : ℕ). All (λ (j : ℕ × Answered). j.0 < n) (took m.answers)) senders all.known;
-              items = λ k r answer_putter here to. (all_at (λ (l : List AnswerPutter). Beside HasAllOf mails l) (map (λ (v : WorkerView). v.sents) ends) k r settled here).each i m answer_putter at to;
-            }
-
-        heard_by : (i : ℕ) (m : ByMail) (s : Seat T) (y : KeysView × T) → slice_get mails i ≡ Some m → slice_get seats i ≡ Some s → MailAt i m y → IsHeard (ids_of seats) (desks_of seats) (map (λ (v : WorkerView). v.sents) ends) i m y.0.desk
-        heard_by i m s y at there mail =
-            let none = all_at (λ (x : KeysView × T). x.0.refused ≡ None) lasts i y sound mail.there in
-            let right = all_at (λ (x : KeysView × T). x.0.refused ≡ None → (n : ByMail) → x.0.mail ≡ Some n → AgreeByMail x.0.desk n) lasts i y agree mail.there none m mail.is in
-            heard_desk i m s y mail.all at there (later_at i s y there mail.there) right (o.answers.each i s mail.all.first there (box_of i m mail.all at))
-
-        heard_at : (i : ℕ) (m : ByMail) (y : KeysView × T) → slice_get mails i ≡ Some m → MailAt i m y → IsHeard (ids_of seats) (desks_of seats) (map (λ (v : WorkerView). v.sents) ends) i m y.0.desk
-        heard_at i m y at mail =
-            let lt = slice_get_within lasts i y mail.there in
-            let s = at_place seats i (omega (arith, lt, count_lasts)) in
-            heard_by i m s.0 y at s.1 mail
-
-        heard_as : (i : ℕ) (m : ByMail) (d : DeskView) (y : KeysView × T) → slice_get mails i ≡ Some m → slice_get (desks_of (map seat_of lasts)) i ≡ Some d → MailAt i m y → IsHeard (ids_of seats) (desks_of seats) (map (λ (v : WorkerView). v.sents) ends) i m d
-        heard_as i m d y at to mail =
-            let there : slice_get (desks_of (map seat_of lasts)) i ≡ Some y.0.desk = get_map (λ (s : Seat T). s.desk) (map seat_of lasts) i (seat_of y) (get_map seat_of lasts i y mail.there) in
-            subst (λ (e : DeskView). IsHeard (ids_of seats) (desks_of seats) (map (λ (v : WorkerView). v.sents) ends) i m e) (same_at (desks_of (map seat_of lasts)) i y.0.desk d there to) (heard_at i m y at mail)
-
-        is_heard : (i : ℕ) (m : ByMail) (d : DeskView) → slice_get mails i ≡ Some m → slice_get (desks_of (map seat_of lasts)) i ≡ Some d → IsHeard (ids_of seats) (desks_of seats) (map (λ (v : WorkerView). v.sents) ends) i m d
-        is_heard i m d at to = let y = mail_at i m at in heard_as i m d y.0 at to y.1
-
-        desks_count : length mails ≡ length (desks_of (map seat_of lasts))
-        desks_count = count_mails ∙ sym (length-map lasts seat_of) ∙ sym (length-map (map seat_of lasts) (λ (s : Seat T). s.desk))
-
-        phase_of : Phase (ids_of seats) row (map (λ (v : WorkerView). v.cell) ends) (map (λ (v : WorkerView). v.sents) ends) (desks_of seats) (desks_of (map seat_of lasts)) mails
-        phase_of = record {
-          served = record { count = length-map ends (λ (v : WorkerView). v.sents) ∙ sym (length-map ends (λ (v : WorkerView). v.cell)); each = is_served };
-          all = rows_count;
-          heard = record { count = desks_count; each = is_heard };
-          desks = length-map seats (λ (s : Seat T). s.desk) ∙ count_lasts ∙ sym count_mails;
-          seats = length-map seats (λ (s : Seat T). s.desk.id) ∙ count_lasts ∙ sym count_mails;
-        }
-
-        pub pairs_again : PairsStand row (desks_of seats) → PairsStand (map (λ (v : WorkerView). v.cell) ends) (desks_of (map seat_of lasts))
-        pairs_again pairs = pairs_stand (ids_of seats) row (map (λ (v : WorkerView). v.cell) ends) (map (λ (v : WorkerView). v.sents) ends) (desks_of seats) (desks_of (map seat_of lasts)) mails phase_of pairs
+    is_served : (k : ℕ) (r : List AnswerPutter) (cell : CellView) → slice_get (map (λ (v : WorkerView). v.sents) ends) k ≡ Some r → slice_get (map (λ (v : WorkerView). v.cell) ends) k ≡ Some cell → IsServed (ids_of seats) row k r cell
+    is_served k r cell at to = let v = map_get (λ (x : WorkerView). x.sents) ends k r at in served_as k v.0 r cell v.1 v.2 to
 
     worked_cell : (k : ℕ) (old : CellView) (w v : WorkerView) → IsWorkerOf of (ids_of seats) rows k old w → HasServed w v → HasWorked old v.cell
     worked_cell k old w v worker goes = record {
@@ -353,8 +315,61 @@ module _ {T : Type 0} (config : Numbers) (of : ClockId) (row : List CellView) (s
       grew = (goes.answered.more, goes.answered.grew ∙ ap (λ (c : CellView). c.journal ++ goes.answered.more) worker.is);
     }
 
-    pub cells_worked : AllZip HasWorked row (map (λ (v : WorkerView). v.cell) ends)
-    cells_worked = all_zip HasWorked row (map (λ (v : WorkerView). v.cell) ends) (o.nodes.count ∙ served.count ∙ sym (length-map ends (λ (v : WorkerView). v.cell))) (λ k old new at to.
+    worked_at : (k : ℕ) (old new : CellView) → slice_get row k ≡ Some old → slice_get (map (λ (v : WorkerView). v.cell) ends) k ≡ Some new → HasWorked old new
+    worked_at k old new at to =
         let v = map_get (λ (x : WorkerView). x.cell) ends k new to in
         let w = right_of (IsWorkerOf of (ids_of seats) rows) row workers k old o.nodes at in
-        subst (HasWorked old) v.2 (worked_cell k old w.0 v.0 w.2 (served.each k w.0 v.0 w.1 v.1)))
+        subst (HasWorked old) v.2 (worked_cell k old w.0 v.0 w.2 (served.each k w.0 v.0 w.1 v.1))
+
+    pub cells_worked : AllZip HasWorked row (map (λ (v : WorkerView). v.cell) ends)
+    cells_worked = all_zip HasWorked row (map (λ (v : WorkerView). v.cell) ends) (o.nodes.count ∙ served.count ∙ sym (length-map ends (λ (v : WorkerView). v.cell))) worked_at
+
+    module _ (settled : All (λ (r : List AnswerPutter). Beside HasAllOf mails r) (map (λ (v : WorkerView). v.sents) ends)) (sound : All (λ (y : KeysView × T). y.0.refused ≡ None) lasts)
+        (agree : All (λ (y : KeysView × T). y.0.refused ≡ None → Agree y.0.began y.0.desk y.0.transport) lasts) where
+      abbrev transports : List Transport
+      transports = map (λ (y : KeysView × T). y.0.transport) lasts
+
+      -- what was put into a client's inbox it took
+      heard_by : (i : ℕ) (m : ByMail) (y : KeysView × T) → slice_get mails i ≡ Some m → MailAt i m y → IsHeard (map (λ (v : WorkerView). v.sents) ends) i m
+      heard_by i m y at mail =
+          let box = o.answers.each i mail.from.seat mail.from.client.mail.answers mail.from.here mail.from.client.answers in
+          let senders : m.answers.senders ≡ length (map (λ (v : WorkerView). v.sents) ends) = mail.all.senders ∙ box.count ∙ rows_count in
+          record {
+            senders = subst (λ (n : ℕ). All (λ (j : ℕ × Answered). j.0 < n) (took m.answers)) senders mail.all.known;
+            items = λ k r answer_putter here to. (all_at (λ (l : List AnswerPutter). Beside HasAllOf mails l) (map (λ (v : WorkerView). v.sents) ends) k r settled here).each i m answer_putter at to;
+          }
+
+      heard_at : (i : ℕ) (m : ByMail) → slice_get mails i ≡ Some m → IsHeard (map (λ (v : WorkerView). v.sents) ends) i m
+      heard_at i m at = let y = mail_at i m at in heard_by i m y.0 at y.1
+
+      phase_of : Phase (ids_of seats) row (map (λ (v : WorkerView). v.cell) ends) (map (λ (v : WorkerView). v.sents) ends) mails transports
+      phase_of = record {
+        served = record { count = length-map ends (λ (v : WorkerView). v.sents) ∙ sym (length-map ends (λ (v : WorkerView). v.cell)); each = is_served };
+        heard = heard_at;
+        ways = ways;
+        seats = length-map seats (λ (s : Seat T). s.desk.id) ∙ count_lasts ∙ sym count_mails;
+      }
+
+      desk_of : (i : ℕ) (y : KeysView × T) → slice_get lasts i ≡ Some y → Ended i y → HasHeard (desks_of seats) i y.0.transport y.0.desk
+      desk_of i y at e =
+          let right = all_at (λ (x : KeysView × T). x.0.refused ≡ None → Agree x.0.began x.0.desk x.0.transport) lasts i y agree at (all_at (λ (x : KeysView × T). x.0.refused ≡ None) lasts i y sound at) in
+          record {
+            old = e.seat.desk;
+            there = get_map (λ (x : Seat T). x.desk) seats i e.seat e.here;
+            later = subst (λ (d : DeskView). IsLater d y.0.desk) (ap (λ (ks : KeysView). ks.desk) e.client.keys) e.goes.later;
+            agree = subst (λ (d : DeskView). Agree d y.0.desk y.0.transport) (e.goes.began ∙ ap (λ (ks : KeysView). ks.began) e.client.keys) right;
+          }
+
+      desk_at : (i : ℕ) (t : Transport) (d : DeskView) → slice_get transports i ≡ Some t → slice_get (desks_of (map seat_of lasts)) i ≡ Some d → HasHeard (desks_of seats) i t d
+      desk_at i t d at to =
+          let y = map_get (λ (x : KeysView × T). x.0.transport) lasts i t at in
+          let there : slice_get (desks_of (map seat_of lasts)) i ≡ Some y.0.0.desk = get_map (λ (s : Seat T). s.desk) (map seat_of lasts) i (seat_of y.0) (get_map seat_of lasts i y.0 y.1) in
+          subst (HasHeard (desks_of seats) i t) (same_at (desks_of (map seat_of lasts)) i y.0.0.desk d there to) (subst (λ (x : Transport). HasHeard (desks_of seats) i x y.0.0.desk) y.2 (desk_of i y.0 y.1 (ended i y.0 y.1)))
+
+      pub pairs_again : PairsStand row (desks_of seats) → PairsStand (map (λ (v : WorkerView). v.cell) ends) (desks_of (map seat_of lasts))
+      pairs_again pairs =
+          pairs_stand row (map (λ (v : WorkerView). v.cell) ends) (desks_of seats) (desks_of (map seat_of lasts)) transports
+          (record { count = o.nodes.count ∙ served.count ∙ sym (length-map ends (λ (v : WorkerView). v.cell)); each = worked_at })
+          (just_told (ids_of seats) row (map (λ (v : WorkerView). v.cell) ends) (map (λ (v : WorkerView). v.sents) ends) mails transports phase_of)
+          (record { count = length-map lasts (λ (y : KeysView × T). y.0.transport) ∙ sym (length-map lasts seat_of) ∙ sym (length-map (map seat_of lasts) (λ (s : Seat T). s.desk)); each = desk_at })
+          (length-map seats (λ (s : Seat T). s.desk) ∙ count_lasts ∙ sym (length-map lasts (λ (y : KeysView × T). y.0.transport))) pairs

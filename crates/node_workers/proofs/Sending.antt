@@ -2,9 +2,9 @@
 use denote.Param.Send.{IsSend}
 use denote.RattleType.{RattleType}
 use Rattle.inboxes.proofs.lemmas.CrossesThreads.{taker_send, putter_send, sent_send}
-use Rattle.node_serving.proofs.lemmas.Sending.{all, asked_send, answered_send}
+use Rattle.desk_keys.proofs.lemmas.Sending.{all, asked_send, answered_send}
 use Rattle.phase_threads.proofs.lemmas.Sending.{cell_send, keys_send}
-use Rattle.node_serving.specs.contracts.worker.NodeWorker as worker
+use Rattle.node_workers.specs.contracts.worker.NodeWorker as worker
 use Rattle.node_workers.specs.contracts.crew.Post as post
 
 worker_send : IsSend worker.the_row

@@ -6,10 +6,10 @@ use Rattle.std.proofs.lemmas.Option.{slice_get_within}
 use Rattle.crews.specs.Crews.{Beside}
 use Rattle.crews.proofs.lemmas.Places.{same_at}
 use Rattle.inboxes.specs.Sides.{Taking}
-use Rattle.node_serving.specs.declared.answered.Answered.{Answered}
-use Rattle.node_serving.specs.declared.answered.ClientPlace.{ClientPlace}
+use Rattle.desk_keys.specs.declared.answered.Answered.{Answered}
+use Rattle.desk_keys.specs.declared.answered.ClientPlace.{ClientPlace}
 use Rattle.desk_keys.specs.declared.mail.ByMail.{ByMail}
-use Rattle.node_serving.specs.Workers.{AnswerPutter}
+use Rattle.node_workers.specs.Workers.{AnswerPutter}
 use Rattle.node_workers.specs.Closed.{IsOfMail, HasAllOf}
 use Rattle.lists.proofs.lemmas.Members.{get_left, slice_get-seam}
 

@@ -1,22 +1,21 @@
 -- Posts as they were, taken apart again.
 use Rattle.std.proofs.Common.{◌≡◌, ℕ, List, map, refl, sym, ap, subst, ◌∙◌}
-use Rattle.std.specs.declared.option.Option.{Option}
 use Rattle.std.specs.declared.result.Result.{Result}
 use Rattle.std.specs.declared.result.Result.TheVariants.{Ok, Err}
-use Rattle.std.specs.Prelude.{All, IsSome, IfOk}
+use Rattle.std.specs.Prelude.{All, IfOk}
 use Rattle.std.proofs.lemmas.List.{length-map}
 use Rattle.quorum_rules.specs.Limits.{Numbers}
 use Rattle.crews.proofs.lemmas.Places.{all_from, map_get, right_of, left_of}
 use Rattle.event_clock.specs.Passes.{ClockId}
 use Rattle.inboxes.specs.Sides.{Putting, Taking}
 use Rattle.locked_nodes.specs.Cells.{CellView}
-use Rattle.node_serving.specs.declared.asked.Asked.{Asked}
-use Rattle.node_serving.specs.declared.asked.NodePlace.{NodePlace}
-use Rattle.node_serving.specs.declared.answered.Answered.{Answered}
-use Rattle.node_serving.specs.declared.answered.ClientPlace.{ClientPlace}
-use Rattle.desk_keys.specs.declared.mail.ByMail.{ByMail}
+use Rattle.desk_keys.specs.declared.asked.Asked.{Asked}
+use Rattle.desk_keys.specs.declared.asked.NodePlace.{NodePlace}
+use Rattle.desk_keys.specs.declared.answered.Answered.{Answered}
+use Rattle.desk_keys.specs.declared.answered.ClientPlace.{ClientPlace}
+use Rattle.desk_keys.specs.Transports.{IsByMail}
 use Rattle.desk_keys.specs.Keys.{KeysView, FloorView}
-use Rattle.node_serving.specs.Workers.{AnswerPutter, WorkerView}
+use Rattle.node_workers.specs.Workers.{AnswerPutter, WorkerView}
 use Rattle.locked_nodes.specs.declared.slot.Slot.{Slot}
 use Rattle.client_desks.specs.Desks.{DeskView}
 use Rattle.phase_threads.specs.declared.duty.Seat.{Seat}
@@ -40,11 +39,11 @@ phased_as {T = T} done of cells seats now are is same r has =
 
 module _ {T : Type 0} (config : Numbers) (of : ClockId) (cells : List CellView) (seats : List (Seat T)) (boxes : List (Taking Answered ClientPlace)) (rows : List (List AnswerPutter)) (hands : List (List (Putting Asked NodePlace))) (workers : List WorkerView) (clients : List (KeysView × T)) (floor : FloorView)
     (o : Opened config of cells seats boxes rows hands workers clients floor) where
-  goes_by_mail : (i : ℕ) (s : Seat T) (x : KeysView × T) → IsClientOf boxes hands i s x → IsSome x.0.mail
-  goes_by_mail i s x c = subst (λ (m : Option ByMail). IsSome m) (sym (ap (λ (ks : KeysView). ks.mail) c.keys)) refl
+  goes_by_mail : (i : ℕ) (s : Seat T) (x : KeysView × T) → IsClientOf boxes hands i s x → IsByMail x.0.transport
+  goes_by_mail i s x c = (c.mail, ap (λ (ks : KeysView). ks.transport) c.keys)
 
-  pub all_by_mail : All (λ (x : KeysView × T). IsSome x.0.mail) clients
-  all_by_mail = all_from (λ (x : KeysView × T). IsSome x.0.mail) clients (λ i x at.
+  pub all_by_mail : All (λ (x : KeysView × T). IsByMail x.0.transport) clients
+  all_by_mail = all_from (λ (x : KeysView × T). IsByMail x.0.transport) clients (λ i x at.
       let c = left_of (IsClientOf boxes hands) seats clients i x o.seated at in
       goes_by_mail i c.0 x c.2)
 
@@ -80,8 +79,8 @@ module _ {T : Type 0} (config : Numbers) (of : ClockId) (cells : List CellView) 
 
 -- the same of posts that came back as they were, with the clock
 module _ {T : Type 0} (of : ClockId) (cells : List CellView) (seats : List (Seat T)) (floor : FloorView) (posts : List (Post T)) (h : ArePosts of cells seats floor posts) (same : List (Post T)) (nobody : same ≡ posts) where
-  pub ways_back : All (λ (x : KeysView × T). IsSome x.0.mail) (clients_in same)
-  ways_back = subst (λ (l : List (Post T)). All (λ x. IsSome x.0.mail) (clients_in l)) (sym nobody) (all_by_mail h.config of cells seats h.boxes h.rows h.hands (nodes_in posts) (clients_in posts) floor h.opened)
+  pub ways_back : All (λ (x : KeysView × T). IsByMail x.0.transport) (clients_in same)
+  ways_back = subst (λ (l : List (Post T)). All (λ x. IsByMail x.0.transport) (clients_in l)) (sym nobody) (all_by_mail h.config of cells seats h.boxes h.rows h.hands (nodes_in posts) (clients_in posts) floor h.opened)
 
   pub may_back : (ready : T → List Slot → DeskView → Type 0) (done : T → DeskView → T → DeskView → Type 0) (clock : ClockId) → clock ≡ of → MayPhase ready of cells seats → MayPhase ready clock (cells_at same) (seats_at same)
   may_back ready done clock ticks may =

@@ -1,22 +1,22 @@
 -- Posts before their threads work and after.
-use Rattle.std.proofs.Common.{◌≡◌, ℕ, zero, suc, List, [], ◌∷◌, length, refl, ap, subst, ◌∙◌}
-use Rattle.std.specs.declared.option.Option.{Option}
-use Rattle.std.specs.declared.option.Option.TheVariants.{None, Some}
-use Rattle.std.specs.Prelude.{slice_get, map, All, IsSome}
+use Rattle.std.proofs.Common.{◌≡◌, ℕ, zero, suc, List, [], ◌∷◌, length, refl, sym, ap, subst, ◌∙◌}
+use Rattle.std.specs.declared.option.Option.TheVariants.{Some}
+use Rattle.std.specs.Prelude.{slice_get, map, All}
 use Rattle.std.specs.List.{AllZip}
 use Rattle.std.proofs.lemmas.List.Elements.{All-nil, All-cons, All-head, All-tail}
 use Rattle.crews.specs.Crews.{Beside}
 use Rattle.crews.proofs.lemmas.Places.{all_zip, all_from, left_of}
-use Rattle.receipt_lock.specs.Chits.{Holder as Chit}
-use Rattle.locked_nodes.specs.declared.charter.Item.{Item}
+use Rattle.lists.proofs.lemmas.Members.{all_at}
 use Rattle.locked_nodes.specs.declared.slot.Slot.{Slot}
 use Rattle.client_desks.specs.Desks.{DeskView}
-use Rattle.inboxes.specs.Sides.{Taking}
-use Rattle.node_serving.specs.declared.answered.Answered.{Answered}
-use Rattle.node_serving.specs.declared.answered.ClientPlace.{ClientPlace}
 use Rattle.desk_keys.specs.declared.mail.ByMail.{ByMail}
-use Rattle.desk_keys.specs.Keys.{KeysView, FloorView, Fit, Reaches, HaveEnded}
-use Rattle.node_serving.specs.Workers.{WorkerView, CanServe, HasServed}
+use Rattle.desk_keys.specs.declared.transport.Transport.{Transport}
+use Rattle.desk_keys.specs.declared.transport.Transport.TheVariants.{Locks, Mail}
+use Rattle.desk_keys.specs.Asking.{HasEnded}
+use Rattle.desk_keys.specs.Transports.{Inboxes, Route, route, inboxes_of, IsByMail, HaveEnded}
+use Rattle.desk_keys.specs.Transports.Route.{ToVaults, ToInboxes}
+use Rattle.desk_keys.specs.Keys.{KeysView, FloorView, Fixed, fixed}
+use Rattle.node_workers.specs.Workers.{WorkerView, CanServe, HasServed}
 use Rattle.node_workers.specs.declared.crew.Post.{Post}
 use Rattle.node_workers.specs.declared.crew.Post.TheVariants.{Client, Node}
 use Rattle.node_workers.specs.Posts.{nodes_in, clients_in, IsReady, HasDone, HasTakenAll, CanWork, DidWork}
@@ -44,8 +44,8 @@ module _ {T : Type 0} where
   can_all ready of (Node w ∷ ps) nodes clients = All-cons (CanWork ready of) (Node w) ps (nodes 0 w refl) (can_all ready of ps (λ k v at. nodes (suc k) v at) clients)
   can_all ready of (Client keys duty ∷ ps) nodes clients = All-cons (CanWork ready of) (Client keys duty) ps (clients 0 (keys, duty) refl) (can_all ready of ps nodes (λ k x at. clients (suc k) x at))
 
-  module _ (done : T → DeskView → T → DeskView → Type 0) (of : FloorView) where
-    nodes_did : (ps qs : List (Post T)) → AllZip (DidWork done of) ps qs → AllZip HasServed (nodes_in ps) (nodes_in qs)
+  module _ (done : T → DeskView → T → DeskView → Type 0) where
+    nodes_did : (ps qs : List (Post T)) → AllZip (DidWork done) ps qs → AllZip HasServed (nodes_in ps) (nodes_in qs)
     nodes_did [] [] z = tt
     nodes_did [] (q ∷ qs) z = absurd z
     nodes_did (p ∷ ps) [] z = absurd z
@@ -54,7 +54,7 @@ module _ {T : Type 0} where
     nodes_did (Client keys duty ∷ ps) (Node v ∷ qs) z = absurd z.0
     nodes_did (Client keys duty ∷ ps) (Client after left ∷ qs) z = nodes_did ps qs z.1
 
-    clients_did : (ps qs : List (Post T)) → AllZip (DidWork done of) ps qs → AllZip (λ (x y : KeysView × T). HasDone done of x.0 x.1 y.0 y.1) (clients_in ps) (clients_in qs)
+    clients_did : (ps qs : List (Post T)) → AllZip (DidWork done) ps qs → AllZip (λ (x y : KeysView × T). HasDone done x.0 x.1 y.0 y.1) (clients_in ps) (clients_in qs)
     clients_did [] [] z = tt
     clients_did [] (q ∷ qs) z = absurd z
     clients_did (p ∷ ps) [] z = absurd z
@@ -63,54 +63,58 @@ module _ {T : Type 0} where
     clients_did (Client keys duty ∷ ps) (Node v ∷ qs) z = absurd z.0
     clients_did (Client keys duty ∷ ps) (Client after left ∷ qs) z = (z.0, clients_did ps qs z.1)
 
-    zip_of : (ps qs : List (Post T)) → Beside (λ i p q. DidWork done of p q) ps qs → AllZip (DidWork done of) ps qs
-    zip_of ps qs all = all_zip (DidWork done of) ps qs all.count all.each
+    zip_of : (ps qs : List (Post T)) → Beside (λ i p q. DidWork done p q) ps qs → AllZip (DidWork done) ps qs
+    zip_of ps qs all = all_zip (DidWork done) ps qs all.count all.each
 
     -- nodes and clients worked where posts did
-    pub nodes_worked : (ps qs : List (Post T)) → Beside (λ i p q. DidWork done of p q) ps qs → Beside (λ i w v. HasServed w v) (nodes_in ps) (nodes_in qs)
+    pub nodes_worked : (ps qs : List (Post T)) → Beside (λ i p q. DidWork done p q) ps qs → Beside (λ i w v. HasServed w v) (nodes_in ps) (nodes_in qs)
     nodes_worked ps qs all = zip_beside HasServed (nodes_in ps) (nodes_in qs) (nodes_did ps qs (zip_of ps qs all))
 
-    pub clients_worked : (ps qs : List (Post T)) → Beside (λ i p q. DidWork done of p q) ps qs → Beside (λ i (x y : KeysView × T). HasDone done of x.0 x.1 y.0 y.1) (clients_in ps) (clients_in qs)
-    clients_worked ps qs all = zip_beside (λ (x y : KeysView × T). HasDone done of x.0 x.1 y.0 y.1) (clients_in ps) (clients_in qs) (clients_did ps qs (zip_of ps qs all))
+    pub clients_worked : (ps qs : List (Post T)) → Beside (λ i p q. DidWork done p q) ps qs → Beside (λ i (x y : KeysView × T). HasDone done x.0 x.1 y.0 y.1) (clients_in ps) (clients_in qs)
+    clients_worked ps qs all = zip_beside (λ (x y : KeysView × T). HasDone done x.0 x.1 y.0 y.1) (clients_in ps) (clients_in qs) (clients_did ps qs (zip_of ps qs all))
 
--- keys that go by mail go on so
-some_box : (of : FloorView) (mail : Option ByMail) (chits : List (Chit Item)) (id : ℕ) → IsSome mail → Reaches id chits mail of → (k : ℕ) × (first : Taking Answered ClientPlace) × (slice_get of.answers k ≡ Some first)
-some_box of None chits id some reach = absurd cc
-some_box of (Some m) chits id some reach = (m.seat, reach.first, reach.there)
+-- a route to inboxes is that of mail
+inboxes_to : Route → Inboxes → Inboxes
+inboxes_to (ToVaults l) b = b
+inboxes_to (ToInboxes a) b = a
 
-ended_of : (of : FloorView) (mail new : Option ByMail) (chits : List (Chit Item)) (id k : ℕ) (first : Taking Answered ClientPlace) → slice_get of.answers k ≡ Some first → Reaches id chits mail of → HaveEnded mail new → HasTakenAll of new
-ended_of of None new chits id k first at reach ended = absurd (let none = ap (λ l. slice_get l k) reach.none in cc)
-ended_of of (Some m) None chits id k first at reach ended = absurd ended
-ended_of of (Some m) (Some n) chits id k first at reach ended = record {
-  first = reach.first;
-  there = ap (slice_get of.answers) ended.seat ∙ reach.there;
-  inbox = ended.inbox ∙ reach.inbox;
-  senders = ended.senders ∙ reach.senders;
-  done = ended.done;
-  known = ended.known;
-}
+same_inboxes : (a b : Inboxes) → ToInboxes a ≡ ToInboxes b → a ≡ b
+unfolding inboxes_to
+same_inboxes a b is = ap (λ (r : Route). inboxes_to r b) is
 
-pub taken_all : (of : FloorView) (before after : KeysView) (new : Option ByMail) → Fit before of → IsSome before.mail → Fit after of → HaveEnded after.mail new → HasTakenAll of new
-taken_all of before after new fit some then ended =
-    let box = some_box of before.mail before.chits before.desk.id some fit.own in
-    ended_of of after.mail new after.chits after.desk.id box.0 box.1 box.2 then.own ended
+ended_of : (t new : Transport) (m : ByMail) → route t ≡ ToInboxes (inboxes_of m) → HaveEnded t new → (n : ByMail) × (new ≡ Mail n) × HasEnded m n
+ended_of (Locks c) new m is ended = absurd cc
+ended_of (Mail k) (Locks c) m is ended = absurd ended
+ended_of (Mail k) (Mail n) m is ended =
+    let same = same_inboxes (inboxes_of k) (inboxes_of m) is in (
+      n,
+      refl,
+      record {
+        seat = ended.seat ∙ ap (λ (b : Inboxes). b.seat) same;
+        inbox = ended.inbox ∙ ap (λ (b : Inboxes). b.answers) same;
+        senders = ended.senders ∙ ap (λ (b : Inboxes). b.senders) same;
+        done = ended.done;
+        known = ended.known;
+      },
+    )
+
+-- keys whose route stayed have taken all when they end
+pub taken_all : (before mid : KeysView) (new : Transport) → fixed mid ≡ fixed before → HaveEnded mid.transport new → HasTakenAll before.transport new
+taken_all before mid new stays ended m is = ended_of mid.transport new m (ap (λ (f : Fixed). f.route) stays ∙ ap (λ (t : Transport). route t) is) ended
 
 -- clients that worked have their ways by mail
-some_taken : (of : FloorView) (mail : Option ByMail) → HasTakenAll of mail → IsSome mail
-some_taken of None all = absurd all
-some_taken of (Some m) all = refl
-
-way_of : (mail : Option ByMail) → IsSome mail → (m : ByMail) × (Some m ≡ mail)
-way_of None some = absurd cc
-way_of (Some m) some = (m, refl)
+way_of : (t new : Transport) → IsByMail t → HasTakenAll t new → IsByMail new
+way_of t new by all = let n = all by.0 by.1 in (n.0, n.1)
 
 module _ {T : Type 0} where
-  pub ways_worked : (done : T → DeskView → T → DeskView → Type 0) (of : FloorView) (xs ys : List (KeysView × T)) → Beside (λ i (x y : KeysView × T). HasDone done of x.0 x.1 y.0 y.1) xs ys → All (λ (y : KeysView × T). IsSome y.0.mail) ys
-  ways_worked done of xs ys worked = all_from (λ (y : KeysView × T). IsSome y.0.mail) ys (λ k y at. some_taken of y.0.mail (left_of (λ (i : ℕ) (x z : KeysView × T). HasDone done of x.0 x.1 z.0 z.1) xs ys k y worked at).2.all)
+  pub ways_worked : (done : T → DeskView → T → DeskView → Type 0) (xs ys : List (KeysView × T)) → Beside (λ i (x y : KeysView × T). HasDone done x.0 x.1 y.0 y.1) xs ys → All (λ (x : KeysView × T). IsByMail x.0.transport) xs → All (λ (y : KeysView × T). IsByMail y.0.transport) ys
+  ways_worked done xs ys worked by = all_from (λ (y : KeysView × T). IsByMail y.0.transport) ys (λ k y at.
+      let x = left_of (λ (i : ℕ) (x z : KeysView × T). HasDone done x.0 x.1 z.0 z.1) xs ys k y worked at in
+      way_of x.0.0.transport y.0.transport (all_at (λ (z : KeysView × T). IsByMail z.0.transport) xs k x.0 by x.1) x.2.all)
 
-  pub mails_of : (ys : List (KeysView × T)) → All (λ (y : KeysView × T). IsSome y.0.mail) ys → (mails : List ByMail) × (map (λ (m : ByMail). Some m) mails ≡ map (λ (y : KeysView × T). y.0.mail) ys)
+  pub mails_of : (ys : List (KeysView × T)) → All (λ (y : KeysView × T). IsByMail y.0.transport) ys → (mails : List ByMail) × (map (λ (m : ByMail). Mail m) mails ≡ map (λ (y : KeysView × T). y.0.transport) ys)
   mails_of [] all = ([], refl)
   mails_of (y ∷ ys) all =
-      let m = way_of y.0.mail (All-head (λ (z : KeysView × T). IsSome z.0.mail) y ys all) in
-      let rest = mails_of ys (All-tail (λ (z : KeysView × T). IsSome z.0.mail) y ys all) in
-      (m.0 ∷ rest.0, λ j. m.1 j ∷ rest.1 j)
+      let m = All-head (λ (z : KeysView × T). IsByMail z.0.transport) y ys all in
+      let rest = mails_of ys (All-tail (λ (z : KeysView × T). IsByMail z.0.transport) y ys all) in
+      (m.0 ∷ rest.0, λ j. sym m.1 j ∷ rest.1 j)

@@ -1,9 +1,8 @@
 -- What posts leave, and inboxes that are settled.
-use Rattle.std.specs.Prelude.{◌≡◌, ℕ, List, slice_get}
-use Rattle.std.specs.declared.option.Option.TheVariants.{Some}
+use Rattle.std.specs.Prelude.{◌≡◌, ℕ}
 use Rattle.inboxes.specs.Sides.{took, items_from}
 use Rattle.desk_keys.specs.declared.mail.ByMail.{ByMail}
-use Rattle.node_serving.specs.Workers.{AnswerPutter}
+use Rattle.node_workers.specs.Workers.{AnswerPutter}
 
 -- the putter goes to the inbox out of which the client took
 abbrev pub IsOfMail : ℕ → ByMail → AnswerPutter → Type 0
@@ -12,7 +11,3 @@ IsOfMail i m answer_putter = answer_putter.inbox ≡ m.answers.inbox
 -- what was taken of the putter is what was put into it
 abbrev pub HasAllOf : ℕ → ByMail → AnswerPutter → Type 0
 HasAllOf i m answer_putter = items_from answer_putter.number (took m.answers) ≡ answer_putter.put
-
--- each way by mail is that of its seat
-abbrev pub AreSeated : List ByMail → Type 0
-AreSeated mails = (i : ℕ) (m : ByMail) → slice_get mails i ≡ Some m → m.seat ≡ i

@@ -3,3 +3,4 @@ pub mod Posts
 pub mod Opened
 pub mod Closed
 pub mod Ended
+pub mod Workers

@@ -8,13 +8,15 @@ use Rattle.event_clock.specs.Passes.{ClockId}
 use Rattle.locked_nodes.specs.Cells.{CellView, rechartered}
 use Rattle.locked_nodes.specs.declared.slot.Slot.{Slot}
 use Rattle.locked_nodes.specs.Slots.{slot_of, slots_of}
-use Rattle.node_serving.specs.declared.asked.Asked.{Asked}
-use Rattle.node_serving.specs.declared.asked.NodePlace.{NodePlace}
-use Rattle.node_serving.specs.declared.answered.Answered.{Answered}
-use Rattle.node_serving.specs.declared.answered.ClientPlace.{ClientPlace}
+use Rattle.desk_keys.specs.declared.asked.Asked.{Asked}
+use Rattle.desk_keys.specs.declared.asked.NodePlace.{NodePlace}
+use Rattle.desk_keys.specs.declared.answered.Answered.{Answered}
+use Rattle.desk_keys.specs.declared.answered.ClientPlace.{ClientPlace}
 use Rattle.desk_keys.specs.declared.mail.ByMail.{ByMail}
+use Rattle.desk_keys.specs.declared.floor.Cells.TheVariants.{Threads}
+use Rattle.desk_keys.specs.declared.transport.Transport.TheVariants.{Mail}
 use Rattle.desk_keys.specs.Keys.{KeysView, FloorView}
-use Rattle.node_serving.specs.Workers.{AnswerPutter, WorkerView}
+use Rattle.node_workers.specs.Workers.{AnswerPutter, WorkerView}
 use Rattle.phase_threads.specs.Standing.{AreCells, IsDeskAt}
 use Rattle.phase_threads.specs.declared.duty.Seat.{Seat}
 use Rattle.node_workers.specs.declared.crew.Post.{Post}
@@ -25,7 +27,6 @@ use Rattle.node_workers.specs.Posts.{nodes_in, clients_in}
 pub record IsAnswerBox {T : Type 0} (of : ClockId) (senders i : ℕ) (seat : Seat T) (box : Taking Answered ClientPlace) : Type 0 where
   pub ticks : box.inbox.place.clock.value ≡ of
   pub client : box.inbox.place.client ≡ seat.desk.id
-  pub began : box.inbox.place.began.value ≡ seat.desk
   pub count : box.senders ≡ senders
   pub new : box.heard ≡ []
 
@@ -47,7 +48,7 @@ pub record IsWorkerOf (of : ClockId) (ids : List ℕ) (rows : List (List AnswerP
 -- the keys of a seat's desk and its duty, with the taker and the putters at the seat's place
 pub record IsClientOf {T : Type 0} (boxes : List (Taking Answered ClientPlace)) (putters : List (List (Putting Asked NodePlace))) (i : ℕ) (s : Seat T) (x : KeysView × T) : Type 0 where
   pub mail : ByMail
-  pub keys : x.0 ≡ record { desk = s.desk; chits = []; mail = Some mail; refused = None }
+  pub keys : x.0 ≡ record { began = s.desk; desk = s.desk; transport = Mail mail; refused = None }
   pub duty : x.1 ≡ s.duty
   pub seat : mail.seat ≡ i
   pub asks : slice_get putters i ≡ Some mail.asks.items
@@ -63,7 +64,7 @@ pub record Opened {T : Type 0} (config : Numbers) (of : ClockId) (cells : List C
   pub nodes : Beside (IsWorkerOf of (ids_of seats) rows) cells workers
   pub asks : AreSpread (length (ids_of seats)) (map (λ w. w.asks) workers) hands
   pub seated : Beside (IsClientOf boxes hands) seats clients
-  pub is : floor ≡ record { clock = of; slots = slots_of cells; vaults = []; answers = boxes }
+  pub is : floor ≡ record { clock = of; slots = slots_of cells; cells = Threads }
   pub are : AreCells config of cells
   pub desks : All (λ s. IsDeskAt config of s.desk) seats
 

@@ -1,18 +1,17 @@
 //! Cells and desks, when the threads have ended.
-ghost use Rattle.std.specs.Prelude.{◌≡◌, true, None, Some, All, IsSome, map, IfOk, OnOk};
+ghost use Rattle.std.specs.Prelude.{◌≡◌, None, All, map, IfOk, OnOk};
 ghost use Rattle.crews.specs.Crews.{Beside};
 ghost use Rattle.inboxes.specs.Sides.{IsDone};
-ghost use Rattle.desk_keys.specs.declared.mail.ByMail.{ByMail as MailView};
-ghost use Rattle.desk_keys.specs.Keys.{AgreeByMail};
+ghost use Rattle.desk_keys.specs.Transports.{IsByMail};
+ghost use Rattle.desk_keys.specs.Keys.{Agree};
 ghost use Rattle.node_workers.specs.Posts.{nodes_in, clients_in, seat_of};
-ghost use Rattle.node_workers.specs.Closed.{AreSeated, IsOfMail, HasAllOf};
+ghost use Rattle.node_workers.specs.Closed.{IsOfMail, HasAllOf};
 
 use crate::crew::Post;
-use desk_keys::ByMail;
+use desk_keys::{Answered, ByMail, Transport};
 use inboxes::{Sents, settle};
 use lists::{ItemList, NoMemory};
 use locked_nodes::{CellRefusal, NodeCell};
-use node_serving::Answered;
 use phase_threads::{Duty, Seat, first_refusal};
 use std::alloc::Global;
 
@@ -29,18 +28,19 @@ pub struct Parted<T> {
 
 /// Takes posts apart, in their order.
 pub fn part<T: Duty>(alloc: Global, posts: Vec<Post<T>>) -> Result<Parted<T>, NoMemory>
-    requires { All (λ x. IsSome x.0.mail) (clients_in posts.items) }
+    requires { All (λ x. IsByMail x.0.transport) (clients_in posts.items) }
     ensures cells { IfOk result (λ r. r.cells.items ≡ map (λ w. w.cell) (nodes_in posts.items)) }
     ensures rows { IfOk result (λ r. r.rows.items ≡ map (λ w. w.sents) (nodes_in posts.items)) }
     ensures seats { IfOk result (λ r. r.seats.items ≡ map seat_of (clients_in posts.items)) }
     ensures mails { IfOk result (λ r.
-        map (λ m. Some m) r.mails.items ≡ map (λ x. x.0.mail) (clients_in posts.items)) }
+        map (λ m. Transport.Mail m) r.mails.items
+        ≡ map (λ x. x.0.transport) (clients_in posts.items)) }
     ensures refused { IfOk result (λ r.
         r.refused ≡ None → All (λ x. x.0.refused ≡ None) (clients_in posts.items)) }
     ensures agree { IfOk result (λ r.
         All (λ x.
-        x.0.refused ≡ None → (m : MailView) → x.0.mail ≡ Some m →
-        AgreeByMail x.0.desk m) (clients_in posts.items)) }
+        x.0.refused ≡ None →
+        Agree x.0.began x.0.desk x.0.transport) (clients_in posts.items)) }
 {
     let mut cells = Vec::new(alloc);
     let mut rows = Vec::new(alloc);
@@ -56,9 +56,9 @@ pub fn part<T: Duty>(alloc: Global, posts: Vec<Post<T>>) -> Result<Parted<T>, No
             }
             Post::Client { keys, duty } => {
                 refused = first_refusal(refused, keys.refused());
-                let (desk, mail) = keys.into_mail();
+                let (desk, transport) = keys.into_parts();
                 seats.push(Seat { desk, duty })?;
-                mails.push(mail)?;
+                mails.push(transport.into_mail())?;
             }
         }
     }
@@ -69,18 +69,6 @@ pub fn part<T: Duty>(alloc: Global, posts: Vec<Post<T>>) -> Result<Parted<T>, No
         mails,
         refused,
     })
-}
-
-/// Whether each way by mail is that of its seat.
-pub fn are_seated(mails: &[ByMail]) -> bool
-    ensures { result ≡ true → AreSeated mails.now }
-{
-    for i in 0..mails.len() {
-        if mails[i].seat as usize != i {
-            return false;
-        }
-    }
-    true
 }
 
 /// Settles each client's inbox with what is left of the nodes' putters to it: so what was taken of each node is what the node put.

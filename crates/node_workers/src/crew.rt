@@ -1,8 +1,8 @@
 //! A thread for each desk and each node.
 
+use crate::worker::NodeWorker;
 use crews::{Crew, Gate};
 use desk_keys::{Floor, Keys};
-use node_serving::NodeWorker;
 use phase_threads::Duty;
 use std::sync::Wait;
 
@@ -18,7 +18,7 @@ impl<T: Duty> Crew<Post<T>> for Floor {
 
     ghost can_work = { CanWork T.ready };
 
-    ghost works = { DidWork T.done };
+    ghost works = { λ f. DidWork T.done };
 
     fn work<R: Wait, G: Gate>(&self, rt: &R, gate: &G, post: &mut Post<T>) {
         match post {

@@ -7,6 +7,7 @@ mod crew;
 mod open;
 pub mod phase;
 pub mod run;
+pub mod worker;
 
 pub use phase::run_mail_phase;
 pub use run::run_workers;

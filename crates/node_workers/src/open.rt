@@ -8,12 +8,12 @@ ghost use Rattle.node_workers.specs.Posts.{nodes_in, clients_in};
 ghost use Rattle.node_workers.specs.Opened.{IsAskBox, IsAnswerBox, IsWorkerOf, IsClientOf, ArePosts};
 
 use crate::crew::Post;
-use desk_keys::{ByMail, Floor, Keys};
+use crate::worker::NodeWorker;
+use desk_keys::{Answered, Asked, ByMail, Cells, ClientPlace, Floor, Keys, NodePlace, Transport};
 use event_clock::Clock;
 use inboxes::{Inbox, Putter, Putters, Taker};
 use lists::{ItemList, NoMemory};
 use locked_nodes::{NodeCell, Slot, slots_in};
-use node_serving::{Answered, Asked, ClientPlace, NodePlace, NodeWorker};
 use phase_threads::{Duty, Hands, Seat, deal, empty_hands};
 use std::alloc::Global;
 use std::snapshot::Snapshot;
@@ -40,7 +40,7 @@ pub fn open_posts<R: Wait, T: Duty>(
     let slots = slots_in(alloc, cells.as_slice())?;
     let clients = clients_of(alloc, seats.as_slice())?;
     let (boxes, answer_putters) = open_answers(rt, alloc, &clock, nodes, seats.as_slice())?;
-    let floor = Floor::by_mail(alloc, clock, slots, &boxes);
+    let floor = Floor::new(clock, slots, Cells::Threads);
     let (posts, putters) = open_nodes(rt, alloc, floor.clock(), cells, &clients, answer_putters)?;
     let posts = open_clients(alloc, posts, seats, boxes, putters)?;
     Ok((floor, posts))
@@ -94,7 +94,6 @@ fn open_answer<R: Wait, T: Drop>(
     let place = ClientPlace {
         clock: Snapshot::of(clock),
         client: seat.desk.id(),
-        began: Snapshot::of(&seat.desk),
     };
     Inbox::open::<Answered, R>(rt, alloc, ROOM, nodes, &place)
 }
@@ -185,7 +184,7 @@ fn open_clients<T: Duty>(
             asks: asks.into_vec(),
             answers,
         };
-        let keys = Keys::by_mail(alloc, desk, mail);
+        let keys = Keys::new(desk, Transport::Mail(mail));
         posts.push(Post::Client { keys, duty })?;
         number += 1;
     }

@@ -1,16 +1,17 @@
 //! One phase of a run by mail.
-ghost use Rattle.std.specs.Prelude.{All, IfOk, IsSome};
+ghost use Rattle.std.specs.Prelude.{All, IfOk};
+ghost use Rattle.desk_keys.specs.Transports.{IsByMail};
 ghost use Rattle.phase_threads.specs.Phases.{MayPhase, HasPhased};
 ghost use Rattle.node_workers.specs.Posts.{clients_in, cells_at, seats_at};
 ghost use Rattle.node_workers.specs.Ended.{MayClose, HasClosed};
 
-use crate::close::{Parted, are_seated, part, settle_all};
+use crate::close::{Parted, part, settle_all};
 use crate::crew::Post;
 use crate::open::open_posts;
 use crews::{Gate, Started, each_at_once};
 use event_clock::Clock;
 use lists::NoMemory;
-use locked_nodes::{CellRefusal, NodeCell};
+use locked_nodes::NodeCell;
 use phase_threads::{Duty, Left, Seat, run_phase};
 use std::alloc::Global;
 use std::sync::Wait;
@@ -41,7 +42,7 @@ pub fn run_mail_phase<R: Threads + Wait + Sync, G: Gate + Sync, T: Duty + Send>(
     }
     let (floor, posts) = open_posts(rt, alloc, clock, cells, seats)?;
     let started = each_at_once(rt, alloc, gate, &floor, posts)?;
-    let (clock, _vaults) = floor.into_parts();
+    let (clock, _cells) = floor.into_parts();
     match started {
         Started::Whole(posts) => Ok((clock, close(alloc, posts)?)),
         Started::Nobody(posts) => run_by_locks(rt, alloc, gate, clock, posts),
@@ -56,7 +57,7 @@ fn run_by_locks<R: Threads + Wait + Sync, G: Gate + Sync, T: Duty + Send>(
     clock: Clock,
     posts: Vec<Post<T>>,
 ) -> Result<(Clock, Left<T>), NoMemory>
-    requires ways { All (λ x. IsSome x.0.mail) (clients_in posts.items) }
+    requires ways { All (λ x. IsByMail x.0.transport) (clients_in posts.items) }
     requires may { MayPhase T.ready clock (cells_at posts.items) (seats_at posts.items) }
     ensures { IfOk result (λ r.
         HasPhased T.done clock (cells_at posts.items) (seats_at posts.items) r.0 r.1) }
@@ -77,14 +78,6 @@ fn close<T: Duty>(alloc: Global, posts: Vec<Post<T>>) -> Result<Left<T>, NoMemor
         mut mails,
         refused,
     } = part(alloc, posts)?;
-    if !are_seated(mails.as_slice()) {
-        // Keys stay those of their seat, which no clause of a duty says.
-        return Ok(Left {
-            cells,
-            seats,
-            refused: Some(CellRefusal::NoMemory),
-        });
-    }
     settle_all(alloc, &mut mails, rows)?;
     Ok(Left {
         cells,

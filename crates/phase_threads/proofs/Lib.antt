@@ -2,4 +2,4 @@ pub mod lemmas
 mod Dealing
 mod Opening
 mod Closing
-mod Pairing
+mod Receipts

@@ -1,32 +1,30 @@
 -- Vaults, hands and posts before the threads start.
-use Rattle.std.proofs.Common.{◌≡◌, ℕ, suc, ◌<◌, List, [], ◌∷◌, ◌++◌, length, map, Option, Result, Ok, Err, refl, sym, ap, subst, ◌∙◌, arith, inl, inr}
+use Rattle.std.proofs.Common.{◌≡◌, ℕ, ◌<◌, List, [], ◌∷◌, ◌++◌, length, map, Result, Ok, Err, refl, sym, ap, subst, ◌∙◌, arith}
 use Rattle.std.specs.declared.option.Option.TheVariants.{None, Some}
 use Rattle.std.specs.Prelude.{All, IfOk, false, slice_get}
-use Rattle.std.specs.List.{Contains}
+use Rattle.std.specs.Global.{Vec}
 use Rattle.std.proofs.lemmas.List.{map-append, length-map}
 use Rattle.std.proofs.lemmas.Option.{get_or_from_slice_get}
 use Rattle.quorum_rules.specs.Limits.{Numbers}
-use Rattle.inboxes.specs.Sides.{Taking}
-use Rattle.node_serving.specs.declared.answered.Answered.{Answered}
-use Rattle.node_serving.specs.declared.answered.ClientPlace.{ClientPlace}
-use Rattle.desk_keys.specs.declared.mail.ByMail.{ByMail}
 use Rattle.event_clock.specs.Passes.{ClockId}
-use Rattle.receipt_lock.specs.Chits.{Holder as Chit, Deposit, new_chit, AreNew}
-use Rattle.journals.specs.declared.node.NodeEntry.{NodeEntry}
-use Rattle.journals.specs.declared.desk.DeskEntry.{DeskEntry}
-use Rattle.locked_nodes.specs.declared.charter.Charter.{Charter}
+use Rattle.receipt_lock.specs.Chits.{Holder as Chit, Deposit, VaultId, new_chit, AreNew}
 use Rattle.locked_nodes.specs.declared.charter.Item.{Item}
-use Rattle.locked_nodes.specs.declared.charter.Item.TheVariants.{Head, Entry}
+use Rattle.locked_nodes.specs.declared.charter.Item.TheVariants.{Entry}
 use Rattle.locked_nodes.specs.Cells.{CellView, next_charter}
-use Rattle.client_desks.specs.Desks.{DeskView}
 use Rattle.locked_nodes.specs.declared.slot.Slot.{Slot}
 use Rattle.locked_nodes.specs.Slots.{slot_of, slots_of}
-use Rattle.desk_keys.specs.Keys.{KeysView, FloorView, IsHead, IsFloor, IsByChits, Reaches, IsSide, Agree, Fit}
-use Rattle.phase_threads.specs.Standing.{AreCells, IsCellOf, IsDeskAt, HasSideIn, PairsStand}
+use Rattle.desk_keys.specs.declared.floor.Cells.{Cells}
+use Rattle.desk_keys.specs.declared.floor.Cells.TheVariants.{Vaults}
+use Rattle.desk_keys.specs.declared.transport.Transport.{Transport}
+use Rattle.desk_keys.specs.declared.transport.Transport.TheVariants.{Locks, Mail}
+use Rattle.desk_keys.specs.Transports.{Route, route, IsByLocks}
+use Rattle.desk_keys.specs.Transports.Route.{ToVaults, ToInboxes}
+use Rattle.desk_keys.specs.Keys.{KeysView, FloorView, IsHead, IsFloor, Reaches, Fit}
+use Rattle.phase_threads.specs.Standing.{AreCells, IsCellOf, IsDeskAt}
 use Rattle.crews.specs.Crews.{Beside}
 use Rattle.phase_threads.specs.Phased.{IsVaultOf, new_hand}
-use Rattle.crews.proofs.lemmas.Places.{all_from, get_map, map_get, right_of}
-use Rattle.lists.proofs.lemmas.Members.{Contains-none, place_of, all_at, Contains-slice_get}
+use Rattle.crews.proofs.lemmas.Places.{all_from, get_map, map_get}
+use Rattle.lists.proofs.lemmas.Members.{all_at}
 
 -- the chits of a new vault are all alike
 pub all_new : {E : Type 0} {X : Type 0} (result : Result (Deposit X × List (Chit X)) E) (clients : ℕ) → IfOk result (λ r. length r.1 ≡ clients) → IfOk result (λ r. AreNew r.0.id r.1 clients) → IfOk result (λ r. All (λ c. c ≡ new_chit r.0.id) r.1)
@@ -51,39 +49,11 @@ pub hand_vaults : (vaults : List (Deposit Item)) → map (λ (c : Chit Item). c.
 hand_vaults [] = refl
 hand_vaults (v ∷ vaults) = ap (λ l. v.id ∷ l) (hand_vaults vaults)
 
-none_there : {X : Type 0} (i : ℕ) (x : X) → slice_get [] i ≡ Some x → ⊥
-none_there i x at = absurd cc
+pub hand_new : (vaults : List (Deposit Item)) → All (λ (c : Chit Item). c.mine ≡ []) (new_hand vaults)
+hand_new vaults = all_from (λ (c : Chit Item). c.mine ≡ []) (new_hand vaults) (λ k c at. let v = chit_is vaults k c at in ap (λ (x : Chit Item). x.mine) (sym v.2))
 
--- an entry of a cell's journal stands in its list
-in_list : (c : Charter) (journal : List NodeEntry) (n : NodeEntry) → Contains journal n → Contains (Head c ∷ map (λ e. Entry e) journal) (Entry n)
-in_list c journal n has =
-    let place = place_of journal n has in
-    Contains-slice_get (Head c ∷ map (λ e. Entry e) journal) (suc place.0) (Entry n) (get_map (λ (e : NodeEntry). Entry e) journal place.0 n place.1)
-
--- a desk agrees with a hand of chits for the vaults of cells with which it agrees
-module _ (count : ℕ) (cells : List CellView) (vaults : List (Deposit Item)) (opened : Beside (IsVaultOf count) cells vaults) where
-  side_of : (id : ℕ) (e : DeskEntry) → HasSideIn cells id e → IsSide id (new_hand vaults) e
-  side_of id e s =
-      let place = place_of cells s.cell s.there in
-      let v = right_of (IsVaultOf count) cells vaults place.0 s.cell opened place.1 in
-      record {
-        node = place.0;
-        chit = new_chit v.0.id;
-        there = get_map (λ (d : Deposit Item). new_chit d.id) vaults place.0 v.0 v.1;
-        of = s.of;
-        known = inl (subst (λ l. Contains l (Entry s.of)) (sym v.2.begun) (in_list (next_charter s.cell false) s.cell.journal s.of s.stands));
-        number = s.number;
-        agree = s.agree;
-      }
-
-  pub agree_new : (desks : List DeskView) (d : DeskView) → PairsStand cells desks → Contains desks d → Agree d (new_hand vaults)
-  agree_new desks d pairs there = record {
-    left = λ k chit p n c act at has is.
-        let v = chit_is vaults k chit at in
-        absurd (Contains-none {X = ℕ × Item} (p, Entry n) (subst (λ (l : List (ℕ × Item)). Contains l (p, Entry n)) (ap (λ (x : Chit Item). x.mine) (sym v.2)) has));
-    asked = λ e has. elim (pairs.answered d e there has) [ inl own ↦ inl own | inr s ↦ inr (side_of d.id e s) ];
-  }
-
+-- the floor of new vaults
+module _ (count : ℕ) (cells : List CellView) (vaults : Vec (Deposit Item)) (opened : Beside (IsVaultOf count) cells vaults.items) where
   head_of : (config : Numbers) (clock : ClockId) (i : ℕ) (cell : CellView) (v : Deposit Item) → IsCellOf config clock cell → IsVaultOf count i cell v → IsHead config clock (slot_of cell.charter) v.id.begun
   head_of config clock i cell v at is = record {
     charter = next_charter cell false;
@@ -95,7 +65,7 @@ module _ (count : ℕ) (cells : List CellView) (vaults : List (Deposit Item)) (o
   }
 
   abbrev pub floor_at : ClockId → FloorView
-  floor_at clock = record { clock = clock; slots = slots_of cells; vaults = vaults; answers = [] }
+  floor_at clock = record { clock = clock; slots = slots_of cells; cells = Vaults vaults }
 
   pub floor_of : (config : Numbers) (clock : ClockId) → AreCells config clock cells → IsFloor config (floor_at clock)
   floor_of config clock are = record {
@@ -110,21 +80,29 @@ module _ (count : ℕ) (cells : List CellView) (vaults : List (Deposit Item)) (o
   }
 
   -- new keys fit
-  pub new_fit : (config : Numbers) (clock : ClockId) (keys : KeysView) → AreCells config clock cells → IsDeskAt config clock keys.desk → keys.chits ≡ new_hand vaults → keys.mail ≡ None → Fit keys (floor_at clock)
-  new_fit config clock keys are desk hand none = record {
+  pub new_fit : (config : Numbers) (clock : ClockId) (keys : KeysView) (chits : Vec (Chit Item)) → AreCells config clock cells → IsDeskAt config clock keys.desk → keys.transport ≡ Locks chits → chits.items ≡ new_hand vaults.items → Fit keys (floor_at clock)
+  new_fit config clock keys chits are desk is hand = record {
     floor = subst (λ c. IsFloor c (floor_at clock)) (sym desk.cluster) (floor_of config clock are);
     ticks = desk.ticks;
-    own = subst (λ (m : Option ByMail). Reaches keys.desk.id keys.chits m (floor_at clock)) (sym none) (record {
+    own = subst (λ (t : Transport). Reaches keys.desk.id (route t) (floor_at clock)) (sym is) (record {
       count = length-map cells (λ (c : CellView). slot_of c.charter) ∙ opened.count;
-      own = ap (map (λ (c : Chit Item). c.vault)) hand ∙ hand_vaults vaults;
-      none = refl;
+      own = ap (map (λ (c : Chit Item). c.vault)) hand ∙ hand_vaults vaults.items;
     });
   }
 
--- keys that fit a floor with no takers have chits
-pub chits_fit : (keys : KeysView) (floor : FloorView) → floor.answers ≡ [] → Fit keys floor → (keys.mail ≡ None) × IsByChits keys.chits floor
-chits_fit keys floor none fit = at keys.mail fit.own
-  where
-    at : (mail : Option ByMail) → Reaches keys.desk.id keys.chits mail floor → (mail ≡ None) × IsByChits keys.chits floor
-    at None own = (refl, own)
-    at (Some m) own = absurd (none_there m.seat own.first (ap (λ (l : List (Taking Answered ClientPlace)). slice_get l m.seat) (sym none) ∙ own.there))
+-- the vaults to which a route goes
+vaults_to : Route → List (VaultId Item)
+vaults_to (ToVaults l) = l
+vaults_to (ToInboxes b) = []
+
+pub same_vaults : (l m : List (VaultId Item)) → ToVaults l ≡ ToVaults m → l ≡ m
+unfolding vaults_to
+same_vaults l m is = ap vaults_to is
+
+-- a transport whose route goes to vaults has chits
+pub by_locks : (t : Transport) (l : List (VaultId Item)) → route t ≡ ToVaults l → IsByLocks t
+by_locks (Locks chits) l is = (chits, refl)
+by_locks (Mail m) l is = absurd cc
+
+pub same_vec : (cells : Cells) (a b : Vec (Deposit Item)) → cells ≡ Vaults a → cells ≡ Vaults b → a ≡ b
+same_vec cells a b one other = let e : Vaults a ≡ Vaults b = sym one ∙ other in cc

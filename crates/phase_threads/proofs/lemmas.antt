@@ -6,3 +6,4 @@ pub mod Cells
 pub mod Sharded
 pub mod Working
 pub mod Ending
+pub mod Pairing

@@ -1,5 +1,6 @@
 pub mod Hands
 pub mod Phased
+pub mod Told
 pub mod Phases
 pub mod Standing
 pub mod Ended

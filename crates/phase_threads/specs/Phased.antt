@@ -5,6 +5,8 @@ use Rattle.crews.specs.Crews.{Beside}
 use Rattle.receipt_lock.specs.Chits.{Holder as Chit, Deposit, new_chit}
 use Rattle.receipt_lock.specs.Receipts.{IsSettled, EachHasOneReceipt, EachReceiptStands}
 use Rattle.locked_nodes.specs.declared.charter.Item.{Item}
+use Rattle.std.specs.Global.{Vec}
+use Rattle.desk_keys.specs.declared.transport.Transport.TheVariants.{Locks}
 use Rattle.phase_threads.specs.declared.duty.Seat.{Seat}
 use Rattle.phase_threads.specs.declared.crew.Post.{Post}
 use Rattle.locked_nodes.specs.Cells.{CellView, items, rechartered}
@@ -21,7 +23,9 @@ new_hand vaults = map (λ v. new_chit v.id) vaults
 
 -- the post of a seat, with this hand
 pub record IsPostOf {T : Type 0} (hand : List (Chit Item)) (i : ℕ) (seat : Seat T) (post : Post T) : Type 0 where
-  pub keys : post.keys ≡ record { desk = seat.desk; chits = hand; mail = None; refused = None }
+  pub chits : Vec (Chit Item)
+  pub list : chits.items ≡ hand
+  pub keys : post.keys ≡ record { began = seat.desk; desk = seat.desk; transport = Locks chits; refused = None }
   pub duty : post.duty ≡ seat.duty
 
 -- what a post leaves: the desk with its duty, and the chits, the last one first
@@ -29,8 +33,10 @@ pub record IsSeatOf {T : Type 0} (i : ℕ) (post : Post T) (seat : Seat T) : Typ
   pub desk : seat.desk ≡ post.keys.desk
   pub duty : seat.duty ≡ post.duty
 
-abbrev pub IsHandOf : {T : Type 0} → ℕ → Post T → List (Chit Item) → Type 0
-IsHandOf i post hand = hand ≡ reverse post.keys.chits
+pub record IsHandOf {T : Type 0} (i : ℕ) (post : Post T) (hand : List (Chit Item)) : Type 0 where
+  pub chits : Vec (Chit Item)
+  pub is : post.keys.transport ≡ Locks chits
+  pub list : hand ≡ reverse chits.items
 
 -- from each list the last chit was taken
 pub record AreTaken (old new : List (List (Chit Item))) (taken : List (Chit Item)) : Type 0 where

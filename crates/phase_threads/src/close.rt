@@ -1,5 +1,6 @@
 //! Desks without their chits, and cells out of their vaults, when the threads have ended.
 ghost use Rattle.std.specs.Prelude.{◌≡◌, ◌<◌, length, map, reverse, All, None, IfOk};
+ghost use Rattle.desk_keys.specs.Transports.{IsByLocks, AtRest};
 ghost use Rattle.desk_keys.specs.Keys.{Agree};
 ghost use Rattle.crews.specs.Crews.{Beside};
 ghost use Rattle.phase_threads.specs.Phased.{IsSeatOf, IsHandOf, AreTaken, IsClosed};
@@ -23,15 +24,17 @@ pub struct Parted<T> {
 
 /// Takes posts apart, in their order.
 pub fn part<T: Duty>(alloc: Global, posts: Vec<Post<T>>) -> Result<Parted<T>, NoMemory>
-    requires chits { All (λ p. p.keys.mail ≡ None) posts.items }
+    requires locks { All (λ p. IsByLocks p.keys.transport) posts.items }
     ensures seats { IfOk result (λ r. Beside IsSeatOf posts.items r.seats.items) }
     ensures hands { IfOk result (λ r. Beside IsHandOf posts.items r.hands.items) }
     ensures refused { IfOk result (λ r.
         r.refused ≡ None → All (λ p. p.keys.refused ≡ None) posts.items) }
     ensures rest { IfOk result (λ r.
-        All (λ p. All (λ c. c.holds ≡ None) p.keys.chits) posts.items) }
+        All (λ p. AtRest p.keys.transport) posts.items) }
     ensures agree { IfOk result (λ r.
-        All (λ p. p.keys.refused ≡ None → Agree p.keys.desk p.keys.chits) posts.items) }
+        All (λ p.
+        p.keys.refused ≡ None →
+        Agree p.keys.began p.keys.desk p.keys.transport) posts.items) }
 {
     let mut seats = Vec::new(alloc);
     let mut hands = Vec::new(alloc);
@@ -39,7 +42,8 @@ pub fn part<T: Duty>(alloc: Global, posts: Vec<Post<T>>) -> Result<Parted<T>, No
     for post in posts {
         let Post { keys, duty } = post;
         refused = first_refusal(refused, keys.refused());
-        let (desk, mut chits) = keys.into_parts();
+        let (desk, transport) = keys.into_parts();
+        let mut chits = transport.into_chits();
         chits.reverse();
         hands.push(ItemList::from_vec(chits))?;
         seats.push(Seat { desk, duty })?;

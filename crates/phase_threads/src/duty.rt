@@ -1,7 +1,7 @@
 //! What threads do in a phase.
 ghost use Rattle.std.specs.Prelude.{◌≡◌, None, List};
 ghost use Rattle.locked_nodes.specs.declared.slot.Slot.{Slot};
-ghost use Rattle.desk_keys.specs.Keys.{Fit};
+ghost use Rattle.desk_keys.specs.Keys.{Fit, fixed};
 ghost use Rattle.client_desks.specs.Desks.{DeskView};
 ghost use Rattle.client_desks.specs.Later.{IsLater};
 
@@ -22,12 +22,12 @@ pub trait Duty: Drop {
     /// What holds of both before and both after it, if no refusal came.
     ghost done: { Self → DeskView → Self → DeskView → Type 0 };
 
-    /// Does it. A refusal is left in the keys.
+    /// Does it. A refusal is left in the keys, whose route stays.
     fn work<R: Wait, G: Gate>(&mut self, rt: &R, gate: &G, floor: &Floor, keys: &mut Keys)
         requires fit { Fit keys.old floor.now }
         requires sound { keys.old.refused ≡ None }
         requires ready { ready self.old floor.now.slots keys.old.desk }
-        ensures fit { Fit keys.new floor.now }
+        ensures stays { fixed keys.new ≡ fixed keys.old }
         ensures later { IsLater keys.old.desk keys.new.desk }
         ensures done { keys.new.refused ≡ None →
             done self.old keys.old.desk self.new keys.new.desk };

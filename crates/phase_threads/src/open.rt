@@ -1,15 +1,14 @@
 //! Cells in vaults, and desks with their chits, before the threads start.
-ghost use Rattle.std.specs.Prelude.{◌≡◌, ◌≤◌, List, length, All, None, IfOk};
+ghost use Rattle.std.specs.Prelude.{◌≡◌, ◌≤◌, [], List, length, All, None, IfOk};
 ghost use Rattle.receipt_lock.specs.Chits.{Holder as ChitOf, new_chit};
 ghost use Rattle.locked_nodes.specs.declared.charter.Item.{Item};
-ghost use Rattle.desk_keys.specs.Keys.{Agree};
 ghost use Rattle.crews.specs.Crews.{Beside};
 ghost use Rattle.phase_threads.specs.Phased.{IsVaultOf, IsPostOf, new_hand};
 
 use crate::crew::Post;
 use crate::duty::{Duty, Seat};
 use crate::hands::{Hands, deal, empty_hands};
-use desk_keys::Keys;
+use desk_keys::{Keys, Transport};
 use lists::NoMemory;
 use locked_nodes::NodeCell;
 use receipt_lock::{Chit, Chits, Vault};
@@ -59,7 +58,7 @@ pub fn open_posts<T: Duty>(
 ) -> Result<Vec<Post<T>>, NoMemory>
     requires enough { length hands.items ≡ length seats.items }
     requires rest { All (λ h. All (λ c. c.holds ≡ None) h) hands.items }
-    requires agree { All (λ s. All (λ h. Agree s.desk h) hands.items) seats.items }
+    requires new { All (λ h. All (λ c. c.mine ≡ []) h) hands.items }
     ensures { IfOk result (λ posts.
         (hand : List (ChitOf Item)) → All (λ h. h ≡ hand) hands.items →
         Beside (IsPostOf hand) seats.items posts.items) }
@@ -70,7 +69,7 @@ pub fn open_posts<T: Duty>(
             unreachable!()
         };
         let Seat { desk, duty } = seat;
-        let keys = Keys::new(desk, hand.into_vec());
+        let keys = Keys::new(desk, Transport::Locks(hand.into_vec()));
         posts.push(Post { keys, duty })?;
     }
     Ok(posts)

@@ -7,7 +7,7 @@ use crate::crew::work_all;
 use crate::duty::{Duty, Seat};
 use crate::open::{open_posts, open_row};
 use crews::Gate;
-use desk_keys::Floor;
+use desk_keys::{Cells, Floor};
 use event_clock::Clock;
 use lists::NoMemory;
 use locked_nodes::{CellRefusal, NodeCell, slots_in};
@@ -44,9 +44,10 @@ pub fn run_phase<R: Threads + Wait + Sync, G: Gate + Sync, T: Duty + Send>(
     let slots = slots_in(alloc, cells.as_slice())?;
     let (vaults, hands) = open_row(alloc, cells, count)?;
     let posts = open_posts(alloc, hands, seats)?;
-    let floor = Floor::new(clock, slots, vaults);
+    let floor = Floor::new(clock, slots, Cells::Vaults(vaults));
     let posts = work_all(rt, gate, &floor, posts);
-    let (clock, vaults) = floor.into_parts();
+    let (clock, cells) = floor.into_parts();
+    let vaults = cells.into_vaults();
     let Parted {
         seats,
         hands,

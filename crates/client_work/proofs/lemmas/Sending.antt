@@ -14,7 +14,7 @@ use Rattle.client_work.specs.contracts.reads.GivenRead as given
 use Rattle.client_work.specs.contracts.worker.ClientWorker as worker
 use Rattle.client_work.specs.contracts.liar.Liar as liar
 use Rattle.client_work.specs.contracts.work.Work as work
-use Rattle.node_serving.proofs.lemmas.Sending.{lease_sync, lease_send, message_send}
+use Rattle.desk_keys.proofs.lemmas.Sending.{lease_sync, lease_send, message_send}
 
 ruleset all = (lease_send, lease_sync, sendable, std.crosses, maps.crosses, over.crosses)
 

@@ -25,9 +25,11 @@ use Rattle.locked_nodes.specs.contracts.state.State as state
 use Rattle.locked_nodes.specs.contracts.cell.NodeCell as cell
 use Rattle.client_desks.specs.contracts.desk.Desk as desk
 use Rattle.inboxes.proofs.lemmas.CrossesThreads.{taker_send, putter_send}
-use Rattle.node_serving.proofs.lemmas.Sending.{all, pass_send, bytes_send, sum_send, version_send, message_send, asked_send, answered_send}
+use Rattle.desk_keys.proofs.lemmas.Sending.{all, pass_send, bytes_send, sum_send, version_send, message_send, asked_send, answered_send}
 use Rattle.desk_keys.specs.contracts.mail.ByMail as mail
+use Rattle.desk_keys.specs.contracts.transport.Transport as transport
 use Rattle.desk_keys.specs.contracts.keys.Keys as keys
+use Rattle.desk_keys.specs.contracts.keys.Keys.TheInside as keys_inside
 use Rattle.desk_keys.specs.contracts.floor.Floor as floor
 use Rattle.desk_keys.specs.contracts.floor.Floor.TheInside as inside
 use Rattle.phase_threads.specs.contracts.crew.Post as post
@@ -109,8 +111,21 @@ desk_send = search (all, client_send, desk_entry_send, record_send, pass_send) d
 pub mail_send : IsSend mail.the_row
 mail_send = search (all, asked_send, answered_send, putter_send, taker_send) depth 40
 
+mail_field : IsSend mail.the_field.row
+mail_field = search (all, asked_send, answered_send, putter_send, taker_send) depth 40
+
+-- variant by variant: the whole is too large for one search
+transport_field : IsSend transport.the_field.row
+transport_field = enum_send (variants_of transport.the_type) ((search (all, cell_send) depth 40, tt), ((mail_field, tt), tt))
+
+-- and field by field
+keys_inside_send : IsSend (row_of keys_inside.the_type)
+keys_inside_send =
+    recorded_send _ _ _ (keys_inside.the_type.to_one)
+    (struct_send (shape_of keys_inside.the_type) (search (all, desk_send) depth 40, (search (all, desk_send) depth 40, (transport_field, (search all depth 40, tt)))))
+
 pub keys_send : IsSend keys.the_row
-keys_send = search (all, cell_send, desk_send, mail_send) depth 40
+keys_send = search (sendable, keys_inside_send) depth 20
 
 pub post_send : (T : RattleType) → IsSend T → IsSend (post.the_row T)
 post_send T s = search (all, keys_send) depth 40
@@ -121,7 +136,7 @@ vault_sync T E g s = search all depth 60 fits 50000
 inside_sync : IsSync (row_of inside.the_type)
 inside_sync =
     recorded_sync _ _ _ (inside.the_type.to_one)
-    (struct_sync (shape_of inside.the_type) (search (sendable, std.crosses) depth 20, (search (sendable, std.crosses, vault_sync, cell_send) depth 20, (search (sendable, std.crosses) depth 20, (search (sendable, clock_sync) depth 20, tt)))))
+    (struct_sync (shape_of inside.the_type) (search (sendable, std.crosses) depth 20, (search (sendable, std.crosses, vault_sync, cell_send) depth 30, (search (sendable, clock_sync) depth 20, tt))))
 
 pub floor_sync : IsSync floor.the_row
 floor_sync = search (sendable, inside_sync) depth 20

@@ -7,6 +7,7 @@ returns-then-is_err-clause-later g c = c.desks_go_on.ensures.on c.args.keys.now.
 
 pub loop-place-preserved : goal.loop-place-preserved
 loop-place-preserved g c = record {
+  stays = c.deliver.ensures.stays ∙ c.loop-place.invariant.stays;
   fit = c.deliver.ensures.fit;
   sound = search rules;
   later = c.desks_go_on.ensures.on c.args.keys.now.desk c.loop-place.keys.desk c.deliver.new.self.desk c.loop-place.invariant.later c.deliver.ensures.later;

@@ -1,9 +1,10 @@
 use Rattle.std.proofs.Common.{◌≡◌, List, map, All}
-use Rattle.std.specs.declared.option.Option.TheVariants.{None, Some}
+use Rattle.std.specs.declared.option.Option.TheVariants.{None}
 use Rattle.std.specs.Vec.Iter.{into_iter_items, into_iter_len}
 use Rattle.crews.proofs.lemmas.Places.{Walked}
 use Rattle.desk_keys.specs.declared.mail.ByMail.{ByMail}
-use Rattle.desk_keys.specs.Keys.{AgreeByMail}
+use Rattle.desk_keys.specs.declared.transport.Transport.TheVariants.{Mail}
+use Rattle.desk_keys.specs.Keys.{Agree}
 use Rattle.node_workers.specs.declared.crew.Post.{Post}
 use Rattle.node_workers.specs.Posts.{nodes_in, clients_in, seat_of}
 use Rattle.node_workers.proofs.close.part.Given as goal
@@ -15,6 +16,6 @@ invariant-loop-post g l =
     × (l.cells.items ≡ map (λ w. w.cell) (nodes_in done))
     × (l.rows.items ≡ map (λ w. w.sents) (nodes_in done))
     × (l.seats.items ≡ map seat_of (clients_in done))
-    × (map (λ (m : ByMail). Some m) l.mails.items ≡ map (λ x. x.0.mail) (clients_in done))
+    × (map (λ (m : ByMail). Mail m) l.mails.items ≡ map (λ x. x.0.transport) (clients_in done))
     × (l.refused ≡ None → All (λ x. x.0.refused ≡ None) (clients_in done))
-    × All (λ x. x.0.refused ≡ None → (m : ByMail) → x.0.mail ≡ Some m → AgreeByMail x.0.desk m) (clients_in done)
+    × All (λ x. x.0.refused ≡ None → Agree x.0.began x.0.desk x.0.transport) (clients_in done)

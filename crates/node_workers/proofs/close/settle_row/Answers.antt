@@ -4,7 +4,7 @@ use Rattle.std.specs.declared.option.Option.TheVariants.{Some}
 use Rattle.std.specs.Prelude.{slice_get}
 use Rattle.std.proofs.lemmas.Option.{slice_get_read}
 use Rattle.inboxes.specs.Sides.{took, items_from}
-use Rattle.node_serving.specs.Workers.{AnswerPutter}
+use Rattle.node_workers.specs.Workers.{AnswerPutter}
 use Rattle.node_workers.specs.Closed.{HasAllOf}
 use Rattle.node_workers.proofs.Settling.{answers_same, next_within, settled_more}
 use Rattle.node_workers.proofs.close.settle_row.Goals as goal

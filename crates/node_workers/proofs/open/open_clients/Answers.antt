@@ -26,8 +26,8 @@ loop-seat-init g c =
       all_left c.args.putters.items c.reverse-2.new.self.items c.reverse-2.ensures.items,
     )
 
-pub by_mail-keys-requires-clause-new : goal.by_mail-keys-requires-clause-new
-by_mail-keys-requires-clause-new g c =
+pub new-keys-requires-clause-new : goal.new-keys-requires-clause-new
+new-keys-requires-clause-new g c =
     let inv = c.loop-seat.invariant in
     let seat = c.in-Some.seat in
     let answers = c.in-Some-pop.answers in
@@ -35,16 +35,6 @@ by_mail-keys-requires-clause-new g c =
     let at = here_of c.args.seats.items inv.0 rest seat (length inv.0) (inv.1.0 ∙ ap (λ l. inv.0 ++ l) c.in-Some.ensures.steps.0) refl in
     let next = next_left c.args.boxes c.loop-seat.takers.items c.pop.new.self.items answers (length inv.0) inv.6 c.in-Some-pop.ensures.items in
     ap (λ h. took_in h) (c.requires.boxes.2.each (length inv.0) seat answers at next.1).new
-
-pub by_mail-keys-requires-clause-began : goal.by_mail-keys-requires-clause-began
-by_mail-keys-requires-clause-began g c =
-    let inv = c.loop-seat.invariant in
-    let seat = c.in-Some.seat in
-    let answers = c.in-Some-pop.answers in
-    let rest = into_iter_items c.next.new.self in
-    let at = here_of c.args.seats.items inv.0 rest seat (length inv.0) (inv.1.0 ∙ ap (λ l. inv.0 ++ l) c.in-Some.ensures.steps.0) refl in
-    let next = next_left c.args.boxes c.loop-seat.takers.items c.pop.new.self.items answers (length inv.0) inv.6 c.in-Some-pop.ensures.items in
-    sym (ap (λ (d : DeskView). d.entries) (c.requires.boxes.2.each (length inv.0) seat answers at next.1).began)
 
 pub loop-seat-preserved : goal.loop-seat-preserved
 loop-seat-preserved g c =
@@ -58,7 +48,7 @@ loop-seat-preserved g c =
     let asks = c.in-Some-pop-2.asks in
     let rest = into_iter_items c.next.new.self in
     let was = c.loop-seat.posts.items in
-    let keys = c.by_mail-keys.result in
+    let keys = c.new-keys.result in
     let pushed = c.in_ok-push.ensures.items in
     let clients : clients_in c.push.new.self.items ≡ clients_in was ++ (keys, seat.duty) ∷ [] = ap (λ l. clients_in l) pushed ∙ client_clients was (Client keys seat.duty) keys seat.duty refl in
     let nodes : nodes_in c.push.new.self.items ≡ nodes_in was = ap (λ l. nodes_in l) pushed ∙ client_nodes was (Client keys seat.duty) keys seat.duty refl in
@@ -68,7 +58,7 @@ loop-seat-preserved g c =
     let mail : ByMail = record { seat = c.loop-seat.number; asks = c.into_vec.result; answers = answers } in
     let is : IsClientOf boxes hands (length (clients_in was)) seat (keys, seat.duty) = record {
       mail = mail;
-      keys = c.by_mail-keys.ensures;
+      keys = c.new-keys.ensures;
       duty = refl;
       seat = inv.5 ∙ sym inv.3;
       asks = ap (slice_get hands) inv.3 ∙ hand.1 ∙ ap (λ l. Some l) (sym c.into_vec.ensures);

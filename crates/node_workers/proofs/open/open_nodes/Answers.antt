@@ -5,7 +5,7 @@ use Rattle.std.specs.Prelude.{slice_get}
 use Rattle.std.specs.Vec.Iter.{into_iter_items, into_iter_len}
 use Rattle.std.proofs.lemmas.List.{map-append}
 use Rattle.crews.proofs.lemmas.Places.{walk_on, walk_end}
-use Rattle.node_serving.specs.Workers.{WorkerView}
+use Rattle.node_workers.specs.Workers.{WorkerView}
 use Rattle.node_workers.specs.declared.crew.Post.TheVariants.{Node}
 use Rattle.node_workers.specs.Hands.{AreSpread}
 use Rattle.node_workers.specs.Posts.{nodes_in, clients_in}

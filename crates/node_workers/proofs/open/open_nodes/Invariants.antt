@@ -2,7 +2,7 @@ use Rattle.std.proofs.Common.{◌≡◌, List, [], length, map}
 use Rattle.std.specs.Vec.Iter.{into_iter_items, into_iter_len}
 use Rattle.crews.proofs.lemmas.Places.{Walked}
 use Rattle.locked_nodes.specs.Cells.{CellView}
-use Rattle.node_serving.specs.Workers.{WorkerView}
+use Rattle.node_workers.specs.Workers.{WorkerView}
 use Rattle.node_workers.specs.Hands.{AreSpread}
 use Rattle.node_workers.specs.Posts.{nodes_in, clients_in}
 use Rattle.node_workers.specs.Opened.{IsWorkerOf}

@@ -15,10 +15,10 @@ returns g c =
     let seats = c.args.seats.items in
     let boxes = c.in_ok-boxes.boxes in
     let rows = c.in_ok-boxes.answer_putters.items in
-    let floor = c.by_mail-floor.result in
+    let floor = c.new-floor.result in
     let all : length rows ≡ length cells = search rules in
     let ids : c.in_ok-clients.clients ≡ ids_of seats = c.in_ok-clients.ensures ∙ ap (λ (l : List (Seat g.row.T.Denot)). ids_of l) c.as_slice-2.ensures.value in
-    let made : floor ≡ mail_floor of boxes (slots_of cells) = c.by_mail-floor.ensures ∙ ap (mail_floor of boxes) (c.in_ok-slots.ensures ∙ ap (λ (l : List CellView). slots_of l) c.as_slice.ensures.value) in
+    let made : floor ≡ mail_floor of (slots_of cells) = c.new-floor.ensures ∙ ap (mail_floor of) (c.in_ok-slots.ensures ∙ ap (λ (l : List CellView). slots_of l) c.as_slice.ensures.value) in
     let ticks = c.clock.ensures ∙ ap (λ (f : FloorView). f.clock) made in
     record {
       config = c.requires.cluster.0;

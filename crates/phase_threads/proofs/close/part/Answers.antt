@@ -3,6 +3,7 @@ use Rattle.std.proofs.Common.{◌≡◌, ◌++◌, ◌∷◌, [], length, revers
 use Rattle.std.specs.declared.option.Option.TheVariants.{None}
 use Rattle.std.specs.Vec.Iter.{into_iter_items, into_iter_len}
 use Rattle.std.proofs.lemmas.List.Elements.{All-nil, All-push}
+use Rattle.desk_keys.specs.Transports.{IsByLocks, AtRest}
 use Rattle.desk_keys.specs.Keys.{Agree}
 use Rattle.phase_threads.specs.declared.duty.Seat.{Seat}
 use Rattle.phase_threads.specs.declared.crew.Post.{Post}
@@ -20,18 +21,19 @@ loop-post-init g c =
       subst (Beside IsSeatOf []) (sym c.new-seats.ensures.items) (none_beside IsSeatOf),
       subst (Beside IsHandOf []) (sym c.new-hands.ensures.items) (none_beside IsHandOf),
       (λ none. All-nil (λ (p : Post g.row.T.Denot). p.keys.refused ≡ None)),
-      All-nil (λ (p : Post g.row.T.Denot). All (λ x. x.holds ≡ None) p.keys.chits),
-      All-nil (λ (p : Post g.row.T.Denot). p.keys.refused ≡ None → Agree p.keys.desk p.keys.chits),
+      All-nil (λ (p : Post g.row.T.Denot). AtRest p.keys.transport),
+      All-nil (λ (p : Post g.row.T.Denot). p.keys.refused ≡ None → Agree p.keys.began p.keys.desk p.keys.transport),
     )
 
-pub into_parts-desk-requires : goal.into_parts-desk-requires
-into_parts-desk-requires g c =
+pub into_chits-chits-requires : goal.into_chits-chits-requires
+into_chits-chits-requires g c =
     let inv = c.loop-post.invariant in
     let steps = c.in-Some.ensures.steps in
     let post = c.in-Some.post in
     let rest = into_iter_items c.next.new.self in
     let list : c.args.posts.items ≡ inv.0 ++ post ∷ rest = inv.1.0 ∙ ap (λ l. inv.0 ++ l) steps.0 in
-    record { chits = all_at (λ (p : Post g.row.T.Denot). p.keys.mail ≡ None) (inv.0 ++ post ∷ rest) (length inv.0) post (subst (All (λ (p : Post g.row.T.Denot). p.keys.mail ≡ None)) list c.requires.chits) (slice_get-seam inv.0 post rest) }
+    subst IsByLocks (sym c.into_parts-desk.ensures.transport)
+    (all_at (λ (p : Post g.row.T.Denot). IsByLocks p.keys.transport) (inv.0 ++ post ∷ rest) (length inv.0) post (subst (All (λ (p : Post g.row.T.Denot). IsByLocks p.keys.transport)) list c.requires.locks) (slice_get-seam inv.0 post rest))
 
 pub loop-post-preserved : goal.loop-post-preserved
 loop-post-preserved g c =
@@ -42,14 +44,14 @@ loop-post-preserved g c =
     let seat : Seat g.row.T.Denot = record { desk = parts.result.0; duty = post.duty } in
     let hand = c.from_vec.result in
     let is : IsSeatOf (length inv.0) post seat = record { desk = parts.ensures.desk; duty = refl } in
-    let given : IsHandOf (length inv.0) post hand = c.from_vec.ensures ∙ c.reverse.ensures.items ∙ ap reverse parts.ensures.chits in (
+    let given : IsHandOf (length inv.0) post hand = record { chits = c.into_chits-chits.result; is = sym parts.ensures.transport ∙ c.into_chits-chits.ensures; list = c.from_vec.ensures ∙ c.reverse.ensures.items } in (
       inv.0 ++ post ∷ [],
       walk_on c.args.posts.items inv.0 (into_iter_items c.loop-post.post-iterator) (into_iter_items c.next.new.self) post (into_iter_len c.loop-post.post-iterator) (into_iter_len c.next.new.self) inv.1 steps.0 steps.1,
       subst (Beside IsSeatOf (inv.0 ++ post ∷ [])) (sym c.in_ok-push-2.ensures.items) (push_beside IsSeatOf inv.0 c.loop-post.seats.items post seat inv.2 is),
       subst (Beside IsHandOf (inv.0 ++ post ∷ [])) (sym c.in_ok-push.ensures.items) (push_beside IsHandOf inv.0 c.loop-post.hands.items post hand inv.3 given),
       (λ none. let both = c.first_refusal-refused.ensures.none.0 none in All-push (λ (p : Post g.row.T.Denot). p.keys.refused ≡ None) inv.0 post (inv.4 both.0) (sym c.refused.ensures ∙ both.1)),
-      All-push (λ (p : Post g.row.T.Denot). All (λ x. x.holds ≡ None) p.keys.chits) inv.0 post inv.5 parts.ensures.rest,
-      All-push (λ (p : Post g.row.T.Denot). p.keys.refused ≡ None → Agree p.keys.desk p.keys.chits) inv.0 post inv.6 parts.ensures.agree,
+      All-push (λ (p : Post g.row.T.Denot). AtRest p.keys.transport) inv.0 post inv.5 parts.ensures.rest,
+      All-push (λ (p : Post g.row.T.Denot). p.keys.refused ≡ None → Agree p.keys.began p.keys.desk p.keys.transport) inv.0 post inv.6 parts.ensures.agree,
     )
 
 pub returns-clause-seats : goal.returns-clause-seats
@@ -74,10 +76,10 @@ pub returns-clause-rest : goal.returns-clause-rest
 returns-clause-rest g c =
     let inv = c.loop-post.invariant in
     let all = walk_end c.args.posts.items inv.0 (into_iter_items c.loop-post.post-iterator) (into_iter_len c.loop-post.post-iterator) inv.1 c.in-None.ensures.steps.0 in
-    subst (All (λ (p : Post g.row.T.Denot). All (λ x. x.holds ≡ None) p.keys.chits)) (sym all) inv.5
+    subst (All (λ (p : Post g.row.T.Denot). AtRest p.keys.transport)) (sym all) inv.5
 
 pub returns-clause-agree : goal.returns-clause-agree
 returns-clause-agree g c =
     let inv = c.loop-post.invariant in
     let all = walk_end c.args.posts.items inv.0 (into_iter_items c.loop-post.post-iterator) (into_iter_len c.loop-post.post-iterator) inv.1 c.in-None.ensures.steps.0 in
-    subst (All (λ (p : Post g.row.T.Denot). p.keys.refused ≡ None → Agree p.keys.desk p.keys.chits)) (sym all) inv.6
+    subst (All (λ (p : Post g.row.T.Denot). p.keys.refused ≡ None → Agree p.keys.began p.keys.desk p.keys.transport)) (sym all) inv.6

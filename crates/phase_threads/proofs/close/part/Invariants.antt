@@ -1,6 +1,7 @@
 use Rattle.std.proofs.Common.{◌≡◌, List, All}
 use Rattle.std.specs.declared.option.Option.TheVariants.{None}
 use Rattle.std.specs.Vec.Iter.{into_iter_items, into_iter_len}
+use Rattle.desk_keys.specs.Transports.{AtRest}
 use Rattle.desk_keys.specs.Keys.{Agree}
 use Rattle.phase_threads.specs.declared.crew.Post.{Post}
 use Rattle.crews.specs.Crews.{Beside}
@@ -15,5 +16,5 @@ invariant-loop-post g l =
     × Beside IsSeatOf done l.seats.items
     × Beside IsHandOf done l.hands.items
     × (l.refused ≡ None → All (λ p. p.keys.refused ≡ None) done)
-    × All (λ p. All (λ c. c.holds ≡ None) p.keys.chits) done
-    × All (λ p. p.keys.refused ≡ None → Agree p.keys.desk p.keys.chits) done
+    × All (λ p. AtRest p.keys.transport) done
+    × All (λ p. p.keys.refused ≡ None → Agree p.keys.began p.keys.desk p.keys.transport) done

@@ -2,11 +2,11 @@
 use denote.Param.Send.{sendable}
 use Rattle.std.proofs.Common.{◌≡◌, ℕ, length, sym, subst, ◌∙◌, All}
 use Rattle.std.specs.declared.option.Option.TheVariants.{None}
-use Rattle.client_desks.specs.Later.{IsLater}
 use Rattle.desk_keys.specs.Keys.{Fit}
 use Rattle.phase_threads.specs.declared.crew.Post.{Post}
+use Rattle.phase_threads.specs.Told.{GoesOn}
 use Rattle.crews.specs.Crews.{Beside}
-use Rattle.crews.proofs.lemmas.Places.{written_back, made_beside, all_right}
+use Rattle.crews.proofs.lemmas.Places.{written_back, made_beside}
 use Rattle.phase_threads.proofs.lemmas.Sending.{post_send, floor_sync}
 use Rattle.phase_threads.proofs.crew.work_all.Goals as goal
 
@@ -22,24 +22,14 @@ each-requires-clause-can g c κs within =
     let floor = c.args.floor.now in
     subst (All (λ (p : Post g.row.T.Denot). Fit p.keys floor × (p.keys.refused ≡ None) × g.T.Duty.ready p.duty floor.slots p.keys.desk)) (sym value) (λ k d lt. (c.requires.fit k d lt, c.requires.sound k d lt, c.requires.ready k d lt))
 
-pub returns-clause-fit : goal.returns-clause-fit
-returns-clause-fit g c =
-    let new = c.each.new.posts in
-    let old = c.args.posts.items in
-    let floor = c.args.floor.now in
-    let len : length new ≡ c.args.posts.len = c.each.ensures.count ∙ c.as_mut_slice.ensures.len in
-    let P : Post g.row.T.Denot → Type 0 = λ p. Fit p.keys floor in
-    let beside = made_beside (λ (i : ℕ) (p q : Post g.row.T.Denot). P q) (λ (p q : Post g.row.T.Denot). P q) c.as_mut_slice.result.now new c.each.ensures.count (λ i d lt. (c.each.ensures.done i d lt).0) (λ i x y r. r) in
-    subst (All P) (sym (written_back c.args.posts.len new old len)) (all_right P c.as_mut_slice.result.now new beside)
-
-pub returns-clause-later : goal.returns-clause-later
-returns-clause-later g c =
+pub returns-clause-goes : goal.returns-clause-goes
+returns-clause-goes g c =
     let new = c.each.new.posts in
     let old = c.args.posts.items in
     let value = c.as_mut_slice.ensures.value in
     let len : length new ≡ c.args.posts.len = c.each.ensures.count ∙ c.as_mut_slice.ensures.len in
-    let R : ℕ → Post g.row.T.Denot → Post g.row.T.Denot → Type 0 = λ i p q. IsLater p.keys.desk q.keys.desk in
-    let beside = made_beside R (R 0) c.as_mut_slice.result.now new c.each.ensures.count (λ i d lt. (c.each.ensures.done i d lt).1) (λ i x y r. r) in
+    let R : ℕ → Post g.row.T.Denot → Post g.row.T.Denot → Type 0 = λ i p q. GoesOn p.keys q.keys in
+    let beside = made_beside R (R 0) c.as_mut_slice.result.now new c.each.ensures.count (λ i d lt. (c.each.ensures.done i d lt).0) (λ i x y r. r) in
     subst (Beside R old) (sym (written_back c.args.posts.len new old len)) (subst (λ l. Beside R l new) value beside)
 
 pub returns-clause-done : goal.returns-clause-done
@@ -49,5 +39,5 @@ returns-clause-done g c =
     let value = c.as_mut_slice.ensures.value in
     let len : length new ≡ c.args.posts.len = c.each.ensures.count ∙ c.as_mut_slice.ensures.len in
     let R : ℕ → Post g.row.T.Denot → Post g.row.T.Denot → Type 0 = λ i p q. q.keys.refused ≡ None → g.T.Duty.done p.duty p.keys.desk q.duty q.keys.desk in
-    let beside = made_beside R (R 0) c.as_mut_slice.result.now new c.each.ensures.count (λ i d lt. (c.each.ensures.done i d lt).2) (λ i x y r. r) in
+    let beside = made_beside R (R 0) c.as_mut_slice.result.now new c.each.ensures.count (λ i d lt. (c.each.ensures.done i d lt).1) (λ i x y r. r) in
     subst (Beside R old) (sym (written_back c.args.posts.len new old len)) (subst (λ l. Beside R l new) value beside)

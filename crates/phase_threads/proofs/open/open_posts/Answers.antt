@@ -1,17 +1,15 @@
-use Rattle.std.proofs.Common.{◌≡◌, ◌++◌, ◌∷◌, [], Some, List, length, sym, ap, subst, ◌∙◌, refl, arith, All, length-append, get_or}
+use Rattle.std.proofs.Common.{◌≡◌, ◌++◌, ◌∷◌, [], Some, List, length, sym, ap, subst, ◌∙◌, refl, arith, All, length-append}
 use Rattle.std.specs.declared.option.Option.TheVariants.{None}
 use Rattle.std.specs.Vec.Iter.{into_iter_items, into_iter_len}
 use Rattle.std.proofs.lemmas.List.Elements.{All-pop}
 use Rattle.receipt_lock.specs.Chits.{Holder as Chit}
 use Rattle.locked_nodes.specs.declared.charter.Item.{Item}
-use Rattle.desk_keys.specs.Keys.{Agree}
 use Rattle.phase_threads.specs.declared.duty.Seat.{Seat}
 use Rattle.phase_threads.specs.declared.crew.Post.{Post}
 use Rattle.crews.specs.Crews.{Beside}
 use Rattle.phase_threads.specs.Phased.{IsPostOf}
 use Rattle.crews.proofs.lemmas.Places.{none_beside, push_beside, walk_on, walk_end}
 use Rattle.phase_threads.proofs.open.open_posts.Goals as goal
-use Rattle.lists.proofs.lemmas.Members.{all_at, slice_get-seam}
 
 pub loop-seat-init : goal.loop-seat-init
 loop-seat-init g c =
@@ -22,7 +20,7 @@ loop-seat-init g c =
       (sym gives.0, count ∙ ap length (sym gives.0)),
       c.requires.enough ∙ sym count,
       c.requires.rest,
-      c.requires.agree,
+      c.requires.new,
       (λ hand same. (same, subst (Beside (IsPostOf hand) []) (sym none) (none_beside (IsPostOf hand)))),
     )
 
@@ -41,15 +39,12 @@ new-keys-requires-clause-rest g c =
     subst (All (λ (x : Chit Item). x.holds ≡ None)) (sym c.into_vec.ensures)
     (All-pop (λ (h : List (Chit Item)). All (λ (x : Chit Item). x.holds ≡ None) h) c.loop-seat.hands.items c.pop.new.self.items (Some hand) c.in-Some-pop.ensures.items inv.3).1
 
-pub new-keys-requires-clause-agree : goal.new-keys-requires-clause-agree
-new-keys-requires-clause-agree g c =
+pub new-keys-requires-clause-new : goal.new-keys-requires-clause-new
+new-keys-requires-clause-new g c =
     let inv = c.loop-seat.invariant in
-    let steps = c.in-Some.ensures.steps in
-    let seat = c.in-Some.seat in
     let hand = c.in-Some-pop.hand in
-    let list : c.args.seats.items ≡ inv.0 ++ seat ∷ into_iter_items c.next.new.self = inv.1.0 ∙ ap (λ l. inv.0 ++ l) steps.0 in
-    let at = all_at (λ (s : Seat g.row.T.Denot). All (λ h. Agree s.desk h) c.loop-seat.hands.items) (inv.0 ++ seat ∷ into_iter_items c.next.new.self) (length inv.0) seat (subst (All (λ (s : Seat g.row.T.Denot). All (λ h. Agree s.desk h) c.loop-seat.hands.items)) list inv.4) (slice_get-seam inv.0 seat (into_iter_items c.next.new.self)) in
-    subst (Agree seat.desk) (sym c.into_vec.ensures) (All-pop (λ (h : List (Chit Item)). Agree seat.desk h) c.loop-seat.hands.items c.pop.new.self.items (Some hand) c.in-Some-pop.ensures.items at).1
+    subst (All (λ (x : Chit Item). x.mine ≡ [])) (sym c.into_vec.ensures)
+    (All-pop (λ (h : List (Chit Item)). All (λ (x : Chit Item). x.mine ≡ []) h) c.loop-seat.hands.items c.pop.new.self.items (Some hand) c.in-Some-pop.ensures.items inv.4).1
 
 pub loop-seat-preserved : goal.loop-seat-preserved
 loop-seat-preserved g c =
@@ -66,12 +61,12 @@ loop-seat-preserved g c =
       walk_on c.args.seats.items inv.0 (into_iter_items c.loop-seat.seat-iterator) (into_iter_items c.next.new.self) seat (into_iter_len c.loop-seat.seat-iterator) (into_iter_len c.next.new.self) inv.1 steps.0 steps.1,
       omega (arith, few, inv.2, steps.1, length-append now (hand ∷ [])),
       (All-pop (λ (h : List (Chit Item)). All (λ (x : Chit Item). x.holds ≡ None) h) was now (Some hand) popped inv.3).0,
-      (λ k d lt. (All-pop (λ (h : List (Chit Item)). Agree (get_or c.args.seats.items k d).desk h) was now (Some hand) popped (inv.4 k d lt)).0),
+      (All-pop (λ (h : List (Chit Item)). All (λ (x : Chit Item). x.mine ≡ []) h) was now (Some hand) popped inv.4).0,
       (λ all same.
           let before = inv.5 all same in
           let p = All-pop (λ (h : List (Chit Item)). h ≡ all) was now (Some hand) popped before.0 in
           let chits = c.into_vec.ensures ∙ p.1 in
-          let is : IsPostOf all (length inv.0) seat post = record { keys = c.new-keys.ensures ∙ (λ i. record { desk = seat.desk; chits = chits i; mail = None; refused = None }); duty = refl } in
+          let is : IsPostOf all (length inv.0) seat post = record { chits = c.into_vec.result; list = chits; keys = c.new-keys.ensures; duty = refl } in
           (p.0, subst (Beside (IsPostOf all) (inv.0 ++ seat ∷ [])) (sym c.in_ok-push.ensures.items) (push_beside (IsPostOf all) inv.0 c.loop-seat.posts.items seat post before.1 is))),
     )
 

@@ -1,9 +1,8 @@
-use Rattle.std.proofs.Common.{◌≡◌, List, length, All}
+use Rattle.std.proofs.Common.{◌≡◌, List, [], length, All}
 use Rattle.std.specs.declared.option.Option.TheVariants.{None}
 use Rattle.std.specs.Vec.Iter.{into_iter_items, into_iter_len}
 use Rattle.receipt_lock.specs.Chits.{Holder as Chit}
 use Rattle.locked_nodes.specs.declared.charter.Item.{Item}
-use Rattle.desk_keys.specs.Keys.{Agree}
 use Rattle.phase_threads.specs.declared.duty.Seat.{Seat}
 use Rattle.crews.specs.Crews.{Beside}
 use Rattle.phase_threads.specs.Phased.{IsPostOf}
@@ -16,5 +15,5 @@ invariant-loop-seat g l =
     (done : List (Seat g.row.T.Denot)) × Walked l.fn.seats.items done (into_iter_items l.seat-iterator) (into_iter_len l.seat-iterator)
     × (length l.hands.items ≡ into_iter_len l.seat-iterator)
     × All (λ h. All (λ c. c.holds ≡ None) h) l.hands.items
-    × All (λ s. All (λ h. Agree s.desk h) l.hands.items) l.fn.seats.items
+    × All (λ h. All (λ c. c.mine ≡ []) h) l.hands.items
     × ((hand : List (Chit Item)) → All (λ h. h ≡ hand) l.fn.hands.items → All (λ h. h ≡ hand) l.hands.items × Beside (IsPostOf hand) done l.posts.items)

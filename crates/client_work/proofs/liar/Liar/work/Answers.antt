@@ -13,6 +13,7 @@ loop-ask-preserved g c =
     let sent = ok_gives c.send.result (sym c.send.ensures.refused ∙ sound) c.send.ensures.sent in
     let items = c.in-Some.ensures.items in
     record {
+      stays = c.send.ensures.stays ∙ c.loop-ask.invariant.stays;
       fit = c.send.ensures.fit;
       sound = sound;
       later = c.desks_go_on.ensures.on c.args.keys.now.desk c.loop-ask.keys.desk c.send.new.self.desk c.loop-ask.invariant.later c.send.ensures.later;

@@ -1,12 +1,13 @@
 use Rattle.std.proofs.Common.{◌≡◌, [], length}
 use Rattle.std.specs.declared.option.Option.TheVariants.{None}
 use Rattle.client_desks.specs.Later.{IsLater}
-use Rattle.desk_keys.specs.Keys.{Fit}
+use Rattle.desk_keys.specs.Keys.{Fit, fixed}
 use Rattle.client_work.specs.Work.{HasMail}
 use Rattle.client_work.proofs.liar.Liar.work.Given as goal
 
 abbrev pub invariant-loop-ask : goal.invariant-loop-ask
 invariant-loop-ask g l = record {
+  stays : fixed l.keys ≡ fixed l.fn.keys;
   fit : Fit l.keys l.floor;
   sound : l.keys.refused ≡ None;
   later : IsLater l.fn.keys.desk l.keys.desk;

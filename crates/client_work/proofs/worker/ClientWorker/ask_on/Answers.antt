@@ -58,5 +58,5 @@ loop-preserved g c =
       tt,
       tt,
       asking_on c.args.self.now c.loop.self w' c.args.keys.now c.loop.keys c.call.new.self c.args.floor.now c.args.block c.in-Some-next_node.node c.count_ask-way.result a m
-          c.in-Ok.answer c.in_default-answer.is c.in-Ok.ensures.called c.in-Ok.ensures.fit c.in-Ok.ensures.refused (c.desks_go_on.ensures.on c.args.keys.now.desk c.loop.keys.desk c.call.new.self.desk a.later c.in-Ok.ensures.later),
+          c.in-Ok.answer c.in_default-answer.is c.in-Ok.ensures.called c.in-Ok.ensures.stays c.in-Ok.ensures.fit c.in-Ok.ensures.refused (c.desks_go_on.ensures.on c.args.keys.now.desk c.loop.keys.desk c.call.new.self.desk a.later c.in-Ok.ensures.later),
     )

@@ -33,6 +33,7 @@ loop-step-preserved g c =
     let left = c.next.new.self in
     let i = c.loop-step.invariant in
     record {
+      stays = c.do_step.ensures.stays ∙ i.stays;
       fit = c.do_step.ensures.fit;
       sound = sound;
       later = c.desks_go_on.ensures.on c.args.keys.now.desk d c.do_step.new.keys.desk i.later c.do_step.ensures.later;

@@ -10,5 +10,5 @@ invariant_of-self c =
     let was = c.self.inside in
     let done = c.crash-answer in
     let sound : was.refused ≡ None = ap (λ (k : KeysView). k.refused) c.self.view_is ∙ c.requires.sound in
-    let keys : AreKeys was.desk was.chits.items was.mail None = subst (AreKeys was.desk was.chits.items was.mail) sound c.self.invariant in
-    subst (AreKeys done.new.self was.chits.items was.mail) (sym c.refusal_of-self-inside.ensures) (keys_own done.result Crash was.desk done.new.self was.chits.items was.mail keys tt done.ensures.ok)
+    let keys : AreKeys was.began.value was.desk was.transport None = subst (AreKeys was.began.value was.desk was.transport) sound c.self.invariant in
+    subst (AreKeys was.began.value done.new.self was.transport) (sym c.refusal_of-self-inside.ensures) (keys_own done.result Crash was.began.value was.desk done.new.self was.transport keys tt done.ensures.ok)

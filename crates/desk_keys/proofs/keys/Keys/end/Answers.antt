@@ -7,4 +7,4 @@ pub invariant_of-self-else-not-end : goal.invariant_of-self-else-not-end
 invariant_of-self-else-not-end g c =
     let was = c.self.inside in
     let none : c.end.result ≡ true = search rules in
-    keys_ended was.desk was.chits.items was.mail c.in-Some.mail c.end.new.self was.refused c.self.invariant c.in-Some.is c.end.ensures.ended (c.end.ensures.none none)
+    keys_ended was.began.value was.desk was.transport c.in-Mail.mail c.end.new.self was.refused c.self.invariant c.in-Mail.is (c.end.ensures.none none)

@@ -3,8 +3,8 @@ use Rattle.std.proofs.Common.{length, refl, sym, ap, subst, ◌∙◌}
 use Rattle.std.proofs.lemmas.Option.{slice_get_read}
 use Rattle.protocol.specs.Messages.{Message}
 use Rattle.event_clock.specs.Passes.{Sight}
-use Rattle.node_serving.specs.declared.asked.Asked.{Asked}
-use Rattle.node_serving.specs.Mail.{IsAskAt}
+use Rattle.desk_keys.specs.declared.asked.Asked.{Asked}
+use Rattle.desk_keys.specs.Mail.{IsAskAt}
 use Rattle.desk_keys.proofs.lemmas.Mailing.{same_next, same_lasts}
 use Rattle.desk_keys.proofs.mail.ByMail.ask.Goals as goal
 

@@ -1,3 +1,0 @@
--- What proofs of other crates may cite.
-pub mod Answering
-pub mod Sending
