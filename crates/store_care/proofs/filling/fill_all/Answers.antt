@@ -22,14 +22,16 @@ loop-group-preserved g c =
       blocks = inv.blocks;
       most = inv.most;
       ends = inv.ends;
-      calls = (before.0 ++ more.0,
+      calls = (
+        before.0 ++ more.0,
         leads_then D.pending D.seen D.moment D.left_since before.0 more.0 c.args.store.now c.loop-group.store c.fill.new.store before.1 more.1,
         groups_then blocks 0 before.0 more.0 before.2
             (subst (λ (n : ℕ). AreGroups blocks n more.0) (let e : k ≡ 0 + length before.0 = omega (arith, before.3) in e)
             (group_at blocks k c.min-first.result c.min-count.result more.0 first count more.2)),
         omega (arith, length-append before.0 more.0, before.3, more.3.0),
         filling_then E.pending E.seen config c.args.number before.0 more.0 _ c.loop-group.filled c.fill.new.self c.args.node.now c.loop-group.node c.fill.new.node before.4
-            (subst (λ (n : Numbers). AreFilling E.pending E.seen n c.args.number more.0 c.loop-group.filled c.fill.new.self c.loop-group.node c.fill.new.node) inv.config more.3.1));
+            (subst (λ (n : Numbers). AreFilling E.pending E.seen n c.args.number more.0 c.loop-group.filled c.fill.new.self c.loop-group.node c.fill.new.node) inv.config more.3.1),
+      );
     }
 
 pub returns-clause-calls : goal.returns-clause-calls
@@ -37,7 +39,7 @@ returns-clause-calls g c =
     let inv = c.loop-group.invariant in
     let calls = inv.calls in
     let many : length calls.0 ≡ groups_of c.args.store.now.config.blocks =
-        omega (arith, calls.3, c.loop-group-test.false, c.loop-group.auto.group-end, inv.ends, ap groups_of inv.blocks) in
+    omega (arith, calls.3, c.loop-group-test.false, c.loop-group.auto.group-end, inv.ends, ap groups_of inv.blocks) in
     (calls.0, calls.1, calls.2, (many, calls.4))
 
 pub returns-in_err-fill-clause-calls : goal.returns-in_err-fill-clause-calls
@@ -49,10 +51,11 @@ returns-in_err-fill-clause-calls g c =
     let blocks = c.args.store.now.config.blocks in
     let k = c.loop-group.group in
     let first : c.min-first.result ≡ first_of blocks k = c.min-first.ensures ∙ ap (λ (b : ℕ). first_of b k) inv.blocks in
-    let count : c.min-count.result ≡ count_of blocks k = c.min-count.ensures ∙ ap (λ (f : ℕ). min 64 (c.blocks-blocks.result - f)) c.min-first.ensures ∙ ap (λ (b : ℕ). count_of b k) inv.blocks in
-    (before.0 ++ more.0,
+    let count : c.min-count.result ≡ count_of blocks k = c.min-count.ensures ∙ ap (λ (f : ℕ). min 64 (c.blocks-blocks.result - f)) c.min-first.ensures ∙ ap (λ (b : ℕ). count_of b k) inv.blocks in (
+      before.0 ++ more.0,
       leads_then D.pending D.seen D.moment D.left_since before.0 more.0 c.args.store.now c.loop-group.store c.fill.new.store before.1 more.1,
       groups_then blocks 0 before.0 more.0 before.2
           (subst (λ (n : ℕ). AreGroups blocks n more.0) (let e : k ≡ 0 + length before.0 = omega (arith, before.3) in e)
           (group_at blocks k c.min-first.result c.min-count.result more.0 first count more.2)),
-      if_err _ c.from_residual.result c.from_residual.ensures.0)
+      if_err _ c.from_residual.result c.from_residual.ensures.0,
+    )
