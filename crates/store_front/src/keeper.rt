@@ -21,6 +21,7 @@ pub trait Keeper<D: Disk> {
 }
 
 /// Leaves a store as it is.
+#[derive(Drop)]
 pub struct Idle;
 
 impl<D: Disk> Keeper<D> for Idle {
