@@ -1,15 +1,18 @@
 -- Calls of a session in the life of its store.
-use Rattle.std.proofs.Common.{ℕ, List, [], ◌∷◌, ◌++◌, Option}
+use Rattle.std.proofs.Common.{ℕ, subst, List, [], ◌∷◌, ◌++◌, Option}
 use Rattle.std.specs.List.{AllByRecursion}
 use Rattle.stamp_order.specs.declared.Stamp.{Stamp}
 use Rattle.quorum_rules.specs.Limits.{Numbers}
+use Rattle.disk_model.specs.Crash.{Pending}
+use Rattle.store_device.specs.Stores.{SeenStore}
 use Rattle.store_device.specs.Lives.{prunable_after, turn_on}
-use Rattle.store_device.specs.Calls.{Deed, Call, MayDo, MayDoAll, turn_by}
+use Rattle.store_device.specs.Calls.{Deed, Call, Leads, MayDo, MayDoAll, turn_by}
 use Rattle.store_device.specs.Calls.Deed.{Performs}
 use Rattle.store_front.specs.Asking.{IsPerformed}
-use Rattle.store_front.specs.Rounds.{Exchange, IsExchange}
-use Rattle.store_front.specs.Sessions.{calls_in}
-use Rattle.store_front.proofs.Asking.{Performed, all_then, heard_only}
+use Rattle.store_front.specs.Rounds.{Exchange, IsExchange, calls_of}
+use Rattle.store_front.specs.Keeping.{LeavesAlone}
+use Rattle.store_front.specs.Sessions.{calls_in, RoundsLead}
+use Rattle.store_front.proofs.Asking.{Performed, all_then, heard_only, leads_then}
 
 may_do : (last : ℕ → Option Stamp) (deed : Deed) → IsPerformed deed → MayDo last deed
 may_do last (Performs ops told) h = tt
@@ -27,3 +30,12 @@ module _ {D : Type 0} where
       all_then Performed (e.reads ++ e.writes) (calls_in rounds)
       (all_then Performed e.reads e.writes (heard_only e.reads h.0.reads.heard) (heard_only e.writes h.0.writes.heard))
       (all_performed c rounds h.1)
+
+  -- rounds between which the store is left alone lead where their calls lead
+  pub rounds_calls : (pending : D → Pending) (seen : D → List ℕ) (moment : D → ℕ) (left_since : D → ℕ → List ℕ → Type 0) (rounds : List (Exchange D)) (old new : SeenStore D)
+      → RoundsLead pending seen moment left_since LeavesAlone old rounds new → Leads pending seen moment left_since old (calls_in rounds) new
+  rounds_calls pending seen moment left_since [] old new h = h
+  rounds_calls pending seen moment left_since (round ∷ rounds) old new h =
+      leads_then pending seen moment left_since (calls_of round) (calls_in rounds) old h.1 new
+      (subst (λ s. Leads pending seen moment left_since s (calls_of round) h.1) h.2 h.3)
+      (rounds_calls pending seen moment left_since rounds h.1 new h.4)

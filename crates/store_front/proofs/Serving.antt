@@ -19,8 +19,7 @@ use Rattle.store_device.specs.Calls.{Leads}
 use Rattle.store_front.specs.Rounds.{BeginsWithRequest, Exchange, IsExchange, IsBegun, calls_of, reads_for, writes_for}
 use Rattle.store_front.specs.Values.{given_by}
 use Rattle.store_front.specs.Replies.{text_of, IsDone, IsCutOff, ServesRound}
-use Rattle.store_front.specs.Sessions.{told_place, requests_in, calls_in, replies_in, HasRequest, HasReadOn, EndsWait, IsEnd, IsSession}
-use Rattle.store_front.proofs.Asking.{leads_then}
+use Rattle.store_front.specs.Sessions.{told_place, requests_in, replies_in, RoundsLead, HasRequest, HasReadOn, EndsWait, IsEnd, IsSession}
 
 -- ---- what the sink took
 pub adds_none : (a : Option (List ℕ)) → Adds a a []
@@ -53,9 +52,6 @@ module _ {D : Type 0} where
   requests_more rounds round =
       ap concat (flat_map-append (λ (e : Exchange D). e.requests) rounds (round ∷ []) ∙ ap (λ z. requests_in rounds ++ z) (append-nil round.requests))
       ∙ concat-append (requests_in rounds) round.requests
-
-  calls_more : (rounds : List (Exchange D)) (round : Exchange D) → calls_in (rounds ++ round ∷ []) ≡ calls_in rounds ++ calls_of round
-  calls_more rounds round = flat_map-append calls_of rounds (round ∷ []) ∙ ap (λ z. calls_in rounds ++ z) (append-nil (calls_of round))
 
   replies_more : (c : Numbers) (rounds : List (Exchange D)) (round : Exchange D) → replies_in c (rounds ++ round ∷ []) ≡ replies_in c rounds ++ text_of c round
   replies_more c rounds round = flat_map-append (text_of c) rounds (round ∷ []) ∙ ap (λ z. replies_in c rounds ++ z) (append-nil (text_of c round))
@@ -115,275 +111,299 @@ module _ {D : Type 0} (pending : D → Pending) (seen : D → List ℕ) (moment 
     pub no_sink : result ≡ Err WriteFault → (round : Exchange D) (len : ℕ) → IsDone pending seen moment left_since c input len old new round → TakesPrefix taken taken_after (text_of c round) → Serves
     no_sink is round len done prefix = rw is (round, len, done, prefix)
 
-  -- what a session has come to after rounds
-  pub record HasServed (old now : SeenStore D) (count place : ℕ) (input : List ℕ) (left left_now taken taken_now : Option (List ℕ)) : Type 0 where
-    pub rounds : List (Exchange D)
-    pub done : AllByRecursion (IsExchange c) rounds
-    pub some : AllByRecursion HasRequest rounds
-    pub gave : Consumes left left_now (concat (requests_in rounds) ++ input)
-    pub count_is : count ≡ length rounds
-    pub place_is : place ≡ told_place (length (concat (requests_in rounds)))
-    pub calls : Leads pending seen moment left_since old (calls_in rounds) now
-    pub said : Adds taken taken_now (words ++ replies_in c rounds)
+  -- ---- a session with a keeper
+  module _ (keeps : SeenStore D → SeenStore D → Type 0) where
+    -- and one round more
+    rounds_then : (rounds : List (Exchange D)) (old now : SeenStore D) → RoundsLead pending seen moment left_since keeps old rounds now
+        → (round : Exchange D) (kept new : SeenStore D) → keeps now kept → Leads pending seen moment left_since kept (calls_of round) new
+        → RoundsLead pending seen moment left_since keeps old (rounds ++ round ∷ []) new
+    rounds_then [] old now is round kept new work calls = (kept, new, subst (λ s. keeps s kept) is work, calls, refl)
+    rounds_then (first ∷ rounds) old now h round kept new work calls =
+        (h.0, h.1, h.2, h.3, rounds_then rounds h.1 now h.4 round kept new work calls)
 
-  pub greeted : (store : SeenStore D) (left taken taken_now : Option (List ℕ)) → Adds taken taken_now words → HasServed store store 0 0 [] left left taken taken_now
-  greeted store left taken taken_now adds = record {
-    rounds = [];
-    done = tt;
-    some = tt;
-    gave = Consumes-none left;
-    count_is = refl;
-    place_is = refl;
-    calls = refl;
-    said = subst (Adds taken taken_now) (sym (append-nil words)) adds;
-  }
+    -- what a session has come to after rounds
+    pub record HasServed (old now : SeenStore D) (count place : ℕ) (input : List ℕ) (left left_now taken taken_now : Option (List ℕ)) : Type 0 where
+      pub rounds : List (Exchange D)
+      pub done : AllByRecursion (IsExchange c) rounds
+      pub some : AllByRecursion HasRequest rounds
+      pub gave : Consumes left left_now (concat (requests_in rounds) ++ input)
+      pub count_is : count ≡ length rounds
+      pub place_is : place ≡ told_place (length (concat (requests_in rounds)))
+      pub calls : RoundsLead pending seen moment left_since keeps old rounds now
+      pub said : Adds taken taken_now (words ++ replies_in c rounds)
 
-  module _ (old now : SeenStore D) (count place : ℕ) (input : List ℕ) (left left_now taken taken_now : Option (List ℕ))
-      (h : HasServed old now count place input left left_now taken taken_now) where
-    abbrev bytes : List ℕ
-    bytes = concat (requests_in h.rounds)
-
-    gave_on : (new : List ℕ) (left_after : Option (List ℕ)) (read : HasReadOn input new left_now left_after) → Consumes left left_after (bytes ++ new)
-    gave_on new left_after read =
-        subst (Consumes left left_after) (append_assoc bytes input read.bytes ∙ ap (λ z. bytes ++ z) (sym read.behind))
-        (Consumes-then left left_now left_after (bytes ++ input) read.bytes h.gave read.gave)
-
-    -- bytes were read
-    pub reads_on : (new : List ℕ) (left_after : Option (List ℕ)) → HasReadOn input new left_now left_after → HasServed old now count place new left left_after taken taken_now
-    reads_on new left_after read = record {
-      rounds = h.rounds;
-      done = h.done;
-      some = h.some;
-      gave = gave_on new left_after read;
-      count_is = h.count_is;
-      place_is = h.place_is;
-      calls = h.calls;
-      said = h.said;
+    pub greeted : (store : SeenStore D) (left taken taken_now : Option (List ℕ)) → Adds taken taken_now words → HasServed store store 0 0 [] left left taken taken_now
+    greeted store left taken taken_now adds = record {
+      rounds = [];
+      done = tt;
+      some = tt;
+      gave = Consumes-none left;
+      count_is = refl;
+      place_is = refl;
+      calls = refl;
+      said = subst (Adds taken taken_now) (sym (append-nil words)) adds;
     }
 
-    -- a round was done
-    module _ (there : BeginsWithRequest input) (new : SeenStore D) (len : ℕ) (round : Exchange D) (done : IsDone pending seen moment left_since c input len now new round) where
-      abbrev more : List (Exchange D)
-      more = h.rounds ++ round ∷ []
+    module _ (old now : SeenStore D) (count place : ℕ) (input : List ℕ) (left left_now taken taken_now : Option (List ℕ))
+        (h : HasServed old now count place input left left_now taken taken_now) where
+      abbrev bytes : List ℕ
+      bytes = concat (requests_in h.rounds)
 
-      done_gave : Consumes left left_now (concat (requests_in more) ++ drop len input)
-      done_gave =
-          let parts : input ≡ concat round.requests ++ drop len input = sym (take-append-drop len input) ∙ ap (λ z. z ++ drop len input) done.front in
-          subst (Consumes left left_now)
-          (ap (λ z. bytes ++ z) parts ∙ sym (append_assoc bytes (concat round.requests) (drop len input)) ∙ ap (λ z. z ++ drop len input) (sym (requests_more h.rounds round)))
-          h.gave
+      gave_on : (new : List ℕ) (left_after : Option (List ℕ)) (read : HasReadOn input new left_now left_after) → Consumes left left_after (bytes ++ new)
+      gave_on new left_after read =
+          subst (Consumes left left_after) (append_assoc bytes input read.bytes ∙ ap (λ z. bytes ++ z) (sym read.behind))
+          (Consumes-then left left_now left_after (bytes ++ input) read.bytes h.gave read.gave)
 
-      done_calls : Leads pending seen moment left_since old (calls_in more) new
-      done_calls =
-          subst (λ z. Leads pending seen moment left_since old z new) (sym (calls_more h.rounds round))
-          (leads_then pending seen moment left_since (calls_in h.rounds) (calls_of round) old now new h.calls done.calls)
-
-      done_all : AllByRecursion (IsExchange c) more
-      done_all = all_more (IsExchange c) h.rounds round h.done done.is
-
-      some_all : AllByRecursion HasRequest more
-      some_all = all_more HasRequest h.rounds round h.some (done.some there)
-
-      text_more : (words ++ replies_in c h.rounds) ++ text_of c round ≡ words ++ replies_in c more
-      text_more = append_assoc words (replies_in c h.rounds) (text_of c round) ∙ ap (λ z. words ++ z) (sym (replies_more c h.rounds round))
-
-      pub serves_on : (taken_after : Option (List ℕ)) → Adds taken_now taken_after (text_of c round)
-          → HasServed old new (count + 1) (told_place (place + len)) (drop len input) left left_now taken taken_after
-      serves_on taken_after adds =
-          let long : length (concat round.requests) ≡ len = sym (ap length done.front) ∙ length-take-le len input done.fits in
-          record {
-            rounds = more;
-            done = done_all;
-            some = some_all;
-            gave = done_gave;
-            count_is = omega (arith, h.count_is, length-append h.rounds (round ∷ []));
-            place_is = ap (λ p. told_place (p + len)) h.place_is ∙ place_on (length bytes) len
-                ∙ ap (λ n. told_place (length bytes + n)) (sym long) ∙ ap told_place (sym (length-append bytes (concat round.requests)) ∙ ap length (sym (requests_more h.rounds round)));
-            calls = done_calls;
-            said = subst (Adds taken taken_after) text_more (adds_then taken taken_now taken_after (words ++ replies_in c h.rounds) (text_of c round) h.said adds);
-          }
-
-      -- the sink failed in the midst of its replies
-      pub write_failed : (taken_after : Option (List ℕ)) → TakesPrefix taken_now taken_after (text_of c round)
-          → IsSession pending seen moment left_since c old new (Err WriteFault) left left_now taken taken_after
-      write_failed taken_after prefix = record {
-        rounds = more;
-        done = done_all;
-        some = some_all;
-        rest = drop len input;
-        gave = done_gave;
-        ended = tt;
-        store = new;
-        calls = done_calls;
-        left_store = refl;
-        said = subst (TakesPrefix taken taken_after) text_more (adds_prefix taken taken_now taken_after (words ++ replies_in c h.rounds) (text_of c round) h.said prefix);
+      -- bytes were read
+      pub reads_on : (new : List ℕ) (left_after : Option (List ℕ)) → HasReadOn input new left_now left_after → HasServed old now count place new left left_after taken taken_now
+      reads_on new left_after read = record {
+        rounds = h.rounds;
+        done = h.done;
+        some = h.some;
+        gave = gave_on new left_after read;
+        count_is = h.count_is;
+        place_is = h.place_is;
+        calls = h.calls;
+        said = h.said;
       }
 
-    -- a round ended the session
-    pub ends_round : (there : BeginsWithRequest input) (end : SessionEnd) (new : SeenStore D) (taken_after : Option (List ℕ)) → ServesRound pending seen moment left_since c input now new taken_now taken_after (Err end)
-        → IsSession pending seen moment left_since c old new (Err end) left left_now taken taken_after
-    ends_round there WriteFault new taken_after r = write_failed there new r.1 r.0 r.2 taken_after r.3
-    ends_round there NoMemory new taken_after r = record {
-      rounds = h.rounds;
-      done = h.done;
-      some = h.some;
-      rest = input;
-      gave = h.gave;
+      -- a round was done, after the store was looked after
+      module _ (there : BeginsWithRequest input) (kept : SeenStore D) (work : keeps now kept) (new : SeenStore D) (len : ℕ) (round : Exchange D) (done : IsDone pending seen moment left_since c input len kept new round) where
+        abbrev more : List (Exchange D)
+        more = h.rounds ++ round ∷ []
+
+        done_gave : Consumes left left_now (concat (requests_in more) ++ drop len input)
+        done_gave =
+            let parts : input ≡ concat round.requests ++ drop len input = sym (take-append-drop len input) ∙ ap (λ z. z ++ drop len input) done.front in
+            subst (Consumes left left_now)
+            (ap (λ z. bytes ++ z) parts ∙ sym (append_assoc bytes (concat round.requests) (drop len input)) ∙ ap (λ z. z ++ drop len input) (sym (requests_more h.rounds round)))
+            h.gave
+
+        done_calls : RoundsLead pending seen moment left_since keeps old more new
+        done_calls = rounds_then h.rounds old now h.calls round kept new work done.calls
+
+        done_all : AllByRecursion (IsExchange c) more
+        done_all = all_more (IsExchange c) h.rounds round h.done done.is
+
+        some_all : AllByRecursion HasRequest more
+        some_all = all_more HasRequest h.rounds round h.some (done.some there)
+
+        text_more : (words ++ replies_in c h.rounds) ++ text_of c round ≡ words ++ replies_in c more
+        text_more = append_assoc words (replies_in c h.rounds) (text_of c round) ∙ ap (λ z. words ++ z) (sym (replies_more c h.rounds round))
+
+        pub serves_on : (taken_after : Option (List ℕ)) → Adds taken_now taken_after (text_of c round)
+            → HasServed old new (count + 1) (told_place (place + len)) (drop len input) left left_now taken taken_after
+        serves_on taken_after adds =
+            let long : length (concat round.requests) ≡ len = sym (ap length done.front) ∙ length-take-le len input done.fits in
+            record {
+              rounds = more;
+              done = done_all;
+              some = some_all;
+              gave = done_gave;
+              count_is = omega (arith, h.count_is, length-append h.rounds (round ∷ []));
+              place_is = ap (λ p. told_place (p + len)) h.place_is ∙ place_on (length bytes) len
+                  ∙ ap (λ n. told_place (length bytes + n)) (sym long) ∙ ap told_place (sym (length-append bytes (concat round.requests)) ∙ ap length (sym (requests_more h.rounds round)));
+              calls = done_calls;
+              said = subst (Adds taken taken_after) text_more (adds_then taken taken_now taken_after (words ++ replies_in c h.rounds) (text_of c round) h.said adds);
+            }
+
+        -- the sink failed in the midst of its replies
+        pub write_failed : (taken_after : Option (List ℕ)) → TakesPrefix taken_now taken_after (text_of c round)
+            → IsSession pending seen moment left_since keeps c old new (Err WriteFault) left left_now taken taken_after
+        write_failed taken_after prefix = record {
+          rounds = more;
+          done = done_all;
+          some = some_all;
+          rest = drop len input;
+          gave = done_gave;
+          ended = tt;
+          store = new;
+          calls = done_calls;
+          left_store = refl;
+          said = subst (TakesPrefix taken taken_after) text_more (adds_prefix taken taken_now taken_after (words ++ replies_in c h.rounds) (text_of c round) h.said prefix);
+        }
+
+      -- a round ended the session
+      pub ends_round : (there : BeginsWithRequest input) (kept : SeenStore D) (work : keeps now kept) (end : SessionEnd) (new : SeenStore D) (taken_after : Option (List ℕ)) → ServesRound pending seen moment left_since c input kept new taken_now taken_after (Err end)
+          → IsSession pending seen moment left_since keeps c old new (Err end) left left_now taken taken_after
+      ends_round there kept work WriteFault new taken_after r = write_failed there kept work new r.1 r.0 r.2 taken_after r.3
+      ends_round there kept work NoMemory new taken_after r = record {
+        rounds = h.rounds;
+        done = h.done;
+        some = h.some;
+        rest = input;
+        gave = h.gave;
+        ended = tt;
+        store = now;
+        calls = h.calls;
+        left_store = inr (kept, r.0, work, r.1);
+        said = (words ++ replies_in c h.rounds, [], sym (append-nil (words ++ replies_in c h.rounds)), subst (Adds taken taken_after) (append-nil (words ++ replies_in c h.rounds)) (adds_then taken taken_now taken_after (words ++ replies_in c h.rounds) [] h.said r.2));
+      }
+      ends_round there kept work ReadFault new taken_after r = absurd r
+      ends_round there kept work (BadMagic at) new taken_after r = absurd r
+      ends_round there kept work (CutRequest at) new taken_after r = absurd r
+      ends_round there kept work TooManyRequests new taken_after r = absurd r
+
+      -- the session ended with these bytes at hand, but for want of memory
+      abbrev ended_so : Result Unit SessionEnd → List ℕ → Option (List ℕ) → Type 0
+      ended_so result new left_after = IsEnd result (length h.rounds) (length bytes) new left_after
+
+      -- a wait ended the session
+      pub leaves : (kept : SeenStore D) (work : keeps now kept) (new : List ℕ) (left_after : Option (List ℕ)) → EndsWait (Ok false) place input new left_now left_after
+          → IsSession pending seen moment left_since keeps c old kept (Ok tt) left left_after taken taken_now
+      leaves kept work new left_after w = record {
+        rounds = h.rounds;
+        done = h.done;
+        some = h.some;
+        rest = new;
+        gave = gave_on new left_after w.0;
+        ended = w.1;
+        store = now;
+        calls = h.calls;
+        left_store = work;
+        said = h.said;
+      }
+
+      pub ends_wait : (kept : SeenStore D) (work : keeps now kept) (end : SessionEnd) (new : List ℕ) (left_after : Option (List ℕ)) → EndsWait (Err end) place input new left_now left_after
+          → IsSession pending seen moment left_since keeps c old kept (Err end) left left_after taken taken_now
+      ends_wait kept work (BadMagic at) new left_after w = record {
+        rounds = h.rounds;
+        done = h.done;
+        some = h.some;
+        rest = new;
+        gave = gave_on new left_after w.0;
+        ended = (w.1 ∙ h.place_is, w.2, w.3);
+        store = now;
+        calls = h.calls;
+        left_store = work;
+        said = h.said;
+      }
+      ends_wait kept work (CutRequest at) new left_after w = record {
+        rounds = h.rounds;
+        done = h.done;
+        some = h.some;
+        rest = new;
+        gave = gave_on new left_after w.0;
+        ended = (w.1 ∙ h.place_is, w.2, w.3, w.4);
+        store = now;
+        calls = h.calls;
+        left_store = work;
+        said = h.said;
+      }
+      ends_wait kept work ReadFault new left_after w = record {
+        rounds = h.rounds;
+        done = h.done;
+        some = h.some;
+        rest = new;
+        gave = gave_on new left_after w.0;
+        ended = w.1;
+        store = now;
+        calls = h.calls;
+        left_store = work;
+        said = h.said;
+      }
+      ends_wait kept work NoMemory new left_after w = record {
+        rounds = h.rounds;
+        done = h.done;
+        some = h.some;
+        rest = input ++ w.bytes;
+        gave = subst (Consumes left left_after) (append_assoc bytes input w.bytes) (Consumes-then left left_now left_after (bytes ++ input) w.bytes h.gave w.gave);
+        ended = tt;
+        store = now;
+        calls = h.calls;
+        left_store = inr (kept, (none_cut (input ++ w.bytes) kept).0, work, (none_cut (input ++ w.bytes) kept).1);
+        said = (words ++ replies_in c h.rounds, [], sym (append-nil (words ++ replies_in c h.rounds)), h.said);
+      }
+      ends_wait kept work WriteFault new left_after w = absurd w
+      ends_wait kept work TooManyRequests new left_after w = absurd w
+
+      -- memory was wanting for its keeper
+      pub ends_keep : (kept : SeenStore D) (work : keeps now kept)
+          → IsSession pending seen moment left_since keeps c old kept (Err NoMemory) left left_now taken taken_now
+      ends_keep kept work = record {
+        rounds = h.rounds;
+        done = h.done;
+        some = h.some;
+        rest = input;
+        gave = h.gave;
+        ended = tt;
+        store = now;
+        calls = h.calls;
+        left_store = inr (kept, (none_cut input kept).0, work, (none_cut input kept).1);
+        said = (words ++ replies_in c h.rounds, [], sym (append-nil (words ++ replies_in c h.rounds)), h.said);
+      }
+
+      -- no more rounds than these are counted
+      pub many : count ≡ 2 ^ 64 - 1 → IsSession pending seen moment left_since keeps c old now (Err TooManyRequests) left left_now taken taken_now
+      many all = record {
+        rounds = h.rounds;
+        done = h.done;
+        some = h.some;
+        rest = input;
+        gave = h.gave;
+        ended = sym h.count_is ∙ all;
+        store = now;
+        calls = h.calls;
+        left_store = refl;
+        said = h.said;
+      }
+
+    -- ---- a wait, and what came of it
+    module _ (old now : SeenStore D) (count place : ℕ) (input : List ℕ) (left left_now taken taken_now : Option (List ℕ))
+        (h : HasServed old now count place input left left_now taken taken_now) (kept : SeenStore D) (work : keeps now kept)
+        (came : Bool) (read : List ℕ) (left_after : Option (List ℕ)) (waited : EndsWait (Ok came) place input read left_now left_after) where
+      -- the client leaves, or the input has ended
+      pub none_came : came ≡ false → IsSession pending seen moment left_since keeps c old kept (Ok tt) left left_after taken taken_now
+      none_came is = leaves old now count place input left left_now taken taken_now h kept work read left_after (subst (λ b. EndsWait (Ok b) place input read left_now left_after) is waited)
+
+      module _ (is : came ≡ true) (config : Numbers) (same : config ≡ c) (new : SeenStore D) (taken_after : Option (List ℕ)) where
+        it_came : EndsWait (Ok true) place input read left_now left_after
+        it_came = subst (λ b. EndsWait (Ok b) place input read left_now left_after) is waited
+
+        one_came : HasServed old now count place read left left_after taken taken_now
+        one_came = reads_on old now count place input left left_now taken taken_now h read left_after it_came.0
+
+        -- its round was served
+        pub turn : (len : ℕ) → ServesRound pending seen moment left_since config read kept new taken_now taken_after (Ok len)
+            → (input_next : List ℕ) (place_next : ℕ) → input_next ≡ drop len read → place_next ≡ told_place (place + len)
+            → HasServed old new (count + 1) place_next input_next left left_after taken taken_after
+        turn len r input_next place_next rest further =
+            let done = subst (λ (k : Numbers). ServesRound pending seen moment left_since k read kept new taken_now taken_after (Ok len)) same r in
+            let next = serves_on old now count place read left left_after taken taken_now one_came it_came.1 kept work new len done.0 done.1 taken_after done.2 in
+            subst (λ z. HasServed old new (count + 1) place_next z left left_after taken taken_after) (sym rest)
+            (subst (λ n. HasServed old new (count + 1) n (drop len read) left left_after taken taken_after) (sym further) next)
+
+        -- its round ended the session
+        pub cut_short : (end : SessionEnd) → ServesRound pending seen moment left_since config read kept new taken_now taken_after (Err end)
+            → IsSession pending seen moment left_since keeps c old new (Err end) left left_after taken taken_after
+        cut_short end r =
+            ends_round old now count place read left left_after taken taken_now one_came it_came.1 kept work end new taken_after
+            (subst (λ (k : Numbers). ServesRound pending seen moment left_since k read kept new taken_now taken_after (Err end)) same r)
+
+    -- the session ended with its greeting
+    pub not_begun : (end : SessionEnd) (store : SeenStore D) (left taken taken_after : Option (List ℕ)) → (end ≡ WriteFault) ⊎ (end ≡ NoMemory) → TakesPrefix taken taken_after words
+        → IsSession pending seen moment left_since keeps c store store (Err end) left left taken taken_after
+    not_begun end store left taken taken_after (inl is) prefix = rw is (record {
+      rounds = [];
+      done = tt;
+      some = tt;
+      rest = [];
+      gave = Consumes-none left;
       ended = tt;
-      store = now;
-      calls = h.calls;
-      left_store = (r.0, r.1);
-      said = (words ++ replies_in c h.rounds, [], sym (append-nil (words ++ replies_in c h.rounds)), subst (Adds taken taken_after) (append-nil (words ++ replies_in c h.rounds)) (adds_then taken taken_now taken_after (words ++ replies_in c h.rounds) [] h.said r.2));
-    }
-    ends_round there ReadFault new taken_after r = absurd r
-    ends_round there (BadMagic at) new taken_after r = absurd r
-    ends_round there (CutRequest at) new taken_after r = absurd r
-    ends_round there TooManyRequests new taken_after r = absurd r
-
-    -- the session ended with these bytes at hand, but for want of memory
-    abbrev ended_so : Result Unit SessionEnd → List ℕ → Option (List ℕ) → Type 0
-    ended_so result new left_after = IsEnd result (length h.rounds) (length bytes) new left_after
-
-    -- a wait ended the session
-    pub leaves : (new : List ℕ) (left_after : Option (List ℕ)) → EndsWait (Ok false) place input new left_now left_after
-        → IsSession pending seen moment left_since c old now (Ok tt) left left_after taken taken_now
-    leaves new left_after w = record {
-      rounds = h.rounds;
-      done = h.done;
-      some = h.some;
-      rest = new;
-      gave = gave_on new left_after w.0;
-      ended = w.1;
-      store = now;
-      calls = h.calls;
+      store = store;
+      calls = refl;
       left_store = refl;
-      said = h.said;
-    }
-
-    pub ends_wait : (end : SessionEnd) (new : List ℕ) (left_after : Option (List ℕ)) → EndsWait (Err end) place input new left_now left_after
-        → IsSession pending seen moment left_since c old now (Err end) left left_after taken taken_now
-    ends_wait (BadMagic at) new left_after w = record {
-      rounds = h.rounds;
-      done = h.done;
-      some = h.some;
-      rest = new;
-      gave = gave_on new left_after w.0;
-      ended = (w.1 ∙ h.place_is, w.2, w.3);
-      store = now;
-      calls = h.calls;
-      left_store = refl;
-      said = h.said;
-    }
-    ends_wait (CutRequest at) new left_after w = record {
-      rounds = h.rounds;
-      done = h.done;
-      some = h.some;
-      rest = new;
-      gave = gave_on new left_after w.0;
-      ended = (w.1 ∙ h.place_is, w.2, w.3, w.4);
-      store = now;
-      calls = h.calls;
-      left_store = refl;
-      said = h.said;
-    }
-    ends_wait ReadFault new left_after w = record {
-      rounds = h.rounds;
-      done = h.done;
-      some = h.some;
-      rest = new;
-      gave = gave_on new left_after w.0;
-      ended = w.1;
-      store = now;
-      calls = h.calls;
-      left_store = refl;
-      said = h.said;
-    }
-    ends_wait NoMemory new left_after w = record {
-      rounds = h.rounds;
-      done = h.done;
-      some = h.some;
-      rest = input ++ w.bytes;
-      gave = subst (Consumes left left_after) (append_assoc bytes input w.bytes) (Consumes-then left left_now left_after (bytes ++ input) w.bytes h.gave w.gave);
+      said = subst (TakesPrefix taken taken_after) (sym (append-nil words)) prefix;
+    })
+    not_begun end store left taken taken_after (inr is) prefix = rw is (record {
+      rounds = [];
+      done = tt;
+      some = tt;
+      rest = [];
+      gave = Consumes-none left;
       ended = tt;
-      store = now;
-      calls = h.calls;
-      left_store = none_cut (input ++ w.bytes) now;
-      said = (words ++ replies_in c h.rounds, [], sym (append-nil (words ++ replies_in c h.rounds)), h.said);
-    }
-    ends_wait WriteFault new left_after w = absurd w
-    ends_wait TooManyRequests new left_after w = absurd w
-
-    -- no more rounds than these are counted
-    pub many : count ≡ 2 ^ 64 - 1 → IsSession pending seen moment left_since c old now (Err TooManyRequests) left left_now taken taken_now
-    many all = record {
-      rounds = h.rounds;
-      done = h.done;
-      some = h.some;
-      rest = input;
-      gave = h.gave;
-      ended = sym h.count_is ∙ all;
-      store = now;
-      calls = h.calls;
-      left_store = refl;
-      said = h.said;
-    }
-
-  -- ---- a wait, and what came of it
-  module _ (old now : SeenStore D) (count place : ℕ) (input : List ℕ) (left left_now taken taken_now : Option (List ℕ))
-      (h : HasServed old now count place input left left_now taken taken_now)
-      (came : Bool) (read : List ℕ) (left_after : Option (List ℕ)) (waited : EndsWait (Ok came) place input read left_now left_after) where
-    -- the client leaves, or the input has ended
-    pub none_came : came ≡ false → IsSession pending seen moment left_since c old now (Ok tt) left left_after taken taken_now
-    none_came is = leaves old now count place input left left_now taken taken_now h read left_after (subst (λ b. EndsWait (Ok b) place input read left_now left_after) is waited)
-
-    module _ (is : came ≡ true) (config : Numbers) (same : config ≡ c) (new : SeenStore D) (taken_after : Option (List ℕ)) where
-      it_came : EndsWait (Ok true) place input read left_now left_after
-      it_came = subst (λ b. EndsWait (Ok b) place input read left_now left_after) is waited
-
-      one_came : HasServed old now count place read left left_after taken taken_now
-      one_came = reads_on old now count place input left left_now taken taken_now h read left_after it_came.0
-
-      -- its round was served
-      pub turn : (len : ℕ) → ServesRound pending seen moment left_since config read now new taken_now taken_after (Ok len)
-          → (input_next : List ℕ) (place_next : ℕ) → input_next ≡ drop len read → place_next ≡ told_place (place + len)
-          → HasServed old new (count + 1) place_next input_next left left_after taken taken_after
-      turn len r input_next place_next rest further =
-          let done = subst (λ (k : Numbers). ServesRound pending seen moment left_since k read now new taken_now taken_after (Ok len)) same r in
-          let next = serves_on old now count place read left left_after taken taken_now one_came it_came.1 new len done.0 done.1 taken_after done.2 in
-          subst (λ z. HasServed old new (count + 1) place_next z left left_after taken taken_after) (sym rest)
-          (subst (λ n. HasServed old new (count + 1) n (drop len read) left left_after taken taken_after) (sym further) next)
-
-      -- its round ended the session
-      pub cut_short : (end : SessionEnd) → ServesRound pending seen moment left_since config read now new taken_now taken_after (Err end)
-          → IsSession pending seen moment left_since c old new (Err end) left left_after taken taken_after
-      cut_short end r =
-          ends_round old now count place read left left_after taken taken_now one_came it_came.1 end new taken_after
-          (subst (λ (k : Numbers). ServesRound pending seen moment left_since k read now new taken_now taken_after (Err end)) same r)
-
-  -- the session ended with its greeting
-  pub not_begun : (end : SessionEnd) (store : SeenStore D) (left taken taken_after : Option (List ℕ)) → (end ≡ WriteFault) ⊎ (end ≡ NoMemory) → TakesPrefix taken taken_after words
-      → IsSession pending seen moment left_since c store store (Err end) left left taken taken_after
-  not_begun end store left taken taken_after (inl is) prefix = rw is (record {
-    rounds = [];
-    done = tt;
-    some = tt;
-    rest = [];
-    gave = Consumes-none left;
-    ended = tt;
-    store = store;
-    calls = refl;
-    left_store = refl;
-    said = subst (TakesPrefix taken taken_after) (sym (append-nil words)) prefix;
-  })
-  not_begun end store left taken taken_after (inr is) prefix = rw is (record {
-    rounds = [];
-    done = tt;
-    some = tt;
-    rest = [];
-    gave = Consumes-none left;
-    ended = tt;
-    store = store;
-    calls = refl;
-    left_store = none_cut [] store;
-    said = subst (TakesPrefix taken taken_after) (sym (append-nil words)) prefix;
-  })
+      store = store;
+      calls = refl;
+      left_store = inl refl;
+      said = subst (TakesPrefix taken taken_after) (sym (append-nil words)) prefix;
+    })

@@ -1,5 +1,5 @@
 -- A whole session: the greeting, and then rounds of requests and their replies, by what the store told.
-use Rattle.std.specs.Prelude.{◌≡◌, ◌≢◌, ◌⊎◌, ⊤, ℕ, ◌+◌, ◌-◌, ◌*◌, ◌^◌, ◌<◌, ◌≤◌, min, Bool, true, false, List, [], ◌++◌, length, Option, Result, Ok, Err}
+use Rattle.std.specs.Prelude.{◌≡◌, ◌≢◌, ◌⊎◌, ⊤, ℕ, ◌+◌, ◌-◌, ◌*◌, ◌^◌, ◌<◌, ◌≤◌, min, Bool, true, false, List, [], ◌∷◌, ◌++◌, length, Option, Result, Ok, Err}
 use Rattle.std.specs.Io.KnownBytes.{Consumes, IsAtEnd}
 use Rattle.std.specs.List.{All, AllByRecursion, concat, flat_map}
 use Rattle.quorum_rules.specs.Limits.{Numbers}
@@ -14,6 +14,7 @@ use Rattle.store_device.specs.Stores.{SeenStore, Nodes, IsStore, IsFound, kept_i
 use Rattle.store_device.specs.Lives.{Moment, IsLife, KeepAlike}
 use Rattle.store_device.specs.Calls.{Call, Leads, moments_of, nodes_of}
 use Rattle.store_front.specs.Asking.{IsFront}
+use Rattle.store_front.specs.Keeping.{LeavesAlone}
 use Rattle.store_front.specs.Rounds.{BeginsWithRequest, Exchange, IsExchange, calls_of}
 use Rattle.store_front.specs.Replies.{text_of, IsCutOff}
 
@@ -87,14 +88,26 @@ module _ {D : Type 0} where
   abbrev pub replies_in : Numbers → List (Exchange D) → List ℕ
   replies_in c rounds = flat_map (text_of c) rounds
 
-  module _ (pending : D → Pending) (seen : D → List ℕ) (moment : D → ℕ) (left_since : D → ℕ → List ℕ → Type 0) where
-    -- what was done of a round behind the last that was done: nothing, but where memory was wanting
-    abbrev pub LeavesStore : Result Unit SessionEnd → Numbers → List ℕ → SeenStore D → SeenStore D → Type 0
-    LeavesStore (Err NoMemory) c rest old new = (round : Exchange D) × IsCutOff pending seen moment left_since c rest old new round
-    LeavesStore result c rest old new = new ≡ old
+  module _ (pending : D → Pending) (seen : D → List ℕ) (moment : D → ℕ) (left_since : D → ℕ → List ℕ → Type 0)
+      (keeps : SeenStore D → SeenStore D → Type 0) where
+    -- Rounds lead from the one store to the other: before each the store is looked after, and its calls go on from there.
+    abbrev pub RoundsLead : SeenStore D → List (Exchange D) → SeenStore D → Type 0
+    RoundsLead old [] new = new ≡ old
+    RoundsLead old (round ∷ rounds) new =
+        (kept : SeenStore D) × (mid : SeenStore D) × keeps old kept × Leads pending seen moment left_since kept (calls_of round) mid × RoundsLead mid rounds new
 
-    -- A session from its greeting on. The requests of its rounds are those of the input, in order, and the calls that were made for them lead
-    -- from the one store to the other. The sink took the greeting and the replies to them; a beginning where it failed.
+    -- What was done behind the last round that was done: the store was looked after before the last wait. Where memory was wanting, it may
+    -- have been in the midst of a round behind it.
+    abbrev pub LeavesStore : Result Unit SessionEnd → Numbers → List ℕ → SeenStore D → SeenStore D → Type 0
+    LeavesStore (Err NoMemory) c rest old new =
+        (new ≡ old) ⊎ ((kept : SeenStore D) × (round : Exchange D) × keeps old kept × IsCutOff pending seen moment left_since c rest kept new round)
+    LeavesStore (Err WriteFault) c rest old new = new ≡ old
+    LeavesStore (Err TooManyRequests) c rest old new = new ≡ old
+    LeavesStore result c rest old new = keeps old new
+
+    -- A session from its greeting on. The requests of its rounds are those of the input, in order, and the calls that were made for them,
+    -- with what its keeper did between, lead from the one store to the other. The sink took the greeting and the replies to them; a
+    -- beginning where it failed.
     pub record IsSession (c : Numbers) (old new : SeenStore D) (result : Result Unit SessionEnd)
         (left left_after taken taken_after : Option (List ℕ)) : Type 0 where
       pub rounds : List (Exchange D)
@@ -106,14 +119,14 @@ module _ {D : Type 0} where
       pub ended : IsEnd result (length rounds) (length (concat (requests_in rounds))) rest left_after
       -- the store after the last round
       pub store : SeenStore D
-      pub calls : Leads pending seen moment left_since old (calls_in rounds) store
+      pub calls : RoundsLead old rounds store
       pub left_store : LeavesStore result c rest store new
       pub said : HasTaken (end_as result) (greeting (c.size * c.blocks) ++ replies_in c rounds) taken taken_after
 
 -- ---- a session in a store's life
 
--- A life that has come to what the store's nodes keep when a session begins goes on over the calls of its rounds, to what its nodes are
--- found to keep after them.
+-- A life that has come to what the store's nodes keep when a session begins, whose keeper leaves the store alone, goes on over the calls of
+-- its rounds, to what its nodes are found to keep after them.
 abbrev pub SessionsAreLives : {D : Type 0} → (D → Pending) → (D → List ℕ) → (D → ℕ) → (D → ℕ → List ℕ → Type 0) → Type 0
 SessionsAreLives {D} pending seen moment left_since =
     (lying : ℕ → Bool) (life : List Moment) (c : Numbers) (old new : SeenStore D) (result : Result Unit SessionEnd)
@@ -122,7 +135,7 @@ SessionsAreLives {D} pending seen moment left_since =
     → IsLife old.config lying life
     → KeepAlike old.config (nodes_of old.config life) (kept_in old gone)
     → IsStore pending seen old
-    → (session : IsSession pending seen moment left_since c old new result left left_after taken taken_after)
+    → (session : IsSession pending seen moment left_since LeavesAlone c old new result left left_after taken taken_after)
     → length life + length (calls_in session.rounds) < 2 ^ 31
     → IsFound pending old session.store gone kept
     → IsLife old.config lying (life ++ moments_of kept (calls_in session.rounds))

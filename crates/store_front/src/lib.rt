@@ -5,6 +5,7 @@
 mod answer;
 mod blocks;
 mod input;
+pub mod keeper;
 pub mod laws;
 mod operations;
 mod replies;
@@ -13,5 +14,6 @@ pub mod session;
 mod standing;
 mod values;
 
+pub use keeper::{Idle, Keeper};
 pub use nbd_front::SessionEnd;
 pub use session::{Session, serve};

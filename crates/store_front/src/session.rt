@@ -10,6 +10,7 @@ ghost use Rattle.store_front.specs.Sessions.{EndsSo, EndsWait, IsSession, told_p
 use crate::answer::answer;
 use crate::blocks::device_len;
 use crate::input::Input;
+use crate::keeper::Keeper;
 use crate::round::take_round;
 use crate::standing::{Standing, at_front};
 use disk_model::Disk;
@@ -110,16 +111,18 @@ impl Session {
     }
 }
 
-/// Serves a store's bytes from the greeting on until the session ends. `TooManyRequests` comes only after 2^64 - 1 rounds.
-pub fn serve<D: Disk + Send, S: Source, K: Sink, R: Threads + Sync>(
+/// Serves a store's bytes from the greeting on until the session ends, and has the store looked after before each wait for a request.
+/// `TooManyRequests` comes only after 2^64 - 1 rounds.
+pub fn serve<D: Disk + Send, U: Keeper<D>, S: Source, K: Sink, R: Threads + Sync>(
     rt: &R,
     alloc: Global,
     store: &mut Store<D>,
+    keeper: &mut U,
     source: &mut S,
     sink: &mut K,
 ) -> Result<(), SessionEnd>
-    ensures session { IsSession D.pending D.seen D.moment D.left_since store.old.config store.old
-        store.new result (S.left source.old) (S.left source.new) (K.taken sink.old)
+    ensures session { IsSession D.pending D.seen D.moment D.left_since U.keeps store.old.config
+        store.old store.new result (S.left source.old) (S.left source.new) (K.taken sink.old)
         (K.taken sink.new) }
     ensures config { store.new.config ≡ store.old.config }
     // faults
@@ -138,11 +141,13 @@ pub fn serve<D: Disk + Send, S: Source, K: Sink, R: Threads + Sync>(
         → (result ≡ end) ⊎ ((result ≡ Err SessionEnd.NoMemory) ⊎ (result ≡ Err SessionEnd.TooManyRequests)) }
 {
     let mut session = Session::begin(alloc, store, sink)?;
+    let mut served = 0;
     for _round in 0..u64::MAX {
+        keeper.tend(store, served, session.is_ready())?;
         if !session.wait(source)? {
             return Ok(());
         }
-        session.serve_round(rt, alloc, store, sink)?;
+        served = session.serve_round(rt, alloc, store, sink)?;
     }
     Err(SessionEnd::TooManyRequests)
 }
