@@ -1,0 +1,4 @@
+mod Unspent
+mod TurnRecords
+mod BlockTurns
+mod Done

@@ -1,0 +1,27 @@
+//! A store whose every operation was told of answers as a plain array of blocks, whichever nodes lie.
+//!
+//! The clients of a store are honest. So no operation ends otherwise than done: no write finds its time spent, and no read is outvoted.
+//! The laws are contracts of functions that do nothing.
+#![tactic(auto)]
+
+ghost use Rattle.std.specs.Prelude.{ℕ, Bool};
+ghost use Rattle.quorum_rules.specs.Limits.{Numbers};
+ghost use Rattle.store_arrays.specs.Told.{ToldIsDone, ToldLivesAreArrays};
+
+/// Each operation that was told of was done: a read gave a value, a write was written, whichever nodes lie, where no two different
+/// strings that are seen on its block share a digest.
+pub fn told_is_done()
+    ensures { (c : Numbers) (lying : ℕ → Bool) → ToldIsDone c lying }
+{
+    protocol::laws::bounds();
+    protocol::laws::records();
+}
+
+/// So a life whose every operation was told of is answered as a plain array of blocks answers it, that holds zeros first, where no two
+/// different strings that are seen share a digest.
+pub fn told_stores_are_arrays()
+    ensures { (c : Numbers) (lying : ℕ → Bool) → ToldLivesAreArrays c lying }
+{
+    told_is_done();
+    store_device::laws::lives_are_arrays();
+}
