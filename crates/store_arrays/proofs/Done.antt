@@ -1,5 +1,5 @@
 -- What was told of an operation is that it was done.
-use Rattle.std.proofs.Common.{◌≡◌, ◌≢◌, ℕ, ◌<◌, ◌^◌, Bool, List, ◌++◌, length, Option, refl, sym, ap, subst, ◌∙◌, arith}
+use Rattle.std.proofs.Common.{◌≡◌, ℕ, ◌<◌, ◌^◌, Bool, List, ◌++◌, length, Option, refl, sym, ap, subst, ◌∙◌, arith}
 use Rattle.std.specs.declared.option.Option.TheVariants.{None, Some}
 use Rattle.std.specs.List.{Contains}
 use Rattle.std.proofs.lemmas.List.{append-nil}
@@ -20,8 +20,7 @@ use Rattle.block_lives.specs.Lives.{Moment as BlockMoment, IsToldBy}
 use Rattle.block_lives.specs.Steps.{untouched}
 use Rattle.store_device.specs.Told.{cluster}
 use Rattle.store_device.specs.Lives.{Moment, life_on, IsLife, IsToldOn, NoneClash, WasTold, first_nodes}
-use Rattle.store_device.specs.Arrays.{WasDone, LivesAreArrays}
-use Rattle.store_arrays.specs.Told.{ToldIsDone, ToldLivesAreArrays}
+use Rattle.store_device.specs.Arrays.{WasDone}
 use Rattle.store_arrays.proofs.Unspent.{none_spent}
 use Rattle.store_arrays.proofs.TurnRecords.{HasRecord, IsAdded, added}
 use Rattle.store_arrays.proofs.BlockTurns.{IsTurnOn, told_on, no_longer}
@@ -95,13 +94,3 @@ module _ (c : Numbers) (lying : ℕ → Bool)
       → (is : IsToldOn c lying (block_of op) life) → NoneClash c lying (block_of op) life is → WasDone op (Some outcome)
   done life lived k op outcome was is apart =
       was_done life lived op outcome (told_on c lying life (λ block. None) (first_nodes c) k op (Some outcome) lived.takes was) is apart
-
--- so a life whose every operation was told of is answered as an array answers it
-pub are_arrays : (c : Numbers) (lying : ℕ → Bool) → LivesAreArrays c lying → ToldIsDone c lying → ToldLivesAreArrays c lying
-are_arrays c lying arrays is_done good life lived all each apart = arrays life lived (λ k op outcome was. by k op outcome was (all k op outcome was)) each apart
-  where
-    by : (k : ℕ) (op : Op) (outcome : Option Outcome) → WasTold life k op outcome → outcome ≢ None → WasDone op outcome
-    by k op None was told = absurd (told refl)
-    by k op (Some outcome) was told =
-        let on = (told_on c lying life (λ block. None) (first_nodes c) k op (Some outcome) lived.takes was).on in
-        is_done good life lived k op outcome was (each (block_of op) on) (apart (block_of op) on)

@@ -2,3 +2,4 @@ mod Unspent
 mod TurnRecords
 mod BlockTurns
 mod Done
+mod Arrays

@@ -6,7 +6,10 @@
 
 ghost use Rattle.std.specs.Prelude.{ℕ, Bool};
 ghost use Rattle.quorum_rules.specs.Limits.{Numbers};
-ghost use Rattle.store_arrays.specs.Told.{ToldIsDone, ToldLivesAreArrays};
+ghost use Rattle.store_arrays.specs.Told.{OutcomesAreTold, ToldIsDone, ToldLivesAreArrays};
+ghost use Rattle.store_arrays.specs.Calls.{ToldCallsAreArrays};
+
+use disk_model::Disk;
 
 /// Each operation that was told of was done: a read gave a value, a write was written, whichever nodes lie, where no two different
 /// strings that are seen on its block share a digest.
@@ -24,4 +27,15 @@ pub fn told_stores_are_arrays()
 {
     told_is_done();
     store_device::laws::lives_are_arrays();
+}
+
+/// And so are calls of a store, behind all that was done with its nodes before: where each operation was told of, a read gives what the
+/// latest write of its block wrote, or zeros where there was none. Those of a batch were told of where each of its outcomes is there, as
+/// clause `answered` of `Store::perform` promises it.
+pub fn told_calls_are_arrays<D: Disk>()
+    ensures arrays { ToldCallsAreArrays D.pending D.seen D.moment D.left_since }
+    ensures batches { OutcomesAreTold }
+{
+    store_device::laws::calls_are_lives::<D>();
+    told_stores_are_arrays();
 }
