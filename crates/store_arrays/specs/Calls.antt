@@ -18,8 +18,8 @@ module _ {D : Type 0} where
   asked_in (call ∷ calls) = operations_in (turn_by call.deed) ++ asked_in calls
 
   module _ (pending : D → Pending) (seen : D → List ℕ) (moment : D → ℕ) (left_since : D → ℕ → List ℕ → Type 0) where
-    -- Where a store's nodes keep what a life has come to, and calls are made of it, each operation of the life and of the calls that was
-    -- asked and told of is answered as by an array that held zeros when the life began, if no two different strings that are seen share a
+    -- A life has come to what a store's nodes keep, and calls are made of the store. Where each operation of the life and of the calls was
+    -- told of, they are answered as by an array that held zeros when the life began, if no two different strings that are seen share a
     -- digest.
     abbrev pub ToldCallsAreArrays : Type 0
     ToldCallsAreArrays =

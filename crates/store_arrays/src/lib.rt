@@ -30,8 +30,8 @@ pub fn told_stores_are_arrays()
 }
 
 /// And so are calls of a store, behind all that was done with its nodes before: where each operation was told of, a read gives what the
-/// latest write of its block wrote, or zeros where there was none. Those of a batch were told of where each of its outcomes is there, as
-/// clause `answered` of `Store::perform` promises it.
+/// latest write of its block wrote, or zeros where there was none, if no two different strings that are seen share a digest. Those of
+/// a batch were told of where each of its outcomes is there, as clause `answered` of `Store::perform` promises it.
 pub fn told_calls_are_arrays<D: Disk>()
     ensures arrays { ToldCallsAreArrays D.pending D.seen D.moment D.left_since }
     ensures batches { OutcomesAreTold }
