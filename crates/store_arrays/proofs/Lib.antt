@@ -1,0 +1,5 @@
+mod Unspent
+mod TurnRecords
+mod BlockTurns
+mod Done
+mod Arrays
