@@ -54,8 +54,12 @@ fn run_of<R: Threads + Wait + Sync, G: Gate + Sync>(
 {
     let plan = read_plan(alloc, input.as_slice())?;
     let ran = run_served(rt, alloc, serving, &plan, gate)?;
-    let drawn = ran.drawn.count();
-    let text = run_text(alloc, &plan, &ran.journals, ran.records, drawn)?;
+    let Ran {
+        journals,
+        records,
+        drawn,
+    } = ran;
+    let text = run_text(alloc, &plan, &journals, records, drawn.count())?;
     Ok(Answer::of(text))
 }
 
@@ -91,8 +95,12 @@ fn soak_of<R: Threads + Wait + Sync, G: Gate + Sync>(
 {
     let load = load_of(alloc, number)?;
     let ran = run_plan(rt, alloc, &load, gate)?;
-    let drawn = ran.drawn.count();
-    let text = load_text(alloc, number, &load, &ran.journals, ran.records, drawn)?;
+    let Ran {
+        journals,
+        records,
+        drawn,
+    } = ran;
+    let text = load_text(alloc, number, &load, &journals, records, drawn.count())?;
     Ok(Answer::of(text))
 }
 

@@ -4,7 +4,7 @@ use Rattle.pasis_shell.proofs.RunsOfPlans.{is_plan}
 use Rattle.pasis_shell.proofs.planned.run_of.Goals as goal
 
 pub run_text-requires-clause-run : goal.run_text-requires-clause-run
-run_text-requires-clause-run g c = rw c.count-drawn.ensures.count c.in_ok-ran.ensures.followed
+run_text-requires-clause-run g c = rw c.count.ensures.count c.in_ok-ran.ensures.followed
 
 pub returns-clause-text : goal.returns-clause-text
 returns-clause-text g c =

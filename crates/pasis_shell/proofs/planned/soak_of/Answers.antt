@@ -9,7 +9,7 @@ use Rattle.pasis_shell.proofs.RunsOfPlans.{soak_refuses, given_on}
 use Rattle.pasis_shell.proofs.planned.soak_of.Goals as goal
 
 pub load_text-requires-clause-run : goal.load_text-requires-clause-run
-load_text-requires-clause-run g c = rw c.count-drawn.ensures.count c.in_ok-ran.ensures.followed
+load_text-requires-clause-run g c = rw c.count.ensures.count c.in_ok-ran.ensures.followed
 
 pub returns-clause-text : goal.returns-clause-text
 returns-clause-text g c = (subst (λ (t : List ℕ). Soaks c.args.number t) (sym c.of.ensures.text) (c.in_ok-ran.ran.journals, c.in_ok-text.ensures), c.of.ensures.flaw)
