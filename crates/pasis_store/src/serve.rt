@@ -1,14 +1,9 @@
-ghost use Rattle.store_front.specs.Keeping.{KeepsNumbers};
-ghost use Rattle.store_front.specs.Sessions.{IsSession};
-
-use crate::folder::{FileStore, Journal};
+use crate::folder::FileStore;
 use crate::opening::open_store;
 use crate::upkeep::Upkeep;
-use disk_model::Disk;
 use outside_io::{Sink, Source, StdSink, StdSource};
-use std::alloc::Global;
 use std::thread::Threads;
-use store_front::SessionEnd;
+use store_front::{Session, SessionEnd};
 use store_words::{Refusal, Status};
 
 /// Serves the device over standard input and output.
@@ -18,17 +13,9 @@ pub fn serve<T: Threads + Sync>(
     folders: &[String],
 ) -> Result<Status, Refusal> {
     let mut store = open_store(rt, folders)?;
-    let mut upkeep = Upkeep::new(rt, threads, folders, &store)?;
     let mut source = StdSource::new(rt.stdin());
     let mut sink = StdSink::new(rt.stdout());
-    match serve_store(
-        threads,
-        rt.alloc(),
-        &mut store,
-        &mut upkeep,
-        &mut source,
-        &mut sink,
-    ) {
+    match serve_store(rt, threads, folders, &mut store, &mut source, &mut sink) {
         Ok(()) => Ok(Status::Done),
         Err(end) => {
             let _ = eprintln!(rt; "pasis_store: {}", told(&end));
@@ -39,20 +26,27 @@ pub fn serve<T: Threads + Sync>(
 
 // Serves a store until the session ends, and looks after it while nothing waits.
 fn serve_store<T: Threads + Sync, S: Source, K: Sink>(
+    rt: &HostRuntime,
     threads: &T,
-    alloc: Global,
+    folders: &[String],
     store: &mut FileStore,
-    upkeep: &mut Upkeep<'_, T>,
     source: &mut S,
     sink: &mut K,
-) -> Result<(), SessionEnd>
-    // what is read, asked of the store, and written
-    ensures session { IsSession ⟦<Journal as Disk>⟧.pending ⟦<Journal as Disk>⟧.seen
-        ⟦<Journal as Disk>⟧.moment ⟦<Journal as Disk>⟧.left_since KeepsNumbers
-        store.old.config store.old store.new result (S.left source.old) (S.left source.new)
-        (K.taken sink.old) (K.taken sink.new) }
-{
-    store_front::serve(threads, alloc, store, upkeep, source, sink)
+) -> Result<(), SessionEnd> {
+    let alloc = rt.alloc();
+    let mut upkeep = Upkeep::new(rt, store)?;
+    let mut session = Session::begin(alloc, store, sink)?;
+    for _ in 0..u64::MAX {
+        if upkeep.is_due(store) && !session.is_ready() {
+            upkeep.tend(rt, threads, folders, store)?;
+        }
+        if !session.wait(source)? {
+            return Ok(());
+        }
+        let len = session.serve_round(threads, alloc, store, sink)?;
+        upkeep.served(rt, store, len);
+    }
+    Err(SessionEnd::TooManyRequests)
 }
 
 fn told(end: &SessionEnd) -> &'static str {

@@ -1,5 +1,3 @@
-ghost use Rattle.std.specs.Prelude.{◌≡◌};
-
 use crate::folder::FileStore;
 use crate::nodes::Nodes;
 use crate::opening::{count_down, found_nodes};
@@ -27,9 +25,7 @@ fn lines_of(
     alloc: Global,
     store: &mut FileStore,
     down: &[Option<Down>],
-) -> Result<Vec<NodeLine>, NoMemory>
-    ensures { store.new ≡ store.old }
-{
+) -> Result<Vec<NodeLine>, NoMemory> {
     let mut lines = Vec::new(alloc);
     for (node, why) in down.iter().enumerate() {
         lines.push(line_of(store, node, *why)?)?;
@@ -38,9 +34,7 @@ fn lines_of(
 }
 
 // The line of a node that is down for this reason, or for none.
-fn line_of(store: &mut FileStore, node: usize, why: Option<Down>) -> Result<NodeLine, NoMemory>
-    ensures { store.new ≡ store.old }
-{
+fn line_of(store: &mut FileStore, node: usize, why: Option<Down>) -> Result<NodeLine, NoMemory> {
     let versions = later_versions(store, node)?;
     match (why, store.node(node)) {
         (Some(why), _) => Ok(NodeLine::Down { node, why }),
