@@ -3,7 +3,7 @@ use Rattle.std.proofs.Common.{◌≡◌, ◌⊎◌, ℕ, zero, suc, ◌+◌, ◌
 use Rattle.std.specs.Prelude.{slice_get, slice_set}
 use Rattle.std.specs.declared.option.Option.TheVariants.{Some}
 use Rattle.std.proofs.lemmas.Option.{slice_get_within}
-use Rattle.lists.proofs.lemmas.Members.{get_new, slice_get-push, set_at}
+use Rattle.lists.proofs.lemmas.Members.{slice_get-pushed, slice_get-push, slice_get-set}
 use Rattle.protocol.specs.Count.{collect}
 use Rattle.protocol.specs.Messages.{Ask, Message, IsAsk}
 use Rattle.wire_forms.specs.declared.Body.TheVariants.{Ask as Asks}
@@ -25,7 +25,7 @@ get_collect (suc n) f k lt =
     let c : (k < n) ⊎ (k ≡ n) = grind arith in
     elim c [
       | inl l ↦ rest l
-      | inr e ↦ rw (e) (subst (λ (j : ℕ). slice_get (collect n (λ i. Some (f i)) ++ f n ∷ []) j ≡ Some (f n)) (length_collect n f) (get_new (collect n (λ i. Some (f i))) (f n)))
+      | inr e ↦ rw (e) (subst (λ (j : ℕ). slice_get (collect n (λ i. Some (f i)) ++ f n ∷ []) j ≡ Some (f n)) (length_collect n f) (slice_get-pushed (collect n (λ i. Some (f i))) (f n)))
     ]
 
 other_at : {A : Type 0} (xs : List A) (k i : ℕ) (y : A) → (i ≡ k → ⊥) → slice_get (slice_set xs k y) i ≡ slice_get xs i
@@ -50,7 +50,7 @@ dealt_one m old new ask asks is at set = record {
       let s : Some more ≡ Some asks = sym there ∙ at in
       let x : more ≡ asks = cc in
       let both : Some (more ++ other ∷ []) ≡ Some (asks ++ ask ∷ []) = λ j. Some (x j ++ a j ∷ []) in
-      ap (λ l. slice_get l m.node) set ∙ set_at old m.node asks (asks ++ ask ∷ []) at ∙ sym both;
+      ap (λ l. slice_get l m.node) set ∙ slice_get-set old m.node asks (asks ++ ask ∷ []) at ∙ sym both;
   others = λ i apart. ap (λ l. slice_get l i) set ∙ other_at old m.node i (asks ++ ask ∷ []) apart;
 }
 

@@ -9,7 +9,7 @@ use Rattle.block_device.specs.Ranges.{fault_of, touched, bytes_in}
 use Rattle.block_device.specs.Steps.{put_steps, steps_of}
 use Rattle.block_device.specs.Device.{Device, but_at, merged, after_step, after, byte_at, AreBlocks, IsWritten}
 use Rattle.block_device.specs.declared.steps.BlockStep.{BlockStep}
-use Rattle.block_device.proofs.lemmas.Touching.{IsWithin, within_if, reaches, touched_range, first_before_last, first_place, last_block}
+use Rattle.block_device.proofs.lemmas.Touching.{IsWithin, within_if, between_reaches, touched_range, first_before_last, first_place, last_block}
 use Rattle.block_device.proofs.lemmas.Merges.{whole_or_partly, put_whole, put_partly, length-bytes_in, bytes_in-at, merged_whole, length-merged, merged-inside, merged-outside}
 
 -- ---- steps one after the other
@@ -116,7 +116,7 @@ put_done c d start bytes blocks faultless =
     let below = last_block c.size c.blocks start (length bytes) within in
     let reached : (k : ℕ) → first ≤ k → k < first + n → IsReached c.size start (length bytes) k (d.held k) =
     λ k low high.
-    let r = reaches c.size start (length bytes) k within.sized within.some (record { from = low; to = omega arith }) in
+    let r = between_reaches c.size start (length bytes) k within.sized within.some (record { from = low; to = omega arith }) in
     record { block = blocks k (omega arith); low = r.0; high = r.1 } in
     record {
       within = within;

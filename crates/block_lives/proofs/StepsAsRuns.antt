@@ -10,7 +10,7 @@ use Rattle.protocol.specs.Nodes.{after, pruned}
 use Rattle.protocol.specs.World.{IsQuiet, greatest_given, only_place, pruned_at}
 use Rattle.protocol.specs.Lines.{plays}
 use Rattle.run_words.specs.declared.line.Line.TheVariants.{CrashClient, Prune}
-use Rattle.protocol.proofs.lemmas.Sending.{working}
+use Rattle.protocol.proofs.lemmas.Sending.{unless_some}
 use Rattle.block_lives.specs.Steps.{Step, State, Doing, place_of, answered_by, done_by, pruned_by, step_after, May, steps_after, MayAll, untouched, left_by}
 use Rattle.block_lives.specs.Steps.Step.{Begins, Answers, Does, GivesUp, Prunes, Changes}
 use Rattle.block_lives.specs.Runs.{begins, gives_up, AreSteps}
@@ -57,7 +57,7 @@ module _ {s : Setting} (laws : Laws s) (block : ℕ) (correct : (client : ℕ) �
 
     quiet : IsQuiet s h.world block
     quiet c task under on =
-        let q = working (h.world.client_crashed c) (h.world.task c) task under in
+        let q = unless_some (h.world.client_crashed c) (h.world.task c) task under in
         elim (at_rest c) [ inl e ↦ (let a = q.1 in cc) | inr e ↦ (let a = q.0 in cc) ]
 
     given_now : greatest_given block h.world.records ≡ Some stamp

@@ -13,7 +13,7 @@ use Rattle.lists.proofs.lemmas.Members.{Contains-head, Contains-none, Contains-o
 use Rattle.linear_runs.specs.Linear.{Act, Operation}
 use Rattle.linear_runs.specs.Linear.Act.{Read, Write}
 use Rattle.linear_runs.specs.Of.{op_of, done_by, known}
-use Rattle.linear_runs.proofs.lemmas.Matching.{made, map_same}
+use Rattle.linear_runs.proofs.lemmas.Matching.{filter_map_is, map_same}
 use Rattle.linear_runs.proofs.lemmas.Runs.{done_is}
 use Rattle.block_lives.specs.Steps.{Step, State, place_of, steps_after}
 use Rattle.block_lives.specs.Operating.{IsRecordOf}
@@ -176,7 +176,7 @@ module _ (s : Setting) (block : ℕ) where
 
     later_same : map (renumbered next) (known later.more) ≡ map (renumbered number) (known later.more)
     later_same = sym (map_same (renumbered number) (renumbered next) (known later.more) (λ o there.
-        let x = made (λ r. done_by r r.work r.outcome) later.more o there in
+        let x = filter_map_is (λ r. done_by r r.work r.outcome) later.more o there in
         let d = done_is x.0 x.0.work x.0.outcome o x.2 in
         rw d.1 (op_later x.0 d.0 (later.late x.0 x.1))))
 

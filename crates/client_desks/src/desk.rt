@@ -2,7 +2,7 @@ ghost use Rattle.std.specs.Prelude.{◌≡◌, ◌↔◌, IsTrue, ℕ, ◌<◌, 
 ghost use Rattle.protocol.specs.Messages.{IsFormedBody, Message as AnyMessage};
 ghost use Rattle.protocol.specs.Seen.{ops_of, phase_of, record_of};
 ghost use Rattle.event_clock.specs.Passes.{left_of, met, sight_of};
-ghost use Rattle.receipt_lock.specs.Turns.{Begins};
+ghost use Rattle.receipt_lock.specs.Tickets.{Begins};
 ghost use Rattle.journals.specs.Desks.{FitsOp, ActsAs};
 ghost use Rattle.locked_nodes.specs.Cells.{Serves, HoldsWhole, HasNoLateMail, items, number_of};
 ghost use Rattle.client_desks.specs.Desks.{DeskView, first_desk, met_desk, state_at, task_at, records_at, asks_of, IsUp, CanStart, CanCall, with_own, desk_entry, KeptDesk, AddPair, Calls, KeepsDesk, Delivers, with_call, reply_by, ending};

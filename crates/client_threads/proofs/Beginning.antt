@@ -15,15 +15,15 @@ use Rattle.locked_nodes.specs.Cells.{CellView}
 use Rattle.client_desks.specs.Desks.{DeskView, state_at}
 use Rattle.plan_words.specs.declared.plan.Plan.{Plan}
 use Rattle.plan_followed.specs.Closed.{AreBelow, AreEmpty, Begins}
-use Rattle.locked_nodes.specs.Slots.{slot_of, slots_of, Cover}
+use Rattle.locked_nodes.specs.CellShards.{cell_shard_of, cell_shards_of, Cover}
 use Rattle.phase_threads.specs.Standing.{IsCellOf, IsPlanned, node_journal, is_whole, HasSideIn, HasSideOn, PairsStand, ArePlanned, journals_of}
 use Rattle.phase_threads.specs.Ended.{AreClients}
 use Rattle.phase_threads.proofs.lemmas.Nodes.{journal_cases}
 use Rattle.phase_threads.proofs.lemmas.Cells.{journal_is, desk_at}
 use Rattle.phase_threads.specs.declared.duty.Seat.{Seat}
-use Rattle.crews.proofs.lemmas.Places.{all_from, get_map}
-use Rattle.client_work.specs.declared.work.Work.{Work}
-use Rattle.client_work.specs.declared.work.Work.TheVariants.{Client, Lying, Courier}
+use Rattle.thread_work.proofs.lemmas.Places.{all_from_places, get_map}
+use Rattle.client_duties.specs.declared.work.ClientDuty.{ClientDuty}
+use Rattle.client_duties.specs.declared.work.ClientDuty.TheVariants.{Client, Lying, Courier}
 use Rattle.client_threads.specs.Opened.{IsNewCell, AreNewCells, IsNewSeat, shards_of}
 use Rattle.client_threads.specs.Reads.{IsPartedAs, IsParted}
 use Rattle.client_threads.specs.Running.{desks_of, clients_of, plan_of, journals_in, StandsAt, LiarsNamed, IsOpen, IsBetween}
@@ -50,19 +50,19 @@ cell_planned plan shards clock i s cell n = subst (IsPlanned plan (shards_of pla
 
 pub cells_planned : (plan : Plan) (shards : ℕ) → 1 ≤ shards → (clock : ClockId) (cells : List CellView) → AreNewCells plan shards clock plan.config.n 0 cells → ArePlanned plan clock cells
 cells_planned plan shards some clock cells h = record {
-  cells = record { each = all_from (IsCellOf plan.config clock) cells (λ k cell at. cell_of plan shards clock cell.charter.number cell.charter.shard cell (h.each k cell at)); cover = cover };
-  inside = all_from (λ c. c.charter.number < plan.config.n) cells (λ k cell at. elim (h.before k cell at) [ inl less ↦ less | inr none ↦ absurd (let l = none.1 in omega (arith, l)) ]);
+  cells = record { each = all_from_places (IsCellOf plan.config clock) cells (λ k cell at. cell_of plan shards clock cell.charter.number cell.charter.shard cell (h.each k cell at)); cover = cover };
+  inside = all_from_places (λ c. c.charter.number < plan.config.n) cells (λ k cell at. elim (h.before k cell at) [ inl less ↦ less | inr none ↦ absurd (let l = none.1 in omega (arith, l)) ]);
   own = h.own;
   shards = shards_of plan shards;
   some = some_shards;
   whole = shards_whole plan shards;
-  each = all_from (IsPlanned plan (shards_of plan shards)) cells (λ k cell at. cell_planned plan shards clock cell.charter.number cell.charter.shard cell (h.each k cell at));
+  each = all_from_places (IsPlanned plan (shards_of plan shards)) cells (λ k cell at. cell_planned plan shards clock cell.charter.number cell.charter.shard cell (h.each k cell at));
 }
   where
     some_shards : (i : ℕ) → 0 < shards_of plan shards i
     some_shards i = elim (shards_cases plan shards i) [ inl one ↦ omega (arith, one) | inr all ↦ omega (arith, all, some) ]
 
-    cover : Cover plan.config.n (slots_of cells)
+    cover : Cover plan.config.n (cell_shards_of cells)
     cover i block below =
         let s = block % shards_of plan shards i in
         let c = h.all i s (inl below) (mod-lt block (some_shards i)) in
@@ -71,8 +71,8 @@ cells_planned plan shards some clock cells h = record {
         let shards : cell.charter.shards ≡ shards_of plan shards i = p.shards ∙ ap (shards_of plan shards) c.3 in (
           c.0,
           record {
-            slot = slot_of cell.charter;
-            there = get_map (λ (x : CellView). slot_of x.charter) cells c.0 cell c.2;
+            cell_shard = cell_shard_of cell.charter;
+            there = get_map (λ (x : CellView). cell_shard_of x.charter) cells c.0 cell c.2;
             is = record { of = c.3; share = ap (λ (n : ℕ). block % n) shards ∙ sym c.4 };
           },
         )
@@ -80,11 +80,11 @@ cells_planned plan shards some clock cells h = record {
 cell_empty : (plan : Plan) (shards : ℕ) (clock : ClockId) (i s : ℕ) (cell : CellView) → IsNewCell plan shards clock i s cell → cell.journal ≡ []
 cell_empty plan shards clock i s cell n = ap (λ (c : CellView). c.journal) n.is
 
-seat_empty : (plan : Plan) (clock : ClockId) (s : Seat Work) → IsNewSeat plan clock s → s.desk.entries ≡ []
+seat_empty : (plan : Plan) (clock : ClockId) (s : Seat ClientDuty) → IsNewSeat plan clock s → s.desk.entries ≡ []
 seat_empty plan clock s n = ap (λ (d : DeskView). d.entries) n.is
 
 -- nobody has an entry
-pub no_pairs : (plan : Plan) (shards : ℕ) (clock : ClockId) (cells : List CellView) (seats : List (Seat Work)) → AreNewCells plan shards clock plan.config.n 0 cells → All (IsNewSeat plan clock) seats → PairsStand cells (desks_of seats)
+pub no_pairs : (plan : Plan) (shards : ℕ) (clock : ClockId) (cells : List CellView) (seats : List (Seat ClientDuty)) → AreNewCells plan shards clock plan.config.n 0 cells → All (IsNewSeat plan clock) seats → PairsStand cells (desks_of seats)
 no_pairs plan shards clock cells seats c s = record { called = called; answered = answered }
   where
     called : (cell : CellView) (n : NodeEntry) (k : ℕ) (act : DeskAct) → Contains cells cell → Contains cell.journal n → side n.act ≡ Some (k, act) → HasSideOn (desks_of seats) k n.number act
@@ -95,7 +95,7 @@ no_pairs plan shards clock cells seats c s = record { called = called; answered 
 
     answered : (d : DeskView) (e : DeskEntry) → Contains (desks_of seats) d → Contains d.entries e → IsOwn e.act ⊎ HasSideIn cells d.id e
     answered d e among there =
-        let q = Contains-map_cases (λ (s : Seat Work). s.desk) seats d among in
+        let q = Contains-map_cases (λ (s : Seat ClientDuty). s.desk) seats d among in
         let none = seat_empty plan clock q.0 (All-contains (IsNewSeat plan clock) seats q.0 s q.1) in
         absurd (Contains-none e (subst (λ (es : List DeskEntry). Contains es e) (ap (λ (x : DeskView). x.entries) q.2 ∙ none) there))
 
@@ -103,7 +103,7 @@ no_entries : (es : List NodeEntry) → ((e : NodeEntry) → Contains es e → �
 no_entries [] none = refl
 no_entries (e ∷ es) none = absurd (none e (Contains-head e es))
 
-pub journals_empty : (plan : Plan) (shards : ℕ) → 1 ≤ shards → (clock : ClockId) (cells : List CellView) (seats : List (Seat Work)) → AreNewCells plan shards clock plan.config.n 0 cells → All (IsNewSeat plan clock) seats → AreEmpty plan (journals_of plan cells (desks_of seats))
+pub journals_empty : (plan : Plan) (shards : ℕ) → 1 ≤ shards → (clock : ClockId) (cells : List CellView) (seats : List (Seat ClientDuty)) → AreNewCells plan shards clock plan.config.n 0 cells → All (IsNewSeat plan clock) seats → AreEmpty plan (journals_of plan cells (desks_of seats))
 journals_empty plan shards some clock cells seats c s = record {
   config = refl;
   liars = refl;
@@ -114,7 +114,7 @@ journals_empty plan shards some clock cells seats c s = record {
       Contains-none e (subst (λ (es : List NodeEntry). Contains es e) none q.stands));
   desks = λ k. elim (desk_at (desks_of seats) k).is [
     | inl q ↦ (
-        let m = Contains-map_cases (λ (s : Seat Work). s.desk) seats q.0 q.1 in
+        let m = Contains-map_cases (λ (s : Seat ClientDuty). s.desk) seats q.0 q.1 in
         q.3 ∙ ap (λ (x : DeskView). x.entries) m.2 ∙ seat_empty plan clock m.0 (All-contains (IsNewSeat plan clock) seats m.0 s m.1)
         )
     | inr none ↦ none.0
@@ -128,12 +128,12 @@ nothing_below bound plan j h = record {
 }
 
 -- no read has ended
-part_new : (w : Work) (d : DeskView) → IsPartedAs 0 w d 0
+part_new : (w : ClientDuty) (d : DeskView) → IsPartedAs 0 w d 0
 part_new (Client w) d = record { before = []; after = (state_at d).ended; ended = refl; count = refl; low = λ x there. absurd (Contains-none x there); high = λ x there. omega arith }
 part_new (Lying w) d = refl
 part_new Courier d = refl
 
-pub parts_new : (seats : List (Seat Work)) → AllZip (IsParted 0) seats (replicate (length seats) 0)
+pub parts_new : (seats : List (Seat ClientDuty)) → AllZip (IsParted 0) seats (replicate (length seats) 0)
 parts_new [] = tt
 parts_new (s ∷ seats) = (part_new s.duty s.desk, parts_new seats)
 
@@ -166,6 +166,6 @@ is_first begins run shards some is_open c s are counted quiet named =
       counted = subst (λ (l : List ℕ). AllZip (IsParted 0) run.clients.items l) (sym counted) (parts_new run.clients.items);
     }
   where
-    parts : (seats : List (Seat Work)) → All (IsNewSeat (plan_of run) run.clock) seats → All (λ s. StandsAt (plan_of run) 0 s.duty s.desk) seats
+    parts : (seats : List (Seat ClientDuty)) → All (IsNewSeat (plan_of run) run.clock) seats → All (λ s. StandsAt (plan_of run) 0 s.duty s.desk) seats
     parts [] a = All-nil (λ s. StandsAt (plan_of run) 0 s.duty s.desk)
     parts (x ∷ seats) a = All-cons (λ s. StandsAt (plan_of run) 0 s.duty s.desk) x seats (All-head (IsNewSeat (plan_of run) run.clock) x seats a).part (parts seats (All-tail (IsNewSeat (plan_of run) run.clock) x seats a))

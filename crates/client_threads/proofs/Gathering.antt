@@ -26,11 +26,11 @@ use Rattle.plan_followed.specs.Followed.{IsGivenIn, ArePrunes}
 use Rattle.plan_followed.specs.declared.prunes.BlockStamp.{BlockStamp}
 use Rattle.plan_followed.specs.Prunings.{blocks_of, ArePrunings}
 use Rattle.phase_threads.specs.declared.duty.Seat.{Seat}
-use Rattle.client_work.specs.declared.reads.GivenRead.{GivenRead}
-use Rattle.client_work.specs.declared.work.Work.{Work}
-use Rattle.client_work.specs.declared.work.Work.TheVariants.{Client, Lying, Courier}
-use Rattle.client_work.specs.declared.worker.ClientWorker.{ClientWorker}
-use Rattle.client_work.specs.Work.{given_by, all_given, Stands}
+use Rattle.client_duties.specs.declared.reads.GivenRead.{GivenRead}
+use Rattle.client_duties.specs.declared.work.ClientDuty.{ClientDuty}
+use Rattle.client_duties.specs.declared.work.ClientDuty.TheVariants.{Client, Lying, Courier}
+use Rattle.client_duties.specs.declared.worker.CorrectClient.{CorrectClient}
+use Rattle.client_duties.specs.ClientDuty.{given_by, all_given, Stands}
 use Rattle.client_threads.specs.Pruned.{pruning_of}
 use Rattle.client_threads.specs.Reads.{reads_in, reads_of, block_stamp, early_reads, late_reads, AreParted, IsPartedAs, IsParted}
 use Rattle.client_threads.specs.Running.{StandsAt, desks_of}
@@ -103,7 +103,7 @@ read_in (y ∷ es) x r there e = elim (Contains-cons_cases x y es there) [
 -- ---- all clients' reads
 
 -- a worker's reads are those of its desk
-pub reads_are : (w : ClientWorker) (d : DeskView) → Stands w d → w.reads ≡ all_given (state_at d).ended
+pub reads_are : (w : CorrectClient) (d : DeskView) → Stands w d → w.reads ≡ all_given (state_at d).ended
 reads_are w d h =
     let its = h.goes.its in
     h.goes.reads.all
@@ -111,13 +111,13 @@ reads_are w d h =
     ∙ ap (λ (c : ℕ). all_given (desk_after_all (new_desk d.config c) d.entries).ended) (sym its.id)
 
 -- a seat with its reads before a number and after it
-pub record HasPart (from : ℕ) (seats : List (Seat Work)) (counted : List ℕ) (s : Seat Work) : Type 0 where
+pub record HasPart (from : ℕ) (seats : List (Seat ClientDuty)) (counted : List ℕ) (s : Seat ClientDuty) : Type 0 where
   count : ℕ
   part : IsParted from s count
   early : (r : GivenRead) → Contains (take count (reads_of s)) r → Contains (early_reads seats counted) (block_stamp r)
   late : (r : GivenRead) → Contains (drop count (reads_of s)) r → Contains (late_reads seats counted) (block_stamp r)
 
-pub part_of : (from : ℕ) (seats : List (Seat Work)) (counted : List ℕ) → AllZip (IsParted from) seats counted → (s : Seat Work) → Contains seats s → HasPart from seats counted s
+pub part_of : (from : ℕ) (seats : List (Seat ClientDuty)) (counted : List ℕ) → AllZip (IsParted from) seats counted → (s : Seat ClientDuty) → Contains seats s → HasPart from seats counted s
 part_of from [] counted z s there = absurd (Contains-none s there)
 part_of from (x ∷ seats) [] z s there = absurd z
 part_of from (x ∷ seats) (n ∷ ns) z s there = elim (Contains-cons_cases s x seats there) [
@@ -136,8 +136,8 @@ part_of from (x ∷ seats) (n ∷ ns) z s there = elim (Contains-cons_cases s x 
 ]
 
 -- a seat whose reads have one
-pub record FromSeat (from : ℕ) (part : ℕ → List GivenRead → List GivenRead) (seats : List (Seat Work)) (x : BlockStamp) : Type 0 where
-  pub seat : Seat Work
+pub record FromSeat (from : ℕ) (part : ℕ → List GivenRead → List GivenRead) (seats : List (Seat ClientDuty)) (x : BlockStamp) : Type 0 where
+  pub seat : Seat ClientDuty
   pub among : Contains seats seat
   pub count : ℕ
   pub parted : IsParted from seat count
@@ -145,7 +145,7 @@ pub record FromSeat (from : ℕ) (part : ℕ → List GivenRead → List GivenRe
   pub there : Contains (part count (reads_of seat)) read
   pub is : x ≡ block_stamp read
 
-pub from_early : (from : ℕ) (seats : List (Seat Work)) (counted : List ℕ) → AllZip (IsParted from) seats counted → (x : BlockStamp) → Contains (early_reads seats counted) x → FromSeat from take seats x
+pub from_early : (from : ℕ) (seats : List (Seat ClientDuty)) (counted : List ℕ) → AllZip (IsParted from) seats counted → (x : BlockStamp) → Contains (early_reads seats counted) x → FromSeat from take seats x
 from_early from [] counted z x there = absurd (Contains-none x there)
 from_early from (s ∷ seats) [] z x there = absurd z
 from_early from (s ∷ seats) (n ∷ ns) z x there = elim (Contains-append_cases (map block_stamp (take n (reads_of s))) (early_reads seats ns) x there) [
@@ -153,7 +153,7 @@ from_early from (s ∷ seats) (n ∷ ns) z x there = elim (Contains-append_cases
   | inr rest ↦ (let q = from_early from seats ns z.1 x rest in record { seat = q.seat; among = Contains-rest q.seat s seats q.among; count = q.count; parted = q.parted; read = q.read; there = q.there; is = q.is })
 ]
 
-pub from_late : (from : ℕ) (seats : List (Seat Work)) (counted : List ℕ) → AllZip (IsParted from) seats counted → (x : BlockStamp) → Contains (late_reads seats counted) x → FromSeat from drop seats x
+pub from_late : (from : ℕ) (seats : List (Seat ClientDuty)) (counted : List ℕ) → AllZip (IsParted from) seats counted → (x : BlockStamp) → Contains (late_reads seats counted) x → FromSeat from drop seats x
 from_late from [] counted z x there = absurd (Contains-none x there)
 from_late from (s ∷ seats) [] z x there = absurd z
 from_late from (s ∷ seats) (n ∷ ns) z x there = elim (Contains-append_cases (map block_stamp (drop n (reads_of s))) (late_reads seats ns) x there) [
@@ -164,18 +164,18 @@ from_late from (s ∷ seats) (n ∷ ns) z x there = elim (Contains-append_cases 
 -- ---- reads as the journals have them
 
 -- an operation of a correct client that gave this
-pub record IsGiven (seats : List (Seat Work)) (x : BlockStamp) : Type 0 where
-  seat : Seat Work
+pub record IsGiven (seats : List (Seat ClientDuty)) (x : BlockStamp) : Type 0 where
+  seat : Seat ClientDuty
   among : Contains seats seat
   correct : seat.desk.lying ≡ false
   operation : Ended
   there : Contains (state_at seat.desk).ended operation
   gives : Gives operation x.block x.stamp
 
-module _ (plan : Plan) (k from : ℕ) (seats : List (Seat Work)) (counted : List ℕ)
+module _ (plan : Plan) (k from : ℕ) (seats : List (Seat ClientDuty)) (counted : List ℕ)
     (works : All (λ s. StandsAt plan k s.duty s.desk) seats) (parted : AllZip (IsParted from) seats counted) where
   -- they are what the operations before and after a number gave
-  split_reads : (w : ClientWorker) (d : DeskView) (n : ℕ) (h : Stands w d) (p : AreParted from d n) → (take n w.reads ≡ all_given p.before) × (drop n w.reads ≡ all_given p.after)
+  split_reads : (w : CorrectClient) (d : DeskView) (n : ℕ) (h : Stands w d) (p : AreParted from d n) → (take n w.reads ≡ all_given p.before) × (drop n w.reads ≡ all_given p.after)
   split_reads w d n h p =
       let all : w.reads ≡ all_given p.before ++ all_given p.after = reads_are w d h ∙ ap all_given p.ended ∙ filter_map-append (λ (x : Ended). given_by x.block x.outcome) p.before p.after in (
         ap (take n) all ∙ ap (λ (m : ℕ). take m (all_given p.before ++ all_given p.after)) p.count ∙ take-append_seam (all_given p.before) (all_given p.after),
@@ -183,7 +183,7 @@ module _ (plan : Plan) (k from : ℕ) (seats : List (Seat Work)) (counted : List
       )
 
   -- a late read of a seat
-  late_of : (s : Seat Work) → Contains seats s → (w : Work) (n : ℕ) (r : GivenRead) → s.duty ≡ w → StandsAt plan k w s.desk → IsPartedAs from w s.desk n → Contains (drop n (reads_in w)) r
+  late_of : (s : Seat ClientDuty) → Contains seats s → (w : ClientDuty) (n : ℕ) (r : GivenRead) → s.duty ≡ w → StandsAt plan k w s.desk → IsPartedAs from w s.desk n → Contains (drop n (reads_in w)) r
       → (g : IsGiven seats (block_stamp r)) × (from ≤ g.operation.end)
   late_of s among (Client w) n r is at p there =
       let q = read_from p.after r (subst (λ (l : List GivenRead). Contains l r) (split_reads w s.desk n at.1 p).1 there) in (
@@ -200,7 +200,7 @@ module _ (plan : Plan) (k from : ℕ) (seats : List (Seat Work)) (counted : List
   late_of s among (Lying w) n r is at p there = absurd (Contains-none r (subst (λ (m : ℕ). Contains (drop m []) r) p there))
   late_of s among Courier n r is at p there = absurd at
 
-  early_of : (s : Seat Work) → Contains seats s → (w : Work) (n : ℕ) (r : GivenRead) → s.duty ≡ w → StandsAt plan k w s.desk → IsPartedAs from w s.desk n → Contains (take n (reads_in w)) r → IsGiven seats (block_stamp r)
+  early_of : (s : Seat ClientDuty) → Contains seats s → (w : ClientDuty) (n : ℕ) (r : GivenRead) → s.duty ≡ w → StandsAt plan k w s.desk → IsPartedAs from w s.desk n → Contains (take n (reads_in w)) r → IsGiven seats (block_stamp r)
   early_of s among (Client w) n r is at p there =
       let q = read_from p.before r (subst (λ (l : List GivenRead). Contains l r) (split_reads w s.desk n at.1 p).0 there) in
       record {
@@ -214,7 +214,7 @@ module _ (plan : Plan) (k from : ℕ) (seats : List (Seat Work)) (counted : List
   early_of s among (Lying w) n r is at p there = absurd (Contains-none r (subst (λ (m : ℕ). Contains (take m []) r) p there))
   early_of s among Courier n r is at p there = absurd at
 
-  stands_at : (s : Seat Work) → Contains seats s → StandsAt plan k s.duty s.desk
+  stands_at : (s : Seat ClientDuty) → Contains seats s → StandsAt plan k s.duty s.desk
   stands_at s among = All-contains (λ s. StandsAt plan k s.duty s.desk) seats s works among
 
   given_late : (x : BlockStamp) → Contains (late_reads seats counted) x → (g : IsGiven seats x) × (from ≤ g.operation.end)
@@ -242,13 +242,13 @@ module _ (plan : Plan) (k from : ℕ) (seats : List (Seat Work)) (counted : List
     any : Contains (early_reads seats counted ++ late_reads seats counted) entry
     late : from ≤ x.end → Contains (late_reads seats counted) entry
 
-  listed_in : (s : Seat Work) → Contains seats s → (w : Work) → s.duty ≡ w → StandsAt plan k w s.desk → s.desk.lying ≡ false → (x : Ended) (block : ℕ) (stamp : Stamp) → Contains (state_at s.desk).ended x → Gives x block stamp → IsListed x block stamp
+  listed_in : (s : Seat ClientDuty) → Contains seats s → (w : ClientDuty) → s.duty ≡ w → StandsAt plan k w s.desk → s.desk.lying ≡ false → (x : Ended) (block : ℕ) (stamp : Stamp) → Contains (state_at s.desk).ended x → Gives x block stamp → IsListed x block stamp
   listed_in s among (Client w) is at correct x block stamp there g =
       let q = part_of from seats counted parted s among in
-      let p : AreParted from s.desk q.count = subst (λ (d : Work). IsPartedAs from d s.desk q.count) is q.part in
+      let p : AreParted from s.desk q.count = subst (λ (d : ClientDuty). IsPartedAs from d s.desk q.count) is q.part in
       let r = has_read x block stamp x.outcome refl g.0 g.1 in
-      let early : (y : GivenRead) → Contains (take q.count w.reads) y → Contains (early_reads seats counted) (block_stamp y) = λ y h. q.early y (subst (λ (d : Work). Contains (take q.count (reads_in d)) y) (sym is) h) in
-      let late : (y : GivenRead) → Contains (drop q.count w.reads) y → Contains (late_reads seats counted) (block_stamp y) = λ y h. q.late y (subst (λ (d : Work). Contains (drop q.count (reads_in d)) y) (sym is) h) in
+      let early : (y : GivenRead) → Contains (take q.count w.reads) y → Contains (early_reads seats counted) (block_stamp y) = λ y h. q.early y (subst (λ (d : ClientDuty). Contains (take q.count (reads_in d)) y) (sym is) h) in
+      let late : (y : GivenRead) → Contains (drop q.count w.reads) y → Contains (late_reads seats counted) (block_stamp y) = λ y h. q.late y (subst (λ (d : ClientDuty). Contains (drop q.count (reads_in d)) y) (sym is) h) in
       let halves = split_reads w s.desk q.count at.1 p in
       elim (Contains-append_cases p.before p.after x (subst (λ (l : List Ended). Contains l x) p.ended there)) [
         | inl before ↦ record {
@@ -274,7 +274,7 @@ module _ (plan : Plan) (k from : ℕ) (seats : List (Seat Work)) (counted : List
 
 -- ---- the prunes of a phase
 
-module _ (plan : Plan) (k from : ℕ) (seats : List (Seat Work)) (counted : List ℕ)
+module _ (plan : Plan) (k from : ℕ) (seats : List (Seat ClientDuty)) (counted : List ℕ)
     (works : All (λ s. StandsAt plan k s.duty s.desk) seats) (parted : AllZip (IsParted from) seats counted)
     (clients : AreClients plan (desks_of seats)) (cells : List CellView) (p : Phase) (low : AreBelow p.close (journals_of plan cells (desks_of seats)))
     (ps : List BlockStamp) (are : ArePrunings (early_reads seats counted ++ late_reads seats counted) (late_reads seats counted) ps) where
@@ -298,7 +298,7 @@ module _ (plan : Plan) (k from : ℕ) (seats : List (Seat Work)) (counted : List
 
   -- whose operation it is
   pub record IsOf (c : ℕ) (x : Ended) : Type 0 where
-    seat : Seat Work
+    seat : Seat ClientDuty
     among : Contains seats seat
     correct : seat.desk.lying ≡ false
     there : Contains (state_at seat.desk).ended x
@@ -306,7 +306,7 @@ module _ (plan : Plan) (k from : ℕ) (seats : List (Seat Work)) (counted : List
   owner : (c : ℕ) → has_number plan.liars.clients c ≡ false → (x : Ended) → Contains (state_then c).ended x → IsOf c x
   owner c right x there = elim (desk_at (desks_of seats) c).is [
     | inl q ↦ (
-        let s = Contains-map_cases (λ (s : Seat Work). s.desk) seats q.0 q.1 in
+        let s = Contains-map_cases (λ (s : Seat ClientDuty). s.desk) seats q.0 q.1 in
         let same : state_then c ≡ state_at q.0 = ap state_then (sym q.2) ∙ desk_then q.0 q.1 in
         let at : Contains (state_at q.0).ended x = subst (λ (d : DeskState). Contains d.ended x) same there in
         let honest : q.0.lying ≡ false = lies_as q.0 q.1 ∙ ap (has_number plan.liars.clients) q.2 ∙ right in
@@ -326,7 +326,7 @@ module _ (plan : Plan) (k from : ℕ) (seats : List (Seat Work)) (counted : List
 
   told : (x : BlockStamp) (g : IsGiven seats x) → IsTold x g.operation
   told x g =
-      let among : Contains (desks_of seats) g.seat.desk = Contains-map (λ (s : Seat Work). s.desk) seats g.seat g.among in
+      let among : Contains (desks_of seats) g.seat.desk = Contains-map (λ (s : Seat ClientDuty). s.desk) seats g.seat g.among in
       record {
         client = g.seat.desk.id;
         correct = sym (lies_as g.seat.desk among) ∙ g.correct;

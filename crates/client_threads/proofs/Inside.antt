@@ -13,10 +13,10 @@ use Rattle.plan_followed.specs.Prunings.{ArePrunings}
 use Rattle.plan_followed.specs.Closed.{next_begin}
 use Rattle.phase_threads.specs.Standing.{AreCells, AreInside, ArePlanned, IsDeskAt}
 use Rattle.phase_threads.specs.declared.duty.Seat.{Seat}
-use Rattle.client_work.specs.declared.reads.GivenRead.{GivenRead}
-use Rattle.client_work.specs.declared.work.Work.{Work}
-use Rattle.client_work.specs.declared.work.Work.TheVariants.{Client, Lying, Courier}
-use Rattle.client_work.specs.Work.{given_by, all_given}
+use Rattle.client_duties.specs.declared.reads.GivenRead.{GivenRead}
+use Rattle.client_duties.specs.declared.work.ClientDuty.{ClientDuty}
+use Rattle.client_duties.specs.declared.work.ClientDuty.TheVariants.{Client, Lying, Courier}
+use Rattle.client_duties.specs.ClientDuty.{given_by, all_given}
 use Rattle.client_threads.specs.Met.{IsKeeper, HasMetCell}
 use Rattle.client_threads.specs.Meeting.{HasMetAll}
 use Rattle.client_threads.specs.Pruned.{HasMorePrunes, reopened}
@@ -30,7 +30,7 @@ use Rattle.lists.proofs.lemmas.Members.{Contains-head, Contains-rest}
 
 -- ---- reads
 
-fewer_as : (plan : Plan) (k from n : ℕ) (w : Work) (d : DeskView) → StandsAt plan k w d → IsPartedAs from w d n → n ≤ length (reads_in w)
+fewer_as : (plan : Plan) (k from n : ℕ) (w : ClientDuty) (d : DeskView) → StandsAt plan k w d → IsPartedAs from w d n → n ≤ length (reads_in w)
 fewer_as plan k from n (Client w) d h p =
     let all : w.reads ≡ all_given p.before ++ all_given p.after = reads_are w d h.1 ∙ ap all_given p.ended ∙ filter_map-append (λ (x : Ended). given_by x.block x.outcome) p.before p.after in
     let count = p.count in
@@ -40,10 +40,10 @@ fewer_as plan k from n (Lying w) d h p = omega (arith, p)
 fewer_as plan k from n Courier d h p = absurd h
 
 -- so many reads of each client were counted as it made
-pub fewer : (plan : Plan) (k from : ℕ) (seats : List (Seat Work)) (counted : List ℕ) → All (λ s. StandsAt plan k s.duty s.desk) seats → AllZip (IsParted from) seats counted → AllZip (λ s n. n ≤ length (reads_of s)) seats counted
+pub fewer : (plan : Plan) (k from : ℕ) (seats : List (Seat ClientDuty)) (counted : List ℕ) → All (λ s. StandsAt plan k s.duty s.desk) seats → AllZip (IsParted from) seats counted → AllZip (λ s n. n ≤ length (reads_of s)) seats counted
 fewer plan k from seats counted works parted = zip_left (IsParted from) (λ s n. n ≤ length (reads_of s)) (λ s. StandsAt plan k s.duty s.desk) seats counted (λ s n p h. fewer_as plan k from n s.duty s.desk h p) parted works
 
-inside_as : (plan : Plan) (k : ℕ) (w : Work) (d : DeskView) → StandsAt plan k w d → All (λ r. r.block < plan.config.blocks) (reads_in w)
+inside_as : (plan : Plan) (k : ℕ) (w : ClientDuty) (d : DeskView) → StandsAt plan k w d → All (λ r. r.block < plan.config.blocks) (reads_in w)
 inside_as plan k (Client w) d h = subst (λ (p : Plan). All (λ (r : GivenRead). r.block < p.config.blocks) w.reads) h.0 h.1.goes.reads.inside
 inside_as plan k (Lying w) d h = All-nil (λ (r : GivenRead). r.block < plan.config.blocks)
 inside_as plan k Courier d h = absurd h
@@ -52,11 +52,11 @@ all_where : {X : Type 0} (P : X → Type 0) (xs : List X) → ((x : X) → Conta
 all_where P [] h = All-nil P
 all_where P (x ∷ xs) h = All-cons P x xs (h x (Contains-head x xs)) (all_where P xs (λ y there. h y (Contains-rest y x xs there)))
 
-module _ (plan : Plan) (k from : ℕ) (seats : List (Seat Work)) (counted : List ℕ)
+module _ (plan : Plan) (k from : ℕ) (seats : List (Seat ClientDuty)) (counted : List ℕ)
     (works : All (λ s. StandsAt plan k s.duty s.desk) seats) (parted : AllZip (IsParted from) seats counted) where
   inside_from : (part : ℕ → List GivenRead → List GivenRead) (x : BlockStamp) → ((n : ℕ) (l : List GivenRead) (r : GivenRead) → Contains (part n l) r → Contains l r) → FromSeat from part seats x → x.block < plan.config.blocks
   inside_from part x among f =
-      let stands = All-contains (λ (s : Seat Work). StandsAt plan k s.duty s.desk) seats f.seat works f.among in
+      let stands = All-contains (λ (s : Seat ClientDuty). StandsAt plan k s.duty s.desk) seats f.seat works f.among in
       let within = All-contains (λ (r : GivenRead). r.block < plan.config.blocks) (reads_of f.seat) f.read (inside_as plan k f.seat.duty f.seat.desk stands) (among f.count (reads_of f.seat) f.read f.there) in
       subst (λ (y : BlockStamp). y.block < plan.config.blocks) (sym f.is) within
 
@@ -70,13 +70,13 @@ module _ (plan : Plan) (k from : ℕ) (seats : List (Seat Work)) (counted : List
 
 -- ---- a phase that is worked off
 
-module _ (k : ℕ) (run0 run1 : Run) (b : IsWorked k run0) (m : HasMetAll run0 run1) (seats : List (Seat Work)) (counted : List ℕ)
+module _ (k : ℕ) (run0 run1 : Run) (b : IsWorked k run0) (m : HasMetAll run0 run1) (seats : List (Seat ClientDuty)) (counted : List ℕ)
     (are_seats : seats ≡ run1.clients.items) (are_counts : counted ≡ run1.counted.items) where
-  reads_on : (f : List (Seat Work) → List ℕ → List BlockStamp) → f seats counted ≡ f run1.clients.items run1.counted.items
+  reads_on : (f : List (Seat ClientDuty) → List ℕ → List BlockStamp) → f seats counted ≡ f run1.clients.items run1.counted.items
   reads_on f = λ i. f (are_seats i) (are_counts i)
 
   pub counted_met : AllZip (λ s n. n ≤ length (reads_of s)) seats counted
-  counted_met = subst (λ (l : List (Seat Work)). AllZip (λ s n. n ≤ length (reads_of s)) l counted) (sym are_seats) (subst (AllZip (λ s n. n ≤ length (reads_of s)) run1.clients.items) (sym are_counts)
+  counted_met = subst (λ (l : List (Seat ClientDuty)). AllZip (λ s n. n ≤ length (reads_of s)) l counted) (sym are_seats) (subst (AllZip (λ s n. n ≤ length (reads_of s)) run1.clients.items) (sym are_counts)
       (fewer (plan_of run0) (k + 1) (next_begin b.phases) run1.clients.items run1.counted.items (works_met k run0 run1 b m) (parted_on k run0 run1 b m)))
 
   pub as_many : length counted ≡ length seats
@@ -122,7 +122,7 @@ open_pruned old new plan clock clients courier keeper some kept o = record {
       (cells_fixed (plan_of old).config old.clock old.cells.items new.cells.items fixed o.cells));
   inside = subst (λ (p : Plan). AreInside p.config new.cells.items) (sym plan) (inside_fixed (plan_of old).config old.cells.items new.cells.items fixed o.inside);
   desks = subst (λ (p : Plan). All (IsDeskAt p.config new.clock) (clients_of new)) (sym plan) (subst (λ (c : ClockId). All (IsDeskAt (plan_of old).config c) (clients_of new)) (sym clock)
-      (subst (λ (l : List (Seat Work)). All (IsDeskAt (plan_of old).config old.clock) (map (λ s. s.desk) l)) (sym clients) o.desks));
+      (subst (λ (l : List (Seat ClientDuty)). All (IsDeskAt (plan_of old).config old.clock) (map (λ s. s.desk) l)) (sym clients) o.desks));
   courier = subst (λ (p : Plan). IsDeskAt p.config new.clock new.courier) (sym plan) (subst (λ (c : ClockId). IsDeskAt (plan_of old).config c new.courier) (sym clock)
       (subst (IsDeskAt (plan_of old).config old.clock) (sym courier) o.courier));
   keeper = (keeper.clock ∙ o.keeper.0 ∙ sym clock, keeper.drawn ∙ o.keeper.1);

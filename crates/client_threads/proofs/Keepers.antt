@@ -9,7 +9,7 @@ use Rattle.event_clock.specs.Passes.{Holder, met}
 use Rattle.locked_nodes.specs.Cells.{CellView, KeptCell, met_cell}
 use Rattle.client_desks.specs.Desks.{DeskView, KeptDesk, met_desk}
 use Rattle.phase_threads.specs.declared.duty.Seat.{Seat}
-use Rattle.client_work.specs.declared.work.Work.{Work}
+use Rattle.client_duties.specs.declared.work.ClientDuty.{ClientDuty}
 use Rattle.client_threads.specs.Met.{IsKeeper, HasMetCell, HasMetDesk, HasMetSeat}
 use Rattle.client_threads.proofs.Stepping.{Partly, partly_more}
 use Rattle.client_threads.proofs.Stepping.Partly.{Same, Done}
@@ -74,16 +74,16 @@ meets_cell low keeper keeper' cell new le is made kept =
 
 -- ---- seats
 
-pub record MeetsSeat (low high : ℕ) (old new : Seat Work) : Type 0 where
+pub record MeetsSeat (low high : ℕ) (old new : Seat ClientDuty) : Type 0 where
   pub met : HasMetSeat old new
   pub within : IsWithin low high new.desk.pass
   pub kept : KeptDesk new.desk
 
-pub seats_on : (low high next : ℕ) (xs ys : List (Seat Work)) (i : ℕ) → high ≤ next → Partly (MeetsSeat low high) xs ys i → Partly (MeetsSeat low next) xs ys i
+pub seats_on : (low high next : ℕ) (xs ys : List (Seat ClientDuty)) (i : ℕ) → high ≤ next → Partly (MeetsSeat low high) xs ys i → Partly (MeetsSeat low next) xs ys i
 seats_on low high next xs ys i le p =
     partly_map (MeetsSeat low high) (MeetsSeat low next) xs ys i (λ x y m. record { met = m.met; within = more_within low high next y.desk.pass le m.within; kept = m.kept }) p
 
-pub meets_seat : (low : ℕ) (keeper keeper' : Holder) (old new : Seat Work) → low ≤ keeper.seen → keeper' ≡ met keeper old.desk.pass → new.desk ≡ met_desk old.desk keeper → new.duty ≡ old.duty → KeptDesk new.desk → MeetsSeat low keeper'.seen old new
+pub meets_seat : (low : ℕ) (keeper keeper' : Holder) (old new : Seat ClientDuty) → low ≤ keeper.seen → keeper' ≡ met keeper old.desk.pass → new.desk ≡ met_desk old.desk keeper → new.duty ≡ old.duty → KeptDesk new.desk → MeetsSeat low keeper'.seen old new
 meets_seat low keeper keeper' old new le is made duty kept =
     let has : HasMetDesk old.desk (met_desk old.desk keeper) = record { config = refl; id = refl; lying = refl; entries = refl; pass = met_keeper old.desk.pass keeper } in
     let w : IsWithin low keeper'.seen (met old.desk.pass keeper) = subst (λ (h : Holder). IsWithin low h.seen (met old.desk.pass keeper)) (sym is) (met_within low keeper old.desk.pass le) in
@@ -93,7 +93,7 @@ meets_seat low keeper keeper' old new le is made duty kept =
       kept = kept;
     }
 
-pub all_desks : (seats : List (Seat Work)) → All (λ s. KeptDesk s.desk) seats → All KeptDesk (map (λ s. s.desk) seats)
+pub all_desks : (seats : List (Seat ClientDuty)) → All (λ s. KeptDesk s.desk) seats → All KeptDesk (map (λ s. s.desk) seats)
 all_desks [] a = All-nil KeptDesk
 all_desks (s ∷ seats) a = All-cons KeptDesk s.desk (map (λ s. s.desk) seats) (a 0 s (omega arith)) (all_desks seats (λ k d lt. a (suc k) d (omega (arith, lt))))
 

@@ -13,30 +13,30 @@ use Rattle.protocol.specs.Report.{Ascend}
 use Rattle.wire_forms.specs.Liars.{has_number, IsClientNumber}
 use Rattle.event_clock.specs.Passes.{ClockId, Holder, IsUnused, unused}
 use Rattle.locked_nodes.specs.Cells.{CellView}
-use Rattle.locked_nodes.specs.declared.slot.Slot.{Slot}
-use Rattle.locked_nodes.specs.Slots.{slot_of}
+use Rattle.locked_nodes.specs.declared.cell_shard.CellShard.{CellShard}
+use Rattle.locked_nodes.specs.CellShards.{cell_shard_of}
 use Rattle.client_desks.specs.Desks.{DeskView, first_desk}
 use Rattle.plan_words.specs.declared.plan.Plan.{Plan}
 use Rattle.plan_words.specs.Named.{clients, ascending, lying_client, lying_clients, troubled_client, job_client, asking_clients}
 use Rattle.plan_words.specs.Plans.{IsFault, IsJob, Fits}
 use Rattle.plan_followed.proofs.lemmas.Plans.{liar_there}
 use Rattle.plan_followed.specs.Closed.{Begins}
-use Rattle.client_work.specs.declared.task.Task.{Task}
-use Rattle.client_work.specs.Tasks.{client_of}
+use Rattle.client_duties.specs.declared.task.Task.{Task}
+use Rattle.client_duties.specs.Tasks.{client_of}
 use Rattle.phase_threads.specs.Standing.{IsDeskAt}
 use Rattle.phase_threads.specs.Ended.{AreClients}
 use Rattle.phase_threads.specs.declared.duty.Seat.{Seat}
-use Rattle.crews.proofs.lemmas.Places.{get_snoc}
-use Rattle.client_work.specs.declared.work.Work.{Work}
-use Rattle.client_work.specs.declared.work.Work.TheVariants.{Client, Lying}
-use Rattle.client_work.specs.declared.worker.ClientWorker.{ClientWorker}
-use Rattle.client_work.specs.declared.liar.Liar.{Liar}
-use Rattle.client_work.specs.Work.{IsReady, HasMail, phase_at}
+use Rattle.thread_work.proofs.lemmas.Places.{get_snoc}
+use Rattle.client_duties.specs.declared.work.ClientDuty.{ClientDuty}
+use Rattle.client_duties.specs.declared.work.ClientDuty.TheVariants.{Client, Lying}
+use Rattle.client_duties.specs.declared.worker.CorrectClient.{CorrectClient}
+use Rattle.client_duties.specs.declared.liar.Liar.{Liar}
+use Rattle.client_duties.specs.ClientDuty.{IsReady, HasMail, phase_at}
 use Rattle.client_threads.specs.Opened.{IsUnusedPass, IsNewCell, AreNewCells, IsBefore, IsNewSeat, cell_count, shards_of}
 use Rattle.client_threads.specs.declared.state.Run.{Run}
 use Rattle.client_threads.specs.Running.{desks_of, plan_of, LiarsNamed, IsBetween}
 use Rattle.client_threads.proofs.Beginning.{shards_cases, cells_planned, is_first}
-use Rattle.lists.proofs.lemmas.Members.{Contains-head, Contains-none, Contains-rest, Contains-cons_cases, Contains-map_cases, Contains-map, place_of, get_left, slice_get-seam, Contains-slice_get}
+use Rattle.lists.proofs.lemmas.Members.{Contains-head, Contains-none, Contains-rest, Contains-cons_cases, Contains-map_cases, Contains-map, place_of, slice_get-append_left, slice_get-seam, Contains-slice_get}
 use Rattle.protocol.proofs.lemmas.Starts.{starts_few}
 use Rattle.plan_followed.proofs.lemmas.Phases.{troubled_there, worker_there}
 
@@ -69,15 +69,15 @@ one_new plan shards clock n s cells more cell h is new = subst (AreNewCells plan
   own = λ k m a b at there same. elim (get_snoc cells cell k a at) [
     | inl was ↦ elim (get_snoc cells cell m b there) [
       | inl also ↦ h.own k m a b was also same
-      | inr q ↦ absurd (apart k a was (same ∙ ap (λ (y : CellView). slot_of y.charter) q.1))
+      | inr q ↦ absurd (apart k a was (same ∙ ap (λ (y : CellView). cell_shard_of y.charter) q.1))
     ]
     | inr p ↦ elim (get_snoc cells cell m b there) [
-      | inl also ↦ absurd (apart m b also (sym same ∙ ap (λ (y : CellView). slot_of y.charter) p.1))
+      | inl also ↦ absurd (apart m b also (sym same ∙ ap (λ (y : CellView). cell_shard_of y.charter) p.1))
       | inr q ↦ q.0 ∙ sym p.0
     ]
   ];
   all = λ i t first l. elim (cut i t first) [
-    | inl was ↦ (let c = h.all i t was l in (c.0, c.1, get_left cells (cell ∷ []) c.0 c.1 c.2, c.3, c.4))
+    | inl was ↦ (let c = h.all i t was l in (c.0, c.1, slice_get-append_left cells (cell ∷ []) c.0 c.1 c.2, c.3, c.4))
     | inr q ↦ (length cells, cell, slice_get-seam cells cell [], number ∙ sym q.0, shard ∙ sym q.1)
   ];
 })
@@ -91,11 +91,11 @@ one_new plan shards clock n s cells more cell h is new = subst (AreNewCells plan
     mine : IsNewCell plan shards clock cell.charter.number cell.charter.shard cell
     mine = subst (λ (k : ℕ). IsNewCell plan shards clock k cell.charter.shard cell) (sym number) (subst (λ (k : ℕ). IsNewCell plan shards clock n k cell) (sym shard) new)
 
-    -- its slot had no cell
-    apart : (k : ℕ) (x : CellView) → slice_get cells k ≡ Some x → slot_of x.charter ≡ slot_of cell.charter → ⊥
+    -- its shard had no cell
+    apart : (k : ℕ) (x : CellView) → slice_get cells k ≡ Some x → cell_shard_of x.charter ≡ cell_shard_of cell.charter → ⊥
     apart k x at same =
-        let i = ap (λ (y : Slot). y.node) same ∙ number in
-        let t = ap (λ (y : Slot). y.shard) same ∙ shard in
+        let i = ap (λ (y : CellShard). y.node) same ∙ number in
+        let t = ap (λ (y : CellShard). y.shard) same ∙ shard in
         elim (h.before k x at) [ inl less ↦ omega (arith, less, i) | inr q ↦ (let l = q.1 in omega (arith, l, t)) ]
 
     cut : (i t : ℕ) → IsBefore n (s + 1) i t → IsBefore n s i t ⊎ ((i ≡ n) × (t ≡ s))
@@ -247,19 +247,19 @@ same_long f g xs ys is = let same = ap (λ (l : List ℕ). length l) is in let a
 
 -- ---- desks
 
-ids_are : (seats : List (Seat Work)) → map (λ d. d.id) (desks_of seats) ≡ map (λ s. s.desk.id) seats
+ids_are : (seats : List (Seat ClientDuty)) → map (λ d. d.id) (desks_of seats) ≡ map (λ s. s.desk.id) seats
 ids_are [] = refl
 ids_are (s ∷ seats) = ap (λ (l : List ℕ). s.desk.id ∷ l) (ids_are seats)
 
-on_desks : (P : DeskView → Type 0) (plan : Plan) (clock : ClockId) (seats : List (Seat Work)) → All (IsNewSeat plan clock) seats → ((s : Seat Work) → Contains seats s → IsNewSeat plan clock s → P s.desk) → All P (desks_of seats)
+on_desks : (P : DeskView → Type 0) (plan : Plan) (clock : ClockId) (seats : List (Seat ClientDuty)) → All (IsNewSeat plan clock) seats → ((s : Seat ClientDuty) → Contains seats s → IsNewSeat plan clock s → P s.desk) → All P (desks_of seats)
 on_desks P plan clock seats new f = all_by P (desks_of seats) (λ d there.
-    let q = Contains-map_cases (λ (s : Seat Work). s.desk) seats d there in
+    let q = Contains-map_cases (λ (s : Seat ClientDuty). s.desk) seats d there in
     subst P (sym q.2) (f q.0 q.1 (All-contains (IsNewSeat plan clock) seats q.0 new q.1)))
 
-pub desks_at : (plan : Plan) (clock : ClockId) (seats : List (Seat Work)) → All (IsNewSeat plan clock) seats → All (IsDeskAt plan.config clock) (desks_of seats)
+pub desks_at : (plan : Plan) (clock : ClockId) (seats : List (Seat ClientDuty)) → All (IsNewSeat plan clock) seats → All (IsDeskAt plan.config clock) (desks_of seats)
 desks_at plan clock seats new = on_desks (IsDeskAt plan.config clock) plan clock seats new (λ s there n. record { cluster = ap (λ (d : DeskView). d.config) n.is; ticks = ap (λ (d : DeskView). d.pass.clock) n.is ∙ n.unused.ticks })
 
-pub clients_are : (plan : Plan) (clock : ClockId) (seats : List (Seat Work)) → All (IsNewSeat plan clock) seats → map (λ s. s.desk.id) seats ≡ ascending (clients plan.rules plan.work) → AreClients plan (desks_of seats)
+pub clients_are : (plan : Plan) (clock : ClockId) (seats : List (Seat ClientDuty)) → All (IsNewSeat plan clock) seats → map (λ s. s.desk.id) seats ≡ ascending (clients plan.rules plan.work) → AreClients plan (desks_of seats)
 clients_are plan clock seats new ids =
     let named = clients plan.rules plan.work in
     let is = ids_are seats ∙ ids in
@@ -280,7 +280,7 @@ desk_is : (plan : Plan) (id : ℕ) (lying : Bool) (pass : Holder) (d : DeskView)
 desk_is plan id lying pass d is lies =
     is ∙ ap (λ (b : Bool). first_desk plan.config id b pass) (sym lies) ∙ ap (λ (k : ℕ). first_desk plan.config k (has_number plan.liars.clients k) pass) (sym (ap (λ (x : DeskView). x.id) is))
 
-pub client_new : (plan : Plan) (pass : Holder) (c : ℕ) (d : DeskView) (w : ClientWorker) → pass.drawn ≡ [] → d ≡ first_desk plan.config c false pass → has_number plan.liars.clients c ≡ false → w.plan.value ≡ plan
+pub client_new : (plan : Plan) (pass : Holder) (c : ℕ) (d : DeskView) (w : CorrectClient) → pass.drawn ≡ [] → d ≡ first_desk plan.config c false pass → has_number plan.liars.clients c ≡ false → w.plan.value ≡ plan
     → ((e : DeskView) → e.config ≡ plan.config → e.id ≡ c → e.lying ≡ false → e.entries ≡ [] → IsReady w e) → phase_at w ≡ 0 → IsNewSeat plan pass.clock (record { desk = d; duty = Client w })
 client_new plan pass c d w none is correct same ready first = record {
   pass = pass;

@@ -17,7 +17,7 @@ use Rattle.journals.specs.Desks.{Ended, DeskState, new_desk, ended_by, desk_afte
 use Rattle.client_desks.specs.Desks.{DeskView, state_at}
 use Rattle.client_desks.specs.Later.{IsLater}
 use Rattle.phase_threads.proofs.lemmas.Cells.{desk_rises}
-use Rattle.client_work.specs.Work.{all_given}
+use Rattle.client_duties.specs.ClientDuty.{all_given}
 use Rattle.client_threads.specs.Reads.{AreParted}
 use Rattle.lists.proofs.lemmas.Members.{Contains-head, Contains-none, Contains-rest, Contains-one}
 

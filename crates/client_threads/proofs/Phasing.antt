@@ -29,8 +29,8 @@ use Rattle.phase_threads.specs.Ended.{AreClients}
 use Rattle.phase_threads.specs.declared.duty.Seat.{Seat}
 use Rattle.plan_followed.specs.declared.prunes.BlockStamp.{BlockStamp}
 use Rattle.plan_followed.specs.Prunings.{ArePrunings}
-use Rattle.client_work.specs.declared.work.Work.{Work}
-use Rattle.client_work.specs.declared.work.Work.TheVariants.{Client, Lying, Courier}
+use Rattle.client_duties.specs.declared.work.ClientDuty.{ClientDuty}
+use Rattle.client_duties.specs.declared.work.ClientDuty.TheVariants.{Client, Lying, Courier}
 use Rattle.client_threads.specs.Met.{IsKeeper, HasMetCell, HasMetDesk, HasMetSeat}
 use Rattle.client_threads.specs.Meeting.{HasMetAll}
 use Rattle.client_threads.specs.Pruned.{HasMorePrunes, AllPruned, reopened, prunings_of}
@@ -50,10 +50,10 @@ use Rattle.lists.proofs.lemmas.Members.{Contains-none}
 met_is : (d e : DeskView) → HasMetDesk d e → e ≡ record { config = d.config; id = d.id; lying = d.lying; entries = d.entries; pass = e.pass }
 met_is d e h = λ i. record { config = h.config i; id = h.id i; lying = h.lying i; entries = h.entries i; pass = e.pass }
 
-stands_met : (plan : Plan) (k : ℕ) (w : Work) (d e : DeskView) → HasMetDesk d e → StandsAt plan k w d → StandsAt plan k w e
+stands_met : (plan : Plan) (k : ℕ) (w : ClientDuty) (d e : DeskView) → HasMetDesk d e → StandsAt plan k w d → StandsAt plan k w e
 stands_met plan k w d e h s = subst (StandsAt plan k w) (sym (met_is d e h)) (kinds w s)
   where
-    kinds : (w : Work) → StandsAt plan k w d → StandsAt plan k w (record { config = d.config; id = d.id; lying = d.lying; entries = d.entries; pass = e.pass })
+    kinds : (w : ClientDuty) → StandsAt plan k w d → StandsAt plan k w (record { config = d.config; id = d.id; lying = d.lying; entries = d.entries; pass = e.pass })
     kinds (Client v) s = (
       s.0,
       record {
@@ -71,11 +71,11 @@ stands_met plan k w d e h s = subst (StandsAt plan k w) (sym (met_is d e h)) (ki
     kinds (Lying v) s = (s.0, record { config = s.1.config; id = s.1.id; lying = s.1.lying; sent = s.1.sent; each = s.1.each }, s.2)
     kinds Courier s = absurd s
 
-seats_met : (plan : Plan) (k : ℕ) (xs ys : List (Seat Work)) → AllZip HasMetSeat xs ys → All (λ s. StandsAt plan k s.duty s.desk) xs → All (λ s. StandsAt plan k s.duty s.desk) ys
+seats_met : (plan : Plan) (k : ℕ) (xs ys : List (Seat ClientDuty)) → AllZip HasMetSeat xs ys → All (λ s. StandsAt plan k s.duty s.desk) xs → All (λ s. StandsAt plan k s.duty s.desk) ys
 seats_met plan k xs ys z a = zip_all HasMetSeat (λ s. StandsAt plan k s.duty s.desk) (λ s. StandsAt plan k s.duty s.desk) xs ys
-    (λ x y h s. subst (λ (w : Work). StandsAt plan k w y.desk) (sym h.duty) (stands_met plan k x.duty x.desk y.desk h.desk s)) z a
+    (λ x y h s. subst (λ (w : ClientDuty). StandsAt plan k w y.desk) (sym h.duty) (stands_met plan k x.duty x.desk y.desk h.desk s)) z a
 
-desks_met : (xs ys : List (Seat Work)) → AllZip HasMetSeat xs ys → AllZip HasMetDesk (desks_of xs) (desks_of ys)
+desks_met : (xs ys : List (Seat ClientDuty)) → AllZip HasMetSeat xs ys → AllZip HasMetDesk (desks_of xs) (desks_of ys)
 desks_met [] [] z = tt
 desks_met [] (y ∷ ys) z = absurd z
 desks_met (x ∷ xs) [] z = absurd z
@@ -162,32 +162,32 @@ met_alone a b h = record { more = []; grew = h.journal ∙ append_nil a.journal;
 
 -- ---- reads
 
-kind_met : (from n : ℕ) (w : Work) (d e : DeskView) → HasMetDesk d e → IsPartedAs from w d n → IsPartedAs from w e n
+kind_met : (from n : ℕ) (w : ClientDuty) (d e : DeskView) → HasMetDesk d e → IsPartedAs from w d n → IsPartedAs from w e n
 kind_met from n (Client v) d e h p = subst (λ (x : DeskView). AreParted from x n) (sym (met_is d e h)) (record { before = p.before; after = p.after; ended = p.ended; count = p.count; low = p.low; high = p.high })
 kind_met from n (Lying v) d e h p = p
 kind_met from n Courier d e h p = p
 
-parted_met : (from : ℕ) (xs ys : List (Seat Work)) (counted : List ℕ) → AllZip HasMetSeat xs ys → AllZip (IsParted from) xs counted → AllZip (IsParted from) ys counted
+parted_met : (from : ℕ) (xs ys : List (Seat ClientDuty)) (counted : List ℕ) → AllZip HasMetSeat xs ys → AllZip (IsParted from) xs counted → AllZip (IsParted from) ys counted
 parted_met from [] [] counted z p = p
 parted_met from [] (y ∷ ys) counted z p = absurd z
 parted_met from (x ∷ xs) [] counted z p = absurd z
 parted_met from (x ∷ xs) (y ∷ ys) [] z p = absurd p
-parted_met from (x ∷ xs) (y ∷ ys) (n ∷ ns) z p = (subst (λ (w : Work). IsPartedAs from w y.desk n) (sym z.0.duty) (kind_met from n x.duty x.desk y.desk z.0.desk p.0), parted_met from xs ys ns z.1 p.1)
+parted_met from (x ∷ xs) (y ∷ ys) (n ∷ ns) z p = (subst (λ (w : ClientDuty). IsPartedAs from w y.desk n) (sym z.0.duty) (kind_met from n x.duty x.desk y.desk z.0.desk p.0), parted_met from xs ys ns z.1 p.1)
 
 -- all reads of a client ended below what bounds its entries
-all_of : (plan : Plan) (k end : ℕ) (w : Work) (d : DeskView) → StandsAt plan k w d → ((e : DeskEntry) → Contains d.entries e → e.number < end) → IsPartedAs end w d (length (reads_in w))
+all_of : (plan : Plan) (k end : ℕ) (w : ClientDuty) (d : DeskView) → StandsAt plan k w d → ((e : DeskEntry) → Contains d.entries e → e.number < end) → IsPartedAs end w d (length (reads_in w))
 all_of plan k end (Client w) d h low = subst (AreParted end d) (ap length (sym (reads_are w d h.1))) (parted_all end d low)
 all_of plan k end (Lying w) d h low = refl
 all_of plan k end Courier d h low = refl
 
-all_parted : (plan : Plan) (k end : ℕ) (xs ys : List (Seat Work)) → AllZip HasMetSeat xs ys → All (λ s. StandsAt plan k s.duty s.desk) xs
+all_parted : (plan : Plan) (k end : ℕ) (xs ys : List (Seat ClientDuty)) → AllZip HasMetSeat xs ys → All (λ s. StandsAt plan k s.duty s.desk) xs
     → All (λ d. (e : DeskEntry) → Contains d.entries e → e.number < end) (desks_of xs) → AllZip (IsParted end) ys (map (λ s. length (reads_of s)) xs)
 all_parted plan k end [] [] z a low = tt
 all_parted plan k end [] (y ∷ ys) z a low = absurd z
 all_parted plan k end (x ∷ xs) [] z a low = absurd z
 all_parted plan k end (x ∷ xs) (y ∷ ys) z a low = (
   (let p = all_of plan k end x.duty x.desk (All-head (λ s. StandsAt plan k s.duty s.desk) x xs a) (All-head (λ d. (e : DeskEntry) → Contains d.entries e → e.number < end) x.desk (desks_of xs) low) in
-      subst (λ (w : Work). IsPartedAs end w y.desk (length (reads_of x))) (sym z.0.duty) (kind_met end (length (reads_of x)) x.duty x.desk y.desk z.0.desk p)),
+      subst (λ (w : ClientDuty). IsPartedAs end w y.desk (length (reads_of x))) (sym z.0.duty) (kind_met end (length (reads_of x)) x.duty x.desk y.desk z.0.desk p)),
   all_parted plan k end xs ys z.1 (All-tail (λ s. StandsAt plan k s.duty s.desk) x xs a) (All-tail (λ d. (e : DeskEntry) → Contains d.entries e → e.number < end) x.desk (desks_of xs) low),
 )
 
@@ -334,7 +334,7 @@ module _ (below : JournalsBelow) (prune : CellsPrune) (close : Closes) (k : ℕ)
 
   -- after the last meeting
   seats3 : AllZip HasMetSeat run1.clients.items run3.clients.items
-  seats3 = subst (λ (l : List (Seat Work)). AllZip HasMetSeat l run3.clients.items) did.clients n.seats
+  seats3 = subst (λ (l : List (Seat ClientDuty)). AllZip HasMetSeat l run3.clients.items) did.clients n.seats
 
   desks3 : AllZip HasMetDesk (clients_of run1) (clients_of run3)
   desks3 = desks_met run1.clients.items run3.clients.items seats3

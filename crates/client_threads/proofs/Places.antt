@@ -13,9 +13,9 @@ use Rattle.event_clock.specs.Passes.{ClockId, Holder}
 use Rattle.journals.specs.declared.node.NodeEntry.{NodeEntry}
 use Rattle.journals.specs.Acts.{can_prune}
 use Rattle.locked_nodes.specs.declared.answers.CellRefusal.{CellRefusal}
-use Rattle.locked_nodes.specs.declared.slot.Slot.{Slot}
+use Rattle.locked_nodes.specs.declared.cell_shard.CellShard.{CellShard}
 use Rattle.locked_nodes.specs.Cells.{CellView, KeptCell, state_of, rechartered}
-use Rattle.locked_nodes.specs.Slots.{IsPlace, slot_of, slots_of}
+use Rattle.locked_nodes.specs.CellShards.{IsPlace, cell_shard_of, cell_shards_of}
 use Rattle.plan_words.specs.declared.plan.Plan.{Plan}
 use Rattle.plan_followed.specs.Asked.{nature}
 use Rattle.plan_followed.specs.Nodes.{Pruning, act_of, node_after}
@@ -25,32 +25,32 @@ use Rattle.phase_threads.proofs.lemmas.Working.{cell_below}
 use Rattle.client_threads.specs.Met.{IsKeeper}
 use Rattle.client_threads.specs.Pruned.{IsOpenCell, HasMorePrunes, IsServed, ArePlaces, AllPrune, NodePruned, OthersStay, reopened, prunings_of}
 use Rattle.client_threads.proofs.Keepers.{keeper_then, same_keeper}
-use Rattle.client_threads.proofs.Prunes.{none_more, more_then, same_may, slots_same}
+use Rattle.client_threads.proofs.Prunes.{none_more, more_then, same_may, shards_same}
 use Rattle.client_threads.proofs.Working.{zip_then, zip_all, IsFixedAs, planned_fixed}
-use Rattle.lists.proofs.lemmas.Members.{Contains-none, get_new, slice_get-push, all_at, Contains-slice_get}
+use Rattle.lists.proofs.lemmas.Members.{Contains-none, slice_get-pushed, slice_get-push, all_at_place, Contains-slice_get}
 
 -- ---- places
 
--- what stands for a slot that isn't there
-abbrev pub no_slot : Slot
-no_slot = record { node = 0; shard = 0; shards = 0 }
+-- what stands for a shard that isn't there
+abbrev pub no_shard : CellShard
+no_shard = record { node = 0; shard = 0; shards = 0 }
 
 -- the place of the cell of a shard
-pub record IsPlaceOf (slots : List Slot) (node : ℕ) (places : List ℕ) (shard : ℕ) : Type 0 where
+pub record IsPlaceOf (cell_shards : List CellShard) (node : ℕ) (places : List ℕ) (shard : ℕ) : Type 0 where
   pub place : ℕ
   pub there : slice_get places shard ≡ Some place
-  pub is : IsPlace slots place node shard
+  pub is : IsPlace cell_shards place node shard
 
 -- those of the first shards, so many
-pub record ArePlacesTo (slots : List Slot) (node : ℕ) (places : List ℕ) (count : ℕ) : Type 0 where
+pub record ArePlacesTo (cell_shards : List CellShard) (node : ℕ) (places : List ℕ) (count : ℕ) : Type 0 where
   pub long : length places ≡ count
-  pub each : (s : ℕ) → s < count → IsPlaceOf slots node places s
+  pub each : (s : ℕ) → s < count → IsPlaceOf cell_shards node places s
 
-pub no_places : (slots : List Slot) (node : ℕ) → ArePlacesTo slots node [] 0
-no_places slots node = record { long = refl; each = λ s l. absurd (omega (arith, l)) }
+pub no_places : (cell_shards : List CellShard) (node : ℕ) → ArePlacesTo cell_shards node [] 0
+no_places cell_shards node = record { long = refl; each = λ s l. absurd (omega (arith, l)) }
 
-pub one_place : (slots : List Slot) (node : ℕ) (places : List ℕ) (count place : ℕ) → ArePlacesTo slots node places count → IsPlace slots place node count → ArePlacesTo slots node (places ++ place ∷ []) (count + 1)
-one_place slots node places count place h is = record {
+pub one_place : (cell_shards : List CellShard) (node : ℕ) (places : List ℕ) (count place : ℕ) → ArePlacesTo cell_shards node places count → IsPlace cell_shards place node count → ArePlacesTo cell_shards node (places ++ place ∷ []) (count + 1)
+one_place cell_shards node places count place h is = record {
   long = length-append places (place ∷ []) ∙ ap (λ (n : ℕ). n + 1) h.long;
   each = λ s l. elim (below_tells s count) [
     | inl before ↦ (let q = h.each s before.1 in record { place = q.place; there = slice_get-push places place s q.place q.there; is = q.is })
@@ -58,28 +58,28 @@ one_place slots node places count place h is = record {
         let e : s ≡ count = (let m = last.1 in omega (arith, l, m)) in
         record {
           place = place;
-          there = ap (slice_get (places ++ place ∷ [])) (e ∙ sym h.long) ∙ get_new places place;
-          is = subst (λ (n : ℕ). IsPlace slots place node n) (sym e) is;
+          there = ap (slice_get (places ++ place ∷ [])) (e ∙ sym h.long) ∙ slice_get-pushed places place;
+          is = subst (λ (n : ℕ). IsPlace cell_shards place node n) (sym e) is;
         }
         )
   ];
 }
 
--- a slot of the node has as many cells beside it as all of them
-shards_are : (slots : List Slot) (node : ℕ) (h : IsServed slots node) (place block : ℕ) (p : IsPlace slots place node block) → p.slot.shards ≡ h.shards
-shards_are slots node h place block p = all_at (λ (s : Slot). s.node ≡ node → s.shards ≡ h.shards) slots place p.slot h.alike p.there p.is.of
+-- a shard of the node has as many cells beside it as all of them
+shards_are : (cell_shards : List CellShard) (node : ℕ) (h : IsServed cell_shards node) (place block : ℕ) (p : IsPlace cell_shards place node block) → p.cell_shard.shards ≡ h.shards
+shards_are cell_shards node h place block p = all_at_place (λ (s : CellShard). s.node ≡ node → s.shards ≡ h.shards) cell_shards place p.cell_shard h.alike p.there p.is.of
 
-pub all_places : (slots : List Slot) (node : ℕ) (places : List ℕ) (place shards : ℕ) (h : IsServed slots node) (p : IsPlace slots place node 0) → shards ≡ p.slot.shards → ArePlacesTo slots node places shards → ArePlaces slots node places
-all_places slots node places place shards h p is to = record {
+pub all_places : (cell_shards : List CellShard) (node : ℕ) (places : List ℕ) (place shards : ℕ) (h : IsServed cell_shards node) (p : IsPlace cell_shards place node 0) → shards ≡ p.cell_shard.shards → ArePlacesTo cell_shards node places shards → ArePlaces cell_shards node places
+all_places cell_shards node places place shards h p is to = record {
   some = (let s = some in let l = to.long in omega (arith, s, l));
   each = λ block. (
       let q = to.each (block % shards) (mod_below block shards some) in
-      let n : q.is.slot.shards ≡ shards = shards_are slots node h q.place (block % shards) q.is ∙ sym count in
+      let n : q.is.cell_shard.shards ≡ shards = shards_are cell_shards node h q.place (block % shards) q.is ∙ sym count in
       let rest : (block % shards) % shards ≡ block % shards = mod-eq_of_lt (mod_below block shards some) in (
         q.place,
         ap (λ (m : ℕ). slice_get places (block % m)) to.long ∙ q.there,
         record {
-          slot = q.is.slot;
+          cell_shard = q.is.cell_shard;
           there = q.is.there;
           is = record {
             of = q.is.is.of;
@@ -91,10 +91,10 @@ all_places slots node places place shards h p is to = record {
 }
   where
     count : shards ≡ h.shards
-    count = is ∙ shards_are slots node h place 0 p
+    count = is ∙ shards_are cell_shards node h place 0 p
 
     some : 0 < shards
-    some = subst (λ (m : ℕ). 0 < m) (sym is) (all_at (λ (s : Slot). 0 < s.shards) slots place p.slot h.some p.there)
+    some = subst (λ (m : ℕ). 0 < m) (sym is) (all_at_place (λ (s : CellShard). 0 < s.shards) cell_shards place p.cell_shard h.some p.there)
 
 -- ---- the cell at a place
 
@@ -105,17 +105,17 @@ pub record StandsAt (node block : ℕ) (cells : List CellView) (place : ℕ) : T
   pub number : (d : CellView) → (get_or cells place d).charter.number ≡ node
   pub share : (d : CellView) → block % (get_or cells place d).charter.shards ≡ (get_or cells place d).charter.shard
 
-slot_at : (cells : List CellView) (k : ℕ) (s : Slot) → slice_get (slots_of cells) k ≡ Some s → (c : CellView) × (slice_get cells k ≡ Some c) × (slot_of c.charter ≡ s)
-slot_at [] k s at = absurd (Contains-none s (Contains-slice_get [] k s at))
-slot_at (c ∷ cs) zero s at = (let e : slot_of c.charter ≡ s = cc in (c, refl, e))
-slot_at (c ∷ cs) (suc k) s at = slot_at cs k s at
+shard_at : (cells : List CellView) (k : ℕ) (s : CellShard) → slice_get (cell_shards_of cells) k ≡ Some s → (c : CellView) × (slice_get cells k ≡ Some c) × (cell_shard_of c.charter ≡ s)
+shard_at [] k s at = absurd (Contains-none s (Contains-slice_get [] k s at))
+shard_at (c ∷ cs) zero s at = (let e : cell_shard_of c.charter ≡ s = cc in (c, refl, e))
+shard_at (c ∷ cs) (suc k) s at = shard_at cs k s at
 
-pub stands_at : (cells : List CellView) (slots : List Slot) (node block place : ℕ) → slots ≡ slots_of cells → IsPlace slots place node block → StandsAt node block cells place
-stands_at cells slots node block place is p =
-    let q = slot_at cells place p.slot (subst (λ (l : List Slot). slice_get l place ≡ Some p.slot) is p.there) in
+pub stands_at : (cells : List CellView) (cell_shards : List CellShard) (node block place : ℕ) → cell_shards ≡ cell_shards_of cells → IsPlace cell_shards place node block → StandsAt node block cells place
+stands_at cells cell_shards node block place is p =
+    let q = shard_at cells place p.cell_shard (subst (λ (l : List CellShard). slice_get l place ≡ Some p.cell_shard) is p.there) in
     let cell : (d : CellView) → get_or cells place d ≡ q.0 = λ d. get_or_from_slice_get cells place q.0 d q.1 in
-    let number : q.0.charter.number ≡ node = ap (λ (s : Slot). s.node) q.2 ∙ p.is.of in
-    let share : block % q.0.charter.shards ≡ q.0.charter.shard = ap (λ (s : Slot). block % s.shards) q.2 ∙ p.is.share ∙ ap (λ (s : Slot). s.shard) (sym q.2) in
+    let number : q.0.charter.number ≡ node = ap (λ (s : CellShard). s.node) q.2 ∙ p.is.of in
+    let share : block % q.0.charter.shards ≡ q.0.charter.shard = ap (λ (s : CellShard). block % s.shards) q.2 ∙ p.is.share ∙ ap (λ (s : CellShard). s.shard) (sym q.2) in
     record {
       within = slice_get_within cells place q.0 q.1;
       there = λ d. q.1 ∙ ap (λ (c : CellView). Some c) (sym (cell d));
@@ -124,23 +124,23 @@ stands_at cells slots node block place is p =
     }
 
 -- where the place was looked up by the block
-pub found : (old now : List CellView) (slots : List Slot) (node block place : ℕ) (places : List ℕ) (n : ℕ) → slots ≡ slots_of old → AllZip HasMorePrunes old now → ArePlaces slots node places → n ≡ length places → place ≡ get_or places (block % n) place → StandsAt node block now place
-found old now slots node block place places n is z are long looked =
+pub found : (old now : List CellView) (cell_shards : List CellShard) (node block place : ℕ) (places : List ℕ) (n : ℕ) → cell_shards ≡ cell_shards_of old → AllZip HasMorePrunes old now → ArePlaces cell_shards node places → n ≡ length places → place ≡ get_or places (block % n) place → StandsAt node block now place
+found old now cell_shards node block place places n is z are long looked =
     let q = are.each block in
     let some : 0 < n = (let l = are.some in omega (arith, l, long)) in
     let at : slice_get places (block % n) ≡ Some place = slice_get_read places n (block % n) place long (mod_below block n some) looked in
     let there : slice_get places (block % n) ≡ Some q.0 = ap (λ (m : ℕ). slice_get places (block % m)) long ∙ q.1 in
     let same : q.0 ≡ place = cc (at, there) in
-    stands_at now slots node block place (is ∙ sym (slots_same old now z)) (subst (λ (k : ℕ). IsPlace slots k node block) same q.2)
+    stands_at now cell_shards node block place (is ∙ sym (shards_same old now z)) (subst (λ (k : ℕ). IsPlace cell_shards k node block) same q.2)
 
 -- ---- the nodes of a plan
 
-pub served : (plan : Plan) (clock : ClockId) (cells : List CellView) → ArePlanned plan clock cells → (node : ℕ) → node < plan.config.n → IsServed (slots_of cells) node
+pub served : (plan : Plan) (clock : ClockId) (cells : List CellView) → ArePlanned plan clock cells → (node : ℕ) → node < plan.config.n → IsServed (cell_shards_of cells) node
 served plan clock cells h node l = record {
-  some = All-map (λ (s : Slot). 0 < s.shards) (λ (c : CellView). slot_of c.charter) cells (λ k d lt. (h.cells.each k d lt).some);
+  some = All-map (λ (s : CellShard). 0 < s.shards) (λ (c : CellView). cell_shard_of c.charter) cells (λ k d lt. (h.cells.each k d lt).some);
   there = λ block. h.cells.cover node block l;
   shards = h.shards node;
-  alike = All-map (λ (s : Slot). s.node ≡ node → s.shards ≡ h.shards node) (λ (c : CellView). slot_of c.charter) cells (λ k d lt is. (h.each k d lt).shards ∙ ap h.shards is);
+  alike = All-map (λ (s : CellShard). s.node ≡ node → s.shards ≡ h.shards node) (λ (c : CellView). cell_shard_of c.charter) cells (λ k d lt is. (h.each k d lt).shards ∙ ap h.shards is);
 }
 
 -- ---- cells under new charters

@@ -16,7 +16,7 @@ use Rattle.journals.specs.Acts.{NodeState, after, after_all, can_prune}
 use Rattle.locked_nodes.specs.Cells.{CellView, IsPrune, state_of, first_state, entry, with_entry, with_seen}
 use Rattle.locked_nodes.specs.declared.answers.Pruning.{Pruning as Answer}
 use Rattle.locked_nodes.specs.declared.answers.Pruning.TheVariants.{Pruned as PrunedAt, Skipped}
-use Rattle.locked_nodes.specs.Slots.{slot_of, slots_of}
+use Rattle.locked_nodes.specs.CellShards.{cell_shard_of, cell_shards_of}
 use Rattle.plan_followed.specs.Nodes.{act_of}
 use Rattle.plan_followed.specs.declared.prunes.BlockStamp.{BlockStamp}
 use Rattle.phase_threads.specs.Standing.{node_journal}
@@ -25,7 +25,7 @@ use Rattle.client_threads.specs.Met.{IsKeeper}
 use Rattle.client_threads.specs.Pruned.{IsOpenCell, HasMorePrunes, AllPrune, NodePruned, OthersStay, prunings_of, pruning_of}
 use Rattle.client_threads.proofs.Keepers.{same_keeper, set_all}
 use Rattle.client_threads.proofs.Working.{beside_at}
-use Rattle.lists.proofs.lemmas.Members.{Contains-none, Contains-one, all_at}
+use Rattle.lists.proofs.lemmas.Members.{Contains-none, Contains-one, all_at_place}
 
 -- ---- a cell with prunes more
 
@@ -79,11 +79,11 @@ pub none_more : (cells : List CellView) → AllZip HasMorePrunes cells cells
 none_more [] = tt
 none_more (c ∷ cells) = (no_more c, none_more cells)
 
-pub slots_same : (xs ys : List CellView) → AllZip HasMorePrunes xs ys → slots_of ys ≡ slots_of xs
-slots_same [] [] z = refl
-slots_same [] (y ∷ ys) z = absurd z
-slots_same (x ∷ xs) [] z = absurd z
-slots_same (x ∷ xs) (y ∷ ys) z = λ i. slot_of (z.0.charter i) ∷ slots_same xs ys z.1 i
+pub shards_same : (xs ys : List CellView) → AllZip HasMorePrunes xs ys → cell_shards_of ys ≡ cell_shards_of xs
+shards_same [] [] z = refl
+shards_same [] (y ∷ ys) z = absurd z
+shards_same (x ∷ xs) [] z = absurd z
+shards_same (x ∷ xs) (y ∷ ys) z = λ i. cell_shard_of (z.0.charter i) ∷ shards_same xs ys z.1 i
 
 -- one item beside another becomes another one
 zip_set : {X : Type 0} (R : X → X → Type 0) (xs ys : List X) (k : ℕ) (x y : X) → AllZip R xs ys → slice_get ys k ≡ Some x → ((a : X) → R a x → R a y) → AllZip R xs (set ys k y)
@@ -102,7 +102,7 @@ set_same (a ∷ xs) (suc k) x at = ap (λ (l : List _). a ∷ l) (set_same xs k 
 may_is : (node k : ℕ) (may : Bool) (old now : List CellView) (cell : CellView) → AllPrune node may old → AllZip HasMorePrunes old now → slice_get now k ≡ Some cell → cell.charter.number ≡ node → can_prune (state_of cell) cell.charter.nature ≡ may
 may_is node k may old now cell alike z at is =
     let q = beside_at HasMorePrunes old now z k cell at in
-    same_may q.0 cell q.2 ∙ all_at (λ (c : CellView). c.charter.number ≡ node → can_prune (state_of c) c.charter.nature ≡ may) old k q.0 alike q.1 (ap (λ c. c.number) (sym q.2.charter) ∙ is)
+    same_may q.0 cell q.2 ∙ all_at_place (λ (c : CellView). c.charter.number ≡ node → can_prune (state_of c) c.charter.nature ≡ may) old k q.0 alike q.1 (ap (λ c. c.number) (sym q.2.charter) ∙ is)
 
 -- ---- the prunes of a node
 
@@ -150,7 +150,7 @@ module _ (clock : ClockId) (first keeper : Holder) (all : List BlockStamp) (node
   after_it n = with_entry cell n (Pruned x.block x.stamp)
 
   c : IsOpenCell clock keeper.seen all cell
-  c = all_at (IsOpenCell clock keeper.seen all) now k cell h.cells at
+  c = all_at_place (IsOpenCell clock keeper.seen all) now k cell h.cells at
 
   under : (n : ℕ) → keeper.seen ≤ n → All (λ c. AllByRecursion (λ e. e.number < n) c.journal) now
   under n le = λ i d lt. recursion_from_All (λ (e : NodeEntry). e.number < n) (get_or now i d).journal (λ j z within. (let b = (h.cells i d lt).below j z within in omega (arith, b, le)))

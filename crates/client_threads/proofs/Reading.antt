@@ -6,18 +6,18 @@ use Rattle.std.specs.List.{AllZip}
 use Rattle.std.proofs.lemmas.List.{take_all, drop_all}
 use Rattle.plan_followed.specs.declared.prunes.BlockStamp.{BlockStamp}
 use Rattle.phase_threads.specs.declared.duty.Seat.{Seat}
-use Rattle.client_work.specs.declared.work.Work.{Work}
+use Rattle.client_duties.specs.declared.work.ClientDuty.{ClientDuty}
 use Rattle.client_threads.specs.Reads.{reads_of, early_reads, late_reads, block_stamp}
 
 -- the reads from a client on are its own and those of the others after it
-pub early_on : (ss : List (Seat Work)) (ns : List ℕ) (i : ℕ) (s : Seat Work) (n : ℕ) → slice_get ss i ≡ Some s → slice_get ns i ≡ Some n
+pub early_on : (ss : List (Seat ClientDuty)) (ns : List ℕ) (i : ℕ) (s : Seat ClientDuty) (n : ℕ) → slice_get ss i ≡ Some s → slice_get ns i ≡ Some n
     → early_reads (drop i ss) (drop i ns) ≡ map block_stamp (take n (reads_of s)) ++ early_reads (drop (suc i) ss) (drop (suc i) ns)
 early_on [] ns i s n a b = absurd (cc)
 early_on (x ∷ ss) [] i s n a b = absurd (cc)
 early_on (x ∷ ss) (m ∷ ns) zero s n a b = (let e : x ≡ s = cc in let f : m ≡ n = cc in λ j. map block_stamp (take (f j) (reads_of (e j))) ++ early_reads ss ns)
 early_on (x ∷ ss) (m ∷ ns) (suc i) s n a b = early_on ss ns i s n a b
 
-pub late_on : (ss : List (Seat Work)) (ns : List ℕ) (i : ℕ) (s : Seat Work) (n : ℕ) → slice_get ss i ≡ Some s → slice_get ns i ≡ Some n
+pub late_on : (ss : List (Seat ClientDuty)) (ns : List ℕ) (i : ℕ) (s : Seat ClientDuty) (n : ℕ) → slice_get ss i ≡ Some s → slice_get ns i ≡ Some n
     → late_reads (drop i ss) (drop i ns) ≡ map block_stamp (drop n (reads_of s)) ++ late_reads (drop (suc i) ss) (drop (suc i) ns)
 late_on [] ns i s n a b = absurd (cc)
 late_on (x ∷ ss) [] i s n a b = absurd (cc)
@@ -28,13 +28,13 @@ late_on (x ∷ ss) (m ∷ ns) (suc i) s n a b = late_on ss ns i s n a b
 pub add_on : (all given new some rest tail : List BlockStamp) → given ++ tail ≡ all → tail ≡ some ++ rest → new ≡ given ++ some → new ++ rest ≡ all
 add_on all given new some rest tail was is added = ap (λ l. l ++ rest) added ∙ append_assoc given some rest ∙ ap (λ l. given ++ l) (sym is) ∙ was
 
-pub early_end : (all given : List BlockStamp) (ss : List (Seat Work)) (ns : List ℕ) (i : ℕ) → length ss ≤ i → given ++ early_reads (drop i ss) (drop i ns) ≡ all → given ≡ all
+pub early_end : (all given : List BlockStamp) (ss : List (Seat ClientDuty)) (ns : List ℕ) (i : ℕ) → length ss ≤ i → given ++ early_reads (drop i ss) (drop i ns) ≡ all → given ≡ all
 early_end all given ss ns i l is = append_none given (early_reads (drop i ss) (drop i ns)) (ap (λ xs. early_reads xs (drop i ns)) (drop_all i ss l)) ∙ is
   where
     append_none : (xs ys : List BlockStamp) → ys ≡ [] → xs ≡ xs ++ ys
     append_none xs ys e = sym (ap (λ l. xs ++ l) e ∙ append-nil xs)
 
-pub late_end : (all given : List BlockStamp) (ss : List (Seat Work)) (ns : List ℕ) (i : ℕ) → length ss ≤ i → given ++ late_reads (drop i ss) (drop i ns) ≡ all → given ≡ all
+pub late_end : (all given : List BlockStamp) (ss : List (Seat ClientDuty)) (ns : List ℕ) (i : ℕ) → length ss ≤ i → given ++ late_reads (drop i ss) (drop i ns) ≡ all → given ≡ all
 late_end all given ss ns i l is = append_none given (late_reads (drop i ss) (drop i ns)) (ap (λ xs. late_reads xs (drop i ns)) (drop_all i ss l)) ∙ is
   where
     append_none : (xs ys : List BlockStamp) → ys ≡ [] → xs ≡ xs ++ ys
@@ -65,20 +65,20 @@ counted_next f xs old i x l at =
     let e : suc i ≡ i + 1 = omega arith in
     subst (λ n. set (map f (take i xs) ++ drop i old) i (f x) ≡ map f (take n xs) ++ drop n old) e (counted_more f xs old i x l at)
 
-pub early_next : (ss : List (Seat Work)) (ns : List ℕ) (i : ℕ) (s : Seat Work) (n : ℕ) → slice_get ss i ≡ Some s → slice_get ns i ≡ Some n
+pub early_next : (ss : List (Seat ClientDuty)) (ns : List ℕ) (i : ℕ) (s : Seat ClientDuty) (n : ℕ) → slice_get ss i ≡ Some s → slice_get ns i ≡ Some n
     → early_reads (drop i ss) (drop i ns) ≡ map block_stamp (take n (reads_of s)) ++ early_reads (drop (i + 1) ss) (drop (i + 1) ns)
 early_next ss ns i s n a b =
     let e : suc i ≡ i + 1 = omega arith in
     subst (λ m. early_reads (drop i ss) (drop i ns) ≡ map block_stamp (take n (reads_of s)) ++ early_reads (drop m ss) (drop m ns)) e (early_on ss ns i s n a b)
 
-pub late_next : (ss : List (Seat Work)) (ns : List ℕ) (i : ℕ) (s : Seat Work) (n : ℕ) → slice_get ss i ≡ Some s → slice_get ns i ≡ Some n
+pub late_next : (ss : List (Seat ClientDuty)) (ns : List ℕ) (i : ℕ) (s : Seat ClientDuty) (n : ℕ) → slice_get ss i ≡ Some s → slice_get ns i ≡ Some n
     → late_reads (drop i ss) (drop i ns) ≡ map block_stamp (drop n (reads_of s)) ++ late_reads (drop (i + 1) ss) (drop (i + 1) ns)
 late_next ss ns i s n a b =
     let e : suc i ≡ i + 1 = omega arith in
     subst (λ m. late_reads (drop i ss) (drop i ns) ≡ map block_stamp (drop n (reads_of s)) ++ late_reads (drop m ss) (drop m ns)) e (late_on ss ns i s n a b)
 
 -- a client has as many reads as are counted of it
-pub enough : (ss : List (Seat Work)) (ns : List ℕ) (i : ℕ) (s : Seat Work) (n : ℕ) → AllZip (λ s n. n ≤ length (reads_of s)) ss ns → slice_get ss i ≡ Some s → slice_get ns i ≡ Some n → n ≤ length (reads_of s)
+pub enough : (ss : List (Seat ClientDuty)) (ns : List ℕ) (i : ℕ) (s : Seat ClientDuty) (n : ℕ) → AllZip (λ s n. n ≤ length (reads_of s)) ss ns → slice_get ss i ≡ Some s → slice_get ns i ≡ Some n → n ≤ length (reads_of s)
 enough ss ns i s n z a b = zip_at (λ s n. n ≤ length (reads_of s)) ss ns i s n z a b
 
 pub take_count : {X : Type 0} (n : ℕ) (xs : List X) → n ≤ length xs → n ≡ length (take n xs)

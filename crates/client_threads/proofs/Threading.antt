@@ -11,8 +11,8 @@ use Rattle.journals.specs.declared.node.NodeEntry.{NodeEntry}
 use Rattle.journals.specs.declared.desk.DeskAct.{DeskAct}
 use Rattle.journals.specs.declared.desk.DeskEntry.{DeskEntry}
 use Rattle.locked_nodes.specs.Cells.{CellView, KeptCell}
-use Rattle.locked_nodes.specs.declared.slot.Slot.{Slot}
-use Rattle.locked_nodes.specs.Slots.{slot_of, slots_of, IsWholeAt}
+use Rattle.locked_nodes.specs.declared.cell_shard.CellShard.{CellShard}
+use Rattle.locked_nodes.specs.CellShards.{cell_shard_of, cell_shards_of, IsWholeAt}
 use Rattle.client_desks.specs.Desks.{DeskView, desk_entry}
 use Rattle.client_desks.specs.Later.{IsLater}
 use Rattle.plan_words.specs.declared.plan.Plan.{Plan}
@@ -22,10 +22,10 @@ use Rattle.phase_threads.specs.Ended.{AreClients}
 use Rattle.phase_threads.proofs.lemmas.Sharded.{holds_whole}
 use Rattle.phase_threads.specs.declared.duty.Seat.{Seat}
 use Rattle.phase_threads.specs.Phases.{MayPhase}
-use Rattle.crews.proofs.lemmas.Places.{map_get}
-use Rattle.client_work.specs.declared.work.Work.{Work}
-use Rattle.client_work.specs.declared.work.Work.TheVariants.{Client, Lying, Courier}
-use Rattle.client_work.specs.Work.{Ready, Done}
+use Rattle.thread_work.proofs.lemmas.Places.{map_get}
+use Rattle.client_duties.specs.declared.work.ClientDuty.{ClientDuty}
+use Rattle.client_duties.specs.declared.work.ClientDuty.TheVariants.{Client, Lying, Courier}
+use Rattle.client_duties.specs.ClientDuty.{Ready, Done}
 use Rattle.client_threads.specs.Running.{desks_of, clients_of, plan_of, StandsAt, cuts, LiarsNamed, IsOpen, IsStanding, HasDonePhase}
 use Rattle.client_threads.specs.declared.state.Run.{Run}
 use Rattle.client_threads.proofs.Working.{IsFixedAs, zip_all, zip_long, cells_fixed, inside_fixed, planned_fixed}
@@ -34,19 +34,19 @@ use Rattle.lists.proofs.lemmas.Members.{Contains-none, Contains-one, Contains-sl
 -- ---- before the phase
 
 -- a node that is to hold back asks stands in one cell
-pub whole_where : (plan : Plan) (clock : ClockId) (cells : List CellView) → ArePlanned plan clock cells → (c node : ℕ) → 0 < holds plan.rules c node → IsWholeAt (slots_of cells) node
+pub whole_where : (plan : Plan) (clock : ClockId) (cells : List CellView) → ArePlanned plan clock cells → (c node : ℕ) → 0 < holds plan.rules c node → IsWholeAt (cell_shards_of cells) node
 whole_where plan clock cells h c node some place s there of =
-    let q = map_get (λ (x : CellView). slot_of x.charter) cells place s there in
+    let q = map_get (λ (x : CellView). cell_shard_of x.charter) cells place s there in
     let p = All-contains (IsPlanned plan h.shards) cells q.0 h.each (Contains-slice_get cells place q.0 q.1) in
-    let number : q.0.charter.number ≡ node = ap (λ (x : Slot). x.node) q.2 ∙ of in
-    ap (λ (x : Slot). x.shards) (sym q.2) ∙ p.shards ∙ ap h.shards number ∙ h.whole node (holds_whole plan c node some)
+    let number : q.0.charter.number ≡ node = ap (λ (x : CellShard). x.node) q.2 ∙ of in
+    ap (λ (x : CellShard). x.shards) (sym q.2) ∙ p.shards ∙ ap h.shards number ∙ h.whole node (holds_whole plan c node some)
 
--- the slots of cells in which such nodes are whole
-abbrev pub AreWhole : Plan → List Slot → Type 0
-AreWhole plan slots = (c node : ℕ) → 0 < holds plan.rules c node → IsWholeAt slots node
+-- the shards of cells in which such nodes are whole
+abbrev pub AreWhole : Plan → List CellShard → Type 0
+AreWhole plan cell_shards = (c node : ℕ) → 0 < holds plan.rules c node → IsWholeAt cell_shards node
 
-ready_of : (plan : Plan) (k : ℕ) → k ≤ cuts plan → (slots : List Slot) → AreWhole plan slots → (w : Work) (d : DeskView) → StandsAt plan k w d → Ready w slots d
-ready_of plan k few slots whole (Client w) d h = (
+ready_of : (plan : Plan) (k : ℕ) → k ≤ cuts plan → (cell_shards : List CellShard) → AreWhole plan cell_shards → (w : ClientDuty) (d : DeskView) → StandsAt plan k w d → Ready w cell_shards d
+ready_of plan k few cell_shards whole (Client w) d h = (
   record {
     stands = h.1;
     left =
@@ -56,17 +56,17 @@ ready_of plan k few slots whole (Client w) d h = (
   },
   λ node some. whole w.client node (subst (λ (p : Plan). 0 < holds p.rules w.client node) h.0 some),
 )
-ready_of plan k few slots whole (Lying w) d h = h.1
-ready_of plan k few slots whole Courier d h = absurd h
+ready_of plan k few cell_shards whole (Lying w) d h = h.1
+ready_of plan k few cell_shards whole Courier d h = absurd h
 
-pub all_ready : (plan : Plan) (k : ℕ) → k ≤ cuts plan → (slots : List Slot) → AreWhole plan slots → (seats : List (Seat Work)) (courier : DeskView) → All (λ s. StandsAt plan k s.duty s.desk) seats → courier.entries ≡ []
-    → All (λ s. Ready s.duty slots s.desk) (seats ++ record { desk = courier; duty = Courier } ∷ [])
-all_ready plan k few slots whole [] courier works quiet = All-cons (λ s. Ready s.duty slots s.desk) (record { desk = courier; duty = Courier }) [] quiet (All-nil (λ s. Ready s.duty slots s.desk))
-all_ready plan k few slots whole (s ∷ seats) courier works quiet =
-    All-cons (λ s. Ready s.duty slots s.desk) s (seats ++ record { desk = courier; duty = Courier } ∷ []) (ready_of plan k few slots whole s.duty s.desk (All-head (λ s. StandsAt plan k s.duty s.desk) s seats works))
-    (all_ready plan k few slots whole seats courier (All-tail (λ s. StandsAt plan k s.duty s.desk) s seats works) quiet)
+pub all_ready : (plan : Plan) (k : ℕ) → k ≤ cuts plan → (cell_shards : List CellShard) → AreWhole plan cell_shards → (seats : List (Seat ClientDuty)) (courier : DeskView) → All (λ s. StandsAt plan k s.duty s.desk) seats → courier.entries ≡ []
+    → All (λ s. Ready s.duty cell_shards s.desk) (seats ++ record { desk = courier; duty = Courier } ∷ [])
+all_ready plan k few cell_shards whole [] courier works quiet = All-cons (λ s. Ready s.duty cell_shards s.desk) (record { desk = courier; duty = Courier }) [] quiet (All-nil (λ s. Ready s.duty cell_shards s.desk))
+all_ready plan k few cell_shards whole (s ∷ seats) courier works quiet =
+    All-cons (λ s. Ready s.duty cell_shards s.desk) s (seats ++ record { desk = courier; duty = Courier } ∷ []) (ready_of plan k few cell_shards whole s.duty s.desk (All-head (λ s. StandsAt plan k s.duty s.desk) s seats works))
+    (all_ready plan k few cell_shards whole seats courier (All-tail (λ s. StandsAt plan k s.duty s.desk) s seats works) quiet)
 
-pub desks_pushed : (seats : List (Seat Work)) (s : Seat Work) → desks_of (seats ++ s ∷ []) ≡ desks_of seats ++ s.desk ∷ []
+pub desks_pushed : (seats : List (Seat ClientDuty)) (s : Seat ClientDuty) → desks_of (seats ++ s ∷ []) ≡ desks_of seats ++ s.desk ∷ []
 desks_pushed [] s = refl
 desks_pushed (x ∷ seats) s = ap (λ (l : List DeskView). x.desk ∷ l) (desks_pushed seats s)
 
@@ -103,7 +103,7 @@ zip_pushed R (a ∷ []) x [] y z = absurd z.1
 zip_pushed R (a ∷ c ∷ xs) x [] y z = absurd z.1
 zip_pushed R (a ∷ xs) x (b ∷ ys) y z = (let q = zip_pushed R xs x ys y z.1 in ((z.0, q.0), q.1))
 
-done_of : (plan : Plan) (k : ℕ) (v w : Work) (d e : DeskView) → StandsAt plan k v d → Done v d w e → StandsAt plan (k + 1) w e
+done_of : (plan : Plan) (k : ℕ) (v w : ClientDuty) (d e : DeskView) → StandsAt plan k v d → Done v d w e → StandsAt plan (k + 1) w e
 done_of plan k (Client v) (Client w) d e h done =
     let same : w.plan.value ≡ plan = done.same.plan ∙ h.0 in
     let a : cuts v.plan.value ≡ cuts plan = ap cuts h.0 in
@@ -119,7 +119,7 @@ done_of plan k (Lying v) (Client w) d e h done = absurd done
 done_of plan k (Lying v) Courier d e h done = absurd done
 done_of plan k Courier w d e h done = absurd h
 
-pub all_done : (plan : Plan) (k : ℕ) (xs ys : List (Seat Work)) → All (λ s. StandsAt plan k s.duty s.desk) xs → AllZip (λ s t. Done s.duty s.desk t.duty t.desk) xs ys → All (λ s. StandsAt plan (k + 1) s.duty s.desk) ys
+pub all_done : (plan : Plan) (k : ℕ) (xs ys : List (Seat ClientDuty)) → All (λ s. StandsAt plan k s.duty s.desk) xs → AllZip (λ s t. Done s.duty s.desk t.duty t.desk) xs ys → All (λ s. StandsAt plan (k + 1) s.duty s.desk) ys
 all_done plan k [] [] works z = All-nil (λ s. StandsAt plan (k + 1) s.duty s.desk)
 all_done plan k [] (y ∷ ys) works z = absurd z
 all_done plan k (x ∷ xs) [] works z = absurd z
@@ -127,7 +127,7 @@ all_done plan k (x ∷ xs) (y ∷ ys) works z =
     All-cons (λ s. StandsAt plan (k + 1) s.duty s.desk) y ys (done_of plan k x.duty y.duty x.desk y.desk (All-head (λ s. StandsAt plan k s.duty s.desk) x xs works) z.0)
     (all_done plan k xs ys (All-tail (λ s. StandsAt plan k s.duty s.desk) x xs works) z.1)
 
-quiet_of : (plan : Plan) (k : ℕ) (v w : Work) (d e : DeskView) → StandsAt plan k v d → Done v d w e → d.lying ≡ has_number plan.liars.clients d.id → has_number plan.liars.clients d.id ≡ true → (k ≡ 0) ⊎ (e.entries ≡ d.entries)
+quiet_of : (plan : Plan) (k : ℕ) (v w : ClientDuty) (d e : DeskView) → StandsAt plan k v d → Done v d w e → d.lying ≡ has_number plan.liars.clients d.id → has_number plan.liars.clients d.id ≡ true → (k ≡ 0) ⊎ (e.entries ≡ d.entries)
 quiet_of plan zero (Lying v) (Lying w) d e h done honest lies = inl refl
 quiet_of plan (suc k) (Lying v) (Lying w) d e h done honest lies = inr (done.none (h.2 (omega arith)))
 quiet_of plan k (Client v) w d e h done honest lies = absurd (let c = h.1.goes.its.correct in cc (c, honest, lies))
@@ -135,7 +135,7 @@ quiet_of plan k (Lying v) (Client w) d e h done honest lies = absurd done
 quiet_of plan k (Lying v) Courier d e h done honest lies = absurd done
 quiet_of plan k Courier w d e h done honest lies = absurd h
 
-pub all_quiet : (plan : Plan) (k : ℕ) (xs ys : List (Seat Work)) → All (λ s. StandsAt plan k s.duty s.desk) xs → AllZip (λ s t. Done s.duty s.desk t.duty t.desk) xs ys
+pub all_quiet : (plan : Plan) (k : ℕ) (xs ys : List (Seat ClientDuty)) → All (λ s. StandsAt plan k s.duty s.desk) xs → AllZip (λ s t. Done s.duty s.desk t.duty t.desk) xs ys
     → All (λ d. d.lying ≡ has_number plan.liars.clients d.id) (desks_of xs) → AllZip (λ d e. has_number plan.liars.clients d.id ≡ true → (k ≡ 0) ⊎ (e.entries ≡ d.entries)) (desks_of xs) (desks_of ys)
 all_quiet plan k [] [] works z honest = tt
 all_quiet plan k [] (y ∷ ys) works z honest = absurd z
@@ -146,7 +146,7 @@ all_quiet plan k (x ∷ xs) (y ∷ ys) works z honest = (
 )
 
 -- seats side by side have desks side by side
-pub desks_beside : (R : DeskView → DeskView → Type 0) (xs ys : List (Seat Work)) → AllZip (λ s t. R s.desk t.desk) xs ys → AllZip R (desks_of xs) (desks_of ys)
+pub desks_beside : (R : DeskView → DeskView → Type 0) (xs ys : List (Seat ClientDuty)) → AllZip (λ s t. R s.desk t.desk) xs ys → AllZip R (desks_of xs) (desks_of ys)
 desks_beside R [] [] z = tt
 desks_beside R [] (y ∷ ys) z = absurd z
 desks_beside R (x ∷ xs) [] z = absurd z
@@ -188,36 +188,36 @@ all_pushed : {X : Type 0} (P : X → Type 0) (xs : List X) (x : X) → All P xs 
 all_pushed P [] x a p = All-cons P x [] p (All-nil P)
 all_pushed P (y ∷ xs) x a p = All-cons P y (xs ++ x ∷ []) (All-head P y xs a) (all_pushed P xs x (All-tail P y xs a) p)
 
-pub all_desks : (P : DeskView → Type 0) (seats : List (Seat Work)) → All P (desks_of seats) → All (λ s. P s.desk) seats
+pub all_desks : (P : DeskView → Type 0) (seats : List (Seat ClientDuty)) → All P (desks_of seats) → All (λ s. P s.desk) seats
 all_desks P [] a = All-nil (λ s. P s.desk)
 all_desks P (s ∷ seats) a = All-cons (λ s. P s.desk) s seats (All-head P s.desk (desks_of seats) a) (all_desks P seats (All-tail P s.desk (desks_of seats) a))
 
-abbrev pub courier_seat : DeskView → Seat Work
+abbrev pub courier_seat : DeskView → Seat ClientDuty
 courier_seat d = record { desk = d; duty = Courier }
 
 -- with the courier's seat
-pub desks_with : (P : DeskView → Type 0) (seats : List (Seat Work)) (courier : DeskView) → All P (desks_of seats) → P courier → All (λ s. P s.desk) (seats ++ courier_seat courier ∷ [])
+pub desks_with : (P : DeskView → Type 0) (seats : List (Seat ClientDuty)) (courier : DeskView) → All P (desks_of seats) → P courier → All (λ s. P s.desk) (seats ++ courier_seat courier ∷ [])
 desks_with P seats courier a p = all_pushed (λ s. P s.desk) seats (courier_seat courier) (all_desks P seats a) p
 
-pub pairs_with : (cells : List CellView) (seats : List (Seat Work)) (courier : DeskView) → courier.entries ≡ [] → PairsStand cells (desks_of seats) → PairsStand cells (desks_of (seats ++ courier_seat courier ∷ []))
+pub pairs_with : (cells : List CellView) (seats : List (Seat ClientDuty)) (courier : DeskView) → courier.entries ≡ [] → PairsStand cells (desks_of seats) → PairsStand cells (desks_of (seats ++ courier_seat courier ∷ []))
 pairs_with cells seats courier quiet h = subst (PairsStand cells) (sym (desks_pushed seats (courier_seat courier))) (pairs_more cells (desks_of seats) courier quiet h)
 
 -- so a run that stands may do its next phase
-pub may_phase : (run : Run) (k : ℕ) (seats : List (Seat Work)) → seats ≡ run.clients.items ++ courier_seat run.courier ∷ [] → length seats ≤ 65536 → IsStanding k run → k ≤ cuts (plan_of run) → MayPhase Ready run.clock run.cells.items seats
+pub may_phase : (run : Run) (k : ℕ) (seats : List (Seat ClientDuty)) → seats ≡ run.clients.items ++ courier_seat run.courier ∷ [] → length seats ≤ 65536 → IsStanding k run → k ≤ cuts (plan_of run) → MayPhase Ready run.clock run.cells.items seats
 may_phase run k seats is most h few =
     let config = (plan_of run).config in
-    let slots = slots_of run.cells.items in
+    let cell_shards = cell_shards_of run.cells.items in
     record {
       cluster = (
         config,
         h.opened.cells,
-        subst (All (λ (s : Seat Work). IsDeskAt config run.clock s.desk)) (sym is) (desks_with (IsDeskAt config run.clock) run.clients.items run.courier h.opened.desks h.opened.courier),
+        subst (All (λ (s : Seat ClientDuty). IsDeskAt config run.clock s.desk)) (sym is) (desks_with (IsDeskAt config run.clock) run.clients.items run.courier h.opened.desks h.opened.courier),
       );
-      pairs = subst (λ (l : List (Seat Work)). PairsStand run.cells.items (desks_of l)) (sym is) (pairs_with run.cells.items run.clients.items run.courier h.quiet h.pairs);
-      ready = subst (All (λ (s : Seat Work). Ready s.duty slots s.desk)) (sym is)
-          (all_ready (plan_of run) k few slots (whole_where (plan_of run) run.clock run.cells.items h.planned) run.clients.items run.courier h.works h.quiet);
+      pairs = subst (λ (l : List (Seat ClientDuty)). PairsStand run.cells.items (desks_of l)) (sym is) (pairs_with run.cells.items run.clients.items run.courier h.quiet h.pairs);
+      ready = subst (All (λ (s : Seat ClientDuty). Ready s.duty cell_shards s.desk)) (sym is)
+          (all_ready (plan_of run) k few cell_shards (whole_where (plan_of run) run.clock run.cells.items h.planned) run.clients.items run.courier h.works h.quiet);
       count = (
-        (let long = ap (λ (l : List (Seat Work)). length l) is in let one = length-append run.clients.items (courier_seat run.courier ∷ []) in omega (arith, long, one)),
+        (let long = ap (λ (l : List (Seat ClientDuty)). length l) is in let one = length-append run.clients.items (courier_seat run.courier ∷ []) in omega (arith, long, one)),
         most,
       );
     }
@@ -232,7 +232,7 @@ pub some_left : {X Y : Type 0} (R : X → Y → Type 0) (xs zs : List X) (x : X)
 some_left R xs zs x ys is z = none_long R xs x ys (subst (λ l. AllZip R l ys) is z)
 
 -- the parts of a run whose threads have ended
-pub record HasEndedThreads (old new : Run) (seats : List (Seat Work)) (last : Seat Work) : Type 0 where
+pub record HasEndedThreads (old new : Run) (seats : List (Seat ClientDuty)) (last : Seat ClientDuty) : Type 0 where
   pub plan : plan_of new ≡ plan_of old
   pub clock : new.clock ≡ old.clock
   pub keeper : new.keeper ≡ old.keeper
@@ -242,9 +242,9 @@ pub record HasEndedThreads (old new : Run) (seats : List (Seat Work)) (last : Se
   pub courier : new.courier ≡ last.desk
   pub desks : AllZip (λ s t. IsLater s.desk t.desk) (old.clients.items ++ courier_seat old.courier ∷ []) seats
 
-module _ (old new : Run) (seats : List (Seat Work)) (last : Seat Work) (e : HasEndedThreads old new seats last) (kept : All KeptCell old.cells.items) where
+module _ (old new : Run) (seats : List (Seat ClientDuty)) (last : Seat ClientDuty) (e : HasEndedThreads old new seats last) (kept : All KeptCell old.cells.items) where
   split : AllZip (λ s t. IsLater s.desk t.desk) old.clients.items new.clients.items × IsLater old.courier last.desk
-  split = zip_pushed (λ s t. IsLater s.desk t.desk) old.clients.items (courier_seat old.courier) new.clients.items last (subst (λ (l : List (Seat Work)). AllZip (λ s t. IsLater s.desk t.desk) (old.clients.items ++ courier_seat old.courier ∷ []) l) e.all e.desks)
+  split = zip_pushed (λ s t. IsLater s.desk t.desk) old.clients.items (courier_seat old.courier) new.clients.items last (subst (λ (l : List (Seat ClientDuty)). AllZip (λ s t. IsLater s.desk t.desk) (old.clients.items ++ courier_seat old.courier ∷ []) l) e.all e.desks)
 
   later : AllZip IsLater (clients_of old) (clients_of new)
   later = desks_beside IsLater old.clients.items new.clients.items split.0
@@ -278,9 +278,9 @@ module _ (old new : Run) (seats : List (Seat Work)) (last : Seat Work) (e : HasE
 
   module _ (done : AllZip (λ s t. Done s.duty s.desk t.duty t.desk) (old.clients.items ++ courier_seat old.courier ∷ []) seats) (pairs : PairsStand new.cells.items (desks_of seats)) where
     parts : AllZip (λ s t. Done s.duty s.desk t.duty t.desk) old.clients.items new.clients.items × Done Courier old.courier last.duty last.desk
-    parts = zip_pushed (λ s t. Done s.duty s.desk t.duty t.desk) old.clients.items (courier_seat old.courier) new.clients.items last (subst (λ (l : List (Seat Work)). AllZip (λ s t. Done s.duty s.desk t.duty t.desk) (old.clients.items ++ courier_seat old.courier ∷ []) l) e.all done)
+    parts = zip_pushed (λ s t. Done s.duty s.desk t.duty t.desk) old.clients.items (courier_seat old.courier) new.clients.items last (subst (λ (l : List (Seat ClientDuty)). AllZip (λ s t. Done s.duty s.desk t.duty t.desk) (old.clients.items ++ courier_seat old.courier ∷ []) l) e.all done)
 
-    courier_quiet : (w : Work) → Done Courier old.courier w last.desk → last.desk.entries ≡ []
+    courier_quiet : (w : ClientDuty) → Done Courier old.courier w last.desk → last.desk.entries ≡ []
     courier_quiet (Client v) d = absurd d
     courier_quiet (Lying v) d = absurd d
     courier_quiet Courier d = d

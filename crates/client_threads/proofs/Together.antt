@@ -16,11 +16,11 @@ use Rattle.journals.specs.declared.desk.DeskJournal.{DeskJournal}
 use Rattle.journals.specs.Desks.{new_desk, desk_after_all}
 use Rattle.journals.specs.Records.{client_records, records_in, told_records}
 use Rattle.phase_threads.specs.declared.duty.Seat.{Seat}
-use Rattle.client_work.specs.declared.work.Work.{Work}
+use Rattle.client_duties.specs.declared.work.ClientDuty.{ClientDuty}
 use Rattle.client_threads.specs.Running.{desks_of, kept_records}
 use Rattle.client_threads.proofs.Threading.{desks_pushed}
 use Rattle.client_threads.proofs.Rounds.{cells_tick}
-use Rattle.crews.proofs.lemmas.Places.{Walked, walk_on}
+use Rattle.thread_work.proofs.lemmas.Places.{Walked, walk_on}
 use Rattle.client_threads.proofs.Walking.{made_more}
 use Rattle.lists.proofs.lemmas.Members.{Contains-head, Contains-rest, Contains-map_cases, Contains-map}
 
@@ -96,15 +96,15 @@ full_share t passes is full = record {
 }
 
 -- the desks of the seats so far gave their journals, passes and records
-abbrev pub Finished : List (Seat Work) → List Holder → List (Seat Work) → ℕ → List DeskJournal → List Holder → List Record → Type 0
+abbrev pub Finished : List (Seat ClientDuty) → List Holder → List (Seat ClientDuty) → ℕ → List DeskJournal → List Holder → List Record → Type 0
 Finished all old rest n desks passes records =
-    (done : List (Seat Work)) × Walked all done rest n × (desks ≡ map journal_at (desks_of done)) × (passes ≡ old ++ map (λ d. d.pass) (desks_of done)) × All KeptDesk (desks_of done) × (records ≡ kept_records (desks_of done))
+    (done : List (Seat ClientDuty)) × Walked all done rest n × (desks ≡ map journal_at (desks_of done)) × (passes ≡ old ++ map (λ d. d.pass) (desks_of done)) × All KeptDesk (desks_of done) × (records ≡ kept_records (desks_of done))
 
 kept_more : (ds : List DeskView) (d : DeskView) → kept_records (ds ++ d ∷ []) ≡ kept_records ds ++ records_at d
 kept_more [] d = append-nil (records_at d)
 kept_more (x ∷ ds) d = ap (λ (l : List Record). records_at x ++ l) (kept_more ds d) ∙ sym (append_assoc (records_at x) (kept_records ds) (records_at d))
 
-pub one_finished : (all : List (Seat Work)) (old : List Holder) (rest next : List (Seat Work)) (n m : ℕ) (desks more : List DeskJournal) (passes others : List Holder) (records told : List Record) (seat : Seat Work) (journal : DeskJournal) (pass : Holder)
+pub one_finished : (all : List (Seat ClientDuty)) (old : List Holder) (rest next : List (Seat ClientDuty)) (n m : ℕ) (desks more : List DeskJournal) (passes others : List Holder) (records told : List Record) (seat : Seat ClientDuty) (journal : DeskJournal) (pass : Holder)
     → Finished all old rest n desks passes records → rest ≡ seat ∷ next → m + 1 ≡ n → more ≡ desks ++ journal ∷ [] → journal.client ≡ seat.desk.id → journal.entries ≡ seat.desk.entries
     → others ≡ passes ++ pass ∷ [] → pass ≡ seat.desk.pass → KeptDesk seat.desk → told ≡ records ++ records_at seat.desk → Finished all old next m more others told
 one_finished all old rest next n m desks more passes others records told seat journal pass inv is one added client entries put its kept with =

@@ -24,14 +24,14 @@ use Rattle.plan_followed.specs.Asked.{steps_for, first_phases, messages, nature,
 use Rattle.plan_followed.specs.Clients.{InEach, GoesByPlan, IsDone, all_asked}
 use Rattle.plan_followed.specs.Nodes.{node_after}
 use Rattle.plan_followed.specs.Closed.{next_begin, HaveClosed, AreWorked, FinishedAs, IsWorkedOff, GoesOn}
-use Rattle.locked_nodes.specs.Slots.{slot_of, slots_of, Cover}
-use Rattle.phase_threads.specs.Standing.{IsCellOf, IsDeskAt, AreCells, AreInside, IsPlanned, HaveOwnSlots, HasWorked, ArePlanned, HaveSeen, PairsStand, PhasesWork, NothingLate, journals_of}
+use Rattle.locked_nodes.specs.CellShards.{cell_shard_of, cell_shards_of, Cover}
+use Rattle.phase_threads.specs.Standing.{IsCellOf, IsDeskAt, AreCells, AreInside, IsPlanned, HaveOwnShards, HasWorked, ArePlanned, HaveSeen, PairsStand, PhasesWork, NothingLate, journals_of}
 use Rattle.phase_threads.specs.Ended.{AreClients}
 use Rattle.phase_threads.proofs.lemmas.Cells.{journal_of, journal_is, entries_at, desk_at, rises_from}
 use Rattle.phase_threads.specs.declared.duty.Seat.{Seat}
-use Rattle.client_work.specs.declared.work.Work.{Work}
-use Rattle.client_work.specs.declared.work.Work.TheVariants.{Client, Lying, Courier}
-use Rattle.client_work.specs.Work.{phase_at}
+use Rattle.client_duties.specs.declared.work.ClientDuty.{ClientDuty}
+use Rattle.client_duties.specs.declared.work.ClientDuty.TheVariants.{Client, Lying, Courier}
+use Rattle.client_duties.specs.ClientDuty.{phase_at}
 use Rattle.client_threads.specs.Reads.{IsPartedAs, IsParted}
 use Rattle.client_threads.specs.Running.{desks_of, clients_of, plan_of, journals_in, StandsAt, LiarsNamed, IsOpen, IsStanding, HasDonePhase, IsBetween, IsWorked}
 use Rattle.client_threads.specs.declared.state.Run.{Run}
@@ -114,7 +114,7 @@ idle_client plan c k none =
     )
 
 -- a thread's part that is done is its client's
-pub finished : (plan : Plan) (k : ℕ) (w : Work) (d : DeskView) → StandsAt plan (suc k) w d → d.lying ≡ has_number plan.liars.clients d.id → FinishedAs (has_number plan.liars.clients d.id) plan (suc k) d.id d.entries
+pub finished : (plan : Plan) (k : ℕ) (w : ClientDuty) (d : DeskView) → StandsAt plan (suc k) w d → d.lying ≡ has_number plan.liars.clients d.id → FinishedAs (has_number plan.liars.clients d.id) plan (suc k) d.id d.entries
 finished plan k (Client w) d h honest =
     let stands = h.1 in
     let its = stands.goes.its in
@@ -136,11 +136,11 @@ finished plan k (Lying w) d h honest =
 finished plan k Courier d h honest = absurd h
 
 -- every client is done with the phase
-pub all_finished : (plan : Plan) (k : ℕ) (seats : List (Seat Work)) → AreClients plan (desks_of seats) → ((c : ℕ) → has_number plan.liars.clients c ≡ true → Contains (clients plan.rules plan.work) c)
+pub all_finished : (plan : Plan) (k : ℕ) (seats : List (Seat ClientDuty)) → AreClients plan (desks_of seats) → ((c : ℕ) → has_number plan.liars.clients c ≡ true → Contains (clients plan.rules plan.work) c)
     → All (λ s. StandsAt plan (suc k) s.duty s.desk) seats → (c : ℕ) → FinishedAs (has_number plan.liars.clients c) plan (suc k) c (entries_at (desks_of seats) c)
 all_finished plan k seats are liars works c = elim (desk_at (desks_of seats) c).is [
   | inl q ↦ (
-      let s = Contains-map_cases (λ (s : Seat Work). s.desk) seats q.0 q.1 in
+      let s = Contains-map_cases (λ (s : Seat ClientDuty). s.desk) seats q.0 q.1 in
       let honest : q.0.lying ≡ has_number plan.liars.clients q.0.id = All-contains (λ d. d.lying ≡ has_number plan.liars.clients d.id) (desks_of seats) q.0 are.honesty q.1 in
       let stands = All-contains (λ s. StandsAt plan (suc k) s.duty s.desk) seats s.0 works s.1 in
       let f = finished plan k s.0.duty q.0 (subst (StandsAt plan (suc k) s.0.duty) (sym s.2) stands) honest in
@@ -202,30 +202,30 @@ fixed_same a b e = record {
   clock = ap (λ c. c.pass.clock) e;
 }
 
-slots_fixed : (xs ys : List CellView) → AllZip IsFixedAs xs ys → slots_of ys ≡ slots_of xs
-slots_fixed [] [] z = refl
-slots_fixed [] (y ∷ ys) z = absurd z
-slots_fixed (x ∷ xs) [] z = absurd z
-slots_fixed (x ∷ xs) (y ∷ ys) z = λ i. record { node = z.0.number i; shard = z.0.whole.0 i; shards = z.0.whole.1 i } ∷ slots_fixed xs ys z.1 i
+shards_fixed : (xs ys : List CellView) → AllZip IsFixedAs xs ys → cell_shards_of ys ≡ cell_shards_of xs
+shards_fixed [] [] z = refl
+shards_fixed [] (y ∷ ys) z = absurd z
+shards_fixed (x ∷ xs) [] z = absurd z
+shards_fixed (x ∷ xs) (y ∷ ys) z = λ i. record { node = z.0.number i; shard = z.0.whole.0 i; shards = z.0.whole.1 i } ∷ shards_fixed xs ys z.1 i
 
 pub cells_fixed : (config : Numbers) (clock : ClockId) (xs ys : List CellView) → AllZip IsFixedAs xs ys → AreCells config clock xs → AreCells config clock ys
 cells_fixed config clock xs ys z h = record {
   each = zip_all IsFixedAs (IsCellOf config clock) (IsCellOf config clock) xs ys (λ x y f q. record { cluster = f.config ∙ q.cluster; some = subst (λ (k : ℕ). 0 < k) (sym f.whole.1) q.some; ticks = f.clock ∙ q.ticks }) z h.each;
-  cover = subst (Cover config.n) (sym (slots_fixed xs ys z)) h.cover;
+  cover = subst (Cover config.n) (sym (shards_fixed xs ys z)) h.cover;
 }
 
 pub inside_fixed : (config : Numbers) (xs ys : List CellView) → AllZip IsFixedAs xs ys → AreInside config xs → AreInside config ys
 inside_fixed config xs ys z h =
     zip_all IsFixedAs (λ c. c.charter.number < config.n) (λ c. c.charter.number < config.n) xs ys (λ x y f q. subst (λ (k : ℕ). k < config.n) (sym f.number) q) z h
 
-slot_fixed : (a b : CellView) → IsFixedAs a b → slot_of b.charter ≡ slot_of a.charter
-slot_fixed a b f = λ i. record { node = f.number i; shard = f.whole.0 i; shards = f.whole.1 i }
+shard_fixed : (a b : CellView) → IsFixedAs a b → cell_shard_of b.charter ≡ cell_shard_of a.charter
+shard_fixed a b f = λ i. record { node = f.number i; shard = f.whole.0 i; shards = f.whole.1 i }
 
-own_fixed : (xs ys : List CellView) → AllZip IsFixedAs xs ys → HaveOwnSlots xs → HaveOwnSlots ys
+own_fixed : (xs ys : List CellView) → AllZip IsFixedAs xs ys → HaveOwnShards xs → HaveOwnShards ys
 own_fixed xs ys z h k m a b at there same =
     let p = beside_at IsFixedAs xs ys z k a at in
     let q = beside_at IsFixedAs xs ys z m b there in
-    h k m p.0 q.0 p.1 q.1 (sym (slot_fixed p.0 a p.2) ∙ same ∙ slot_fixed q.0 b q.2)
+    h k m p.0 q.0 p.1 q.1 (sym (shard_fixed p.0 a p.2) ∙ same ∙ shard_fixed q.0 b q.2)
 
 cell_fixed : (plan : Plan) (shards : ℕ → ℕ) (a b : CellView) → IsFixedAs a b → IsPlanned plan shards a → IsPlanned plan shards b
 cell_fixed plan shards a b f h = record {
@@ -249,7 +249,7 @@ planned_fixed plan clock xs ys z h = record {
 -- ---- clients
 
 -- a part says nothing of what its desk's pass has seen
-pub same_kind : (plan : Plan) (k m from n : ℕ) (v w : Work) (d e : DeskView) → StandsAt plan k v d → StandsAt plan m w e → e.lying ≡ d.lying → IsLater d e → from ≤ d.pass.seen → IsPartedAs from v d n → IsPartedAs from w e n
+pub same_kind : (plan : Plan) (k m from n : ℕ) (v w : ClientDuty) (d e : DeskView) → StandsAt plan k v d → StandsAt plan m w e → e.lying ≡ d.lying → IsLater d e → from ≤ d.pass.seen → IsPartedAs from v d n → IsPartedAs from w e n
 same_kind plan k m from n (Client v) (Client w) d e a b honest later l p = parted_on from d e n later l p
 same_kind plan k m from n (Lying v) (Lying w) d e a b honest later l p = p
 same_kind plan k m from n (Client v) (Lying w) d e a b honest later l p = absurd (let x = a.1.goes.its.correct in let y = b.1.lying in cc (x, y, honest))
@@ -258,7 +258,7 @@ same_kind plan k m from n Courier w d e a b honest later l p = absurd a
 same_kind plan k m from n (Client v) Courier d e a b honest later l p = absurd b
 same_kind plan k m from n (Lying v) Courier d e a b honest later l p = absurd b
 
-pub counted_on : (plan : Plan) (k m from : ℕ) (old new : List (Seat Work)) (counted : List ℕ) → All (λ s. StandsAt plan k s.duty s.desk) old → All (λ s. StandsAt plan m s.duty s.desk) new
+pub counted_on : (plan : Plan) (k m from : ℕ) (old new : List (Seat ClientDuty)) (counted : List ℕ) → All (λ s. StandsAt plan k s.duty s.desk) old → All (λ s. StandsAt plan m s.duty s.desk) new
     → AllZip IsLater (desks_of old) (desks_of new) → All (λ d. from ≤ d.pass.seen) (desks_of old) → AllZip (IsParted from) old counted → AllZip (IsParted from) new counted
 counted_on plan k m from [] [] counted a b z s p = p
 counted_on plan k m from [] (y ∷ ys) counted a b z s p = absurd z
@@ -290,7 +290,7 @@ open_mailed old new m h = record {
   cells = subst (λ (p : Plan). AreCells p.config new.clock new.cells.items) (sym m.plan) (subst (λ (c : ClockId). AreCells (plan_of old).config c new.cells.items) (sym m.clock)
       (cells_fixed (plan_of old).config old.clock old.cells.items new.cells.items fixed h.cells));
   inside = subst (λ (p : Plan). AreInside p.config new.cells.items) (sym m.plan) (inside_fixed (plan_of old).config old.cells.items new.cells.items fixed h.inside);
-  desks = subst (λ (l : List (Seat Work)). All (IsDeskAt (plan_of new).config new.clock) (desks_of l)) (sym m.clients)
+  desks = subst (λ (l : List (Seat ClientDuty)). All (IsDeskAt (plan_of new).config new.clock) (desks_of l)) (sym m.clients)
       (subst (λ (p : Plan). All (IsDeskAt p.config new.clock) (clients_of old)) (sym m.plan) (subst (λ (c : ClockId). All (IsDeskAt (plan_of old).config c) (clients_of old)) (sym m.clock) h.desks));
   courier = record {
     cluster = ap (λ d. d.config) m.courier.same ∙ h.courier.cluster ∙ ap (λ (p : Plan). p.config) (sym m.plan);
@@ -313,9 +313,9 @@ standing_mailed k old new m h = record {
   opened = open_mailed old new m h.opened;
   planned = subst (λ (p : Plan). ArePlanned p new.clock new.cells.items) (sym m.plan) (subst (λ (c : ClockId). ArePlanned (plan_of old) c new.cells.items) (sym m.clock)
       (planned_fixed (plan_of old) old.clock old.cells.items new.cells.items (zip_map HasMoreAside IsFixedAs old.cells.items new.cells.items (λ x y b. fixed_same x y b.charter) m.cells) h.planned));
-  clients = subst (λ (l : List (Seat Work)). AreClients (plan_of new) (desks_of l)) (sym m.clients) (subst (λ (p : Plan). AreClients p (clients_of old)) (sym m.plan) h.clients);
-  works = subst (λ (l : List (Seat Work)). All (λ s. StandsAt (plan_of new) k s.duty s.desk) l) (sym m.clients) (subst (λ (p : Plan). All (λ s. StandsAt p k s.duty s.desk) old.clients.items) (sym m.plan) h.works);
-  pairs = subst (λ (l : List (Seat Work)). PairsStand new.cells.items (desks_of l)) (sym m.clients)
+  clients = subst (λ (l : List (Seat ClientDuty)). AreClients (plan_of new) (desks_of l)) (sym m.clients) (subst (λ (p : Plan). AreClients p (clients_of old)) (sym m.plan) h.clients);
+  works = subst (λ (l : List (Seat ClientDuty)). All (λ s. StandsAt (plan_of new) k s.duty s.desk) l) (sym m.clients) (subst (λ (p : Plan). All (λ s. StandsAt p k s.duty s.desk) old.clients.items) (sym m.plan) h.works);
+  pairs = subst (λ (l : List (Seat ClientDuty)). PairsStand new.cells.items (desks_of l)) (sym m.clients)
       (pairs_on old.cells.items new.cells.items (clients_of old) (clients_of old)
       (zip_map HasMoreAside HasMoreAlone old.cells.items new.cells.items (λ x y b. record { more = b.more; grew = b.grew; alone = b.aside }) m.cells)
       (zip_same HasSameEntries (clients_of old) (λ d. record { id = refl; entries = refl })) h.pairs);
@@ -335,13 +335,13 @@ module _ (works : PhasesWork) (goes : GoesOn) (nothing : NothingLate) (k : ℕ) 
   worked = zip_then HasWorked HasMoreAside HasWorked run.cells.items mid.cells.items new.cells.items worked_on d.cells m.cells
 
   later : AllZip IsLater (clients_of run) (clients_of new)
-  later = subst (λ (l : List (Seat Work)). AllZip IsLater (clients_of run) (desks_of l)) (sym m.clients) d.desks
+  later = subst (λ (l : List (Seat ClientDuty)). AllZip IsLater (clients_of run) (desks_of l)) (sym m.clients) d.desks
 
   quiet : AllZip (λ d e. has_number plan.liars.clients d.id ≡ true → (b.phases ≡ []) ⊎ (e.entries ≡ d.entries)) (clients_of run) (clients_of new)
   quiet =
       let q = zip_map (λ d e. has_number plan.liars.clients d.id ≡ true → (k ≡ 0) ⊎ (e.entries ≡ d.entries)) (λ d e. has_number plan.liars.clients d.id ≡ true → (b.phases ≡ []) ⊎ (e.entries ≡ d.entries)) (clients_of run) (clients_of mid)
       (λ x y h lies. elim (h lies) [ inl z ↦ inl (no_phases b.phases k b.count z) | inr s ↦ inr s ]) d.quiet in
-      subst (λ (l : List (Seat Work)). AllZip (λ d e. has_number plan.liars.clients d.id ≡ true → (b.phases ≡ []) ⊎ (e.entries ≡ d.entries)) (clients_of run) (desks_of l)) (sym m.clients) q
+      subst (λ (l : List (Seat ClientDuty)). AllZip (λ d e. has_number plan.liars.clients d.id ≡ true → (b.phases ≡ []) ⊎ (e.entries ≡ d.entries)) (clients_of run) (desks_of l)) (sym m.clients) q
 
   journals_go : AreWorked plan b.phases (journals_in run) (journals_of plan new.cells.items (clients_of new))
   journals_go = works plan b.phases run.cells.items (clients_of run) new.cells.items (clients_of new) b.low b.standing.planned.inside b.seen (record { cells = worked; desks = later; quiet = quiet }) kept

@@ -3,7 +3,7 @@ use Rattle.std.specs.Prelude.{◌≡◌, ◌≤◌}
 use Rattle.event_clock.specs.Passes.{Holder}
 use Rattle.locked_nodes.specs.Cells.{CellView}
 use Rattle.client_desks.specs.Desks.{DeskView}
-use Rattle.client_work.specs.declared.work.Work.{Work}
+use Rattle.client_duties.specs.declared.work.ClientDuty.{ClientDuty}
 use Rattle.phase_threads.specs.declared.duty.Seat.{Seat}
 
 -- but for what it has seen, which only grows, the pass is as it was
@@ -28,6 +28,6 @@ pub record HasMetDesk (old new : DeskView) : Type 0 where
   pub pass : IsKeeper old.pass new.pass
 
 -- and its thread's duty
-pub record HasMetSeat (old new : Seat Work) : Type 0 where
+pub record HasMetSeat (old new : Seat ClientDuty) : Type 0 where
   pub duty : new.duty ≡ old.duty
   pub desk : HasMetDesk old.desk new.desk

@@ -7,9 +7,9 @@ use Rattle.client_desks.specs.Desks.{first_desk}
 use Rattle.plan_words.specs.declared.plan.Plan.{Plan}
 use Rattle.wire_forms.specs.Liars.{has_number}
 use Rattle.plan_followed.specs.Asked.{nature, crash_after}
-use Rattle.phase_threads.specs.Standing.{is_whole, HaveOwnSlots}
+use Rattle.phase_threads.specs.Standing.{is_whole, HaveOwnShards}
 use Rattle.phase_threads.specs.declared.duty.Seat.{Seat}
-use Rattle.client_work.specs.declared.work.Work.{Work}
+use Rattle.client_duties.specs.declared.work.ClientDuty.{ClientDuty}
 use Rattle.client_threads.specs.Running.{StandsAt}
 
 -- a pass of this clock that has drawn and seen nothing
@@ -42,11 +42,11 @@ pub record AreNewCells (plan : Plan) (shards : ℕ) (clock : ClockId) (node shar
   pub count : length cells ≡ cell_count plan shards node + shard
   pub each : (k : ℕ) (cell : CellView) → slice_get cells k ≡ Some cell → IsNewCell plan shards clock cell.charter.number cell.charter.shard cell
   pub before : (k : ℕ) (cell : CellView) → slice_get cells k ≡ Some cell → IsBefore node shard cell.charter.number cell.charter.shard
-  pub own : HaveOwnSlots cells
+  pub own : HaveOwnShards cells
   pub all : (i s : ℕ) → IsBefore node shard i s → s < shards_of plan shards i → (k : ℕ) × (cell : CellView) × (slice_get cells k ≡ Some cell) × (cell.charter.number ≡ i) × (cell.charter.shard ≡ s)
 
 -- the desk of a client that has done nothing, with its thread's part
-pub record IsNewSeat (plan : Plan) (clock : ClockId) (s : Seat Work) : Type 0 where
+pub record IsNewSeat (plan : Plan) (clock : ClockId) (s : Seat ClientDuty) : Type 0 where
   pub pass : Holder
   pub unused : IsUnusedPass clock pass
   pub is : s.desk ≡ first_desk plan.config s.desk.id (has_number plan.liars.clients s.desk.id) pass

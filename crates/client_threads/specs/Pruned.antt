@@ -4,9 +4,9 @@ use Rattle.std.specs.declared.option.Option.TheVariants.{Some}
 use Rattle.event_clock.specs.Passes.{ClockId}
 use Rattle.journals.specs.declared.node.NodeEntry.{NodeEntry}
 use Rattle.journals.specs.Acts.{can_prune}
-use Rattle.locked_nodes.specs.declared.slot.Slot.{Slot}
+use Rattle.locked_nodes.specs.declared.cell_shard.CellShard.{CellShard}
 use Rattle.locked_nodes.specs.Cells.{CellView, IsPrune, rechartered, state_of}
-use Rattle.locked_nodes.specs.Slots.{IsPlace}
+use Rattle.locked_nodes.specs.CellShards.{IsPlace}
 use Rattle.plan_words.specs.declared.plan.Plan.{Plan}
 use Rattle.plan_followed.specs.Nodes.{Pruning}
 use Rattle.plan_followed.specs.declared.prunes.BlockStamp.{BlockStamp}
@@ -55,14 +55,14 @@ abbrev pub AllPruned : Plan → ℕ → List BlockStamp → List CellView → Li
 AllPruned plan from prunings old new =
     (i : ℕ) → i < plan.config.n → HasDonePrunes from (prunings_of prunings) (prunes_at plan old i) (node_journal old i) (node_journal new i)
 
--- each block of the node has its place, and all the node's slots are of one count
-pub record IsServed (slots : List Slot) (node : ℕ) : Type 0 where
-  pub some : All (λ s. 0 < s.shards) slots
-  pub there : (block : ℕ) → (place : ℕ) × IsPlace slots place node block
+-- each block of the node has its place, and all the node's shards are of one count
+pub record IsServed (cell_shards : List CellShard) (node : ℕ) : Type 0 where
+  pub some : All (λ s. 0 < s.shards) cell_shards
+  pub there : (block : ℕ) → (place : ℕ) × IsPlace cell_shards place node block
   pub shards : ℕ
-  pub alike : All (λ s. s.node ≡ node → s.shards ≡ shards) slots
+  pub alike : All (λ s. s.node ≡ node → s.shards ≡ shards) cell_shards
 
 -- the places of the node's cells, by shard
-pub record ArePlaces (slots : List Slot) (node : ℕ) (places : List ℕ) : Type 0 where
+pub record ArePlaces (cell_shards : List CellShard) (node : ℕ) (places : List ℕ) : Type 0 where
   pub some : 0 < length places
-  pub each : (block : ℕ) → (place : ℕ) × (slice_get places (block % length places) ≡ Some place) × IsPlace slots place node block
+  pub each : (block : ℕ) → (place : ℕ) × (slice_get places (block % length places) ≡ Some place) × IsPlace cell_shards place node block

@@ -5,18 +5,18 @@ use Rattle.journals.specs.Desks.{Ended}
 use Rattle.client_desks.specs.Desks.{DeskView, state_at}
 use Rattle.phase_threads.specs.declared.duty.Seat.{Seat}
 use Rattle.plan_followed.specs.declared.prunes.BlockStamp.{BlockStamp}
-use Rattle.client_work.specs.declared.reads.GivenRead.{GivenRead}
-use Rattle.client_work.specs.declared.work.Work.{Work}
-use Rattle.client_work.specs.declared.work.Work.TheVariants.{Client, Lying, Courier}
-use Rattle.client_work.specs.Work.{all_given}
+use Rattle.client_duties.specs.declared.reads.GivenRead.{GivenRead}
+use Rattle.client_duties.specs.declared.work.ClientDuty.{ClientDuty}
+use Rattle.client_duties.specs.declared.work.ClientDuty.TheVariants.{Client, Lying, Courier}
+use Rattle.client_duties.specs.ClientDuty.{all_given}
 
 -- the reads that a thread's client made
-abbrev pub reads_in : Work → List GivenRead
+abbrev pub reads_in : ClientDuty → List GivenRead
 reads_in (Client w) = w.reads
 reads_in (Lying w) = []
 reads_in Courier = []
 
-abbrev pub reads_of : Seat Work → List GivenRead
+abbrev pub reads_of : Seat ClientDuty → List GivenRead
 reads_of s = reads_in s.duty
 
 -- of which block, and under which stamp
@@ -24,13 +24,13 @@ abbrev pub block_stamp : GivenRead → BlockStamp
 block_stamp r = record { block = r.block; stamp = r.stamp }
 
 -- what the first reads of each client gave, so many
-abbrev pub early_reads : List (Seat Work) → List ℕ → List BlockStamp
+abbrev pub early_reads : List (Seat ClientDuty) → List ℕ → List BlockStamp
 early_reads [] ns = []
 early_reads (s ∷ seats) [] = []
 early_reads (s ∷ seats) (n ∷ ns) = map block_stamp (take n (reads_of s)) ++ early_reads seats ns
 
 -- and what the others gave
-abbrev pub late_reads : List (Seat Work) → List ℕ → List BlockStamp
+abbrev pub late_reads : List (Seat ClientDuty) → List ℕ → List BlockStamp
 late_reads [] ns = []
 late_reads (s ∷ seats) [] = []
 late_reads (s ∷ seats) (n ∷ ns) = map block_stamp (drop n (reads_of s)) ++ late_reads seats ns
@@ -44,10 +44,10 @@ pub record AreParted (from : ℕ) (d : DeskView) (n : ℕ) : Type 0 where
   pub low : (x : Ended) → Contains before x → x.end < from
   pub high : (x : Ended) → Contains after x → from ≤ x.end
 
-abbrev pub IsPartedAs : ℕ → Work → DeskView → ℕ → Type 0
+abbrev pub IsPartedAs : ℕ → ClientDuty → DeskView → ℕ → Type 0
 IsPartedAs from (Client w) d n = AreParted from d n
 IsPartedAs from (Lying w) d n = n ≡ 0
 IsPartedAs from Courier d n = n ≡ 0
 
-abbrev pub IsParted : ℕ → Seat Work → ℕ → Type 0
+abbrev pub IsParted : ℕ → Seat ClientDuty → ℕ → Type 0
 IsParted from s n = IsPartedAs from s.duty s.desk n

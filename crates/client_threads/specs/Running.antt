@@ -18,15 +18,15 @@ use Rattle.plan_followed.specs.Closed.{next_begin, HaveClosed, IsWorkedOff, AreB
 use Rattle.phase_threads.specs.Standing.{AreCells, AreInside, IsDeskAt, PairsStand, HasWorked, ArePlanned, HaveSeen, node_journal, journals_of}
 use Rattle.phase_threads.specs.Ended.{AreClients}
 use Rattle.phase_threads.specs.declared.duty.Seat.{Seat}
-use Rattle.client_work.specs.declared.work.Work.{Work}
-use Rattle.client_work.specs.declared.work.Work.TheVariants.{Client, Lying, Courier}
-use Rattle.client_work.specs.Work.{Stands, HasMail, phase_at}
+use Rattle.client_duties.specs.declared.work.ClientDuty.{ClientDuty}
+use Rattle.client_duties.specs.declared.work.ClientDuty.TheVariants.{Client, Lying, Courier}
+use Rattle.client_duties.specs.ClientDuty.{Stands, HasMail, phase_at}
 use Rattle.client_threads.specs.declared.state.Run.{Run}
 use Rattle.client_threads.specs.Reads.{IsParted}
 
 -- ---- views of a run
 
-abbrev pub desks_of : List (Seat Work) → List DeskView
+abbrev pub desks_of : List (Seat ClientDuty) → List DeskView
 desks_of seats = map (λ s. s.desk) seats
 
 abbrev pub clients_of : Run → List DeskView
@@ -58,7 +58,7 @@ cuts plan = count_by is_phase plan.work
 -- ---- what holds of it
 
 -- a thread's part, when so many phases are done
-abbrev pub StandsAt : Plan → ℕ → Work → DeskView → Type 0
+abbrev pub StandsAt : Plan → ℕ → ClientDuty → DeskView → Type 0
 StandsAt plan k (Client w) d = (w.plan.value ≡ plan) × Stands w d × (phase_at w ≡ k)
 StandsAt plan k (Lying w) d = (w.plan.value ≡ plan) × HasMail w d × (0 < k → w.mail.items ≡ [])
 StandsAt plan k Courier d = ⊥

@@ -11,7 +11,7 @@ ghost use Rattle.locked_nodes.specs.Joined as joined;
 
 use crate::state::Run;
 use client_desks::Finished;
-use client_work::Work;
+use client_duties::ClientDuty;
 use event_clock::{Drawn, Passes, RunRefusal};
 use journals::{DeskJournals, NodeJournal, NodeJournals};
 use lists::{ItemList, NoMemory};
@@ -152,7 +152,7 @@ fn add_journal(
 // The journals and the records of the desks, whose passes are added to the others.
 fn finish_desks(
     alloc: Global,
-    seats: Vec<Seat<Work>>,
+    seats: Vec<Seat<ClientDuty>>,
     passes: &mut Passes,
 ) -> Result<Desks, NoMemory>
     ensures desks { IfOk result (λ r. r.journals ≡ map journal_at (desks_of seats.items)) }

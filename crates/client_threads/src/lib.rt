@@ -18,6 +18,6 @@ mod state;
 mod threads;
 
 pub use client_desks::Desk;
-pub use crews::{Edge, Gate, OpenGate};
 pub use run::{Ran, run_by, run_plan};
+pub use thread_work::{Edge, Gate, OpenGate};
 pub use threads::Phased;

@@ -6,7 +6,7 @@ ghost use Rattle.client_desks.specs.Desks.{KeptDesk};
 ghost use Rattle.client_threads.specs.Met.{HasMetCell, HasMetSeat, IsKeeper};
 ghost use Rattle.client_threads.specs.Running.{desks_of};
 
-use client_work::Work;
+use client_duties::ClientDuty;
 use event_clock::{Clock, Pass};
 use locked_nodes::NodeCell;
 use phase_threads::Seat;
@@ -28,7 +28,7 @@ pub(crate) fn meet_cells(clock: &Clock, keeper: &mut Pass, cells: &mut [NodeCell
 }
 
 /// Lets the pass meet that of each client's desk.
-pub(crate) fn meet_desks(clock: &Clock, keeper: &mut Pass, seats: &mut [Seat<Work>])
+pub(crate) fn meet_desks(clock: &Clock, keeper: &mut Pass, seats: &mut [Seat<ClientDuty>])
     requires keeper { keeper.old.clock ≡ clock.now }
     requires desks { All (λ s. s.desk.pass.clock ≡ clock.now) seats.old }
     ensures keeper { IsKeeper keeper.old keeper.new }

@@ -1,14 +1,14 @@
 //! The beginning of a run.
 ghost use Rattle.std.specs.Prelude.{◌≡◌, ◌≤◌, ◌<◌, ◌+◌, [], map, All, length, IfOk, OnOk};
 ghost use Rattle.plan_words.specs.Plans.{Fits};
-ghost use Rattle.client_work.specs.Tasks.{IsTaskOf, client_of};
+ghost use Rattle.client_duties.specs.Tasks.{IsTaskOf, client_of};
 ghost use Rattle.client_threads.specs.Running.{IsBetween, plan_of};
 ghost use Rattle.phase_threads.specs.Standing.{needs_whole};
 ghost use Rattle.client_threads.specs.Opened.{IsUnusedPass, AreNewCells, IsNewSeat, cell_count, shards_of};
 
 use crate::state::Run;
 use client_desks::Desk;
-use client_work::{ClientWorker, Liar, Task, Work, crash_after, nature_of, tasks_of};
+use client_duties::{ClientDuty, CorrectClient, Liar, Task, crash_after, nature_of, tasks_of};
 use event_clock::{Clock, Pass, Passes};
 use lists::{ItemList, NoMemory};
 use locked_nodes::NodeCell;
@@ -162,7 +162,7 @@ fn open_seats(
     clock: &Clock,
     tasks: ItemList<Task>,
     passes: &mut Passes,
-) -> Result<Vec<Seat<Work>>, NoMemory>
+) -> Result<Vec<Seat<ClientDuty>>, NoMemory>
     requires fits { Fits plan.now }
     requires tasks { All (IsTaskOf plan.now) tasks }
     requires unused { All (IsUnusedPass clock.now) passes.old }
@@ -183,7 +183,12 @@ fn open_seats(
 }
 
 // The desk of a client, and what its thread is to do.
-fn open_seat(alloc: Global, plan: &Plan, task: Task, pass: Pass) -> Result<Seat<Work>, NoMemory>
+fn open_seat(
+    alloc: Global,
+    plan: &Plan,
+    task: Task,
+    pass: Pass,
+) -> Result<Seat<ClientDuty>, NoMemory>
     requires fits { Fits plan.now }
     requires task { IsTaskOf plan.now task }
     requires unused { pass.drawn ≡ [] }
@@ -193,12 +198,12 @@ fn open_seat(alloc: Global, plan: &Plan, task: Task, pass: Pass) -> Result<Seat<
     match task {
         Task::Client(task) => {
             let desk = Desk::new(alloc, &plan.config, task.client, pass)?;
-            let duty = Work::Client(ClientWorker::new(alloc, plan, task));
+            let duty = ClientDuty::Client(CorrectClient::new(alloc, plan, task));
             Ok(Seat { desk, duty })
         }
         Task::Liar { client, mail } => {
             let desk = Desk::lying(alloc, &plan.config, client, pass)?;
-            let duty = Work::Lying(Liar::new(plan, client, mail));
+            let duty = ClientDuty::Lying(Liar::new(plan, client, mail));
             Ok(Seat { desk, duty })
         }
     }

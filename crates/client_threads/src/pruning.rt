@@ -2,7 +2,7 @@
 ghost use Rattle.std.specs.Prelude.{◌≡◌, ◌≤◌, ◌<◌, All, None, IfOk, OnOk};
 ghost use Rattle.std.specs.List.{AllZip};
 ghost use Rattle.locked_nodes.specs.Cells.{KeptCell};
-ghost use Rattle.locked_nodes.specs.Slots.{slots_of};
+ghost use Rattle.locked_nodes.specs.CellShards.{cell_shards_of};
 ghost use Rattle.phase_threads.specs.Standing.{ArePlanned};
 ghost use Rattle.client_threads.specs.Met.{IsKeeper};
 ghost use Rattle.client_threads.specs.Pruned.{IsOpenCell, HasMorePrunes, IsServed, ArePlaces, NodePruned, OthersStay, AllPruned, reopened};
@@ -10,7 +10,7 @@ ghost use Rattle.client_threads.specs.Pruned.{IsOpenCell, HasMorePrunes, IsServe
 use crate::state::know_cells;
 use event_clock::{Clock, Pass};
 use lists::NoMemory;
-use locked_nodes::{CellRefusal, NodeCell, Slot, place_of, slots_in};
+use locked_nodes::{CellRefusal, CellShard, NodeCell, place_of, shards_in};
 use phase_threads::laws::phases_work;
 use plan_followed::BlockStamp;
 use plan_words::Plan;
@@ -78,14 +78,14 @@ fn prune_nodes(
         (AllPruned plan.now keeper.old.seen prunings.now cells.old cells.new) }
 {
     phases_work();
-    let slots = slots_in(alloc, cells)?;
+    let cell_shards = shards_in(alloc, cells)?;
     for node in 0..plan.config.n() as u8 {
         prune(
             alloc,
             clock,
             keeper,
             cells,
-            slots.as_slice(),
+            cell_shards.as_slice(),
             node,
             prunings,
         )?;
@@ -99,21 +99,21 @@ fn prune(
     clock: &Clock,
     keeper: &mut Pass,
     cells: &mut [NodeCell],
-    slots: &[Slot],
+    cell_shards: &[CellShard],
     node: u8,
     prunings: &[BlockStamp],
 ) -> Result<(), CellRefusal>
     requires keeper { keeper.old.clock ≡ clock.now }
     requires cells { All (IsOpenCell clock.now keeper.old.seen prunings.now) cells.old }
-    requires slots { slots.now ≡ slots_of cells.old }
-    requires served { IsServed slots.now node }
+    requires cell_shards { cell_shards.now ≡ cell_shards_of cells.old }
+    requires served { IsServed cell_shards.now node }
     ensures keeper { IsKeeper keeper.old keeper.new }
     ensures cells { All (IsOpenCell clock.now keeper.new.seen prunings.now) cells.new }
     ensures some { AllZip HasMorePrunes cells.old cells.new }
     ensures all { OnOk result (NodePruned keeper.old.seen prunings.now node cells.old cells.new) }
     ensures others { OthersStay node cells.old cells.new }
 {
-    let places = places_of(alloc, slots, node)?;
+    let places = places_of(alloc, cell_shards, node)?;
     for pruning in prunings {
         let place = places[pruning.block as usize % places.len()];
         let _pruning = cells[place].prune(clock, keeper, pruning.block, &pruning.stamp)?;
@@ -122,14 +122,14 @@ fn prune(
 }
 
 // The places of a node's cells, by shard.
-fn places_of(alloc: Global, slots: &[Slot], node: u8) -> Result<Vec<usize>, NoMemory>
-    requires { IsServed slots.now node }
-    ensures { IfOk result (λ places. ArePlaces slots.now node places.items) }
+fn places_of(alloc: Global, cell_shards: &[CellShard], node: u8) -> Result<Vec<usize>, NoMemory>
+    requires { IsServed cell_shards.now node }
+    ensures { IfOk result (λ places. ArePlaces cell_shards.now node places.items) }
 {
-    let shards = slots[place_of(slots, node, 0)].shards;
+    let shards = cell_shards[place_of(cell_shards, node, 0)].shards;
     let mut places = Vec::new(alloc);
     for shard in 0..shards {
-        places.push(place_of(slots, node, shard))?;
+        places.push(place_of(cell_shards, node, shard))?;
     }
     Ok(places)
 }

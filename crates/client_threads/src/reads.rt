@@ -3,7 +3,7 @@ ghost use Rattle.std.specs.Prelude.{◌≡◌, ◌≤◌, ◌++◌, IfOk, OnOk, 
 ghost use Rattle.std.specs.List.{AllZip};
 ghost use Rattle.client_threads.specs.Reads.{reads_of, early_reads, late_reads, block_stamp};
 
-use client_work::{GivenRead, Work};
+use client_duties::{ClientDuty, GivenRead};
 use lists::NoMemory;
 use phase_threads::Seat;
 use plan_followed::BlockStamp;
@@ -21,7 +21,7 @@ pub(crate) struct Gathered {
 /// Gathers what the clients' reads gave. Of each client so many reads are of the phases before.
 pub(crate) fn gather(
     alloc: Global,
-    seats: &[Seat<Work>],
+    seats: &[Seat<ClientDuty>],
     counted: &[usize],
 ) -> Result<Gathered, NoMemory>
     requires { AllZip (λ s n. n ≤ length (reads_of s)) seats.now counted.now }
@@ -43,7 +43,7 @@ pub(crate) fn gather(
 }
 
 /// How many reads each client has made.
-pub(crate) fn count(counted: &mut [usize], seats: &[Seat<Work>])
+pub(crate) fn count(counted: &mut [usize], seats: &[Seat<ClientDuty>])
     requires { length counted.old ≡ length seats.now }
     ensures { counted.new ≡ map (λ s. length (reads_of s)) seats.now }
 {
@@ -53,12 +53,12 @@ pub(crate) fn count(counted: &mut [usize], seats: &[Seat<Work>])
 }
 
 // The reads of a client.
-fn reads_at(seat: &Seat<Work>) -> &[GivenRead]
+fn reads_at(seat: &Seat<ClientDuty>) -> &[GivenRead]
     ensures { result.now ≡ reads_of seat.now }
 {
     match &seat.duty {
-        Work::Client(worker) => worker.reads(),
-        Work::Lying(_) | Work::Courier => &[],
+        ClientDuty::Client(worker) => worker.reads(),
+        ClientDuty::Lying(_) | ClientDuty::Courier => &[],
     }
 }
 

@@ -7,7 +7,7 @@ ghost use Rattle.journals.specs.Records.{AreTold};
 ghost use Rattle.plan_words.specs.Plans.{Fits};
 ghost use Rattle.plan_followed.specs.Followed.{AreOfPlan};
 ghost use Rattle.phase_threads.specs.Phases.{MayPhase, HasPhased};
-ghost use Rattle.client_work.specs.Work.{Ready, Done};
+ghost use Rattle.client_duties.specs.ClientDuty.{Ready, Done};
 ghost use Rattle.client_threads.specs.Phases.{DoesPhases};
 ghost use Rattle.client_threads.specs.Running.{IsBetween, IsWorked, plan_of, cuts};
 
@@ -17,8 +17,7 @@ use crate::mail::bring_all;
 use crate::opening::open;
 use crate::state::Run;
 use crate::threads::{Phased, work};
-use client_work::Work;
-use crews::Gate;
+use client_duties::ClientDuty;
 use event_clock::{Clock, Drawn, RunRefusal};
 use journals::Journals;
 use lists::{ItemList, NoMemory};
@@ -31,6 +30,7 @@ use run_words::Record;
 use std::alloc::Global;
 use std::sync::Wait;
 use std::thread::Threads;
+use thread_work::Gate;
 use wire_forms::Liars;
 
 /// What a run left: the journals, and the numbers drawn for their entries.
@@ -61,7 +61,7 @@ pub fn run_plan<R: Threads + Wait + Sync, G: Gate + Sync>(
     ensures records { IfOk result (λ r. AreTold r.journals (map record_of r.records)) }
     ensures full { (drawn : Tally) → result ≡ Err (RunRefusal.ClockFull drawn) → HasFullPass drawn }
 {
-    let phase = |clock: Clock, cells: Vec<NodeCell>, seats: Vec<Seat<Work>>| -> Phased
+    let phase = |clock: Clock, cells: Vec<NodeCell>, seats: Vec<Seat<ClientDuty>>| -> Phased
         requires runtime { IsSync R.row }
         requires gate { IsSync G.row }
         requires may { MayPhase Ready clock cells.items seats.items }
@@ -72,7 +72,7 @@ pub fn run_plan<R: Threads + Wait + Sync, G: Gate + Sync>(
 
 /// Runs a plan that fits as `run_plan` does, with phases of any kind: `phase` is called once for each. A node has so many cells, from 1
 /// to 256, but one alone where it is to crash or to hold asks back.
-pub fn run_by<R: Wait, F: Fn(Clock, Vec<NodeCell>, Vec<Seat<Work>>) -> Phased>(
+pub fn run_by<R: Wait, F: Fn(Clock, Vec<NodeCell>, Vec<Seat<ClientDuty>>) -> Phased>(
     rt: &R,
     alloc: Global,
     plan: &Plan,
@@ -99,7 +99,7 @@ pub fn run_by<R: Wait, F: Fn(Clock, Vec<NodeCell>, Vec<Seat<Work>>) -> Phased>(
 }
 
 // Lets threads do the next phase, and then what nodes still hold back come late.
-fn work_off<R: Wait, F: Fn(Clock, Vec<NodeCell>, Vec<Seat<Work>>) -> Phased>(
+fn work_off<R: Wait, F: Fn(Clock, Vec<NodeCell>, Vec<Seat<ClientDuty>>) -> Phased>(
     rt: &R,
     alloc: Global,
     plan: &Plan,

@@ -3,7 +3,7 @@ ghost use Rattle.std.specs.Prelude.{All};
 ghost use Rattle.locked_nodes.specs.Cells.{KeptCell};
 
 use client_desks::Desk;
-use client_work::Work;
+use client_duties::ClientDuty;
 use event_clock::{Clock, Pass};
 use locked_nodes::NodeCell;
 use phase_threads::Seat;
@@ -19,7 +19,7 @@ pub(crate) struct Run {
     /// By node, and then by shard.
     pub(crate) cells: Vec<NodeCell>,
     /// By ascending client.
-    pub(crate) clients: Vec<Seat<Work>>,
+    pub(crate) clients: Vec<Seat<ClientDuty>>,
     /// Its journal stays empty.
     pub(crate) courier: Desk,
     /// The pass that meets all others between phases. It draws nothing.

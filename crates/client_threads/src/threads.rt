@@ -4,17 +4,17 @@ ghost use Rattle.client_threads.specs.Phases.{DoesPhases};
 ghost use Rattle.client_threads.specs.Running.{IsOpen, IsStanding, HasDonePhase, cuts, plan_of};
 
 use crate::state::{Run, know_cells};
-use client_work::Work;
+use client_duties::ClientDuty;
 use event_clock::Clock;
 use lists::NoMemory;
 use locked_nodes::{CellRefusal, NodeCell};
 use phase_threads::{Left, Seat};
 
 /// What a phase leaves: the clock, and the cells and seats with the refusal that came, if one did.
-pub type Phased = Result<(Clock, Left<Work>), NoMemory>;
+pub type Phased = Result<(Clock, Left<ClientDuty>), NoMemory>;
 
 /// Lets each client and the courier do their parts of the next phase. It hands the run back with the refusal that came, if one did.
-pub(crate) fn work<F: Fn(Clock, Vec<NodeCell>, Vec<Seat<Work>>) -> Phased>(
+pub(crate) fn work<F: Fn(Clock, Vec<NodeCell>, Vec<Seat<ClientDuty>>) -> Phased>(
     phase: &F,
     run: Run,
 ) -> Result<(Run, Option<CellRefusal>), NoMemory>
@@ -37,7 +37,7 @@ pub(crate) fn work<F: Fn(Clock, Vec<NodeCell>, Vec<Seat<Work>>) -> Phased>(
     know_cells(cells.as_slice());
     clients.push(Seat {
         desk: courier,
-        duty: Work::Courier,
+        duty: ClientDuty::Courier,
     })?;
     let (clock, left) = phase(clock, cells, clients)?;
     let Left {

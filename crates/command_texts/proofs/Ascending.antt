@@ -12,7 +12,7 @@ use Rattle.wire_forms.specs.Liars.{IsAscending}
 use Rattle.plan_words.specs.Named.{lying_nodes, lying_clients}
 use Rattle.plan_followed.specs.Laws.{OfPlans, HasLiars}
 use Rattle.command_texts.specs.ScriptLiars.{HasScriptLiars}
-use Rattle.lists.proofs.lemmas.Orders.{nat_less, less_of}
+use Rattle.lists.proofs.lemmas.Orders.{nat_less, less_of_nat_cmp}
 
 inserted : (x : ℕ) (xs : List ℕ) (k : ℕ) (P : List ℕ → Type 0) → (k < x → P (k ∷ x ∷ xs)) → P (x ∷ xs) → (x < k → P (x ∷ insert_key nat_cmp xs k)) → P (insert_key nat_cmp (x ∷ xs) k)
 inserted x xs k P before here after =
@@ -27,7 +27,7 @@ all_inserted P (x ∷ xs) k h p = inserted x xs k (AllByRecursion P) (λ l. (p, 
 
 all_above : (x k : ℕ) (xs : List ℕ) → k < x → AllByRecursion (λ y. nat_cmp x y ≡ Less) xs → AllByRecursion (λ y. nat_cmp k y ≡ Less) xs
 all_above x k [] l h = tt
-all_above x k (y ∷ ys) l h = (nat_less k y (let m = less_of x y h.0 in omega (arith, l, m)), all_above x k ys l h.1)
+all_above x k (y ∷ ys) l h = (nat_less k y (let m = less_of_nat_cmp x y h.0 in omega (arith, l, m)), all_above x k ys l h.1)
 
 insert_ascends : (ks : List ℕ) (k : ℕ) → IsAscending ks → IsAscending (insert_key nat_cmp ks k)
 unfolding IsStrictlySortedBy

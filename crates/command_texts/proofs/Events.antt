@@ -7,7 +7,7 @@ use Rattle.event_lines.specs.Lines.{IsEventLine}
 use Rattle.event_lines.specs.declared.line.ReplayLine.{ReplayLine}
 use Rattle.event_lines.specs.declared.line.ReplayLine.TheVariants.{Plain}
 use Rattle.journal_records.specs.Told.{IsTold}
-use Rattle.lists.proofs.lemmas.Members.{all_push, nil_of}
+use Rattle.lists.proofs.lemmas.Members.{all_push, nil_of_length}
 
 -- the events so far, and the lines that are left, so many
 pub record AreMade (c : Numbers) (lines rest : List Line) (left : ℕ) (events : List ReplayLine) : Type 0 where
@@ -39,4 +39,4 @@ goes_on c lines old new left fewer line events more e one f is h =
     }
 
 pub ends : (c : Numbers) (lines rest : List Line) (left : ℕ) (events : List ReplayLine) → left ≡ 0 → AreMade c lines rest left events → events ≡ map Plain lines
-ends c lines rest left events none h = sym (append-nil events) ∙ ap (λ (l : List Line). events ++ map Plain l) (sym (nil_of rest (sym none ∙ h.count))) ∙ h.made
+ends c lines rest left events none h = sym (append-nil events) ∙ ap (λ (l : List Line). events ++ map Plain l) (sym (nil_of_length rest (sym none ∙ h.count))) ∙ h.made

@@ -131,7 +131,7 @@ impl<F: DiskFile + Drop> Disk for FileDisk<F> {
         Ok(())
     }
 
-    #[tactic(auto, using(disk_model::proofs::lemmas::Crash::wider, disk_model::proofs::lemmas::Crash::written_stays, disk_model::proofs::lemmas::Crash::length_overwritten, disk_model::proofs::lemmas::Past::kept_by_write))]
+    #[tactic(auto, using(disk_model::proofs::lemmas::Crash::within_with_range, disk_model::proofs::lemmas::Crash::written_stays, disk_model::proofs::lemmas::Crash::length_overwritten, disk_model::proofs::lemmas::Past::kept_by_write))]
     fn write_at(&mut self, at: u64, piece: &[u8]) -> Result<(), DiskFault>
         requires begins { at ≤ length self.old.bytes }
         requires ends { at + length piece.now ≤ self.old.most }

@@ -17,7 +17,7 @@ use Rattle.history_book.specs.Reports.{entry_fields}
 use Rattle.history_book.specs.ReportTexts.{◌>>=◌, kind_told, numbers_told, numbers_in, entry_told, entry_with, entry_causes, value_causes, has_other_kind, has_other_size, is_bad_value, is_zero_mark, is_not_above, stands_above, last_of, IsRightAfter, MayFollow, IsTold}
 use Rattle.history_making.specs.Orders.{key_cmp}
 use Rattle.history_book.proofs.Spelling.{kind_spelled, numbers_spelled}
-use Rattle.lists.proofs.lemmas.Tests.{positive}
+use Rattle.lists.proofs.lemmas.Tests.{nonzero_positive}
 use Rattle.lists.proofs.lemmas.Orders.{lt_less}
 use Rattle.std.proofs.lemmas.Bool.{or_parts}
 
@@ -95,12 +95,12 @@ follows entries kind b s w c st e v n x told some (value, is, spells, right) =
       block = N.block_fits;
       time = N.stamp.time;
       writer = N.stamp.writer;
-      mark = positive n.stamp.mark mark;
+      mark = nonzero_positive n.stamp.mark mark;
       mark_fits = N.stamp.mark;
       client = N.client_fits;
       places = N.places;
       bytes = V.1;
-      some_bytes = positive (length value) some_bytes;
+      some_bytes = nonzero_positive (length value) some_bytes;
     }) right.mark parts.0 in (
       ap entry_fields is ∙ text,
       record { told = made; size = same_size entries x.value parts.1; above = above_less (last_of entries) x right.above },

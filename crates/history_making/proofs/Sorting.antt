@@ -14,7 +14,7 @@ use Rattle.protocol.proofs.lemmas.Entries.{entry_total}
 use Rattle.history_making.specs.declared.draft.Draft.{Draft}
 use Rattle.history_making.proofs.lemmas.Counted.{count_cons}
 use Rattle.history_making.specs.Drafts.{entry_of, entries_of, place_is, starts_at, HaveStarts}
-use Rattle.lists.proofs.lemmas.Members.{Contains-head, Contains-none, Contains-rest, Contains-cons_cases, Contains-map_cases, all_of}
+use Rattle.lists.proofs.lemmas.Members.{Contains-head, Contains-none, Contains-rest, Contains-cons_cases, Contains-map_cases, all_from_members}
 use Rattle.lists.proofs.lemmas.Orders.{then_equal}
 use Rattle.protocol.proofs.lemmas.Keys.{place_exact}
 
@@ -74,7 +74,7 @@ not_below Greater h n = refl
 up_sorted : (ds : List Draft) → IsUp ds → HaveStarts (entries_of ds) → IsSorted (entries_of ds)
 up_sorted [] u h = tt
 up_sorted (x ∷ ds) u h = (
-  all_of (λ f. entry_cmp (entry_of x) f ≡ Less) (entries_of ds) (λ e k.
+  all_from_members (λ f. entry_cmp (entry_of x) f ≡ Less) (entries_of ds) (λ e k.
       let m = Contains-map_cases entry_of ds e k in
       let i = m.1 in
       let q = i.2 in

@@ -14,7 +14,7 @@ use Rattle.protocol.proofs.lemmas.Order.{same_stamp-≡, same_stamp-refl}
 use Rattle.protocol.proofs.lemmas.Entries.{entry_total, member_of, not_back, not_self, less_by_kind}
 use Rattle.history_making.specs.Drafts.{is_of_version, is_of_some, is_reading, foreign_of, has_end, entries_by, entries_at, IsVersion, IsLeast, IsKept, IsSeen, AreKept}
 use Rattle.history_making.proofs.Orders.{version_is, version_if, version_back, version_on, version_between, less_by_version}
-use Rattle.lists.proofs.lemmas.Members.{Contains-head, Contains-none, Contains-rest, Contains-cons_cases, Contains-one, all_of}
+use Rattle.lists.proofs.lemmas.Members.{Contains-head, Contains-none, Contains-rest, Contains-cons_cases, Contains-one, all_from_members}
 use Rattle.protocol.proofs.lemmas.Tests.{and_true}
 
 -- ---- tests over a list
@@ -234,7 +234,7 @@ module _ (first : Stamp) where
   )
     where
       all_append : (xs ys : List Entry) → AllByRecursion (λ f. entry_cmp a f ≡ Less) xs → ((b : Entry) → Contains ys b → entry_cmp a b ≡ Less) → AllByRecursion (λ f. entry_cmp a f ≡ Less) (xs ++ ys)
-      all_append [] ys p h = all_of (λ f. entry_cmp a f ≡ Less) ys h
+      all_append [] ys p h = all_from_members (λ f. entry_cmp a f ≡ Less) ys h
       all_append (x ∷ xs) ys p h = (p.0, all_append xs ys p.1 h)
 
   foreign_less : (y : Entry) → y.kind ≡ Read → entry_cmp (foreign_of y) y ≡ Less

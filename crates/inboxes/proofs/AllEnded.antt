@@ -4,7 +4,7 @@ use Rattle.std.proofs.lemmas.List.Elements.{All-head, All-tail}
 use Rattle.std.proofs.lemmas.List.Sums.{sum_by-cons}
 use Rattle.std.specs.Prelude.{nat_eq, is_none, count_by}
 use Rattle.std.specs.List.{filter}
-use Rattle.inboxes.specs.Posts.{words_of, has_ended, IsOrderly, lasts_in}
+use Rattle.inboxes.specs.Parcels.{words_of, has_ended, IsOrderly, lasts_in}
 use Rattle.inboxes.proofs.lemmas.SenderWords.{true_here, false_here, same_or_not}
 
 -- sums over the numbers below n

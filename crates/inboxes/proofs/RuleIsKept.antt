@@ -8,14 +8,14 @@ use lib.ListN.{get_elem?}
 use Rattle.atomic_table.proofs.Lists.{at_set}
 use Rattle.crossbeam_channel.specs.Fifo.{Pushes, Pops, Forks, Merges, Learns}
 use Rattle.std.specs.declared.snapshot.Snapshot.{Snapshot}
-use Rattle.inboxes.specs.declared.rule.Post.{Post}
-use Rattle.inboxes.specs.declared.rule.Post.TheVariants.{Open, Said}
+use Rattle.inboxes.specs.declared.rule.Parcel.{Parcel}
+use Rattle.inboxes.specs.declared.rule.Parcel.TheVariants.{Open, Said}
 use Rattle.inboxes.specs.declared.rule.Role.{Role}
 use Rattle.inboxes.specs.declared.rule.Role.TheVariants.{Opens, Opening, Sends, Takes, Tells, Spent}
 use Rattle.inboxes.specs.declared.rule.Start.{Start}
 use Rattle.inboxes.specs.declared.rule.Account.{Account}
 use Rattle.inboxes.specs.declared.rule.View.{View}
-use Rattle.inboxes.specs.Posts.{words_of, has_ended, IsOrderly, start, number_of, IsTold, SettlesWith, newcomer, spent, opening, opening_of, taking, post_of, with_one_more, next_sender, account_of, with_account, said_more, heard_more, Says, Settles, Knows, FitsWord, IsOpen, Keeps, Hears}
+use Rattle.inboxes.specs.Parcels.{words_of, has_ended, IsOrderly, start, number_of, IsTold, SettlesWith, newcomer, spent, opening, opening_of, taking, post_of, with_one_more, next_sender, account_of, with_account, said_more, heard_more, Says, Settles, Knows, FitsWord, IsOpen, Keeps, Hears}
 use Rattle.inboxes.proofs.lemmas.SenderWords.{true_here, false_here, same_or_not, all_middle, words_append, words_push, words_push_apart, orderly_push, going_at, ended_whole}
 use Rattle.inboxes.proofs.ViewLists.{one_at, set_one, at_end, set_of_set}
 
@@ -46,8 +46,8 @@ module _ {T : Type 0} where
       (is.0, λ ended. sym (is.2 ∙ split ∙ ap (λ l. words_of account.from got ++ l) (none ended) ∙ append-nil (words_of account.from got)))
 
 module _ {T P : Type 0} where
-  -- the front post, of those that wait
-  front : (x : Post T P) (items : List (Post T P)) (rest : List (ℕ × Option T)) → x ∷ items ≡ map post_of rest → (h : ℕ × Option T) × (more : List (ℕ × Option T)) × (rest ≡ h ∷ more) × (x ≡ post_of h) × (items ≡ map post_of more)
+  -- the front parcel, of those that wait
+  front : (x : Parcel T P) (items : List (Parcel T P)) (rest : List (ℕ × Option T)) → x ∷ items ≡ map post_of rest → (h : ℕ × Option T) × (more : List (ℕ × Option T)) × (rest ≡ h ∷ more) × (x ≡ post_of h) × (items ≡ map post_of more)
   front x items [] is = absurd (cc)
   front x items (h ∷ more) is = (h, more, refl, cc, cc)
 
@@ -90,7 +90,7 @@ module _ {T P : Type 0} where
 
 module _ {T P : Type 0} (fits : P → T → Type 0) where
   -- once a pass has another role, the inbox is open
-  opened : (items : List (Post T P)) (views : List (View T P)) (id : ℕ) (v : View T P) → Keeps fits items views → get_elem? views id ≡ some v → is_running v.role ≡ true → (s : Start P) × IsOpen fits s items views
+  opened : (items : List (Parcel T P)) (views : List (View T P)) (id : ℕ) (v : View T P) → Keeps fits items views → get_elem? views id ≡ some v → is_running v.role ≡ true → (s : Start P) × IsOpen fits s items views
   unfolding is_running
   opened items views id v (inl (inl new)) at runs =
       absurd (true≢false (sym runs ∙ ap (λ (u : View T P). is_running u.role) (sym (one_at newcomer v views id new.1 at).1)))
@@ -98,7 +98,7 @@ module _ {T P : Type 0} (fits : P → T → Type 0) where
       absurd (true≢false (sym runs ∙ ap (λ (u : View T P). is_running u.role) (sym (one_at (opening (start o.place.value o.senders)) v views id o.alone at).1)))
   opened items views id v (inr others) at runs = others
 
-  -- the post that opens the inbox
+  -- the parcel that opens the inbox
 
   pub sends_open : (n id : ℕ) (place : Snapshot P) (senders : ℕ) → Pushes (Keeps fits) n id newcomer (Open place senders) (λ w. w ≡ opening_of (Open place senders))
   unfolding is_running
@@ -106,7 +106,7 @@ module _ {T P : Type 0} (fits : P → T → Type 0) where
       let w : View T P = opening (start place.value senders) in
       let here = one_at newcomer newcomer views id new.1 at in (
         w,
-        inl (inr (record { place = place; senders = senders; post = ap (λ l. l ++ Open place senders ∷ []) new.0; alone = set_one newcomer w views id new.1 here.0 })),
+        inl (inr (record { place = place; senders = senders; parcel = ap (λ l. l ++ Open place senders ∷ []) new.0; alone = set_one newcomer w views id new.1 here.0 })),
         refl,
       )
   sends_open n id place senders items views room (inl (inr o)) at =
@@ -128,7 +128,7 @@ module _ {T P : Type 0} (fits : P → T → Type 0) where
         made = 0;
         seat = λ p. 0;
         taker = 0;
-        waits = let is = o.post in cc;
+        waits = let is = o.parcel in cc;
         fit = All-nil (FitsWord fits s);
         orderly = λ p. tt;
         unmade = λ p _. refl;

@@ -5,9 +5,9 @@ use Rattle.std.specs.List.{filter}
 use Rattle.std.proofs.lemmas.List.{map-append}
 use Rattle.std.proofs.lemmas.List.Elements.{All-nil, All-cons, All-head, All-tail, All-push, All-same}
 use Rattle.crossbeam_channel.specs.Claims.{Pass}
-use Rattle.inboxes.specs.declared.rule.Post.{Post}
+use Rattle.inboxes.specs.declared.rule.Parcel.{Parcel}
 use Rattle.inboxes.specs.declared.rule.View.{View}
-use Rattle.inboxes.specs.Posts.{words_of, has_ended, IsOrderly, items_of, lasts_in, start, heard_more, FitsWord, HearsWord}
+use Rattle.inboxes.specs.Parcels.{words_of, has_ended, IsOrderly, items_of, lasts_in, start, heard_more, FitsWord, HearsWord}
 use Rattle.inboxes.specs.Sides.{Putting, Taking, inbox_of, last_words, IsSameSeat, IsTaking, took_in, items_from, took, IsSettled}
 use Rattle.inboxes.proofs.lemmas.SenderWords.{same_or_not, items_all, words_push, words_push_apart, orderly_push, going_push, going_whole, items_last}
 use Rattle.inboxes.proofs.AllEnded.{lasts_push}
@@ -67,7 +67,7 @@ module _ {T P : Type 0} where
   pub settled_items : (t : Taking T P) (sent : Putting T P) → IsSettled t sent → items_from sent.number (took t) ≡ sent.put
   settled_items t sent is = sym (items_of_words sent.number t.heard) ∙ ap items_of is ∙ items_all sent.put
 
-  pub same_inbox : (pass pass' : Pass (Post T P) (View T P)) (place : P) → IsSameSeat pass pass' → inbox_of pass' place ≡ inbox_of pass place
+  pub same_inbox : (pass pass' : Pass (Parcel T P) (View T P)) (place : P) → IsSameSeat pass pass' → inbox_of pass' place ≡ inbox_of pass place
   same_inbox pass pass' place same = λ k. record { ring = same.0 k; keys = same.1 k; place = place }
 
   pub same_putting : (a b : Putting T P) → a.inbox ≡ b.inbox → a.number ≡ b.number → a.put ≡ b.put → a ≡ b

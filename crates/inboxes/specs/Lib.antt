@@ -1,2 +1,2 @@
-pub mod Posts
+pub mod Parcels
 pub mod Sides

@@ -6,15 +6,15 @@ use Rattle.atomic_table.specs.Seated.{TableId}
 use Rattle.atomic_table.specs.declared.badge.Badge.{Badge}
 use Rattle.crossbeam_channel.specs.declared.flavors.array.Key.{Key}
 use Rattle.crossbeam_channel.specs.Claims.{Pass, view}
-use Rattle.inboxes.specs.declared.rule.Post.{Post}
+use Rattle.inboxes.specs.declared.rule.Parcel.{Parcel}
 use Rattle.inboxes.specs.declared.rule.Role.TheVariants.{Sends, Takes}
 use Rattle.inboxes.specs.declared.rule.View.{View}
-use Rattle.inboxes.specs.Posts.{words_of, has_ended, IsOrderly, items_of, lasts_in, start, heard_more}
+use Rattle.inboxes.specs.Parcels.{words_of, has_ended, IsOrderly, items_of, lasts_in, start, heard_more}
 
 -- which inbox it is, and its place
 pub record InboxId (T P : Type 0) : Type 0 where
   pub ring : TableId
-  pub keys : Badge (Key (Post T P))
+  pub keys : Badge (Key (Parcel T P))
   pub place : P
 
 -- a putter: its inbox, its number, and the items that it put. The same after its last word
@@ -47,14 +47,14 @@ module _ {T : Type 0} where
 
 module _ {T P : Type 0} where
   -- what the pass knows
-  abbrev pub known_by : Pass (Post T P) (View T P) → View T P
+  abbrev pub known_by : Pass (Parcel T P) (View T P) → View T P
   known_by pass = view pass
 
-  abbrev pub inbox_of : Pass (Post T P) (View T P) → P → InboxId T P
+  abbrev pub inbox_of : Pass (Parcel T P) (View T P) → P → InboxId T P
   inbox_of pass place = record { ring = pass.table_id; keys = pass.me.0.of; place = place }
 
   -- the sender with this pass, place and number
-  abbrev pub putting_of : Pass (Post T P) (View T P) → P → ℕ → Putting T P
+  abbrev pub putting_of : Pass (Parcel T P) (View T P) → P → ℕ → Putting T P
   putting_of pass place number = record {
     inbox = inbox_of pass place;
     number = number;
@@ -103,7 +103,7 @@ module _ {T P : Type 0} where
   IsSettled t sent = words_of sent.number t.heard ≡ map Some sent.put ++ None ∷ []
 
   -- two passes of one inbox
-  abbrev pub IsSameSeat : Pass (Post T P) (View T P) → Pass (Post T P) (View T P) → Type 0
+  abbrev pub IsSameSeat : Pass (Parcel T P) (View T P) → Pass (Parcel T P) (View T P) → Type 0
   IsSameSeat old new = (new.table_id ≡ old.table_id) × (new.me.0.of ≡ old.me.0.of)
 
   -- TookNext and TookLasts, of what the taker's pass knows

@@ -2,12 +2,12 @@ ghost use Rattle.std.specs.Prelude.{◌≡◌, ◌+◌, ◌<◌, ◌≤◌, fals
 ghost use Rattle.crossbeam_channel.specs.Claims.{view, IsSeatAt};
 ghost use Rattle.crossbeam_channel.specs.Ends.{sends_on, receives_on, ruled_capacity};
 ghost use Rattle.crossbeam_channel.specs.Fifo.{Pushes, Pops, Learns};
-ghost use Rattle.inboxes.specs.Posts.{Keeps, taking, start, has_ended, words_of};
+ghost use Rattle.inboxes.specs.Parcels.{Keeps, taking, start, has_ended, words_of};
 ghost use Rattle.inboxes.specs.Sides.{inbox_of, new_putter, AreNew, put_more, took, items_from, was_last_taken, IsDone, TookNext, TookLasts, IsSettled, IsTaking, IsSameSeat, HeardNext, HeardLasts};
 
-use crate::Mail;
+use crate::InboxItem;
 use crate::rule::{
-    GiveAccount, NextSender, Post, Rule, SendStart, SendWord, Settle, TakeAccount, TakeStart,
+    GiveAccount, NextSender, Parcel, Rule, SendStart, SendWord, Settle, TakeAccount, TakeStart,
     TakeWord, View,
 };
 use crossbeam_channel::protocol::{Lesson, Outcome};
@@ -19,21 +19,21 @@ use std::snapshot::Snapshot;
 use std::sync::Wait;
 use std::thread;
 
-type InboxPost<T> = Post<T, <T as Mail>::Place>;
+type InboxParcel<T> = Parcel<T, <T as InboxItem>::Place>;
 
-type InboxView<T> = View<T, <T as Mail>::Place>;
+type InboxView<T> = View<T, <T as InboxItem>::Place>;
 
-type InboxPass<T> = Pass<InboxPost<T>, InboxView<T>>;
+type InboxPass<T> = Pass<InboxParcel<T>, InboxView<T>>;
 
-type SendEnd<T> = RuledSender<InboxPost<T>, InboxView<T>, Rule>;
+type SendEnd<T> = RuledSender<InboxParcel<T>, InboxView<T>, Rule>;
 
-type ReceiveEnd<T> = RuledReceiver<InboxPost<T>, InboxView<T>, Rule>;
+type ReceiveEnd<T> = RuledReceiver<InboxParcel<T>, InboxView<T>, Rule>;
 
 /// Opens inboxes.
 pub struct Inbox;
 
 // One sender of an inbox, before its last word or after it.
-struct Sender<T: Mail> {
+struct Sender<T: InboxItem> {
     end: SendEnd<T>,
     pass: InboxPass<T>,
     place: Snapshot<T::Place>,
@@ -41,7 +41,7 @@ struct Sender<T: Mail> {
 }
 
 // By hand, as for takers: a derived drop is proved anew wherever one is let go.
-impl<T: Mail> Drop for Sender<T> {
+impl<T: InboxItem> Drop for Sender<T> {
     fn drop(self) {
         let Sender {
             end: _end,
@@ -55,11 +55,11 @@ impl<T: Mail> Drop for Sender<T> {
 /// The right to put items into an inbox, as one of its senders. Contracts see the inbox, the sender's number, and the items
 /// that it put, which are kept in proofs alone.
 #[derive(Drop)]
-pub struct Putter<T: Mail> {
+pub struct Putter<T: InboxItem> {
     sender: Sender<T>,
 }
 
-impl<T: Mail> Model for Putter<T> {
+impl<T: InboxItem> Model for Putter<T> {
     ghost use Rattle.crossbeam_channel.specs.Claims.{IsSeatAt};
     ghost use Rattle.crossbeam_channel.specs.Ends.{sends_on};
     ghost use Rattle.inboxes.specs.Sides.{Putting, putting_of, known_by, IsSending};
@@ -77,11 +77,11 @@ pub type Putters<T> = ItemList<Putter<T>>;
 
 /// What is left of a putter after its last word. Contracts see of it what they see of the putter.
 #[derive(Drop)]
-pub struct Sent<T: Mail> {
+pub struct Sent<T: InboxItem> {
     sender: Sender<T>,
 }
 
-impl<T: Mail> Model for Sent<T> {
+impl<T: InboxItem> Model for Sent<T> {
     ghost use Rattle.crossbeam_channel.specs.Claims.{IsSeatAt};
     ghost use Rattle.crossbeam_channel.specs.Ends.{sends_on};
     ghost use Rattle.inboxes.specs.Sides.{Putting, putting_of, known_by, IsSent};
@@ -99,7 +99,7 @@ pub type Sents<T> = ItemList<Sent<T>>;
 
 /// The right to take items from an inbox. Contracts see the inbox, how many senders it has, and what was taken: the items
 /// with their senders' numbers, and the last words that were passed over. The list is kept in proofs alone.
-pub struct Taker<T: Mail> {
+pub struct Taker<T: InboxItem> {
     end: ReceiveEnd<T>,
     pass: InboxPass<T>,
     place: Snapshot<T::Place>,
@@ -107,7 +107,7 @@ pub struct Taker<T: Mail> {
     lasts: u32,
 }
 
-impl<T: Mail> Drop for Taker<T> {
+impl<T: InboxItem> Drop for Taker<T> {
     fn drop(self) {
         let Taker {
             end: _end,
@@ -119,7 +119,7 @@ impl<T: Mail> Drop for Taker<T> {
     }
 }
 
-impl<T: Mail> Model for Taker<T> {
+impl<T: InboxItem> Model for Taker<T> {
     ghost use Rattle.crossbeam_channel.specs.Claims.{IsSeatAt};
     ghost use Rattle.crossbeam_channel.specs.Ends.{receives_on};
     ghost use Rattle.inboxes.specs.Sides.{Taking, inbox_of, known_by, IsTaking};
@@ -139,7 +139,7 @@ impl<T: Mail> Model for Taker<T> {
 impl Inbox {
     /// An inbox of a place, which holds so many items at a time and has so many senders, from 1 to 65,536. It gives the
     /// taker, and a putter for each sender.
-    pub fn open<T: Mail, R: Wait>(
+    pub fn open<T: InboxItem, R: Wait>(
         rt: &R,
         alloc: Global,
         room: u32,
@@ -154,7 +154,7 @@ impl Inbox {
         ensures all { IfOk result (λ r. length r.1 ≡ senders) }
         ensures each { IfOk result (λ r. AreNew r.0.inbox r.1 senders) }
     {
-        let Ok((end, from, mut pass)) = bounded_with::<InboxPost<T>, InboxView<T>, Rule, Global>(
+        let Ok((end, from, mut pass)) = bounded_with::<InboxParcel<T>, InboxView<T>, Rule, Global>(
             alloc,
             room as usize,
         ) else {
@@ -164,7 +164,7 @@ impl Inbox {
             rt,
             &end,
             &mut pass,
-            Post::Open(Snapshot::of(place), senders),
+            Parcel::Open(Snapshot::of(place), senders),
         );
         let _start = receive_post::<T, TakeStart, R>(rt, &from, &mut pass);
         let putters = hand_out::<T>(alloc, &end, &mut pass, place, senders)?;
@@ -179,7 +179,7 @@ impl Inbox {
     }
 }
 
-impl<T: Mail> Putter<T> {
+impl<T: InboxItem> Putter<T> {
     /// Waits for room, and puts an item. Where the taker was let go it doesn't return.
     pub fn put<R: Wait>(&mut self, rt: &R, item: T)
         requires { T.fits self.old.inbox.place item }
@@ -190,7 +190,7 @@ impl<T: Mail> Putter<T> {
             rt,
             &sender.end,
             &mut sender.pass,
-            Post::Said(sender.number, Some(item)),
+            Parcel::Said(sender.number, Some(item)),
         );
     }
 
@@ -203,13 +203,13 @@ impl<T: Mail> Putter<T> {
             rt,
             &sender.end,
             &mut sender.pass,
-            Post::Said(sender.number, None),
+            Parcel::Said(sender.number, None),
         );
         Sent { sender }
     }
 }
 
-impl<T: Mail> Taker<T> {
+impl<T: InboxItem> Taker<T> {
     /// Waits for the next item, and takes it with its sender's number. Last words are passed over. None exactly where the
     /// last word of every sender was taken.
     pub fn take<R: Wait>(&mut self, rt: &R) -> Option<(u32, T)>
@@ -236,7 +236,7 @@ impl<T: Mail> Taker<T> {
 
 /// Where the last word of each sender was taken: what was taken of these senders is what they put, in their order, each item
 /// once, and then the last word.
-pub fn settle<T: Mail>(taker: &mut Taker<T>, mut sents: Sents<T>)
+pub fn settle<T: InboxItem>(taker: &mut Taker<T>, mut sents: Sents<T>)
     requires own { All (λ s. s.inbox ≡ taker.old.inbox) sents }
     requires done { IsDone taker.old }
     ensures taker { taker.new ≡ taker.old }
@@ -249,7 +249,7 @@ pub fn settle<T: Mail>(taker: &mut Taker<T>, mut sents: Sents<T>)
 }
 
 // The same for one sender.
-fn settle_one<T: Mail>(taker: &mut Taker<T>, sent: Sent<T>)
+fn settle_one<T: InboxItem>(taker: &mut Taker<T>, sent: Sent<T>)
     requires own { sent.inbox ≡ taker.old.inbox }
     requires done { IsDone taker.old }
     ensures taker { taker.new ≡ taker.old }
@@ -261,35 +261,35 @@ fn settle_one<T: Mail>(taker: &mut Taker<T>, sent: Sent<T>)
     sender.end.learn_as::<Settle>(&mut taker.pass);
 }
 
-// Sends a post, and tries again where the channel hands it back.
-fn send_post<T, M, R>(rt: &R, end: &SendEnd<T>, pass: &mut InboxPass<T>, mut post: InboxPost<T>)
+// Sends a parcel, and tries again where the channel hands it back.
+fn send_post<T, M, R>(rt: &R, end: &SendEnd<T>, pass: &mut InboxPass<T>, mut parcel: InboxParcel<T>)
 where
-    T: Mail,
-    M: Outcome<InboxPost<T>, InboxView<T>> + Lesson<InboxPost<T>, InboxView<T>>,
+    T: InboxItem,
+    M: Outcome<InboxParcel<T>, InboxView<T>> + Lesson<InboxParcel<T>, InboxView<T>>,
     R: Wait,
     requires own { IsSeatAt (sends_on end.now) pass.old }
     requires rule { Pushes (Keeps T.fits) (ruled_capacity (sends_on end.now))
-        pass.old.id (view pass.old) post (M.then (view pass.old) post) }
+        pass.old.id (view pass.old) parcel (M.then (view pass.old) parcel) }
     requires fact { Learns (Keeps T.fits) pass.old.id (view pass.old) (M.fact (view pass.old)) }
     ensures own { IsSeatAt (sends_on end.now) pass.new }
     ensures same { IsSameSeat pass.old pass.new }
-    ensures sent { M.then (view pass.old) post (view pass.new) }
+    ensures sent { M.then (view pass.old) parcel (view pass.new) }
 {
     for _ in rt.forever() {
-        match end.send_as::<M, R>(rt, pass, post) {
+        match end.send_as::<M, R>(rt, pass, parcel) {
             Ok(()) => return,
-            Err(e) => post = e.into_inner(),
+            Err(e) => parcel = e.into_inner(),
         }
         thread::yield_now();
     }
     unreachable!()
 }
 
-// Receives a post, and tries again where the channel gives none.
-fn receive_post<T, M, R>(rt: &R, end: &ReceiveEnd<T>, pass: &mut InboxPass<T>) -> InboxPost<T>
+// Receives a parcel, and tries again where the channel gives none.
+fn receive_post<T, M, R>(rt: &R, end: &ReceiveEnd<T>, pass: &mut InboxPass<T>) -> InboxParcel<T>
 where
-    T: Mail,
-    M: Outcome<InboxPost<T>, InboxView<T>> + Lesson<InboxPost<T>, InboxView<T>>,
+    T: InboxItem,
+    M: Outcome<InboxParcel<T>, InboxView<T>> + Lesson<InboxParcel<T>, InboxView<T>>,
     R: Wait,
     requires own { IsSeatAt (receives_on end.now) pass.old }
     requires rule { Pops (Keeps T.fits) pass.old.id (view pass.old) (M.then (view pass.old)) }
@@ -299,8 +299,8 @@ where
     ensures received { M.then (view pass.old) result (view pass.new) }
 {
     for _ in rt.forever() {
-        if let Ok(post) = end.recv_as::<M, R>(rt, pass) {
-            return post;
+        if let Ok(parcel) = end.recv_as::<M, R>(rt, pass) {
+            return parcel;
         }
         thread::yield_now();
     }
@@ -308,7 +308,7 @@ where
 }
 
 // The putters of an inbox that has made none.
-fn hand_out<T: Mail>(
+fn hand_out<T: InboxItem>(
     alloc: Global,
     end: &SendEnd<T>,
     pass: &mut InboxPass<T>,
@@ -332,7 +332,7 @@ fn hand_out<T: Mail>(
 }
 
 // The next putter.
-fn make_putter<T: Mail>(
+fn make_putter<T: InboxItem>(
     end: &SendEnd<T>,
     pass: &mut InboxPass<T>,
     place: &T::Place,
@@ -359,7 +359,7 @@ fn make_putter<T: Mail>(
 }
 
 // Takes the next item, unless the last words of all senders were taken.
-fn take_next<T: Mail, R: Wait>(
+fn take_next<T: InboxItem, R: Wait>(
     rt: &R,
     end: &ReceiveEnd<T>,
     pass: &mut InboxPass<T>,
@@ -385,9 +385,9 @@ fn take_next<T: Mail, R: Wait>(
             return None;
         }
         match receive_post::<T, TakeWord, R>(rt, end, pass) {
-            Post::Said(from, Some(item)) => return Some((from, item)),
-            Post::Said(_, None) => *lasts += 1,
-            Post::Open(..) => unreachable!(),
+            Parcel::Said(from, Some(item)) => return Some((from, item)),
+            Parcel::Said(_, None) => *lasts += 1,
+            Parcel::Open(..) => unreachable!(),
         }
     }
     unreachable!()

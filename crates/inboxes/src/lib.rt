@@ -9,7 +9,7 @@ pub use inbox::{Inbox, Putter, Putters, Sent, Sents, Taker, settle};
 
 /// What may be put into an inbox. Each inbox has a place, which is given when it is opened, and whoever takes an item knows
 /// that it fits the place.
-pub trait Mail: Drop {
+pub trait InboxItem: Drop {
     /// What an inbox is for.
     type Place;
 

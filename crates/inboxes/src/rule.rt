@@ -1,5 +1,5 @@
 // What passes know, the rule that their steps keep, and the kinds of step.
-use crate::Mail;
+use crate::InboxItem;
 use crossbeam_channel::protocol::{Join, Lesson, Outcome, Protocol, Split};
 use std::collections::LinkedList;
 use std::snapshot::Snapshot;
@@ -7,7 +7,7 @@ use std::snapshot::Snapshot;
 /// What goes through the channel: first the place and the number of senders, and then what the senders say. A sender's last
 /// word has no item.
 #[derive(Drop)]
-pub enum Post<T: Drop, P> {
+pub enum Parcel<T: Drop, P> {
     Open(Snapshot<P>, u32),
     Said(u32, Option<T>),
 }
@@ -47,8 +47,8 @@ pub struct View<T, P> {
 
 pub struct Rule;
 
-impl<T: Mail> Protocol<Post<T, T::Place>, View<T, T::Place>> for Rule {
-    ghost use Rattle.inboxes.specs.Posts.{Keeps, newcomer};
+impl<T: InboxItem> Protocol<Parcel<T, T::Place>, View<T, T::Place>> for Rule {
+    ghost use Rattle.inboxes.specs.Parcels.{Keeps, newcomer};
 
     ghost holds = { Keeps T.fits };
 
@@ -58,14 +58,14 @@ impl<T: Mail> Protocol<Post<T, T::Place>, View<T, T::Place>> for Rule {
 /// Sends the place and the number of senders.
 pub struct SendStart;
 
-impl<T: Mail> Outcome<Post<T, T::Place>, View<T, T::Place>> for SendStart {
+impl<T: InboxItem> Outcome<Parcel<T, T::Place>, View<T, T::Place>> for SendStart {
     ghost use Rattle.std.specs.Prelude.{◌≡◌};
-    ghost use Rattle.inboxes.specs.Posts.{opening_of};
+    ghost use Rattle.inboxes.specs.Parcels.{opening_of};
 
     ghost then = { λ v x w. w ≡ opening_of x };
 }
 
-impl<T: Mail> Lesson<Post<T, T::Place>, View<T, T::Place>> for SendStart {
+impl<T: InboxItem> Lesson<Parcel<T, T::Place>, View<T, T::Place>> for SendStart {
     ghost use Rattle.std.specs.Prelude.{⊤};
 
     ghost fact = { λ v items. ⊤ };
@@ -74,14 +74,14 @@ impl<T: Mail> Lesson<Post<T, T::Place>, View<T, T::Place>> for SendStart {
 /// Takes them out again, and is the taker from then on.
 pub struct TakeStart;
 
-impl<T: Mail> Outcome<Post<T, T::Place>, View<T, T::Place>> for TakeStart {
+impl<T: InboxItem> Outcome<Parcel<T, T::Place>, View<T, T::Place>> for TakeStart {
     ghost use Rattle.std.specs.Prelude.{◌≡◌, []};
-    ghost use Rattle.inboxes.specs.Posts.{taking};
+    ghost use Rattle.inboxes.specs.Parcels.{taking};
 
     ghost then = { λ v x w. w ≡ taking v.start 0 [] };
 }
 
-impl<T: Mail> Lesson<Post<T, T::Place>, View<T, T::Place>> for TakeStart {
+impl<T: InboxItem> Lesson<Parcel<T, T::Place>, View<T, T::Place>> for TakeStart {
     ghost use Rattle.std.specs.Prelude.{⊤};
 
     ghost fact = { λ v items. ⊤ };
@@ -90,13 +90,13 @@ impl<T: Mail> Lesson<Post<T, T::Place>, View<T, T::Place>> for TakeStart {
 /// Sends an item or the last word of a sender.
 pub struct SendWord;
 
-impl<T: Mail> Outcome<Post<T, T::Place>, View<T, T::Place>> for SendWord {
-    ghost use Rattle.inboxes.specs.Posts.{Says};
+impl<T: InboxItem> Outcome<Parcel<T, T::Place>, View<T, T::Place>> for SendWord {
+    ghost use Rattle.inboxes.specs.Parcels.{Says};
 
     ghost then = { Says };
 }
 
-impl<T: Mail> Lesson<Post<T, T::Place>, View<T, T::Place>> for SendWord {
+impl<T: InboxItem> Lesson<Parcel<T, T::Place>, View<T, T::Place>> for SendWord {
     ghost use Rattle.std.specs.Prelude.{⊤};
 
     ghost fact = { λ v items. ⊤ };
@@ -105,13 +105,13 @@ impl<T: Mail> Lesson<Post<T, T::Place>, View<T, T::Place>> for SendWord {
 /// Takes an item or a last word.
 pub struct TakeWord;
 
-impl<T: Mail> Outcome<Post<T, T::Place>, View<T, T::Place>> for TakeWord {
-    ghost use Rattle.inboxes.specs.Posts.{Hears};
+impl<T: InboxItem> Outcome<Parcel<T, T::Place>, View<T, T::Place>> for TakeWord {
+    ghost use Rattle.inboxes.specs.Parcels.{Hears};
 
     ghost then = { Hears T.fits };
 }
 
-impl<T: Mail> Lesson<Post<T, T::Place>, View<T, T::Place>> for TakeWord {
+impl<T: InboxItem> Lesson<Parcel<T, T::Place>, View<T, T::Place>> for TakeWord {
     ghost use Rattle.std.specs.Prelude.{⊤};
 
     ghost fact = { λ v items. ⊤ };
@@ -120,8 +120,8 @@ impl<T: Mail> Lesson<Post<T, T::Place>, View<T, T::Place>> for TakeWord {
 /// What the taker learns of the sender that it was told of.
 pub struct Settle;
 
-impl<T: Mail> Lesson<Post<T, T::Place>, View<T, T::Place>> for Settle {
-    ghost use Rattle.inboxes.specs.Posts.{Settles};
+impl<T: InboxItem> Lesson<Parcel<T, T::Place>, View<T, T::Place>> for Settle {
+    ghost use Rattle.inboxes.specs.Parcels.{Settles};
 
     ghost fact = { λ v items. Settles v };
 }
@@ -130,7 +130,7 @@ impl<T: Mail> Lesson<Post<T, T::Place>, View<T, T::Place>> for Settle {
 pub struct NextSender;
 
 impl<T, P> Split<View<T, P>> for NextSender {
-    ghost use Rattle.inboxes.specs.Posts.{with_one_more, next_sender};
+    ghost use Rattle.inboxes.specs.Parcels.{with_one_more, next_sender};
 
     ghost left = { with_one_more };
 
@@ -141,7 +141,7 @@ impl<T, P> Split<View<T, P>> for NextSender {
 pub struct GiveAccount;
 
 impl<T, P> Split<View<T, P>> for GiveAccount {
-    ghost use Rattle.inboxes.specs.Posts.{account_of};
+    ghost use Rattle.inboxes.specs.Parcels.{account_of};
 
     ghost left = { λ v. v };
 
@@ -152,7 +152,7 @@ impl<T, P> Split<View<T, P>> for GiveAccount {
 pub struct TakeAccount;
 
 impl<T, P> Join<View<T, P>> for TakeAccount {
-    ghost use Rattle.inboxes.specs.Posts.{with_account, spent};
+    ghost use Rattle.inboxes.specs.Parcels.{with_account, spent};
 
     ghost both = { with_account };
 

@@ -45,7 +45,7 @@ use Rattle.journal_records.proofs.Completing.{follows}
 use Rattle.journal_records.proofs.Places.{desk_below}
 use Rattle.journal_records.proofs.Rounds.{rounds_told}
 use Rattle.journal_records.proofs.Totals.{total, total_is, total_count, total_append, total_within, AreDifferent, once_there}
-use Rattle.lists.proofs.lemmas.Members.{Contains-map, Contains-map_cases, Contains-rest, Contains-head, where_all, at_place}
+use Rattle.lists.proofs.lemmas.Members.{Contains-map, Contains-map_cases, Contains-rest, Contains-head, member_of_all, at_place}
 
 -- ---- a client starts no more operations than the plan has
 
@@ -119,13 +119,13 @@ record_count c config es kept =
 
 numbers_differ : (xs : List ℕ) → Ascend xs → AreDifferent xs
 numbers_differ [] up = tt
-numbers_differ (x ∷ xs) up = (λ y k e. let l = where_all (λ (z : ℕ). x < z) xs up.0 y k in omega (arith, l, e), numbers_differ xs up.1)
+numbers_differ (x ∷ xs) up = (λ y k e. let l = member_of_all (λ (z : ℕ). x < z) xs up.0 y k in omega (arith, l, e), numbers_differ xs up.1)
 
 records_differ : (rs : List Record) → Ascend (map (λ r. r.start) rs) → AreDifferent rs
 records_differ [] up = tt
 records_differ (r ∷ rs) up = (
   λ y k e.
-      let l = where_all (λ (z : ℕ). r.start < z) (map (λ (q : Record). q.start) rs) up.0 y.start (Contains-map (λ (q : Record). q.start) rs y k) in
+      let l = member_of_all (λ (z : ℕ). r.start < z) (map (λ (q : Record). q.start) rs) up.0 y.start (Contains-map (λ (q : Record). q.start) rs y k) in
       let s = ap (λ (q : Record). q.start) e in
       omega (arith, l, s),
   records_differ rs up.1,

@@ -29,10 +29,10 @@ use Rattle.journals.specs.Steps.Step.{AtNode}
 use Rattle.journals.specs.Merging.{line_of, IsFirst}
 use Rattle.journals.specs.Agreement.{IsNode, IsDesk, Agrees}
 use Rattle.journals.proofs.lemmas.Lists.{update-other, at_update}
-use Rattle.journals.proofs.lemmas.Acting.{IsUpright, IsLie, lie_is, answered as means_answered, told_lie, crashed_called, crashed_late, delivered as means_delivered}
+use Rattle.journals.proofs.lemmas.Acting.{IsUpright, IsLie, lie_is, answered_truly as means_answered, told_lie, crashed_called, crashed_late, delivered_truly as means_delivered}
 use Rattle.journals.proofs.Frames.{Frame, set, Before, Taken, honest_by, lying_by}
 use Rattle.journals.proofs.lemmas.Effects.{OnlyNode, OnlyClient, answering, given_only, place_node, reply_same, served_same, place_client, heard_only, told_desk}
-use Rattle.journals.proofs.lemmas.Taking.{same_node, same_desk, of_rest, asked_is, soon, grows, agree_node, silent_desks, lost_fine, lost_agrees}
+use Rattle.journals.proofs.lemmas.Taking.{same_node, same_desk, of_rest, asked_is, place_at_most_next, pool_grows, agree_node, silent_desks, lost_fine, lost_agrees}
 use Rattle.lists.proofs.lemmas.Members.{Contains-head, place_of}
 use Rattle.protocol.proofs.lemmas.Counting.{update-same}
 
@@ -92,7 +92,7 @@ module _ {f : Frame} {w : World} {g : Cluster} {n : ℕ} (b : Before f w g n) wh
         → AllAllowed (set f) w (n + 1) (call_events (set f) w c i (Some task_now))
     call_allowed e l honest up number correct running =
         let busy : under_way w c ≡ Some task_now = rw running e in (
-          record { later = soon b; node = l; honest = honest; up = up; sent = (b.works c task_now busy).asked i l; asks = (refl, asked, refl) },
+          record { later = place_at_most_next b; node = l; honest = honest; up = up; sent = (b.works c task_now busy).asked i l; asks = (refl, asked, refl) },
           (record { later = omega arith; client = number; correct = correct; up = running; sent = Contains-push w.pool _; answers = (refl, reply (set f) i (w.versions i asked.block) asked, refl) }, tt),
         )
 
@@ -145,7 +145,7 @@ module _ {f : Frame} {w : World} {g : Cluster} {n : ℕ} (b : Before f w g n) wh
       let r = reply (set f) i (w.versions i (asked i c t).block) (asked i c t) in
       let same : IsDesk (set f) v c (g.desks c) = record { life = h.life; started = h.started; crashed = h.crashed; task = h.task; full = h.full } in
       let agreed : Agrees (set f) u next =
-      agree_node b u (λ m there. subst (λ (o : Option Task). Contains (only_place (set f) (all_happen (set f) w (n + 1) (call_events (set f) w c i o)) (n + 1)).pool m) a.busy (grows b (Calls c i) m there)) i
+      agree_node b u (λ m there. subst (λ (o : Option Task). Contains (only_place (set f) (all_happen (set f) w (n + 1) (call_events (set f) w c i o)) (n + 1)).pool m) a.busy (pool_grows b (Calls c i) m there)) i
       (after (g.nodes i) (Answered ask answer)) (called g.desks n (side (Answered ask answer)))
       (λ _. same_node (set f) v u i (after (g.nodes i) (Answered ask answer)) (ap (λ (x : ℕ → ℕ → List Version). x i) client.versions) (ap (λ (x : ℕ → Bool). x i) client.nodes)
       (node_after i (after (g.nodes i) (Answered ask answer)) (Asks (asked i c t)) v k node (ap (λ (m : Message). served (g.nodes i).node m.body) a.mine) refl))
@@ -154,7 +154,7 @@ module _ {f : Frame} {w : World} {g : Cluster} {n : ℕ} (b : Before f w g n) wh
       (λ _ _. subst (λ (m : Message). IsDesk (set f) u c (desk_told (g.desks c) n (Some m))) (sym heard_it)
       (told_desk b.laws f v u c n (g.desks c) t (told i c t) r same (b.fixed.desks c) a.seen refl refl client))
       (λ other good. other_desk (set f) v u c _ client x (g.desks x) other (same_desk (set f) w v x (g.desks x) refl refl refl refl (b.agrees.desks x good))) right)
-      (λ m up running there. subst (λ (o : Option Task). Contains (only_place (set f) (all_happen (set f) w (n + 1) (call_events (set f) w c i o)) (n + 1)).pool m) a.busy (grows b (Calls c i) m (b.agrees.sent i m up running there))) in
+      (λ m up running there. subst (λ (o : Option Task). Contains (only_place (set f) (all_happen (set f) w (n + 1) (call_events (set f) w c i o)) (n + 1)).pool m) a.busy (pool_grows b (Calls c i) m (b.agrees.sent i m up running there))) in
       record {
         fits = tt;
         fine = b.laws.taken (set f) w (n + 1) (Calls c i) tt (
@@ -191,15 +191,15 @@ module _ {f : Frame} {w : World} {g : Cluster} {n : ℕ} (b : Before f w g n) wh
         fine = b.laws.taken (set f) w (n + 1) (Poke ask) formed (
           tt,
           (
-            (soon b, inside, number, subst (λ (x : Body). IsOfLiar (set f) x ask) (sym is.comes.2) lying, formed),
+            (place_at_most_next b, inside, number, subst (λ (x : Body). IsOfLiar (set f) x ask) (sym is.comes.2) lying, formed),
             (record { later = omega arith; node = inside; honest = upright; up = up; sent = Contains-push w.pool ask; asks = (refl, is.comes.1, is.comes.2) }, tt),
           ),
         );
-        agrees = agree_node b u (grows b (Poke ask)) i (after (g.nodes i) (Answered ask answer)) (called g.desks n (side (Answered ask answer)))
+        agrees = agree_node b u (pool_grows b (Poke ask)) i (after (g.nodes i) (Answered ask answer)) (called g.desks n (side (Answered ask answer)))
             (λ _. node_after i (after (g.nodes i) (Answered ask answer)) ask.body u here.1 own refl refl)
             (λ j other good. same_node (set f) w u j (g.nodes j) (own.others j other) (ap (λ (x : ℕ → Bool). x j) own.nodes) (b.agrees.nodes j good))
             (liar_desks u own.life own.started own.clients own.task ask.client (Call ByCall ask (Some answer)) lying)
-            (λ m good running there. grows b (Poke ask) m (b.agrees.sent i m good running there));
+            (λ m good running there. pool_grows b (Poke ask) m (b.agrees.sent i m good running there));
       }
     where
       of_sent : (i : ℕ) (v : World) (vs : ℕ → List Version) → OnlyNode (sent (set f) w (n + 1) (ask ∷ [])) v i vs → OnlyNode w (only_place (set f) v (n + 1)) i vs
@@ -241,7 +241,7 @@ module _ {f : Frame} {w : World} {g : Cluster} {n : ℕ} (b : Before f w g n) wh
       let same : IsDesk (set f) v c (g.desks c) = record { life = h.life; started = h.started; crashed = h.crashed; task = h.task; full = h.full } in
       let client = place_client (set f) v (heard (set f) v (n + 1) c answer (Answers lie.told)) (n + 1) c _ (heard_only b.laws (set f) v (n + 1) c ((g.desks c).began + 1) t a.busy a.full answer lie.told) in
       let more = λ (m : Message) (there : Contains w.pool m). subst (λ (x : Body). Contains (only_place (set f) (heard (set f) v (n + 1) c answer x) (n + 1)).pool m) lie.answers
-      (subst (λ (x : ℕ). Contains (only_place (set f) (heard (set f) v (n + 1) x answer answer.body) (n + 1)).pool m) lie.client (grows b (Tell answer) m there)) in
+      (subst (λ (x : ℕ). Contains (only_place (set f) (heard (set f) v (n + 1) x answer answer.body) (n + 1)).pool m) lie.client (pool_grows b (Tell answer) m there)) in
       let formed : IsFormedBody answer.body = subst IsFormedBody (sym lie.answers) lie.formed in
       let below : answer.node < f.config.n = rw node inside in
       let lying : f.nodes answer.node ≡ true = rw node liar.0 in
@@ -261,7 +261,7 @@ module _ {f : Frame} {w : World} {g : Cluster} {n : ℕ} (b : Before f w g n) wh
         fine = b.laws.taken (set f) w (n + 1) (Tell answer) formed (
           tt,
           (
-            (soon b, below, numbered, subst (λ (x : Body). IsOfLiar (set f) x answer) (sym lie.answers) lying, formed),
+            (place_at_most_next b, below, numbered, subst (λ (x : Body). IsOfLiar (set f) x answer) (sym lie.answers) lying, formed),
             (record { later = omega arith; client = numbered; correct = upright; up = running; sent = Contains-push w.pool answer; answers = (refl, lie.told, lie.answers) }, tt),
           ),
         );
@@ -303,8 +303,8 @@ module _ {f : Frame} {w : World} {g : Cluster} {n : ℕ} (b : Before f w g n) wh
       let u = plays (set f) w (n + 1) (CrashNode i) in
       record {
         fits = tt;
-        fine = b.laws.taken (set f) w (n + 1) (CrashNode i) tt (tt, ((soon b, below, good, (b.agrees.nodes i good).crashed ∙ up), tt));
-        agrees = agree_node b u (grows b (CrashNode i)) i (after (g.nodes i) (CrashedAt ask late)) desks
+        fine = b.laws.taken (set f) w (n + 1) (CrashNode i) tt (tt, ((place_at_most_next b, below, good, (b.agrees.nodes i good).crashed ∙ up), tt));
+        agrees = agree_node b u (pool_grows b (CrashNode i)) i (after (g.nodes i) (CrashedAt ask late)) desks
             (λ _. record { versions = (b.agrees.nodes i good).versions; crashed = update-same w.node_crashed i true })
             (λ j other right. same_node (set f) w u j (g.nodes j) refl (update-other w.node_crashed i true j other) (b.agrees.nodes j right))
             clients (λ m _ crashed there. absurd (cc));
@@ -330,7 +330,7 @@ module _ {f : Frame} {w : World} {g : Cluster} {n : ℕ} (b : Before f w g n) wh
       let there : slice_get w.pool k ≡ Some ask = elim first [ inl h ↦ h.0 | inr h ↦ absurd (let q = place_of w.pool ask was in h.0 q.0 q.1) ] in
       let u = only_place (set f) (given (set f) w (n + 1) i ask ask.body) (n + 1) in
       let node = place_node (set f) w (given (set f) w (n + 1) i ask ask.body) (n + 1) i _ (given_only (set f) w (n + 1) i ask ask.body) in
-      let more = λ (m : Message) (x : Contains w.pool m). subst (λ (o : Option Message). Contains (only_place (set f) (all_happen (set f) w (n + 1) (given_at (set f) w i o)) (n + 1)).pool m) there (grows b (Give i k) m x) in
+      let more = λ (m : Message) (x : Contains w.pool m). subst (λ (o : Option Message). Contains (only_place (set f) (all_happen (set f) w (n + 1) (given_at (set f) w i o)) (n + 1)).pool m) there (pool_grows b (Give i k) m x) in
       let agreed : Agrees (set f) u next =
       agree_node b u more i (after (g.nodes i) (Delivered ask answer)) g.desks
       (λ _. node_after i (after (g.nodes i) (Delivered ask answer)) ask.body u here.1 node refl refl)
@@ -341,7 +341,7 @@ module _ {f : Frame} {w : World} {g : Cluster} {n : ℕ} (b : Before f w g n) wh
         fits = tt;
         fine = b.laws.taken (set f) w (n + 1) (Give i k) tt (
           slice_get_within w.pool k ask there,
-          subst (λ (o : Option Message). AllAllowed (set f) w (n + 1) (given_at (set f) w i o)) (sym there) (record { later = soon b; node = goes.0; honest = here.0; up = here.2; sent = was; asks = (is.comes.0.0 ∙ (b.fixed.nodes i).number, is.comes.0.1, is.comes.0.2) }, tt),
+          subst (λ (o : Option Message). AllAllowed (set f) w (n + 1) (given_at (set f) w i o)) (sym there) (record { later = place_at_most_next b; node = goes.0; honest = here.0; up = here.2; sent = was; asks = (is.comes.0.0 ∙ (b.fixed.nodes i).number, is.comes.0.1, is.comes.0.2) }, tt),
         );
         agrees = subst (λ (o : Option Message). Agrees (set f) (only_place (set f) (all_happen (set f) w (n + 1) (given_at (set f) w i o)) (n + 1)) next) (sym there) agreed;
       }

@@ -26,7 +26,7 @@ use Rattle.journals.specs.Desks.{DeskEntry, new_desk, desk_after_all, DeskKept}
 use Rattle.journals.specs.Steps.{side}
 use Rattle.journals.specs.Steps.Step.{AtNode, AtDesk}
 use Rattle.journals.specs.Merging.{line_of}
-use Rattle.journals.proofs.lemmas.Acting.{answered}
+use Rattle.journals.proofs.lemmas.Acting.{answered_truly}
 
 abbrev one : Numbers
 one = record { edition = One; n = 1; t = 0; b = 0; qc = 1; m = 1; size = 1; blocks = 1 }
@@ -85,7 +85,7 @@ time_in _ = 0
 
 not_the_reply : IsAct Honest lasting (Answered ask other_answer) → ⊥
 unfolding time_in
-not_the_reply h = absurd (let p : ◌≡◌ {A = ℕ} 7 0 = ap (λ (m : Message). time_in m.body) (answered lasting Honest ask other_answer h.done).1 in omega (arith, p))
+not_the_reply h = absurd (let p : ◌≡◌ {A = ℕ} 7 0 = ap (λ (m : Message). time_in m.body) (answered_truly lasting Honest ask other_answer h.done).1 in omega (arith, p))
 
 -- silence for a crash of a node that is up
 not_crashed : IsAct Honest lasting (Silent ask Crashed) → ⊥

@@ -16,7 +16,7 @@ use Rattle.journals.specs.Agreement.{Agrees, TellAlike, Reaches}
 use Rattle.journals.proofs.Cited.{Laws}
 use Rattle.journals.proofs.lemmas.Picks.{Numbered, Counts}
 use Rattle.journals.proofs.Frames.{Frame, set, AreOf, start_of, step_of, Before, Taken}
-use Rattle.journals.proofs.lemmas.Taking.{later, start, crash_client, silent, late_lost}
+use Rattle.journals.proofs.lemmas.Taking.{place_below_next, taken_start, crash_client, taken_silent, late_lost}
 use Rattle.journals.proofs.Answering.{answered, lied, crash_node, delivered}
 use Rattle.journals.proofs.Telling.{step_tells}
 use Rattle.journals.proofs.Pruning.{prune}
@@ -24,12 +24,12 @@ use Rattle.lists.proofs.lemmas.Members.{Contains-none}
 
 -- whatever step it is, its line isn't refused, and world and cluster agree after it
 pub step_taken : {f : Frame} {w : World} {g : Cluster} {n : ℕ} (b : Before f w g n) (k : ℕ) (e : Step) → IsNumber (Some w) (late_ask e) k → Goes (set f) f.conduct g e → Taken f w n (line_of (set f) k e) (cluster_after g n e)
-step_taken b k (AtDesk c (Start op)) number goes = start b c op goes
+step_taken b k (AtDesk c (Start op)) number goes = taken_start b c op goes
 step_taken b k (AtDesk c Crash) number goes = crash_client b c goes
 step_taken b k (AtDesk c (Call way ask answer)) number goes = absurd (goes.2)
 step_taken b k (AtNode i (Answered ask answer)) number goes = answered b i k ask answer goes
 step_taken b k (AtNode i (Lied ask answer)) number goes = lied b i k ask answer goes
-step_taken b k (AtNode i (Silent ask why)) number goes = silent b i ask why goes
+step_taken b k (AtNode i (Silent ask why)) number goes = taken_silent b i ask why goes
 step_taken b k (AtNode i (LateLost ask)) number goes = late_lost b i ask
 step_taken b k (AtNode i (CrashedAt ask late)) number goes = crash_node b i ask late goes
 step_taken b k (AtNode i (Delivered ask answer)) number goes = delivered b i k ask answer number goes
@@ -81,7 +81,7 @@ module _ (laws : Laws) (f : Frame) (cluster : IsCluster f.config f.nodes) (behav
       let taken = step_taken b k e number goes in
       record {
         lines = h.lines ++ (n + 1, line_of (set f) k e) ∷ [];
-        run = (laws.runs (set f) (start_world (set f)) h.lines ((n + 1, line_of (set f) k e) ∷ []) (plays (set f) w (n + 1) (line_of (set f) k e))).1 (w, h.run, (later b, taken.fits, taken.fine, refl));
+        run = (laws.runs (set f) (start_world (set f)) h.lines ((n + 1, line_of (set f) k e) ∷ []) (plays (set f) w (n + 1) (line_of (set f) k e))).1 (w, h.run, (place_below_next b, taken.fits, taken.fine, refl));
         fixed = step_of f g h.fixed n e;
         agrees = taken.agrees;
         tells = step_tells b k e goes;
@@ -106,7 +106,7 @@ module _ (laws : Laws) (f : Frame) (cluster : IsCluster f.config f.nodes) (behav
       let same : cluster_replay (cluster_after g n e.1) (take m es) ≡ cluster_replay (cluster_after g e.0 e.1) (take m es) = ap (λ (x : ℕ). cluster_replay (cluster_after g x e.1) (take m es)) (sym counts.0) in
       record {
         last = after.last;
-        run = subst (λ (ls : List (ℕ × Line)). Run (set f) w (take (suc m) ls) after.last) (sym merged.3) (later b, taken.fits, taken.fine, after.run);
+        run = subst (λ (ls : List (ℕ × Line)). Run (set f) w (take (suc m) ls) after.last) (sym merged.3) (place_below_next b, taken.fits, taken.fine, after.run);
         agrees = subst (Agrees (set f) after.last) same after.agrees;
         tells = subst (TellAlike (set f) after.last) same after.tells;
       }

@@ -22,13 +22,13 @@ use Rattle.journals.specs.Steps.{Cluster, Goes, HasGiven, PruneGoes, cluster_aft
 use Rattle.journals.specs.Steps.Step.{AtNode}
 use Rattle.journals.specs.Agreement.{IsNode, IsDesk, ended_record}
 use Rattle.journals.proofs.lemmas.Lists.{update-other}
-use Rattle.journals.proofs.lemmas.Acting.{pruning}
+use Rattle.journals.proofs.lemmas.Acting.{can_prune_upright}
 use Rattle.journals.proofs.Frames.{Frame, set, Before, Taken}
 use Rattle.journals.proofs.lemmas.Effects.{versions_there, versions_elsewhere}
-use Rattle.journals.proofs.lemmas.Taking.{same_node, same_desk, soon, grows, agree_node}
+use Rattle.journals.proofs.lemmas.Taking.{same_node, same_desk, place_at_most_next, pool_grows, agree_node}
 use Rattle.journals.proofs.Answering.{node_here}
 use Rattle.protocol.proofs.lemmas.Counting.{update-cases, update-same}
-use Rattle.protocol.proofs.lemmas.Sending.{working}
+use Rattle.protocol.proofs.lemmas.Sending.{unless_some}
 
 -- a record that gave a stamp has an outcome that gives it
 gave_how : (block : ℕ) (r : Record) (stamp : Stamp) → given_of block r ≡ Some stamp → (r.block ≡ block) × (outcome : Outcome) × (r.outcome ≡ Some outcome) × (stamp_given (Some outcome) ≡ Some stamp)
@@ -79,7 +79,7 @@ module _ {f : Frame} {w : World} {g : Cluster} {n : ℕ} (b : Before f w g n) wh
   quiet block stamp prune c task busy at =
       let right = (b.works c task busy).correct in
       let h = b.agrees.desks c right in
-      let q = working (w.client_crashed c) (w.task c) task busy in
+      let q = unless_some (w.client_crashed c) (w.task c) task busy in
       let t = task_is ((g.desks c).began + 1) (g.desks c).client.seen.task task (sym h.task ∙ q.1) in
       prune.calm c t.0 right (sym h.crashed ∙ q.0) t.1 (t.2 ∙ at)
 
@@ -117,7 +117,7 @@ module _ {f : Frame} {w : World} {g : Cluster} {n : ℕ} (b : Before f w g n) wh
   pub prune : (i block : ℕ) (stamp : Stamp) → Goes (set f) f.conduct g (AtNode i (Pruned block stamp)) → Taken f w n (Prune i block) (cluster_after g n (AtNode i (Pruned block stamp)))
   prune i block stamp goes =
       let d = g.nodes i in
-      let here = node_here b i (pruning d (f.conduct.nature i) goes.1.comes.0) in
+      let here = node_here b i (can_prune_upright d (f.conduct.nature i) goes.1.comes.0) in
       let there : block < f.config.blocks = rw ((b.fixed.nodes i).config) at goes.1.comes.1 in
       let greatest : greatest_given block w.records ≡ Some stamp = (b.laws.greatest w.records block stamp).1 (given_is block stamp goes.3.given, (λ other x. goes.3.greatest other (gave_is block other x))) in
       let o = greatest_given block w.records in
@@ -125,13 +125,13 @@ module _ {f : Frame} {w : World} {g : Cluster} {n : ℕ} (b : Before f w g n) wh
       let v = pruned_at (set f) w (n + 1) i block o in
       record {
         fits = there;
-        fine = b.laws.taken (set f) w (n + 1) (Prune i block) there (tt, (record { later = soon b; node = goes.0; honest = here.0; up = here.2; quiet = quiet block stamp goes.3; stamp = stamp; given = greatest }, tt));
-        agrees = agree_node b u (grows b (Prune i block)) i (after d (Pruned block stamp)) g.desks
+        fine = b.laws.taken (set f) w (n + 1) (Prune i block) there (tt, (record { later = place_at_most_next b; node = goes.0; honest = here.0; up = here.2; quiet = quiet block stamp goes.3; stamp = stamp; given = greatest }, tt));
+        agrees = agree_node b u (pool_grows b (Prune i block)) i (after d (Pruned block stamp)) g.desks
             (λ _. record {
               versions = subst (λ (z : Option Stamp). (other : ℕ) → other < f.config.blocks → (pruned_at (set f) w (n + 1) i block z).versions i other ≡ versions_in (after d (Pruned block stamp)).node other) (sym greatest) (pruned_same i block stamp there here.1);
               crashed = ap (λ (x : ℕ → Bool). x i) (same_up i block o) ∙ (here.1).crashed;
             })
             (λ j other right. same_node (set f) w u j (g.nodes j) (same_rest i block o j other) (ap (λ (x : ℕ → Bool). x j) (same_up i block o)) (b.agrees.nodes j right))
             (λ x right. same_desk (set f) v u x (g.desks x) refl refl refl refl (same_desks i block o x right))
-            (λ m right up late. grows b (Prune i block) m (b.agrees.sent i m right up late));
+            (λ m right up late. pool_grows b (Prune i block) m (b.agrees.sent i m right up late));
       }

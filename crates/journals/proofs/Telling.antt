@@ -30,7 +30,7 @@ use Rattle.journals.specs.Steps.Step.{AtNode, AtDesk}
 use Rattle.journals.specs.Merging.{line_of}
 use Rattle.journals.specs.Agreement.{IsEnded, TellAlike, ended_record}
 use Rattle.journals.proofs.Cited.{Laws}
-use Rattle.journals.proofs.lemmas.Acting.{answered as means_answered}
+use Rattle.journals.proofs.lemmas.Acting.{answered_truly as means_answered}
 use Rattle.journals.proofs.Frames.{Frame, set, Before}
 use Rattle.journals.proofs.lemmas.Effects.{given_only, heard_is, hears_is}
 use Rattle.journals.proofs.Answering.{node_here, task_now, asked, told, call_given, told_is, asked_now, lie_here}

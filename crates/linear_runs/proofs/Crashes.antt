@@ -16,7 +16,7 @@ use Rattle.linear_runs.specs.Linear.{Act, Operation}
 use Rattle.linear_runs.specs.Durable.{Crash, IsNotSpanned}
 use Rattle.linear_runs.specs.Of.{op_of, done_by, known, unknown, unknown_write, operations, crash_at, crashes_of}
 use Rattle.linear_runs.specs.Laws.{EndedAreKept}
-use Rattle.linear_runs.proofs.lemmas.Matching.{made, makes}
+use Rattle.linear_runs.proofs.lemmas.Matching.{filter_map_is, filter_map_has}
 use Rattle.linear_runs.proofs.lemmas.Runs.{one_start, done_is}
 
 -- a list at one of its members
@@ -50,7 +50,7 @@ module _ (c : Numbers) (nodes clients : ℕ → Bool) (good : IsCluster c nodes)
 
   makes_of : (o : Operation) → Contains (known w.records) o → Makes o
   makes_of o k =
-      let m = made (λ r. done_by r r.work r.outcome) w.records o k in
+      let m = filter_map_is (λ r. done_by r r.work r.outcome) w.records o k in
       let d = done_is m.0 m.0.work m.0.outcome o m.2 in
       record { of = m.0; there = m.1; does = m.2; act = d.0; is = d.1 }
 
@@ -60,7 +60,7 @@ module _ (c : Numbers) (nodes clients : ℕ → Bool) (good : IsCluster c nodes)
       let f : m.of.end ≡ Some end = sym (ap (λ (z : Operation). z.end) m.is) ∙ e in
       let l = ((told c nodes clients good lines w run m.of m.there).end end f).1 in
       let there = (ended c nodes clients good lines w run more last m.of end on f l).0 m.there in
-      makes (λ r. done_by r r.work r.outcome) last.records m.of o there m.does
+      filter_map_has (λ r. done_by r r.work r.outcome) last.records m.of o there m.does
 
   -- the run up to the line of a crash, and from there on
   module _ (crash : Crash) (front rest : List (ℕ × Line)) (v : World) (before : IsRun s front v) (after : Run s v ((crash.place, CrashClient crash.client) ∷ rest) w) where
@@ -101,7 +101,7 @@ module _ (c : Numbers) (nodes clients : ℕ → Bool) (good : IsCluster c nodes)
             let of : r.of.client ≡ crash.client = (let q = ap (λ (z : Operation). z.client) r.is in cc) in
             let from : r.of.start ≡ start = (let q = ap (λ (z : Operation). z.start) r.is in cc) in
             let to : r.of.end ≡ Some end = sym (ap (λ (z : Operation). z.end) r.is) ∙ e in
-            let x = made (λ t. crash_at t.0 t.1) lines crash there in
+            let x = filter_map_is (λ t. crash_at t.0 t.1) lines crash there in
             let is = crash_is x.0.0 x.0.1 crash x.2 in
             let parts = parted lines x.0 x.1 in
             let same : x.0 ≡ (crash.place, CrashClient crash.client) = (λ i. (is.1 i, is.0 i)) in

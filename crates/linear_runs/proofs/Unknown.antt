@@ -18,7 +18,7 @@ use Rattle.lists.proofs.lemmas.Members.{Contains-head, Contains-none, Contains-r
 use Rattle.linear_runs.specs.Of.{seen_by, is_same, each_once, chose, is_write_of, is_unknown, unknown, unknown_write}
 use Rattle.linear_runs.specs.Linear.{Operation}
 use Rattle.linear_runs.specs.Meaning.{value_of}
-use Rattle.linear_runs.proofs.lemmas.Matching.{Once, once_filter, made, makes, any_is, any_has, filter_none}
+use Rattle.linear_runs.proofs.lemmas.Matching.{Once, once_filter, filter_map_is, filter_map_has, any_is, any_has, filter_none}
 
 -- ---- each once
 
@@ -173,7 +173,7 @@ module _ (s : Setting) (w : World) (of_write : ReadsAreOfWrites s w) (h : List E
     pub unknown_foreign : (e : Entry) → Contains (filter strange (each_once seen)) e → Contains h e × (e.kind ≡ Foreign)
     unknown_foreign e k =
         let a = filter_is strange (each_once seen) e k in
-        let m = made (λ r. seen_by r r.outcome) w.records e (each_is seen e a.0) in
+        let m = filter_map_is (λ r. seen_by r r.outcome) w.records e (each_is seen e a.0) in
         let saw = saw_of m.0 e m.0.outcome refl m.2 in
         let f = stands e m.0 m.1 saw a.1 in
         let x = f.seen_there in
@@ -186,8 +186,8 @@ module _ (s : Setting) (w : World) (of_write : ReadsAreOfWrites s w) (h : List E
 
     one_seen : (e f : Entry) → Contains seen e → Contains seen f → is_same e f ≡ true → e ≡ f
     one_seen e f k l q =
-        let a = made (λ r. seen_by r r.outcome) w.records e k in
-        let b = made (λ r. seen_by r r.outcome) w.records f l in
+        let a = filter_map_is (λ r. seen_by r r.outcome) w.records e k in
+        let b = filter_map_is (λ r. seen_by r r.outcome) w.records f l in
         let x = saw_of a.0 e a.0.outcome refl a.2 in
         let y = saw_of b.0 f b.0.outcome refl b.2 in
         let p = and_parts _ _ q in
@@ -206,13 +206,13 @@ module _ (s : Setting) (w : World) (of_write : ReadsAreOfWrites s w) (h : List E
         at (inr (inr k)) =
             let x = k.1.seen in
             let g : seen_by x.read x.read.outcome ≡ Some e = ap (seen_by x.read) x.gave ∙ ap (λ (z : Entry). Some z) ((λ i. foreign_entry (x.of_block i) e.stamp e.value) ∙ sym k.1.made) in
-            filter_has strange (each_once seen) e (each_has seen one_seen e (makes (λ r. seen_by r r.outcome) w.records x.read e x.there g)) (unknown_has (first_stamp s) w.records e k.0 k.1.no_write)
+            filter_has strange (each_once seen) e (each_has seen one_seen e (filter_map_has (λ r. seen_by r r.outcome) w.records x.read e x.there g)) (unknown_has (first_stamp s) w.records e k.0 k.1.no_write)
 
   module _ (sound : ReadsAreSound s w) (lied : (e : Entry) (value : List ℕ) (place : ℕ) → Contains h e → e.kind ≡ Foreign → HasRead w.records e.block e.stamp value place → HasLie s w e.block e.stamp) where
     -- each was lied
     unknown_lied : (e : Entry) → Contains (each_once seen) e → strange e ≡ true → HasLie s w e.block e.stamp × Sound s e.stamp e.value
     unknown_lied e k t =
-        let m = made (λ r. seen_by r r.outcome) w.records e (each_is seen e k) in
+        let m = filter_map_is (λ r. seen_by r r.outcome) w.records e (each_is seen e k) in
         let saw = saw_of m.0 e m.0.outcome refl m.2 in
         let f = stands e m.0 m.1 saw t in
         let lie = lied f.write f.write.value f.place f.there f.kind f.seen_there in

@@ -1,5 +1,5 @@
 pub mod Cells
 pub mod Shards
 pub mod Conduct
-pub mod Slots
+pub mod CellShards
 pub mod Joined

@@ -2,13 +2,13 @@
 ghost use Rattle.std.specs.Prelude.{◌≡◌, ◌↔◌, ◌+◌, ◌<◌, ◌≤◌, ◌%◌, [], ◌∷◌, ◌++◌, length, ℕ, Ok, Err, true, false, if◌then◌else◌, IfOk, OnErr, vec_len, vec_capacity};
 ghost use Rattle.event_clock.specs.Passes.{left_of, drew, met, with_sight};
 ghost use Rattle.journals.specs.Acts.{act, answer_of, can_prune};
-ghost use Rattle.locked_nodes.specs.Slots.{slot_of, slots_of};
+ghost use Rattle.locked_nodes.specs.CellShards.{cell_shard_of, cell_shards_of};
 ghost use Rattle.locked_nodes.specs.Cells.{Serves, HoldsWhole, KeptCell, HasNoLateMail, BroughtLate, SawLate, CameLate, state_of, loses, told_as, number_of, entry, with_entry, with_seen, rechartered, new_cell, met_cell, items};
 
 use crate::answers::{CellRefusal, Late, Pruning, Told};
+use crate::cell_shard::CellShard;
 use crate::charter::{Item, Terms};
-use crate::slot::Slot;
-use crate::state::State;
+use crate::state::CellState;
 use event_clock::{Clock, Note, Pass};
 use journals::laws::acts;
 use journals::{Answer, Nature, NodeAct, NodeEntry, NodeJournal, Way};
@@ -27,7 +27,7 @@ use wire_forms::Message;
 /// leaves.
 pub struct NodeCell {
     terms: Terms,
-    state: State,
+    state: CellState,
     journal: Vec<NodeEntry>,
     pass: Pass,
 }
@@ -84,7 +84,7 @@ impl NodeCell {
         ensures { IfOk result (λ cell.
             cell ≡ new_cell config.now number shard shards nature crash_after pass) }
     {
-        let state = State::new(alloc, config, number, crash_after)?;
+        let state = CellState::new(alloc, config, number, crash_after)?;
         let terms = Terms {
             config: *config,
             number,
@@ -112,10 +112,10 @@ impl NodeCell {
     }
 
     /// Which blocks of which node the cell serves.
-    pub fn slot(&self) -> Slot
-        ensures { result ≡ slot_of self.now.charter }
+    pub fn cell_shard(&self) -> CellShard
+        ensures { result ≡ cell_shard_of self.now.charter }
     {
-        self.terms.slot()
+        self.terms.cell_shard()
     }
 
     /// How many numbers the cell's pass may still draw.
@@ -207,7 +207,7 @@ impl NodeCell {
         self.journal.reserve(1)?;
         let (act, answer) = self.state.act(self.terms.nature(), way, ask)?;
         acts();
-        let number = enter(&mut self.journal, &mut self.pass, clock, caller, act);
+        let number = add_entry(&mut self.journal, &mut self.pass, clock, caller, act);
         Ok(told(number, answer))
     }
 
@@ -284,7 +284,7 @@ impl NodeCell {
         let lost = self.state.loses(nature);
         let act = self.state.act_late(nature)?;
         acts();
-        let number = enter(&mut self.journal, &mut self.pass, clock, caller, act);
+        let number = add_entry(&mut self.journal, &mut self.pass, clock, caller, act);
         Ok(late_told(lost, number))
     }
 
@@ -331,7 +331,7 @@ impl NodeCell {
             stamp: *stamp,
         };
         let mut note = clock.note(caller);
-        let number = enter(&mut self.journal, &mut self.pass, clock, &mut note, act);
+        let number = add_entry(&mut self.journal, &mut self.pass, clock, &mut note, act);
         clock.heed(caller, note);
         Ok(Pruning::Pruned { number })
     }
@@ -391,7 +391,7 @@ impl NodeCell {
 }
 
 // Draws a number that neither the pass nor the caller has seen, and writes down what was done then.
-fn enter(
+fn add_entry(
     journal: &mut Vec<NodeEntry>,
     pass: &mut Pass,
     clock: &Clock,
@@ -434,13 +434,13 @@ fn late_told(lost: bool, number: u64) -> Late
     }
 }
 
-/// The slots of the cells, in their order.
-pub fn slots_in(alloc: Global, cells: &[NodeCell]) -> Result<Vec<Slot>, NoMemory>
-    ensures { IfOk result (λ slots. slots.items ≡ slots_of cells.now) }
+/// The shards of the cells, in their order.
+pub fn shards_in(alloc: Global, cells: &[NodeCell]) -> Result<Vec<CellShard>, NoMemory>
+    ensures { IfOk result (λ cell_shards. cell_shards.items ≡ cell_shards_of cells.now) }
 {
-    let mut slots = Vec::new(alloc);
+    let mut cell_shards = Vec::new(alloc);
     for cell in cells {
-        slots.push(cell.slot())?;
+        cell_shards.push(cell.cell_shard())?;
     }
-    Ok(slots)
+    Ok(cell_shards)
 }

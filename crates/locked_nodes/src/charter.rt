@@ -1,9 +1,9 @@
 //! What is fixed about a cell, as the head of its list.
 ghost use Rattle.std.specs.Prelude.{◌≡◌};
 ghost use Rattle.locked_nodes.specs.Cells.{next_terms};
-ghost use Rattle.locked_nodes.specs.Slots.{slot_of};
+ghost use Rattle.locked_nodes.specs.CellShards.{cell_shard_of};
 
-use crate::slot::Slot;
+use crate::cell_shard::CellShard;
 use event_clock::Pass;
 use journals::{Nature, NodeEntry};
 use quorum_rules::Config;
@@ -91,10 +91,10 @@ impl Terms {
     }
 
     /// Which blocks of which node the cell serves.
-    pub(crate) fn slot(&self) -> Slot
-        ensures { result ≡ slot_of self.now }
+    pub(crate) fn cell_shard(&self) -> CellShard
+        ensures { result ≡ cell_shard_of self.now }
     {
-        Slot {
+        CellShard {
             node: self.number,
             shard: self.shard,
             shards: self.shards,

@@ -18,7 +18,7 @@ use wire_forms::{Ask, Body, First, Message, Reply, Rule};
 
 /// A node, the asks that are held back, oldest first, how many asks it still serves before it crashes, if it is to crash, and
 /// whether it has.
-pub(crate) struct State {
+pub(crate) struct CellState {
     alloc: Global,
     /// What a liar tells.
     first: First,
@@ -29,9 +29,9 @@ pub(crate) struct State {
 }
 
 // By hand, since a derived drop is proved anew wherever one is let go.
-impl Drop for State {
+impl Drop for CellState {
     fn drop(self) {
-        let State {
+        let CellState {
             alloc: _alloc,
             first: _first,
             node: _node,
@@ -42,7 +42,7 @@ impl Drop for State {
     }
 }
 
-impl Model for State {
+impl Model for CellState {
     ghost use Rattle.std.specs.Prelude.{◌≡◌, ◌<◌};
     ghost use Rattle.wire_forms.specs.Firsts.{first_of};
     ghost use Rattle.journals.specs.Acts.{NodeState};
@@ -54,18 +54,18 @@ impl Model for State {
     ghost invariant = { λ h. (h.first ≡ first_of h.node.config) × (h.node.number < h.node.config.n) };
 }
 
-impl State {
+impl CellState {
     /// A node that has done nothing.
     pub(crate) fn new(
         alloc: Global,
         config: &Config,
         number: u8,
         crash_after: Option<u64>,
-    ) -> Result<State, NoMemory>
+    ) -> Result<CellState, NoMemory>
         requires { number < config.now.n }
         ensures { IfOk result (λ state. state ≡ new_state config.now number crash_after) }
     {
-        Ok(State {
+        Ok(CellState {
             alloc,
             first: First::of(alloc, config)?,
             node: Node::new(alloc, config, number)?,
@@ -125,7 +125,7 @@ impl State {
     {
         match way {
             Way::Call => self.call(nature, ask),
-            Way::Lose => quiet(ask, Silence::Dropped),
+            Way::Lose => silent(ask, Silence::Dropped),
             Way::Hold => self.hold(ask),
         }
     }
@@ -136,7 +136,7 @@ impl State {
         ensures ok { OnOk result (self.new ≡ after self.old (NodeAct.Silent ask.now Silence.Held)) }
         ensures err { OnErr result (self.new ≡ self.old) }
     {
-        let told = quiet(ask, Silence::Held)?;
+        let told = silent(ask, Silence::Held)?;
         let kept = ask.copy()?;
         self.late.push_back(kept)?;
         Ok(told)
@@ -152,7 +152,7 @@ impl State {
         ensures err { OnErr result (self.new ≡ self.old) }
     {
         if self.crashed {
-            return quiet(ask, Silence::Crashed);
+            return silent(ask, Silence::Crashed);
         }
         if self.is_spent() {
             let noted = ask.copy()?;
@@ -206,7 +206,7 @@ impl State {
     {
         let config = self.node.config();
         let Some(reply) = false_answer(self.alloc, config, &self.first, rule, ask)? else {
-            return quiet(ask, Silence::Lying);
+            return silent(ask, Silence::Lying);
         };
         let said = reply.copy()?;
         let noted = ask.copy()?;
@@ -332,7 +332,7 @@ fn one_fewer(crash_after: Option<u64>) -> Option<u64>
 }
 
 // The node says nothing.
-fn quiet(ask: &Message, why: Silence) -> Result<(NodeAct, Answer), NoMemory>
+fn silent(ask: &Message, why: Silence) -> Result<(NodeAct, Answer), NoMemory>
     ensures act { IfOk result (λ r. r.0 ≡ NodeAct.Silent ask.now why) }
     ensures answer { IfOk result (λ r. r.1 ≡ Answer.Nothing why) }
 {

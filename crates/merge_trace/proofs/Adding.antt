@@ -17,7 +17,7 @@ use Rattle.journals.specs.Steps.Step.{AtNode}
 use Rattle.journals.specs.Merging.{line_of}
 use Rattle.merge_trace.specs.Numbered.{node_steps, all_node_steps, numbers_of, AreApart, AreNew, AreAdded}
 use Rattle.lists.proofs.lemmas.Members.{Contains-head, Contains-none, Contains-rest, Contains-cons_cases, Contains-one, Contains-map}
-use Rattle.lists.proofs.lemmas.Orders.{eq_is}
+use Rattle.lists.proofs.lemmas.Orders.{eq_equal}
 
 abbrev pub Numbered : Type 0
 Numbered = ℕ × Step
@@ -104,7 +104,7 @@ one_added old new n e h = record {
 }
   where
     which : (at : Bool) (q : ℕ) → is_eq (nat_cmp n q) ≡ at → cond at true (contains nat_cmp old q) ≡ true → (contains nat_cmp old q ≡ true) ⊎ Contains (numbers_of ((n, e) ∷ [])) q
-    which true q same k = inr (subst (Contains (n ∷ [])) (exact_unsigned n q (eq_is (nat_cmp n q) same)) (Contains-head n []))
+    which true q same k = inr (subst (Contains (n ∷ [])) (exact_unsigned n q (eq_equal (nat_cmp n q) same)) (Contains-head n []))
     which false q other k = inl k
 
     either : (a b : Bool) → b ≡ true → cond a true b ≡ true

@@ -18,7 +18,7 @@ use Rattle.journals.specs.Steps.{Step, IsOwn}
 use Rattle.journals.specs.Steps.Step.{AtNode, AtDesk}
 use Rattle.journals.specs.Merging.{line_of}
 use Rattle.journals.specs.Journals.{setting_for, entries_of, IsEntry}
-use Rattle.merge_trace.specs.Turns.{IsOnce, AllFitting}
+use Rattle.merge_trace.specs.RunSteps.{IsOnce, AllFitting}
 use Rattle.merge_trace.specs.Numbered.{node_steps, all_node_steps, own_step, desk_steps, all_desk_steps, all_steps, numbers_of, AreApart, AreNew, AreAdded, CanMerge}
 use Rattle.merge_trace.proofs.Adding.{Numbered, same_place, new_both, new_first, new_rest}
 use Rattle.lists.proofs.lemmas.Members.{Contains-head, Contains-none, Contains-rest, Contains-cons_cases, Contains-one, Contains-map_cases, Contains-map}

@@ -15,7 +15,7 @@ use Rattle.journals.specs.Steps.{Step}
 use Rattle.journals.specs.Steps.Step.{AtNode, AtDesk}
 use Rattle.journals.specs.Merging.{line_of}
 use Rattle.journals.specs.declared.whole.Journals.{Journals}
-use Rattle.merge_trace.specs.Turns.{AllFitting}
+use Rattle.merge_trace.specs.RunSteps.{AllFitting}
 
 -- the steps of a node
 abbrev pub node_steps : ℕ → List NodeEntry → List (ℕ × Step)

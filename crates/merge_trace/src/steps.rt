@@ -5,7 +5,7 @@ ghost use Rattle.std.specs.Ordering.{nat_cmp};
 ghost use Rattle.std.specs.BTreeSet.{Updates, contains};
 ghost use Rattle.protocol.specs.Report.{Ascend};
 ghost use Rattle.journals.specs.Journals.{setting_for};
-ghost use Rattle.merge_trace.specs.Turns.{IsOnce};
+ghost use Rattle.merge_trace.specs.RunSteps.{IsOnce};
 ghost use Rattle.merge_trace.specs.Numbered.{node_steps, all_node_steps, own_step, desk_steps, all_desk_steps, AreNew, AreAdded, CanMerge};
 
 use crate::lines::{fits_desk, fits_node};

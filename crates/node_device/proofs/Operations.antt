@@ -27,7 +27,7 @@ use Rattle.node_device.specs.Held.{Held, the_client, node_at, held_at, held_of, 
 use Rattle.node_device.specs.Phases.{asked, heard_of, phase_end, IsAsking, HasAsked}
 use Rattle.node_device.specs.Devices.{IsReady, HasDone, pruned_at}
 use Rattle.node_device.proofs.Deciding.{times_end, storing_ends, versions_end}
-use Rattle.node_device.proofs.lemmas.Holding.{waits, held_is, same_held, version_told, times_answers, versions_answers, times_leave, versions_leave, pruned_held, storing_answers, written_held}
+use Rattle.node_device.proofs.lemmas.Holding.{wait_bounds, held_is, same_held, version_told, times_answers, versions_answers, times_leave, versions_leave, pruned_held, storing_answers, written_held}
 
 module _ (nodes : List SeenNode) (client : ClientView) (ready : IsReady client.config nodes client) (block : ℕ) (there : block < client.config.blocks) where
   abbrev pub c : Numbers
@@ -64,7 +64,7 @@ module _ (nodes : List SeenNode) (client : ClientView) (ready : IsReady client.c
     none = refl;
     phase = omega arith;
     count = ready.held.nodes_count;
-    waits = waits c ready.valid;
+    waits = wait_bounds c ready.valid;
     kinds = λ i l. rw (versions_answers c ready.valid nodes held ready.held block there reading refl refl i l) refl;
   }
 
@@ -106,7 +106,7 @@ module _ (nodes : List SeenNode) (client : ClientView) (ready : IsReady client.c
       none = refl;
       phase = omega arith;
       count = ready.held.nodes_count;
-      waits = waits c ready.valid;
+      waits = wait_bounds c ready.valid;
       kinds = λ i l. rw (times_answers c ready.valid nodes held ready.held block there writing refl refl i l) refl;
     }
 
@@ -135,7 +135,7 @@ module _ (nodes : List SeenNode) (client : ClientView) (ready : IsReady client.c
         none = refl;
         phase = omega arith;
         count = still_held.nodes_count;
-        waits = waits c ready.valid;
+        waits = wait_bounds c ready.valid;
         kinds = λ i l. rw (storing_answers c ready.valid new held still_held block there value is_block storing refl refl i l) refl;
       })
 

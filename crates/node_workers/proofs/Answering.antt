@@ -8,8 +8,8 @@ use Rattle.std.specs.List.{Contains, filter}
 use Rattle.std.proofs.lemmas.List.{map-append}
 use Rattle.std.proofs.lemmas.List.Elements.{filter-append, Contains-append_left, Contains-append_right, Contains-append_cases, Contains-push, Contains-push_cases}
 use Rattle.std.proofs.lemmas.Option.{slice_get_within}
-use Rattle.crews.specs.Crews.{Beside}
-use Rattle.crews.proofs.lemmas.Places.{same_at, get_set, left_of}
+use Rattle.thread_work.specs.Pairwise.{Beside}
+use Rattle.thread_work.proofs.lemmas.Places.{slice_get-unique, slice_get-set_cases, beside_left}
 use Rattle.inboxes.specs.Sides.{put_more, took, took_in}
 use Rattle.inboxes.proofs.lemmas.SenderWords.{true_here, false_here, same_or_not}
 use Rattle.journals.specs.declared.desk.DeskAct.{DeskAct}
@@ -28,10 +28,10 @@ use Rattle.journals.specs.declared.desk.DeskAct.TheVariants.{Call}
 use Rattle.journals.specs.Acts.{act, late_act, answer_of}
 use Rattle.locked_nodes.specs.Cells.{reply_told}
 use Rattle.client_desks.proofs.lemmas.Desking.{act_side, late_side, told_reply}
-use Rattle.desk_keys.specs.declared.asked.Asked.{Asked}
-use Rattle.desk_keys.specs.declared.answered.Answered.{Answered}
+use Rattle.client_endpoints.specs.declared.asked.Asked.{Asked}
+use Rattle.client_endpoints.specs.declared.answered.Answered.{Answered}
 use Rattle.node_workers.specs.Workers.{AnswerPutter, WorkerView, clients_of, CanServe, IsPutterTo, Tells, WasTold, TellsOf, IsSamePutter, HasAnswered, HasMet, asks_from, asks_told, AreAnswered}
-use Rattle.lists.proofs.lemmas.Members.{set_at, at_place}
+use Rattle.lists.proofs.lemmas.Members.{slice_get-set, at_place}
 
 set_elsewhere : {A : Type 0} (xs : List A) (k i : ℕ) (x y : A) → i ≢ k → slice_get xs i ≡ Some x → slice_get (slice_set xs k y) i ≡ Some x
 set_elsewhere [] k i x y apart at = absurd cc
@@ -52,7 +52,7 @@ answered_none clients cell answer_putters new = record {
   charter = refl;
   more = [];
   grew = sym (append-nil cell.journal);
-  same = record { count = refl; each = λ i x y a b. same_putter i x y (same_at answer_putters i x y a b) };
+  same = record { count = refl; each = λ i x y a b. same_putter i x y (slice_get-unique answer_putters i x y a b) };
   told = λ n c act has is. absurd (none_in [] n refl has);
   done = λ seat answer_putter a t at has is. absurd (none_in answer_putter.put a (new seat answer_putter at) has);
 }
@@ -89,11 +89,11 @@ module _ (answer_putters : List AnswerPutter) (seat : ℕ) (answer_putter : Answ
   after = slice_set answer_putters seat (put_more answer_putter a)
 
   new_answer_putter : slice_get after seat ≡ Some (put_more answer_putter a)
-  new_answer_putter = set_at answer_putters seat answer_putter (put_more answer_putter a) here
+  new_answer_putter = slice_get-set answer_putters seat answer_putter (put_more answer_putter a) here
 
   kept_by : (clients : List ℕ) (n : NodeEntry) (w : WasTold clients answer_putters n) → (w.seat ≡ seat) ⊎ (w.seat ≢ seat) → WasTold clients after n
   kept_by clients n w (inl is) =
-      let same : w.answer_putter ≡ answer_putter = same_at answer_putters seat w.answer_putter answer_putter (ap (slice_get answer_putters) (sym is) ∙ w.there) here in
+      let same : w.answer_putter ≡ answer_putter = slice_get-unique answer_putters seat w.answer_putter answer_putter (ap (slice_get answer_putters) (sym is) ∙ w.there) here in
       record {
         seat = seat;
         answer_putter = put_more answer_putter a;
@@ -152,9 +152,9 @@ module _ (answer_putters : List AnswerPutter) (seat : ℕ) (answer_putter : Answ
       charter = met.charter ∙ so.charter;
       more = all_more;
       grew = met.grew ∙ ap (λ l. l ++ met.tail) so.grew ∙ append_assoc old.journal so.more met.tail;
-      same = record { count = so.same.count ∙ sym (length-set answer_putters seat (put_more answer_putter a)); each = λ s x y at to. putter_kept s x y at (get_set answer_putters seat s y (put_more answer_putter a) to) };
+      same = record { count = so.same.count ∙ sym (length-set answer_putters seat (put_more answer_putter a)); each = λ s x y at to. putter_kept s x y at (slice_get-set_cases answer_putters seat s y (put_more answer_putter a) to) };
       told = λ n c act has is. told_of n c act is (Contains-append_cases so.more met.tail n has);
-      done = λ s l b t at has is. done_of s l b t has is (get_set answer_putters seat s l (put_more answer_putter a) at);
+      done = λ s l b t at has is. done_of s l b t has is (slice_get-set_cases answer_putters seat s l (put_more answer_putter a) at);
     }
 
   -- and the asks with the one to which it is the answer
@@ -172,7 +172,7 @@ module _ (answer_putters : List AnswerPutter) (seat : ℕ) (answer_putter : Answ
     asked_at s l (inr h) = so s l h.1 ∙ sym (none_more s from q asks (λ e. h.0 (sym e ∙ own)))
 
     pub asked_more : AreAnswered (asks ++ (from, q) ∷ []) after
-    asked_more s l at = asked_at s l (get_set answer_putters seat s l (put_more answer_putter a) at)
+    asked_more s l at = asked_at s l (slice_get-set_cases answer_putters seat s l (put_more answer_putter a) at)
 
 -- what has no client's side is told to nobody
 module _ (clients : List ℕ) (old now new : CellView) (first answer_putters : List AnswerPutter) (so : HasAnswered clients old first now answer_putters) (late : HasMoreAside now new) where
@@ -196,7 +196,7 @@ module _ (clients : List ℕ) (old now new : CellView) (first answer_putters : L
 -- the putter of a seat, when a worker starts and later
 putter_at : (of : ClockId) (clients : List ℕ) (answer_putters : List AnswerPutter) (seat : ℕ) (answer_putter : AnswerPutter) → Beside (IsPutterTo of) clients answer_putters → slice_get answer_putters seat ≡ Some answer_putter → (id : ℕ) × (slice_get clients seat ≡ Some id) × IsPutterTo of seat id answer_putter
 putter_at of clients answer_putters seat answer_putter to at =
-    left_of (IsPutterTo of) clients answer_putters seat answer_putter to at
+    beside_left (IsPutterTo of) clients answer_putters seat answer_putter to at
 
 pub new_answer_putters : (of : ClockId) (clients : List ℕ) (answer_putters : List AnswerPutter) → Beside (IsPutterTo of) clients answer_putters → (seat : ℕ) (answer_putter : AnswerPutter) → slice_get answer_putters seat ≡ Some answer_putter → answer_putter.put ≡ []
 new_answer_putters of clients answer_putters to seat answer_putter at = (putter_at of clients answer_putters seat answer_putter to at).2.new

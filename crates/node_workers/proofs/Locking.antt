@@ -4,22 +4,22 @@ use Rattle.std.specs.declared.option.Option.TheVariants.{Some}
 use Rattle.std.specs.Prelude.{◌⊎◌, All, false, slice_get}
 use Rattle.std.specs.List.{AllZip, Contains}
 use Rattle.quorum_rules.specs.Limits.{Numbers}
-use Rattle.crews.specs.Crews.{Beside}
-use Rattle.crews.proofs.lemmas.Places.{all_from, get_map, map_get}
+use Rattle.thread_work.specs.Pairwise.{Beside}
+use Rattle.thread_work.proofs.lemmas.Places.{all_from_places, get_map, map_get}
 use Rattle.event_clock.specs.Passes.{ClockId}
 use Rattle.journals.specs.declared.node.NodeEntry.{NodeEntry}
 use Rattle.journals.specs.declared.desk.DeskAct.{DeskAct}
 use Rattle.journals.specs.declared.desk.DeskEntry.{DeskEntry}
 use Rattle.journals.specs.Steps.{side, IsOwn}
-use Rattle.locked_nodes.specs.declared.slot.Slot.{Slot}
-use Rattle.locked_nodes.specs.Slots.{slot_of, slots_of, Cover}
+use Rattle.locked_nodes.specs.declared.cell_shard.CellShard.{CellShard}
+use Rattle.locked_nodes.specs.CellShards.{cell_shard_of, cell_shards_of, Cover}
 use Rattle.locked_nodes.specs.Cells.{CellView, rechartered}
 use Rattle.client_desks.specs.Desks.{DeskView}
 use Rattle.phase_threads.specs.declared.duty.Seat.{Seat}
 use Rattle.phase_threads.specs.declared.phase.Left.{Left}
 use Rattle.phase_threads.specs.Phases.{MayPhase, HasPhased}
 use Rattle.phase_threads.specs.Standing.{AreCells, IsCellOf, PairsStand, HasSideIn, HasSideOn, HasWorked}
-use Rattle.lists.proofs.lemmas.Members.{place_of, all_at, Contains-slice_get}
+use Rattle.lists.proofs.lemmas.Members.{place_of, all_at_place, Contains-slice_get}
 
 pub beside_map : {A B : Type 0} (f : A → B) (xs : List A) (ys : List B) → Beside (λ i x y. y ≡ f x) xs ys → ys ≡ map f xs
 beside_map f [] [] b = refl
@@ -38,9 +38,9 @@ map_id (x ∷ xs) = ap (λ l. x ∷ l) (map_id xs)
 abbrev pub again : CellView → CellView
 again c = rechartered c false
 
-slots_again : (cells : List CellView) → slots_of (map again cells) ≡ slots_of cells
-slots_again [] = refl
-slots_again (c ∷ cells) = ap (λ l. slot_of c.charter ∷ l) (slots_again cells)
+shards_again : (cells : List CellView) → cell_shards_of (map again cells) ≡ cell_shards_of cells
+shards_again [] = refl
+shards_again (c ∷ cells) = ap (λ l. cell_shard_of c.charter ∷ l) (shards_again cells)
 
 worked_again : (cells new : List CellView) → AllZip HasWorked (map again cells) new → AllZip HasWorked cells new
 worked_again [] [] z = tt
@@ -54,10 +54,10 @@ module _ (cells : List CellView) where
 
   cells_again : (config : Numbers) (of : ClockId) → All (λ (c : CellView). c.pass.clock ≡ c.charter.pass.clock) cells → AreCells config of cells → AreCells config of (map again cells)
   cells_again config of own are = record {
-    each = all_from (IsCellOf config of) (map again cells) (λ k d at.
+    each = all_from_places (IsCellOf config of) (map again cells) (λ k d at.
         let c = map_get again cells k d at in
-        subst (IsCellOf config of) c.2 (cell_again config of c.0 (all_at (λ (x : CellView). x.pass.clock ≡ x.charter.pass.clock) cells k c.0 own c.1) (all_at (IsCellOf config of) cells k c.0 are.each c.1)));
-    cover = subst (Cover config.n) (sym (slots_again cells)) are.cover;
+        subst (IsCellOf config of) c.2 (cell_again config of c.0 (all_at_place (λ (x : CellView). x.pass.clock ≡ x.charter.pass.clock) cells k c.0 own c.1) (all_at_place (IsCellOf config of) cells k c.0 are.each c.1)));
+    cover = subst (Cover config.n) (sym (shards_again cells)) are.cover;
   }
 
   side_again : (id : ℕ) (e : DeskEntry) → IsOwn e.act ⊎ HasSideIn cells id e → IsOwn e.act ⊎ HasSideIn (map again cells) id e
@@ -79,16 +79,16 @@ module _ (cells : List CellView) where
   }
 
 -- what may begin with these cells and seats may begin with the same ones
-pub may_as : {T : Type 0} (ready : T → List Slot → DeskView → Type 0) (of : ClockId) (cells : List CellView) (seats : List (Seat T)) (now : List CellView) (are : List (Seat T)) → now ≡ cells → are ≡ seats → MayPhase ready of cells seats → MayPhase ready of now are
+pub may_as : {T : Type 0} (ready : T → List CellShard → DeskView → Type 0) (of : ClockId) (cells : List CellView) (seats : List (Seat T)) (now : List CellView) (are : List (Seat T)) → now ≡ cells → are ≡ seats → MayPhase ready of cells seats → MayPhase ready of now are
 may_as {T = T} ready of cells seats now are is same may = subst (λ (l : List (Seat T)). MayPhase ready of now l) (sym same) (subst (λ (l : List CellView). MayPhase ready of l seats) (sym is) may)
 
-module _ {T : Type 0} (ready : T → List Slot → DeskView → Type 0) (done : T → DeskView → T → DeskView → Type 0) (of : ClockId) (cells : List CellView) (seats : List (Seat T)) where
+module _ {T : Type 0} (ready : T → List CellShard → DeskView → Type 0) (done : T → DeskView → T → DeskView → Type 0) (of : ClockId) (cells : List CellView) (seats : List (Seat T)) where
   pub may_again : (now : List CellView) (are : List (Seat T)) → now ≡ map again cells → are ≡ seats → All (λ (c : CellView). c.pass.clock ≡ c.charter.pass.clock) cells → MayPhase ready of cells seats → MayPhase ready of now are
   may_again now are is same own may =
       subst (λ (l : List (Seat T)). MayPhase ready of now l) (sym same) (subst (λ (l : List CellView). MayPhase ready of l seats) (sym is) (record {
         cluster = (may.cluster.0, cells_again cells may.cluster.0 of own may.cluster.1, may.cluster.2);
         pairs = pairs_again cells (map (λ (s : Seat T). s.desk) seats) may.pairs;
-        ready = subst (λ (l : List Slot). All (λ (s : Seat T). ready s.duty l s.desk) seats) (sym (slots_again cells)) may.ready;
+        ready = subst (λ (l : List CellShard). All (λ (s : Seat T). ready s.duty l s.desk) seats) (sym (shards_again cells)) may.ready;
         count = may.count;
       }))
 

@@ -1,25 +1,25 @@
--- Inboxes and posts that are opened one after another.
+-- Inboxes and thread states that are opened one after another.
 use Rattle.std.proofs.Common.{◌≡◌, ℕ, ◌+◌, ◌<◌, List, [], ◌∷◌, ◌++◌, length, length-append, map, reverse, refl, sym, ap, subst, ◌∙◌, arith, inl, inr, append_assoc, append-nil}
 use Rattle.std.specs.declared.option.Option.TheVariants.{Some}
 use Rattle.std.specs.Prelude.{◌⊎◌, slice_get, All}
 use Rattle.std.proofs.lemmas.List.{reverse-append, reverse-reverse, map-append}
 use Rattle.std.proofs.lemmas.Option.{slice_get_within}
-use Rattle.crews.specs.Crews.{Beside}
-use Rattle.crews.proofs.lemmas.Places.{same_at, get_snoc}
+use Rattle.thread_work.specs.Pairwise.{Beside}
+use Rattle.thread_work.proofs.lemmas.Places.{slice_get-unique, get_snoc}
 use Rattle.event_clock.specs.Passes.{ClockId}
 use Rattle.inboxes.specs.Sides.{Putting, Taking, new_putter}
-use Rattle.desk_keys.specs.declared.answered.Answered.{Answered}
-use Rattle.desk_keys.specs.declared.answered.ClientPlace.{ClientPlace}
+use Rattle.client_endpoints.specs.declared.answered.Answered.{Answered}
+use Rattle.client_endpoints.specs.declared.answered.ClientPlace.{ClientPlace}
 use Rattle.phase_threads.specs.declared.duty.Seat.{Seat}
-use Rattle.desk_keys.specs.Keys.{KeysView}
+use Rattle.client_endpoints.specs.Endpoint.{EndpointView}
 use Rattle.node_workers.specs.Workers.{WorkerView}
-use Rattle.node_workers.specs.declared.crew.Post.{Post}
-use Rattle.node_workers.specs.declared.crew.Post.TheVariants.{Client, Node}
-use Rattle.node_workers.specs.Posts.{nodes_in, clients_in}
-use Rattle.phase_threads.specs.Hands.{AreDealt}
-use Rattle.node_workers.specs.Hands.{AreNewPutters, AreSpread}
+use Rattle.node_workers.specs.declared.thread_state.ThreadState.{ThreadState}
+use Rattle.node_workers.specs.declared.thread_state.ThreadState.TheVariants.{Client, Node}
+use Rattle.node_workers.specs.ThreadStates.{nodes_in, clients_in}
+use Rattle.phase_threads.specs.Portions.{AreDealt}
+use Rattle.node_workers.specs.Portions.{AreNewPutters, AreSpread}
 use Rattle.node_workers.specs.Opened.{IsAnswerBox}
-use Rattle.lists.proofs.lemmas.Members.{all_at, slice_get-seam, at_place}
+use Rattle.lists.proofs.lemmas.Members.{all_at_place, slice_get-seam, at_place}
 
 -- each item of the second list is so to the one of the first list at its place
 pub record UpTo {X Y : Type 0} (R : ℕ → X → Y → Type 0) (xs : List X) (ys : List Y) : Type 0 where
@@ -32,7 +32,7 @@ module _ {X Y : Type 0} (R : ℕ → X → Y → Type 0) where
   next_each : (xs : List X) (ys : List Y) (x : X) (y : Y) (k : ℕ) (a : X) (b : Y) → UpTo R xs ys → slice_get xs (length ys) ≡ Some x → R (length ys) x y → slice_get xs k ≡ Some a → (slice_get ys k ≡ Some b) ⊎ ((k ≡ length ys) × (b ≡ y)) → R k a b
   next_each xs ys x y k a b up here is at (inl there) = up.each k a b at there
   next_each xs ys x y k a b up here is at (inr p) =
-      let same : x ≡ a = same_at xs (length ys) x a here (ap (slice_get xs) (sym p.0) ∙ at) in
+      let same : x ≡ a = slice_get-unique xs (length ys) x a here (ap (slice_get xs) (sym p.0) ∙ at) in
       subst (λ n. R n a b) (sym p.0) (subst (λ u. R (length ys) u b) same (subst (R (length ys) x) (sym p.1) is))
 
   pub up_to_more : (xs : List X) (ys : List Y) (x : X) (y : Y) → UpTo R xs ys → slice_get xs (length ys) ≡ Some x → R (length ys) x y → UpTo R xs (ys ++ y ∷ [])
@@ -69,74 +69,74 @@ module _ {A : Type 0} where
 
 -- putters into one box more
 module _ {T P : Type 0} (count : ℕ) where
-  pub none_spread : (hands : List (List (Putting T P))) → length hands ≡ count → All (λ (h : List (Putting T P)). h ≡ []) hands → AreSpread {T = T} {P = P} count [] hands
-  none_spread hands n empty = record {
+  pub none_spread : (portions : List (List (Putting T P))) → length portions ≡ count → All (λ (h : List (Putting T P)). h ≡ []) portions → AreSpread {T = T} {P = P} count [] portions
+  none_spread portions n empty = record {
     count = n;
-    full = λ i hand at. ap length (all_at (λ (h : List (Putting T P)). h ≡ []) hands i hand empty at);
-    each = λ i k hand p box at here there. absurd cc;
+    full = λ i portion at. ap length (all_at_place (λ (h : List (Putting T P)). h ≡ []) portions i portion empty at);
+    each = λ i k portion p box at here there. absurd cc;
   }
 
-  module _ (boxes : List (Taking T P)) (hands new : List (List (Putting T P))) (box : Taking T P) (putters : List (Putting T P)) (so : AreSpread count boxes hands) (made : AreNewPutters count box putters) (dealt : AreDealt hands putters new) where
-    -- a hand before and after, and what it got
-    record Got (i : ℕ) (hand : List (Putting T P)) : Type 0 where
+  module _ (boxes : List (Taking T P)) (portions new : List (List (Putting T P))) (box : Taking T P) (putters : List (Putting T P)) (so : AreSpread count boxes portions) (made : AreNewPutters count box putters) (dealt : AreDealt portions putters new) where
+    -- a portion before and after, and what it got
+    record Got (i : ℕ) (portion : List (Putting T P)) : Type 0 where
       was : List (Putting T P)
-      there : slice_get hands i ≡ Some was
-      is : hand ≡ was ++ new_putter box.inbox i ∷ []
+      there : slice_get portions i ≡ Some was
+      is : portion ≡ was ++ new_putter box.inbox i ∷ []
 
-    got : (i : ℕ) (hand : List (Putting T P)) → slice_get new i ≡ Some hand → Got i hand
-    got i hand at =
-        let lt = slice_get_within new i hand at in
-        let was = at_place hands i (omega (arith, lt, dealt.count)) in
+    got : (i : ℕ) (portion : List (Putting T P)) → slice_get new i ≡ Some portion → Got i portion
+    got i portion at =
+        let lt = slice_get_within new i portion at in
+        let was = at_place portions i (omega (arith, lt, dealt.count)) in
         let own = made.each i (omega (arith, lt, dealt.count, so.count)) in
-        record { was = was.0; there = was.1; is = dealt.each i was.0 hand (new_putter box.inbox i) was.1 at own }
+        record { was = was.0; there = was.1; is = dealt.each i was.0 portion (new_putter box.inbox i) was.1 at own }
 
-    each_of : (i k : ℕ) (hand : List (Putting T P)) (p : Putting T P) (b : Taking T P) (g : Got i hand) → (slice_get g.was k ≡ Some p) ⊎ ((k ≡ length g.was) × (p ≡ new_putter box.inbox i)) → (slice_get boxes k ≡ Some b) ⊎ ((k ≡ length boxes) × (b ≡ box)) → p ≡ new_putter b.inbox i
-    each_of i k hand p b g (inl x) (inl y) = so.each i k g.was p b g.there x y
-    each_of i k hand p b g (inl x) (inr y) = absurd (let lt = slice_get_within g.was k p x in let n = so.full i g.was g.there in let e = y.0 in omega (arith, lt, n, e))
-    each_of i k hand p b g (inr x) (inl y) = absurd (let lt = slice_get_within boxes k b y in let n = so.full i g.was g.there in let e = x.0 in omega (arith, lt, n, e))
-    each_of i k hand p b g (inr x) (inr y) = x.1 ∙ ap (λ (z : Taking T P). new_putter z.inbox i) (sym y.1)
+    each_of : (i k : ℕ) (portion : List (Putting T P)) (p : Putting T P) (b : Taking T P) (g : Got i portion) → (slice_get g.was k ≡ Some p) ⊎ ((k ≡ length g.was) × (p ≡ new_putter box.inbox i)) → (slice_get boxes k ≡ Some b) ⊎ ((k ≡ length boxes) × (b ≡ box)) → p ≡ new_putter b.inbox i
+    each_of i k portion p b g (inl x) (inl y) = so.each i k g.was p b g.there x y
+    each_of i k portion p b g (inl x) (inr y) = absurd (let lt = slice_get_within g.was k p x in let n = so.full i g.was g.there in let e = y.0 in omega (arith, lt, n, e))
+    each_of i k portion p b g (inr x) (inl y) = absurd (let lt = slice_get_within boxes k b y in let n = so.full i g.was g.there in let e = x.0 in omega (arith, lt, n, e))
+    each_of i k portion p b g (inr x) (inr y) = x.1 ∙ ap (λ (z : Taking T P). new_putter z.inbox i) (sym y.1)
 
-    each_in : (i k : ℕ) (hand : List (Putting T P)) (p : Putting T P) (b : Taking T P) → Got i hand → slice_get hand k ≡ Some p → slice_get (boxes ++ box ∷ []) k ≡ Some b → p ≡ new_putter b.inbox i
-    each_in i k hand p b g here there = each_of i k hand p b g (get_snoc g.was (new_putter box.inbox i) k p (ap (λ (l : List (Putting T P)). slice_get l k) (sym g.is) ∙ here)) (get_snoc boxes box k b there)
+    each_in : (i k : ℕ) (portion : List (Putting T P)) (p : Putting T P) (b : Taking T P) → Got i portion → slice_get portion k ≡ Some p → slice_get (boxes ++ box ∷ []) k ≡ Some b → p ≡ new_putter b.inbox i
+    each_in i k portion p b g here there = each_of i k portion p b g (get_snoc g.was (new_putter box.inbox i) k p (ap (λ (l : List (Putting T P)). slice_get l k) (sym g.is) ∙ here)) (get_snoc boxes box k b there)
 
-    full_in : (i : ℕ) (hand : List (Putting T P)) → Got i hand → length hand ≡ length (boxes ++ box ∷ [])
-    full_in i hand g = ap length g.is ∙ length-append g.was (new_putter box.inbox i ∷ []) ∙ ap (λ (n : ℕ). n + 1) (so.full i g.was g.there) ∙ sym (length-append boxes (box ∷ []))
+    full_in : (i : ℕ) (portion : List (Putting T P)) → Got i portion → length portion ≡ length (boxes ++ box ∷ [])
+    full_in i portion g = ap length g.is ∙ length-append g.was (new_putter box.inbox i ∷ []) ∙ ap (λ (n : ℕ). n + 1) (so.full i g.was g.there) ∙ sym (length-append boxes (box ∷ []))
 
     pub spread_more : AreSpread count (boxes ++ box ∷ []) new
     spread_more = record {
       count = dealt.count ∙ so.count;
-      full = λ i hand at. full_in i hand (got i hand at);
-      each = λ i k hand p b at here there. each_in i k hand p b (got i hand at) here there;
+      full = λ i portion at. full_in i portion (got i portion at);
+      each = λ i k portion p b at here there. each_in i k portion p b (got i portion at) here there;
     }
 
--- posts one after another
+-- thread states one after another
 module _ {T : Type 0} where
-  pub nodes-append : (ps qs : List (Post T)) → nodes_in (ps ++ qs) ≡ nodes_in ps ++ nodes_in qs
+  pub nodes-append : (ps qs : List (ThreadState T)) → nodes_in (ps ++ qs) ≡ nodes_in ps ++ nodes_in qs
   nodes-append [] qs = refl
   nodes-append (Node w ∷ ps) qs = ap (λ l. w ∷ l) (nodes-append ps qs)
-  nodes-append (Client keys duty ∷ ps) qs = nodes-append ps qs
+  nodes-append (Client endpoint duty ∷ ps) qs = nodes-append ps qs
 
-  pub clients-append : (ps qs : List (Post T)) → clients_in (ps ++ qs) ≡ clients_in ps ++ clients_in qs
+  pub clients-append : (ps qs : List (ThreadState T)) → clients_in (ps ++ qs) ≡ clients_in ps ++ clients_in qs
   clients-append [] qs = refl
   clients-append (Node w ∷ ps) qs = clients-append ps qs
-  clients-append (Client keys duty ∷ ps) qs = ap (λ l. (keys, duty) ∷ l) (clients-append ps qs)
+  clients-append (Client endpoint duty ∷ ps) qs = ap (λ l. (endpoint, duty) ∷ l) (clients-append ps qs)
 
-  -- with a post more
-  pub node_nodes : (ps : List (Post T)) (p : Post T) (w : WorkerView) → p ≡ Node w → nodes_in (ps ++ p ∷ []) ≡ nodes_in ps ++ w ∷ []
+  -- with a thread state more
+  pub node_nodes : (ps : List (ThreadState T)) (p : ThreadState T) (w : WorkerView) → p ≡ Node w → nodes_in (ps ++ p ∷ []) ≡ nodes_in ps ++ w ∷ []
   node_nodes ps p w is = ap (λ q. nodes_in (ps ++ q ∷ [])) is ∙ nodes-append ps (Node w ∷ [])
 
-  pub node_clients : (ps : List (Post T)) (p : Post T) (w : WorkerView) → p ≡ Node w → clients_in (ps ++ p ∷ []) ≡ clients_in ps
+  pub node_clients : (ps : List (ThreadState T)) (p : ThreadState T) (w : WorkerView) → p ≡ Node w → clients_in (ps ++ p ∷ []) ≡ clients_in ps
   node_clients ps p w is = ap (λ q. clients_in (ps ++ q ∷ [])) is ∙ clients-append ps (Node w ∷ []) ∙ append-nil (clients_in ps)
 
-  pub client_nodes : (ps : List (Post T)) (p : Post T) (keys : KeysView) (duty : T) → p ≡ Client keys duty → nodes_in (ps ++ p ∷ []) ≡ nodes_in ps
-  client_nodes ps p keys duty is = ap (λ q. nodes_in (ps ++ q ∷ [])) is ∙ nodes-append ps (Client keys duty ∷ []) ∙ append-nil (nodes_in ps)
+  pub client_nodes : (ps : List (ThreadState T)) (p : ThreadState T) (endpoint : EndpointView) (duty : T) → p ≡ Client endpoint duty → nodes_in (ps ++ p ∷ []) ≡ nodes_in ps
+  client_nodes ps p endpoint duty is = ap (λ q. nodes_in (ps ++ q ∷ [])) is ∙ nodes-append ps (Client endpoint duty ∷ []) ∙ append-nil (nodes_in ps)
 
-  pub client_clients : (ps : List (Post T)) (p : Post T) (keys : KeysView) (duty : T) → p ≡ Client keys duty → clients_in (ps ++ p ∷ []) ≡ clients_in ps ++ (keys, duty) ∷ []
-  client_clients ps p keys duty is = ap (λ q. clients_in (ps ++ q ∷ [])) is ∙ clients-append ps (Client keys duty ∷ [])
+  pub client_clients : (ps : List (ThreadState T)) (p : ThreadState T) (endpoint : EndpointView) (duty : T) → p ≡ Client endpoint duty → clients_in (ps ++ p ∷ []) ≡ clients_in ps ++ (endpoint, duty) ∷ []
+  client_clients ps p endpoint duty is = ap (λ q. clients_in (ps ++ q ∷ [])) is ∙ clients-append ps (Client endpoint duty ∷ [])
 
-  pub client_at : (all done rest : List (Post T)) (p : Post T) (keys : KeysView) (duty : T) → all ≡ done ++ p ∷ rest → p ≡ Client keys duty → slice_get (clients_in all) (length (clients_in done)) ≡ Some (keys, duty)
-  client_at all done rest p keys duty list is =
-      ap (λ l. slice_get l (length (clients_in done))) (ap (λ l. clients_in l) (list ∙ ap (λ q. done ++ q ∷ rest) is) ∙ clients-append done (Client keys duty ∷ rest)) ∙ slice_get-seam (clients_in done) (keys, duty) (clients_in rest)
+  pub client_at : (all done rest : List (ThreadState T)) (p : ThreadState T) (endpoint : EndpointView) (duty : T) → all ≡ done ++ p ∷ rest → p ≡ Client endpoint duty → slice_get (clients_in all) (length (clients_in done)) ≡ Some (endpoint, duty)
+  client_at all done rest p endpoint duty list is =
+      ap (λ l. slice_get l (length (clients_in done))) (ap (λ l. clients_in l) (list ∙ ap (λ q. done ++ q ∷ rest) is) ∙ clients-append done (Client endpoint duty ∷ rest)) ∙ slice_get-seam (clients_in done) (endpoint, duty) (clients_in rest)
 
 -- what stands at the place up to which a list was walked
 pub here_of : {A : Type 0} (all done rest : List A) (x : A) (n : ℕ) → all ≡ done ++ x ∷ rest → n ≡ length done → slice_get all n ≡ Some x

@@ -3,15 +3,15 @@ use Rattle.std.proofs.Common.{◌≡◌, ℕ, zero, suc, ◌≤◌, ◌<◌, Lis
 use Rattle.std.specs.declared.option.Option.TheVariants.{Some}
 use Rattle.std.specs.Prelude.{◌⊎◌, slice_get}
 use Rattle.std.proofs.lemmas.Option.{slice_get_within}
-use Rattle.crews.specs.Crews.{Beside}
-use Rattle.crews.proofs.lemmas.Places.{same_at}
+use Rattle.thread_work.specs.Pairwise.{Beside}
+use Rattle.thread_work.proofs.lemmas.Places.{slice_get-unique}
 use Rattle.inboxes.specs.Sides.{Taking}
-use Rattle.desk_keys.specs.declared.answered.Answered.{Answered}
-use Rattle.desk_keys.specs.declared.answered.ClientPlace.{ClientPlace}
-use Rattle.desk_keys.specs.declared.mail.ByMail.{ByMail}
+use Rattle.client_endpoints.specs.declared.answered.Answered.{Answered}
+use Rattle.client_endpoints.specs.declared.answered.ClientPlace.{ClientPlace}
+use Rattle.client_endpoints.specs.declared.mail.ByMail.{ByMail}
 use Rattle.node_workers.specs.Workers.{AnswerPutter}
 use Rattle.node_workers.specs.Closed.{IsOfMail, HasAllOf}
-use Rattle.lists.proofs.lemmas.Members.{get_left, slice_get-seam}
+use Rattle.lists.proofs.lemmas.Members.{slice_get-append_left, slice_get-seam}
 
 -- a way by mail, with this taker of its answers
 abbrev pub with_answers : ByMail → Taking Answered ClientPlace → ByMail
@@ -57,13 +57,13 @@ module _ (mails : List ByMail) (row left less : List AnswerPutter) (x : AnswerPu
 
     done_at : (k : ℕ) (n : ByMail) (y : AnswerPutter) → slice_get mails k ≡ Some n → slice_get row k ≡ Some y → (k ≡ length less) ⊎ (length left ≤ k) → HasAllOf k n y
     done_at k n y there of (inl e) =
-        let mail : m ≡ n = same_at mails (length less) m n at (ap (slice_get mails) (sym e) ∙ there) in
-        let same : x ≡ y = same_at row (length less) x y here (ap (slice_get row) (sym e) ∙ of) in
+        let mail : m ≡ n = slice_get-unique mails (length less) m n at (ap (slice_get mails) (sym e) ∙ there) in
+        let same : x ≡ y = slice_get-unique row (length less) x y here (ap (slice_get row) (sym e) ∙ of) in
         subst (λ u. HasAllOf k u y) mail (subst (λ u. HasAllOf k m u) same items)
     done_at k n y there of (inr le) = s.done k n y le there of
 
     pub settled_more : AreSettledFrom mails row less
     settled_more = record {
-      rest = λ k y b. s.rest k y (ap (λ l. slice_get l k) is ∙ get_left less (x ∷ []) k y b);
+      rest = λ k y b. s.rest k y (ap (λ l. slice_get l k) is ∙ slice_get-append_left less (x ∷ []) k y b);
       done = λ k n y le there of. done_at k n y there of (split k le);
     }

@@ -16,20 +16,20 @@ use Rattle.journals.specs.Steps.{side}
 use Rattle.locked_nodes.specs.declared.answers.Told.{Told}
 use Rattle.locked_nodes.specs.Cells.{CellView, rechartered, number_of, reply_told}
 use Rattle.client_desks.specs.Desks.{desk_entry}
-use Rattle.crews.specs.Crews.{Beside}
-use Rattle.desk_keys.specs.declared.answered.Answered.{Answered}
-use Rattle.desk_keys.specs.declared.mail.ByMail.{ByMail}
-use Rattle.desk_keys.specs.declared.transport.Transport.{Transport}
-use Rattle.desk_keys.specs.declared.transport.Transport.TheVariants.{Mail}
-use Rattle.desk_keys.specs.Transports.{IsTold, HasAnswer}
+use Rattle.thread_work.specs.Pairwise.{Beside}
+use Rattle.client_endpoints.specs.declared.answered.Answered.{Answered}
+use Rattle.client_endpoints.specs.declared.mail.ByMail.{ByMail}
+use Rattle.client_endpoints.specs.declared.transport.Transport.{Transport}
+use Rattle.client_endpoints.specs.declared.transport.Transport.TheVariants.{Mail}
+use Rattle.client_endpoints.specs.Transports.{IsTold, HasAnswer}
 use Rattle.node_workers.specs.Workers.{AnswerPutter, Tells, TellsOf, WasTold, HasAnswered}
 use Rattle.node_workers.proofs.Answering.{none_in}
 use Rattle.phase_threads.specs.Standing.{HasSideIn}
 use Rattle.phase_threads.specs.Told.{IsToldIn, AreJustTold}
-use Rattle.crews.proofs.lemmas.Places.{same_at, get_map, map_get, right_of, left_of}
-use Rattle.lists.proofs.lemmas.Members.{place_of, all_at, at_place, Contains-slice_get}
+use Rattle.thread_work.proofs.lemmas.Places.{slice_get-unique, get_map, map_get, beside_right, beside_left}
+use Rattle.lists.proofs.lemmas.Members.{place_of, all_at_place, at_place, Contains-slice_get}
 use Rattle.inboxes.proofs.lemmas.SenderWords.{true_here}
-use Rattle.desk_keys.proofs.lemmas.Mailing.{same_told}
+use Rattle.client_endpoints.proofs.lemmas.Mailing.{same_told}
 
 -- what was taken of a sender is among the sender's items, and the other way round
 module _ {T : Type 0} where
@@ -143,7 +143,7 @@ module _ (clients : List ℕ) (cells now : List CellView) (rows : List (List Ans
 
   told_of : (k c : ℕ) (row : List AnswerPutter) (was cell : CellView) (served : IsServed clients cells k row cell) (n : NodeEntry) (act : DeskAct) → slice_get cells k ≡ Some was → slice_get rows k ≡ Some row → side n.act ≡ Some (c, act)
       → Contains served.old.journal n ⊎ Contains served.answered.more n → Contains was.journal n ⊎ IsToldIn transports c (desk_entry n.number act)
-  told_of k c row was cell served n act there here is (inl has) = inl (subst (λ (x : CellView). Contains x.journal n) (same_at cells k served.old was served.there there) has)
+  told_of k c row was cell served n act there here is (inl has) = inl (subst (λ (x : CellView). Contains x.journal n) (slice_get-unique cells k served.old was served.there there) has)
   told_of k c row was cell served n act there here is (inr has) = inr (told_in k c row n act here is (served.answered.told n c act has is))
 
   told_at : (k c : ℕ) (row : List AnswerPutter) (was cell : CellView) → IsServed clients cells k row cell → (n : NodeEntry) (act : DeskAct) → slice_get cells k ≡ Some was → slice_get rows k ≡ Some row → Contains cell.journal n → side n.act ≡ Some (c, act)
@@ -152,7 +152,7 @@ module _ (clients : List ℕ) (cells now : List CellView) (rows : List (List Ans
 
   told : (k : ℕ) (was cell : CellView) (n : NodeEntry) (c : ℕ) (act : DeskAct) → slice_get cells k ≡ Some was → slice_get now k ≡ Some cell → Contains cell.journal n → side n.act ≡ Some (c, act) → Contains was.journal n ⊎ IsToldIn transports c (desk_entry n.number act)
   told k was cell n c act there to has is =
-      let row = left_of (IsServed clients cells) rows now k cell phase.served to in
+      let row = beside_left (IsServed clients cells) rows now k cell phase.served to in
       told_at k c row.0 was cell row.2 n act there row.1 has is
 
   -- what a desk heard stands in the cell of the worker that told it
@@ -189,9 +189,9 @@ module _ (clients : List ℕ) (cells now : List CellView) (rows : List (List Ans
   heard_in : (seat c : ℕ) (m : ByMail) (e : DeskEntry) → seat < length clients → IsHeard rows seat m → HasAnswer (took m.answers) c e → HasSideIn now c e
   heard_in seat c m e lt heard a =
       let place = place_of (took m.answers) (a.from, a.answer) a.there in
-      let below = all_at (λ (i : ℕ × Answered). i.0 < length rows) (took m.answers) place.0 (a.from, a.answer) heard.senders place.1 in
+      let below = all_at_place (λ (i : ℕ × Answered). i.0 < length rows) (took m.answers) place.0 (a.from, a.answer) heard.senders place.1 in
       let row = at_place rows a.from below in
-      let cell = right_of (IsServed clients cells) rows now a.from row.0 phase.served row.1 in
+      let cell = beside_right (IsServed clients cells) rows now a.from row.0 phase.served row.1 in
       heard_at seat c m e lt heard a row.0 cell.0 row.1 cell.1 cell.2
 
   stands : (i : ℕ) (t : Transport) (c : ℕ) (e : DeskEntry) → slice_get transports i ≡ Some t → IsTold t c e → HasSideIn now c e

@@ -1,25 +1,25 @@
--- Posts before their threads work and after.
+-- Thread states before their threads work and after.
 use Rattle.std.proofs.Common.{◌≡◌, ℕ, zero, suc, List, [], ◌∷◌, length, refl, sym, ap, subst, ◌∙◌}
 use Rattle.std.specs.declared.option.Option.TheVariants.{Some}
 use Rattle.std.specs.Prelude.{slice_get, map, All}
 use Rattle.std.specs.List.{AllZip}
 use Rattle.std.proofs.lemmas.List.Elements.{All-nil, All-cons, All-head, All-tail}
-use Rattle.crews.specs.Crews.{Beside}
-use Rattle.crews.proofs.lemmas.Places.{all_zip, all_from, left_of}
-use Rattle.lists.proofs.lemmas.Members.{all_at}
-use Rattle.locked_nodes.specs.declared.slot.Slot.{Slot}
+use Rattle.thread_work.specs.Pairwise.{Beside}
+use Rattle.thread_work.proofs.lemmas.Places.{all_zip, all_from_places, beside_left}
+use Rattle.lists.proofs.lemmas.Members.{all_at_place}
+use Rattle.locked_nodes.specs.declared.cell_shard.CellShard.{CellShard}
 use Rattle.client_desks.specs.Desks.{DeskView}
-use Rattle.desk_keys.specs.declared.mail.ByMail.{ByMail}
-use Rattle.desk_keys.specs.declared.transport.Transport.{Transport}
-use Rattle.desk_keys.specs.declared.transport.Transport.TheVariants.{Locks, Mail}
-use Rattle.desk_keys.specs.Asking.{HasEnded}
-use Rattle.desk_keys.specs.Transports.{Inboxes, Route, route, inboxes_of, IsByMail, HaveEnded}
-use Rattle.desk_keys.specs.Transports.Route.{ToVaults, ToInboxes}
-use Rattle.desk_keys.specs.Keys.{KeysView, FloorView, Fixed, fixed}
+use Rattle.client_endpoints.specs.declared.mail.ByMail.{ByMail}
+use Rattle.client_endpoints.specs.declared.transport.Transport.{Transport}
+use Rattle.client_endpoints.specs.declared.transport.Transport.TheVariants.{Locks, Mail}
+use Rattle.client_endpoints.specs.Asking.{HasEnded}
+use Rattle.client_endpoints.specs.Transports.{Inboxes, Route, route, inboxes_of, IsByMail, HaveEnded}
+use Rattle.client_endpoints.specs.Transports.Route.{ToVaults, ToInboxes}
+use Rattle.client_endpoints.specs.Endpoint.{EndpointView, SharedCellsView, Fixed, fixed}
 use Rattle.node_workers.specs.Workers.{WorkerView, CanServe, HasServed}
-use Rattle.node_workers.specs.declared.crew.Post.{Post}
-use Rattle.node_workers.specs.declared.crew.Post.TheVariants.{Client, Node}
-use Rattle.node_workers.specs.Posts.{nodes_in, clients_in, IsReady, HasDone, HasTakenAll, CanWork, DidWork}
+use Rattle.node_workers.specs.declared.thread_state.ThreadState.{ThreadState}
+use Rattle.node_workers.specs.declared.thread_state.ThreadState.TheVariants.{Client, Node}
+use Rattle.node_workers.specs.ThreadStates.{nodes_in, clients_in, IsReady, HasDone, HasTakenAll, CanWork, DidWork}
 
 pub zip_beside : {X Y : Type 0} (R : X → Y → Type 0) (xs : List X) (ys : List Y) → AllZip R xs ys → Beside (λ i x y. R x y) xs ys
 zip_beside R xs ys z = record { count = count R xs ys z; each = at R xs ys z }
@@ -37,41 +37,41 @@ zip_beside R xs ys z = record { count = count R xs ys z; each = at R xs ys z }
     at R (u ∷ xs) (v ∷ ys) z (suc i) x y a b = at R xs ys z.1 i x y a b
 
 module _ {T : Type 0} where
-  -- posts can work where their nodes and clients can
-  pub can_all : (ready : T → List Slot → DeskView → Type 0) (of : FloorView) (ps : List (Post T)) → ((k : ℕ) (w : WorkerView) → slice_get (nodes_in ps) k ≡ Some w → CanServe of.clock w) → ((k : ℕ) (x : KeysView × T) → slice_get (clients_in ps) k ≡ Some x → IsReady ready of x.0 x.1)
+  -- thread states can work where their nodes and clients can
+  pub can_all : (ready : T → List CellShard → DeskView → Type 0) (of : SharedCellsView) (ps : List (ThreadState T)) → ((k : ℕ) (w : WorkerView) → slice_get (nodes_in ps) k ≡ Some w → CanServe of.clock w) → ((k : ℕ) (x : EndpointView × T) → slice_get (clients_in ps) k ≡ Some x → IsReady ready of x.0 x.1)
       → All (CanWork ready of) ps
   can_all ready of [] nodes clients = All-nil (CanWork ready of)
   can_all ready of (Node w ∷ ps) nodes clients = All-cons (CanWork ready of) (Node w) ps (nodes 0 w refl) (can_all ready of ps (λ k v at. nodes (suc k) v at) clients)
-  can_all ready of (Client keys duty ∷ ps) nodes clients = All-cons (CanWork ready of) (Client keys duty) ps (clients 0 (keys, duty) refl) (can_all ready of ps nodes (λ k x at. clients (suc k) x at))
+  can_all ready of (Client endpoint duty ∷ ps) nodes clients = All-cons (CanWork ready of) (Client endpoint duty) ps (clients 0 (endpoint, duty) refl) (can_all ready of ps nodes (λ k x at. clients (suc k) x at))
 
   module _ (done : T → DeskView → T → DeskView → Type 0) where
-    nodes_did : (ps qs : List (Post T)) → AllZip (DidWork done) ps qs → AllZip HasServed (nodes_in ps) (nodes_in qs)
+    nodes_did : (ps qs : List (ThreadState T)) → AllZip (DidWork done) ps qs → AllZip HasServed (nodes_in ps) (nodes_in qs)
     nodes_did [] [] z = tt
     nodes_did [] (q ∷ qs) z = absurd z
     nodes_did (p ∷ ps) [] z = absurd z
     nodes_did (Node w ∷ ps) (Node v ∷ qs) z = (z.0, nodes_did ps qs z.1)
-    nodes_did (Node w ∷ ps) (Client keys duty ∷ qs) z = absurd z.0
-    nodes_did (Client keys duty ∷ ps) (Node v ∷ qs) z = absurd z.0
-    nodes_did (Client keys duty ∷ ps) (Client after left ∷ qs) z = nodes_did ps qs z.1
+    nodes_did (Node w ∷ ps) (Client endpoint duty ∷ qs) z = absurd z.0
+    nodes_did (Client endpoint duty ∷ ps) (Node v ∷ qs) z = absurd z.0
+    nodes_did (Client endpoint duty ∷ ps) (Client after left ∷ qs) z = nodes_did ps qs z.1
 
-    clients_did : (ps qs : List (Post T)) → AllZip (DidWork done) ps qs → AllZip (λ (x y : KeysView × T). HasDone done x.0 x.1 y.0 y.1) (clients_in ps) (clients_in qs)
+    clients_did : (ps qs : List (ThreadState T)) → AllZip (DidWork done) ps qs → AllZip (λ (x y : EndpointView × T). HasDone done x.0 x.1 y.0 y.1) (clients_in ps) (clients_in qs)
     clients_did [] [] z = tt
     clients_did [] (q ∷ qs) z = absurd z
     clients_did (p ∷ ps) [] z = absurd z
     clients_did (Node w ∷ ps) (Node v ∷ qs) z = clients_did ps qs z.1
-    clients_did (Node w ∷ ps) (Client keys duty ∷ qs) z = absurd z.0
-    clients_did (Client keys duty ∷ ps) (Node v ∷ qs) z = absurd z.0
-    clients_did (Client keys duty ∷ ps) (Client after left ∷ qs) z = (z.0, clients_did ps qs z.1)
+    clients_did (Node w ∷ ps) (Client endpoint duty ∷ qs) z = absurd z.0
+    clients_did (Client endpoint duty ∷ ps) (Node v ∷ qs) z = absurd z.0
+    clients_did (Client endpoint duty ∷ ps) (Client after left ∷ qs) z = (z.0, clients_did ps qs z.1)
 
-    zip_of : (ps qs : List (Post T)) → Beside (λ i p q. DidWork done p q) ps qs → AllZip (DidWork done) ps qs
+    zip_of : (ps qs : List (ThreadState T)) → Beside (λ i p q. DidWork done p q) ps qs → AllZip (DidWork done) ps qs
     zip_of ps qs all = all_zip (DidWork done) ps qs all.count all.each
 
-    -- nodes and clients worked where posts did
-    pub nodes_worked : (ps qs : List (Post T)) → Beside (λ i p q. DidWork done p q) ps qs → Beside (λ i w v. HasServed w v) (nodes_in ps) (nodes_in qs)
+    -- nodes and clients worked where thread states did
+    pub nodes_worked : (ps qs : List (ThreadState T)) → Beside (λ i p q. DidWork done p q) ps qs → Beside (λ i w v. HasServed w v) (nodes_in ps) (nodes_in qs)
     nodes_worked ps qs all = zip_beside HasServed (nodes_in ps) (nodes_in qs) (nodes_did ps qs (zip_of ps qs all))
 
-    pub clients_worked : (ps qs : List (Post T)) → Beside (λ i p q. DidWork done p q) ps qs → Beside (λ i (x y : KeysView × T). HasDone done x.0 x.1 y.0 y.1) (clients_in ps) (clients_in qs)
-    clients_worked ps qs all = zip_beside (λ (x y : KeysView × T). HasDone done x.0 x.1 y.0 y.1) (clients_in ps) (clients_in qs) (clients_did ps qs (zip_of ps qs all))
+    pub clients_worked : (ps qs : List (ThreadState T)) → Beside (λ i p q. DidWork done p q) ps qs → Beside (λ i (x y : EndpointView × T). HasDone done x.0 x.1 y.0 y.1) (clients_in ps) (clients_in qs)
+    clients_worked ps qs all = zip_beside (λ (x y : EndpointView × T). HasDone done x.0 x.1 y.0 y.1) (clients_in ps) (clients_in qs) (clients_did ps qs (zip_of ps qs all))
 
 -- a route to inboxes is that of mail
 inboxes_to : Route → Inboxes → Inboxes
@@ -98,8 +98,8 @@ ended_of (Mail k) (Mail n) m is ended =
       },
     )
 
--- keys whose route stayed have taken all when they end
-pub taken_all : (before mid : KeysView) (new : Transport) → fixed mid ≡ fixed before → HaveEnded mid.transport new → HasTakenAll before.transport new
+-- an endpoint whose route stayed have taken all when they end
+pub taken_all : (before mid : EndpointView) (new : Transport) → fixed mid ≡ fixed before → HaveEnded mid.transport new → HasTakenAll before.transport new
 taken_all before mid new stays ended m is = ended_of mid.transport new m (ap (λ (f : Fixed). f.route) stays ∙ ap (λ (t : Transport). route t) is) ended
 
 -- clients that worked have their ways by mail
@@ -107,14 +107,14 @@ way_of : (t new : Transport) → IsByMail t → HasTakenAll t new → IsByMail n
 way_of t new by all = let n = all by.0 by.1 in (n.0, n.1)
 
 module _ {T : Type 0} where
-  pub ways_worked : (done : T → DeskView → T → DeskView → Type 0) (xs ys : List (KeysView × T)) → Beside (λ i (x y : KeysView × T). HasDone done x.0 x.1 y.0 y.1) xs ys → All (λ (x : KeysView × T). IsByMail x.0.transport) xs → All (λ (y : KeysView × T). IsByMail y.0.transport) ys
-  ways_worked done xs ys worked by = all_from (λ (y : KeysView × T). IsByMail y.0.transport) ys (λ k y at.
-      let x = left_of (λ (i : ℕ) (x z : KeysView × T). HasDone done x.0 x.1 z.0 z.1) xs ys k y worked at in
-      way_of x.0.0.transport y.0.transport (all_at (λ (z : KeysView × T). IsByMail z.0.transport) xs k x.0 by x.1) x.2.all)
+  pub ways_worked : (done : T → DeskView → T → DeskView → Type 0) (xs ys : List (EndpointView × T)) → Beside (λ i (x y : EndpointView × T). HasDone done x.0 x.1 y.0 y.1) xs ys → All (λ (x : EndpointView × T). IsByMail x.0.transport) xs → All (λ (y : EndpointView × T). IsByMail y.0.transport) ys
+  ways_worked done xs ys worked by = all_from_places (λ (y : EndpointView × T). IsByMail y.0.transport) ys (λ k y at.
+      let x = beside_left (λ (i : ℕ) (x z : EndpointView × T). HasDone done x.0 x.1 z.0 z.1) xs ys k y worked at in
+      way_of x.0.0.transport y.0.transport (all_at_place (λ (z : EndpointView × T). IsByMail z.0.transport) xs k x.0 by x.1) x.2.all)
 
-  pub mails_of : (ys : List (KeysView × T)) → All (λ (y : KeysView × T). IsByMail y.0.transport) ys → (mails : List ByMail) × (map (λ (m : ByMail). Mail m) mails ≡ map (λ (y : KeysView × T). y.0.transport) ys)
+  pub mails_of : (ys : List (EndpointView × T)) → All (λ (y : EndpointView × T). IsByMail y.0.transport) ys → (mails : List ByMail) × (map (λ (m : ByMail). Mail m) mails ≡ map (λ (y : EndpointView × T). y.0.transport) ys)
   mails_of [] all = ([], refl)
   mails_of (y ∷ ys) all =
-      let m = All-head (λ (z : KeysView × T). IsByMail z.0.transport) y ys all in
-      let rest = mails_of ys (All-tail (λ (z : KeysView × T). IsByMail z.0.transport) y ys all) in
+      let m = All-head (λ (z : EndpointView × T). IsByMail z.0.transport) y ys all in
+      let rest = mails_of ys (All-tail (λ (z : EndpointView × T). IsByMail z.0.transport) y ys all) in
       (m.0 ∷ rest.0, λ j. sym m.1 j ∷ rest.1 j)

@@ -1,7 +1,7 @@
--- What posts leave, and inboxes that are settled.
+-- What thread states leave, and inboxes that are settled.
 use Rattle.std.specs.Prelude.{◌≡◌, ℕ}
 use Rattle.inboxes.specs.Sides.{took, items_from}
-use Rattle.desk_keys.specs.declared.mail.ByMail.{ByMail}
+use Rattle.client_endpoints.specs.declared.mail.ByMail.{ByMail}
 use Rattle.node_workers.specs.Workers.{AnswerPutter}
 
 -- the putter goes to the inbox out of which the client took

@@ -1,5 +1,5 @@
-pub mod Hands
-pub mod Posts
+pub mod Portions
+pub mod ThreadStates
 pub mod Opened
 pub mod Closed
 pub mod Ended

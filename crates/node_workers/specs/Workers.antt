@@ -3,7 +3,7 @@ use Rattle.std.specs.Prelude.{◌≡◌, ◌==◌, ℕ, List, [], ◌++◌, map,
 use Rattle.std.specs.declared.option.Option.TheVariants.{Some}
 use Rattle.std.specs.declared.result.Result.TheVariants.{Ok}
 use Rattle.std.specs.List.{Contains, filter}
-use Rattle.crews.specs.Crews.{Beside}
+use Rattle.thread_work.specs.Pairwise.{Beside}
 use Rattle.event_clock.specs.Passes.{ClockId}
 use Rattle.inboxes.specs.Sides.{Putting, Taking, took, IsDone}
 use Rattle.journals.specs.declared.desk.DeskAct.{DeskAct}
@@ -13,13 +13,13 @@ use Rattle.journals.specs.declared.node.NodeEntry.{NodeEntry}
 use Rattle.journals.specs.Steps.{side}
 use Rattle.locked_nodes.specs.declared.answers.Told.{Told}
 use Rattle.locked_nodes.specs.Cells.{CellView, number_of}
-use Rattle.locked_nodes.specs.Slots.{slot_of}
+use Rattle.locked_nodes.specs.CellShards.{cell_shard_of}
 use Rattle.locked_nodes.specs.Cells.{reply_told}
 use Rattle.protocol.specs.Messages.{Message}
-use Rattle.desk_keys.specs.declared.asked.Asked.{Asked}
-use Rattle.desk_keys.specs.declared.asked.NodePlace.{NodePlace}
-use Rattle.desk_keys.specs.declared.answered.Answered.{Answered}
-use Rattle.desk_keys.specs.declared.answered.ClientPlace.{ClientPlace}
+use Rattle.client_endpoints.specs.declared.asked.Asked.{Asked}
+use Rattle.client_endpoints.specs.declared.asked.NodePlace.{NodePlace}
+use Rattle.client_endpoints.specs.declared.answered.Answered.{Answered}
+use Rattle.client_endpoints.specs.declared.answered.ClientPlace.{ClientPlace}
 
 -- one who puts answers into a client's inbox: before its last word or after it
 abbrev pub AnswerPutter : Type 0
@@ -42,12 +42,12 @@ pub record IsPutterTo (of : ClockId) (seat id : ℕ) (answer_putter : AnswerPutt
   pub client : answer_putter.inbox.place.client ≡ id
   pub new : answer_putter.put ≡ []
 
--- a worker that has served nobody: the inbox is that of its cell's slot, nothing was taken out of it,
+-- a worker that has served nobody: the inbox is that of its cell's shard, nothing was taken out of it,
 -- and there is a putter to each client
 pub record CanServe (of : ClockId) (w : WorkerView) : Type 0 where
   pub cell : w.cell.charter.pass.clock ≡ of
   pub ticks : w.asks.inbox.place.clock.value ≡ of
-  pub slot : w.asks.inbox.place.slot ≡ slot_of w.cell.charter
+  pub cell_shard : w.asks.inbox.place.cell_shard ≡ cell_shard_of w.cell.charter
   pub new : w.asks.heard ≡ []
   pub answer_putters : Beside (IsPutterTo of) (clients_of w) w.answers
   pub none : w.sents ≡ []

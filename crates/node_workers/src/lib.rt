@@ -3,10 +3,10 @@
 #![tactic(auto)]
 
 mod close;
-mod crew;
 mod open;
 pub mod phase;
 pub mod run;
+mod thread_state;
 pub mod worker;
 
 pub use phase::run_mail_phase;

@@ -1,20 +1,22 @@
-//! Inboxes for nodes and clients, and the posts of their threads, before these start.
+//! Inboxes for nodes and clients, and the thread states of their threads, before these start.
 ghost use Rattle.std.specs.Prelude.{◌≡◌, ◌≤◌, [], length, map, All, IfOk};
-ghost use Rattle.crews.specs.Crews.{Beside};
+ghost use Rattle.thread_work.specs.Pairwise.{Beside};
 ghost use Rattle.quorum_rules.specs.Limits.{Numbers};
 ghost use Rattle.phase_threads.specs.Standing.{AreCells, IsDeskAt};
-ghost use Rattle.node_workers.specs.Hands.{AreSpread, AreNewPutters};
-ghost use Rattle.node_workers.specs.Posts.{nodes_in, clients_in};
-ghost use Rattle.node_workers.specs.Opened.{IsAskBox, IsAnswerBox, IsWorkerOf, IsClientOf, ArePosts};
+ghost use Rattle.node_workers.specs.Portions.{AreSpread, AreNewPutters};
+ghost use Rattle.node_workers.specs.ThreadStates.{nodes_in, clients_in};
+ghost use Rattle.node_workers.specs.Opened.{IsAskBox, IsAnswerBox, IsWorkerOf, IsClientOf, AreStates};
 
-use crate::crew::Post;
+use crate::thread_state::ThreadState;
 use crate::worker::NodeWorker;
-use desk_keys::{Answered, Asked, ByMail, Cells, ClientPlace, Floor, Keys, NodePlace, Transport};
+use client_endpoints::{
+    Answered, Asked, ByMail, Cells, ClientPlace, Endpoint, NodePlace, SharedCells, Transport,
+};
 use event_clock::Clock;
 use inboxes::{Inbox, Putter, Putters, Taker};
 use lists::{ItemList, NoMemory};
-use locked_nodes::{NodeCell, Slot, slots_in};
-use phase_threads::{Duty, Hands, Seat, deal, empty_hands};
+use locked_nodes::{CellShard, NodeCell, shards_in};
+use phase_threads::{Duty, Portions, Seat, deal, empty_portions};
 use std::alloc::Global;
 use std::snapshot::Snapshot;
 use std::sync::Wait;
@@ -22,28 +24,35 @@ use std::sync::Wait;
 // How many items an inbox holds at a time.
 const ROOM: u32 = 16;
 
-/// The posts of a phase by mail, before their threads start, with the floor that they share.
-pub fn open_posts<R: Wait, T: Duty>(
+/// The thread states of a phase by mail, before their threads start, with the shared cells that they share.
+pub fn open_states<R: Wait, T: Duty>(
     rt: &R,
     alloc: Global,
     clock: Clock,
     cells: Vec<NodeCell>,
     seats: Vec<Seat<T>>,
-) -> Result<(Floor, Vec<Post<T>>), NoMemory>
+) -> Result<(SharedCells, Vec<ThreadState<T>>), NoMemory>
     requires cells { (1 ≤ length cells.items) × (length cells.items ≤ 65536) }
     requires seats { (1 ≤ length seats.items) × (length seats.items ≤ 65536) }
     requires cluster { (config : Numbers) × AreCells config clock cells.items
         × All (λ s. IsDeskAt config clock s.desk) seats.items }
-    ensures { IfOk result (λ r. ArePosts clock cells.items seats.items r.0 r.1.items) }
+    ensures { IfOk result (λ r. AreStates clock cells.items seats.items r.0 r.1.items) }
 {
     let nodes = cells.len() as u32;
-    let slots = slots_in(alloc, cells.as_slice())?;
+    let cell_shards = shards_in(alloc, cells.as_slice())?;
     let clients = clients_of(alloc, seats.as_slice())?;
     let (boxes, answer_putters) = open_answers(rt, alloc, &clock, nodes, seats.as_slice())?;
-    let floor = Floor::new(clock, slots, Cells::Threads);
-    let (posts, putters) = open_nodes(rt, alloc, floor.clock(), cells, &clients, answer_putters)?;
-    let posts = open_clients(alloc, posts, seats, boxes, putters)?;
-    Ok((floor, posts))
+    let shared_cells = SharedCells::new(clock, cell_shards, Cells::Threads);
+    let (states, putters) = open_nodes(
+        rt,
+        alloc,
+        shared_cells.clock(),
+        cells,
+        &clients,
+        answer_putters,
+    )?;
+    let states = open_clients(alloc, states, seats, boxes, putters)?;
+    Ok((shared_cells, states))
 }
 
 // The clients' numbers, by their seats.
@@ -57,7 +66,7 @@ fn clients_of<T: Drop>(alloc: Global, seats: &[Seat<T>]) -> Result<ItemList<u32>
     Ok(ids)
 }
 
-// An inbox for the answers to each client, which so many nodes have putters into: the takers by seat, and the putters in a hand
+// An inbox for the answers to each client, which so many nodes have putters into: the takers by seat, and the putters in a portion
 // for each node.
 fn open_answers<R: Wait, T: Drop>(
     rt: &R,
@@ -65,13 +74,13 @@ fn open_answers<R: Wait, T: Drop>(
     clock: &Clock,
     nodes: u32,
     seats: &[Seat<T>],
-) -> Result<(ItemList<Taker<Answered>>, Hands<Putter<Answered>>), NoMemory>
+) -> Result<(ItemList<Taker<Answered>>, Portions<Putter<Answered>>), NoMemory>
     requires { (1 ≤ nodes) × (nodes ≤ 65536) }
     ensures boxes { IfOk result (λ r. Beside (IsAnswerBox clock.now nodes) seats.now r.0) }
     ensures putters { IfOk result (λ r. AreSpread nodes r.0 r.1.items) }
 {
     let mut takers = ItemList::new(alloc);
-    let mut putters = empty_hands(alloc, nodes)?;
+    let mut putters = empty_portions(alloc, nodes)?;
     for i in 0..seats.len() {
         let (taker, more) = open_answer(rt, alloc, clock, nodes, &seats[i])?;
         deal(&mut putters, more)?;
@@ -99,15 +108,15 @@ fn open_answer<R: Wait, T: Drop>(
 }
 
 // A worker for each cell, with an inbox for asks and a putter to each client, in the cells' order; and the putters into these
-// inboxes in a hand for each client.
+// inboxes in a portion for each client.
 fn open_nodes<R: Wait, T: Duty>(
     rt: &R,
     alloc: Global,
     clock: &Clock,
     cells: Vec<NodeCell>,
     clients: &ItemList<u32>,
-    mut answer_putters: Hands<Putter<Answered>>,
-) -> Result<(Vec<Post<T>>, Hands<Putter<Asked>>), NoMemory>
+    mut answer_putters: Portions<Putter<Answered>>,
+) -> Result<(Vec<ThreadState<T>>, Portions<Putter<Asked>>), NoMemory>
     requires count { (1 ≤ length clients.now) × (length clients.now ≤ 65536) }
     requires answer_putters { length answer_putters.items ≡ length cells.items }
     ensures nodes { IfOk result (λ r.
@@ -116,54 +125,54 @@ fn open_nodes<R: Wait, T: Duty>(
     ensures putters { IfOk result (λ r.
         AreSpread (length clients.now) (map (λ w. w.asks) (nodes_in r.0.items)) r.1.items) }
 {
-    let mut posts = Vec::new(alloc);
-    let mut putters = empty_hands(alloc, clients.len() as u32)?;
+    let mut states = Vec::new(alloc);
+    let mut putters = empty_portions(alloc, clients.len() as u32)?;
     answer_putters.reverse();
     for cell in cells {
         let Some(row) = answer_putters.pop() else {
             unreachable!()
         };
-        let (asks, more) = open_asks(rt, alloc, clock, cell.slot(), clients)?;
+        let (asks, more) = open_asks(rt, alloc, clock, cell.cell_shard(), clients)?;
         deal(&mut putters, more)?;
         cell.known();
         let worker = NodeWorker::new(alloc, cell.go_on(false), asks, row.into_vec())?;
-        posts.push(Post::Node(worker))?;
+        states.push(ThreadState::Node(worker))?;
     }
-    Ok((posts, putters))
+    Ok((states, putters))
 }
 
 fn open_asks<R: Wait>(
     rt: &R,
     alloc: Global,
     clock: &Clock,
-    slot: Slot,
+    cell_shard: CellShard,
     clients: &ItemList<u32>,
 ) -> Result<(Taker<Asked>, Putters<Asked>), NoMemory>
     requires { (1 ≤ length clients.now) × (length clients.now ≤ 65536) }
-    ensures taker { IfOk result (λ r. IsAskBox clock.now slot clients.now r.0) }
+    ensures taker { IfOk result (λ r. IsAskBox clock.now cell_shard clients.now r.0) }
     ensures putters { IfOk result (λ r. AreNewPutters (length clients.now) r.0 r.1) }
 {
     let place = NodePlace {
         clock: Snapshot::of(clock),
-        slot,
+        cell_shard,
         clients: Snapshot::of(clients),
     };
     Inbox::open::<Asked, R>(rt, alloc, ROOM, clients.len() as u32, &place)
 }
 
-// Adds the posts of clients: each desk with its inbox, a putter into each node's, and its duty, in the seats' order.
+// Adds the thread states of clients: each desk with its inbox, a putter into each node's, and its duty, in the seats' order.
 fn open_clients<T: Duty>(
     alloc: Global,
-    mut posts: Vec<Post<T>>,
+    mut states: Vec<ThreadState<T>>,
     seats: Vec<Seat<T>>,
     boxes: ItemList<Taker<Answered>>,
-    mut putters: Hands<Putter<Asked>>,
-) -> Result<Vec<Post<T>>, NoMemory>
-    requires clients { clients_in posts.items ≡ [] }
+    mut putters: Portions<Putter<Asked>>,
+) -> Result<Vec<ThreadState<T>>, NoMemory>
+    requires clients { clients_in states.items ≡ [] }
     requires boxes { (of : _) × (nodes : _) × Beside (IsAnswerBox of nodes) seats.items boxes }
     requires putters { length putters.items ≡ length seats.items }
     requires count { length seats.items ≤ 65536 }
-    ensures nodes { IfOk result (λ r. nodes_in r.items ≡ nodes_in posts.items) }
+    ensures nodes { IfOk result (λ r. nodes_in r.items ≡ nodes_in states.items) }
     ensures clients { IfOk result (λ r.
         Beside (IsClientOf boxes putters.items) seats.items (clients_in r.items)) }
 {
@@ -184,9 +193,9 @@ fn open_clients<T: Duty>(
             asks: asks.into_vec(),
             answers,
         };
-        let keys = Keys::new(desk, Transport::Mail(mail));
-        posts.push(Post::Client { keys, duty })?;
+        let endpoint = Endpoint::new(desk, Transport::Mail(mail));
+        states.push(ThreadState::Client { endpoint, duty })?;
         number += 1;
     }
-    Ok(posts)
+    Ok(states)
 }

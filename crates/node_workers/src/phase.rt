@@ -1,14 +1,13 @@
 //! One phase of a run by mail.
 ghost use Rattle.std.specs.Prelude.{All, IfOk};
-ghost use Rattle.desk_keys.specs.Transports.{IsByMail};
+ghost use Rattle.client_endpoints.specs.Transports.{IsByMail};
 ghost use Rattle.phase_threads.specs.Phases.{MayPhase, HasPhased};
-ghost use Rattle.node_workers.specs.Posts.{clients_in, cells_at, seats_at};
+ghost use Rattle.node_workers.specs.ThreadStates.{clients_in, cells_at, seats_at};
 ghost use Rattle.node_workers.specs.Ended.{MayClose, HasClosed};
 
 use crate::close::{Parted, part, settle_all};
-use crate::crew::Post;
-use crate::open::open_posts;
-use crews::{Gate, Started, each_at_once};
+use crate::open::open_states;
+use crate::thread_state::ThreadState;
 use event_clock::Clock;
 use lists::NoMemory;
 use locked_nodes::NodeCell;
@@ -16,6 +15,7 @@ use phase_threads::{Duty, Left, Seat, run_phase};
 use std::alloc::Global;
 use std::sync::Wait;
 use std::thread::Threads;
+use thread_work::{Gate, Started, each_at_once};
 
 // How many nodes may put answers into an inbox.
 const MOST: usize = 65_536;
@@ -40,36 +40,36 @@ pub fn run_mail_phase<R: Threads + Wait + Sync, G: Gate + Sync, T: Duty + Send>(
     if cells.is_empty() || cells.len() > MOST {
         return run_phase(rt, alloc, gate, clock, cells, seats);
     }
-    let (floor, posts) = open_posts(rt, alloc, clock, cells, seats)?;
-    let started = each_at_once(rt, alloc, gate, &floor, posts)?;
-    let (clock, _cells) = floor.into_parts();
+    let (shared_cells, states) = open_states(rt, alloc, clock, cells, seats)?;
+    let started = each_at_once(rt, alloc, gate, &shared_cells, states)?;
+    let (clock, _cells) = shared_cells.into_parts();
     match started {
-        Started::Whole(posts) => Ok((clock, close(alloc, posts)?)),
-        Started::Nobody(posts) => run_by_locks(rt, alloc, gate, clock, posts),
+        Started::Whole(states) => Ok((clock, close(alloc, states)?)),
+        Started::Nobody(states) => run_by_locks(rt, alloc, gate, clock, states),
     }
 }
 
-// Does by locks what posts are there for at which nobody worked.
+// Does by locks what thread states are there for at which nobody worked.
 fn run_by_locks<R: Threads + Wait + Sync, G: Gate + Sync, T: Duty + Send>(
     rt: &R,
     alloc: Global,
     gate: &G,
     clock: Clock,
-    posts: Vec<Post<T>>,
+    states: Vec<ThreadState<T>>,
 ) -> Result<(Clock, Left<T>), NoMemory>
-    requires ways { All (λ x. IsByMail x.0.transport) (clients_in posts.items) }
-    requires may { MayPhase T.ready clock (cells_at posts.items) (seats_at posts.items) }
+    requires ways { All (λ x. IsByMail x.0.transport) (clients_in states.items) }
+    requires may { MayPhase T.ready clock (cells_at states.items) (seats_at states.items) }
     ensures { IfOk result (λ r.
-        HasPhased T.done clock (cells_at posts.items) (seats_at posts.items) r.0 r.1) }
+        HasPhased T.done clock (cells_at states.items) (seats_at states.items) r.0 r.1) }
 {
-    let Parted { cells, seats, .. } = part(alloc, posts)?;
+    let Parted { cells, seats, .. } = part(alloc, states)?;
     run_phase(rt, alloc, gate, clock, cells, seats)
 }
 
-// What posts leave whose threads have all worked.
-fn close<T: Duty>(alloc: Global, posts: Vec<Post<T>>) -> Result<Left<T>, NoMemory>
-    requires { MayClose posts.items }
-    ensures { IfOk result (λ left. HasClosed posts.items left) }
+// What thread states leave whose threads have all worked.
+fn close<T: Duty>(alloc: Global, states: Vec<ThreadState<T>>) -> Result<Left<T>, NoMemory>
+    requires { MayClose states.items }
+    ensures { IfOk result (λ left. HasClosed states.items left) }
 {
     let Parted {
         cells,
@@ -77,7 +77,7 @@ fn close<T: Duty>(alloc: Global, posts: Vec<Post<T>>) -> Result<Left<T>, NoMemor
         seats,
         mut mails,
         refused,
-    } = part(alloc, posts)?;
+    } = part(alloc, states)?;
     settle_all(alloc, &mut mails, rows)?;
     Ok(Left {
         cells,

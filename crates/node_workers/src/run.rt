@@ -7,12 +7,11 @@ ghost use Rattle.journals.specs.Records.{AreTold};
 ghost use Rattle.plan_words.specs.Plans.{Fits};
 ghost use Rattle.plan_followed.specs.Followed.{AreOfPlan};
 ghost use Rattle.phase_threads.specs.Phases.{MayPhase, HasPhased};
-ghost use Rattle.client_work.specs.Work.{Ready, Done};
+ghost use Rattle.client_duties.specs.ClientDuty.{Ready, Done};
 
 use crate::phase::run_mail_phase;
+use client_duties::ClientDuty;
 use client_threads::{Phased, Ran, run_by};
-use client_work::Work;
-use crews::Gate;
 use event_clock::{Clock, RunRefusal};
 use locked_nodes::NodeCell;
 use phase_threads::Seat;
@@ -20,6 +19,7 @@ use plan_words::Plan;
 use std::alloc::Global;
 use std::sync::Wait;
 use std::thread::Threads;
+use thread_work::Gate;
 
 // How many cells a node has: its thread does one thing after the other all the same.
 const SHARDS: u32 = 1;
@@ -41,7 +41,7 @@ pub fn run_workers<R: Threads + Wait + Sync, G: Gate + Sync>(
     ensures records { IfOk result (λ r. AreTold r.journals (map record_of r.records)) }
     ensures full { (drawn : Tally) → result ≡ Err (RunRefusal.ClockFull drawn) → HasFullPass drawn }
 {
-    let phase = |clock: Clock, cells: Vec<NodeCell>, seats: Vec<Seat<Work>>| -> Phased
+    let phase = |clock: Clock, cells: Vec<NodeCell>, seats: Vec<Seat<ClientDuty>>| -> Phased
         requires runtime { IsSync R.row }
         requires gate { IsSync G.row }
         requires may { MayPhase Ready clock cells.items seats.items }

@@ -1,15 +1,14 @@
-//! What a node's thread has in hand, and what it does.
+//! What a node's thread has, and what it does.
 ghost use Rattle.std.specs.Prelude.{◌≡◌, ◌+◌, [], Ok, IfOk};
-ghost use Rattle.desk_keys.specs.Mail.{IsAskAt};
-ghost use Rattle.desk_keys.specs.declared.asked.NodePlace.{NodePlace};
+ghost use Rattle.client_endpoints.specs.Mail.{IsAskAt};
+ghost use Rattle.client_endpoints.specs.declared.asked.NodePlace.{NodePlace};
 ghost use Rattle.locked_nodes.specs.declared.answers.Told.{Told};
 ghost use Rattle.journals.specs.Acts.{act, answer_of};
 ghost use Rattle.locked_nodes.specs.Cells.{HasMoreAside, number_of, state_of, told_as, with_entry};
-ghost use Rattle.locked_nodes.specs.Slots.{slot_of};
+ghost use Rattle.locked_nodes.specs.CellShards.{cell_shard_of};
 ghost use Rattle.node_workers.specs.Workers.{CanServe, HasMet, HasServed};
 
-use crews::{Edge, Gate};
-use desk_keys::{Answered, Asked};
+use client_endpoints::{Answered, Asked};
 use event_clock::Clock;
 use inboxes::{Putter, Sent, Taker};
 use lists::NoMemory;
@@ -17,6 +16,7 @@ use locked_nodes::{Late, NodeCell};
 use std::alloc::Global;
 use std::marker::Model;
 use std::sync::Wait;
+use thread_work::{Edge, Gate};
 
 /// A node's cell, the inbox of asks to it, and the right to put answers into each client's inbox, by the clients' seats. Contracts
 /// see these, and the answers that were put.
@@ -131,7 +131,7 @@ impl NodeWorker {
 fn answer_to(cell: &mut NodeCell, clock: &Clock, asked: Asked) -> Answered
     requires clock { cell.old.charter.pass.clock ≡ clock.now }
     requires fits { (place : NodePlace) × IsAskAt place asked × (place.clock.value ≡ clock.now)
-        × (place.slot ≡ slot_of cell.old.charter) }
+        × (place.cell_shard ≡ cell_shard_of cell.old.charter) }
     ensures clock { result.note.clock ≡ clock.now }
     ensures to { (result.way ≡ asked.way) × (result.ask ≡ asked.ask) }
     ensures acted { IfOk result.told (λ told. cell.new ≡ with_entry cell.old (number_of told)

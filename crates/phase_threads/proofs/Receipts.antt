@@ -5,7 +5,7 @@ use Rattle.std.specs.Prelude.{◌⊎◌, false, slice_get, reverse}
 use Rattle.std.specs.List.{Contains}
 use Rattle.std.proofs.lemmas.Option.{slice_get_within}
 use Rattle.std.specs.Global.{Vec}
-use Rattle.receipt_lock.specs.Turns.{Begins}
+use Rattle.receipt_lock.specs.Tickets.{Begins}
 use Rattle.receipt_lock.specs.Chits.{Holder as Chit, Deposit}
 use Rattle.receipt_lock.specs.Receipts.{IsReceipt}
 use Rattle.journals.specs.declared.node.NodeEntry.{NodeEntry}
@@ -16,14 +16,14 @@ use Rattle.locked_nodes.specs.declared.charter.Item.{Item}
 use Rattle.locked_nodes.specs.declared.charter.Item.TheVariants.{Head, Entry}
 use Rattle.locked_nodes.specs.Cells.{CellView, items, rechartered, next_charter}
 use Rattle.client_desks.specs.Desks.{desk_entry}
-use Rattle.desk_keys.specs.declared.transport.Transport.{Transport}
-use Rattle.desk_keys.specs.declared.transport.Transport.TheVariants.{Locks}
-use Rattle.desk_keys.specs.Transports.{IsTold, HasReceipt}
+use Rattle.client_endpoints.specs.declared.transport.Transport.{Transport}
+use Rattle.client_endpoints.specs.declared.transport.Transport.TheVariants.{Locks}
+use Rattle.client_endpoints.specs.Transports.{IsTold, HasReceipt}
 use Rattle.phase_threads.specs.Standing.{HasSideIn, HasWorked}
 use Rattle.phase_threads.specs.Told.{IsToldIn, AreJustTold}
-use Rattle.crews.specs.Crews.{Beside}
+use Rattle.thread_work.specs.Pairwise.{Beside}
 use Rattle.phase_threads.specs.Phased.{IsVaultOf, IsClosed}
-use Rattle.crews.proofs.lemmas.Places.{same_at, get_map, map_get, right_of, left_of}
+use Rattle.thread_work.proofs.lemmas.Places.{slice_get-unique, get_map, map_get, beside_right, beside_left}
 use Rattle.lists.proofs.lemmas.Members.{place_of, Contains-slice_get}
 
 -- a cell's entries are those of its list, but for the head
@@ -78,10 +78,10 @@ has_worked old new begun is begins =
     record { charter = charter; grew = grew_by old.journal new.journal begins.0 both.1 }
 
 -- the chits of a transport, the last one first
-pub record IsHand (i : ℕ) (t : Transport) (hand : List (Chit Item)) : Type 0 where
+pub record IsPortion (i : ℕ) (t : Transport) (portion : List (Chit Item)) : Type 0 where
   pub chits : Vec (Chit Item)
   pub is : t ≡ Locks chits
-  pub list : chits.items ≡ reverse hand
+  pub list : chits.items ≡ reverse portion
 
 vault_at : (chits : List (Chit Item)) (vaults : List (Deposit Item)) (i : ℕ) (c : Chit Item) → map (λ (x : Chit Item). x.vault) chits ≡ map (λ (x : Deposit Item). x.id) vaults → slice_get chits i ≡ Some c → (v : Deposit Item) × (slice_get vaults i ≡ Some v)
 vault_at chits vaults i c own at =
@@ -90,68 +90,68 @@ vault_at chits vaults i c own at =
     (found.0, found.1)
 
 -- all that a phase leaves
-pub record Phase (count : ℕ) (cells now : List CellView) (vaults : List (Deposit Item)) (hands : List (List (Chit Item))) (transports : List Transport) : Type 0 where
+pub record Phase (count : ℕ) (cells now : List CellView) (vaults : List (Deposit Item)) (portions : List (List (Chit Item))) (transports : List Transport) : Type 0 where
   pub opened : Beside (IsVaultOf count) cells vaults
-  pub closed : Beside (IsClosed hands) vaults now
-  pub own : (i : ℕ) (h : List (Chit Item)) → slice_get hands i ≡ Some h → map (λ c. c.vault) (reverse h) ≡ map (λ v. v.id) vaults
-  pub given : Beside IsHand transports hands
+  pub closed : Beside (IsClosed portions) vaults now
+  pub own : (i : ℕ) (h : List (Chit Item)) → slice_get portions i ≡ Some h → map (λ c. c.vault) (reverse h) ≡ map (λ v. v.id) vaults
+  pub given : Beside IsPortion transports portions
 
-module _ (count : ℕ) (cells now : List CellView) (vaults : List (Deposit Item)) (hands : List (List (Chit Item))) (transports : List Transport) (all : Phase count cells now vaults hands transports) where
-  receipt_of : (i k p c : ℕ) (n : NodeEntry) (act : DeskAct) (t : Transport) (h : List (Chit Item)) (chit : Chit Item) → IsHand i t h → slice_get (reverse h) k ≡ Some chit → Contains chit.mine (p, Entry n) → side n.act ≡ Some (c, act) → IsTold t c (desk_entry n.number act)
-  receipt_of i k p c n act t h chit hand at mine is =
-      subst (λ (x : Transport). IsTold x c (desk_entry n.number act)) (sym hand.is)
-      (record { place = k; chit = chit; there = ap (λ (l : List (Chit Item)). slice_get l k) hand.list ∙ at; at = p; of = n; mine = mine; number = refl; agree = is })
+module _ (count : ℕ) (cells now : List CellView) (vaults : List (Deposit Item)) (portions : List (List (Chit Item))) (transports : List Transport) (all : Phase count cells now vaults portions transports) where
+  receipt_of : (i k p c : ℕ) (n : NodeEntry) (act : DeskAct) (t : Transport) (h : List (Chit Item)) (chit : Chit Item) → IsPortion i t h → slice_get (reverse h) k ≡ Some chit → Contains chit.mine (p, Entry n) → side n.act ≡ Some (c, act) → IsTold t c (desk_entry n.number act)
+  receipt_of i k p c n act t h chit portion at mine is =
+      subst (λ (x : Transport). IsTold x c (desk_entry n.number act)) (sym portion.is)
+      (record { place = k; chit = chit; there = ap (λ (l : List (Chit Item)). slice_get l k) portion.list ∙ at; at = p; of = n; mine = mine; number = refl; agree = is })
 
   -- an entry that a chit left was told through the chit's transport
-  on_chit : (cell : CellView) (k : ℕ) (v : Deposit Item) (n : NodeEntry) (p c : ℕ) (act : DeskAct) (closed : IsClosed hands k v cell) → slice_get (items cell) p ≡ Some (Entry n) → length v.id.begun ≤ p → side n.act ≡ Some (c, act) → IsToldIn transports c (desk_entry n.number act)
+  on_chit : (cell : CellView) (k : ℕ) (v : Deposit Item) (n : NodeEntry) (p c : ℕ) (act : DeskAct) (closed : IsClosed portions k v cell) → slice_get (items cell) p ≡ Some (Entry n) → length v.id.begun ≤ p → side n.act ≡ Some (c, act) → IsToldIn transports c (desk_entry n.number act)
   on_chit cell k v n p c act closed at after is =
       let receipt = closed.one p after (slice_get_within (items cell) p (Entry n) at) in
-      let same : receipt.entry ≡ Entry n = same_at (items cell) p receipt.entry (Entry n) receipt.stands at in
+      let same : receipt.entry ≡ Entry n = slice_get-unique (items cell) p receipt.entry (Entry n) receipt.stands at in
       let chit = receipt.there.0 in
-      let hand = left_of (λ i h x. slice_get (reverse h) k ≡ Some x) hands closed.chits receipt.chit chit closed.of receipt.there.1 in
-      let t = left_of IsHand transports hands receipt.chit hand.0 all.given hand.1 in
+      let portion = beside_left (λ i h x. slice_get (reverse h) k ≡ Some x) portions closed.chits receipt.chit chit closed.of receipt.there.1 in
+      let t = beside_left IsPortion transports portions receipt.chit portion.0 all.given portion.1 in
       let left : Contains chit.mine (p, Entry n) = subst (λ x. Contains chit.mine (p, x)) same (Contains-slice_get chit.mine receipt.receipt (p, receipt.entry) receipt.there.2) in
-      record { seat = receipt.chit; transport = t.0; there = t.1; told = receipt_of receipt.chit k p c n act t.0 hand.0 chit t.2 hand.2 left is }
+      record { seat = receipt.chit; transport = t.0; there = t.1; told = receipt_of receipt.chit k p c n act t.0 portion.0 chit t.2 portion.2 left is }
 
-  told_at : (cell old : CellView) (k : ℕ) (v : Deposit Item) (n : NodeEntry) (p c : ℕ) (act : DeskAct) → IsClosed hands k v cell → v.id.begun ≡ items (rechartered old false) → slice_get (items cell) p ≡ Some (Entry n)
+  told_at : (cell old : CellView) (k : ℕ) (v : Deposit Item) (n : NodeEntry) (p c : ℕ) (act : DeskAct) → IsClosed portions k v cell → v.id.begun ≡ items (rechartered old false) → slice_get (items cell) p ≡ Some (Entry n)
       → side n.act ≡ Some (c, act) → Contains v.id.begun (Entry n) ⊎ (length v.id.begun ≤ p) → Contains old.journal n ⊎ IsToldIn transports c (desk_entry n.number act)
   told_at cell old k v n p c act closed begun at is (inl before) = inl (in_begun old n v.id.begun begun before)
   told_at cell old k v n p c act closed begun at is (inr after) = inr (on_chit cell k v n p c act closed at after is)
 
   told : (k : ℕ) (was cell : CellView) (n : NodeEntry) (c : ℕ) (act : DeskAct) → slice_get cells k ≡ Some was → slice_get now k ≡ Some cell → Contains cell.journal n → side n.act ≡ Some (c, act) → Contains was.journal n ⊎ IsToldIn transports c (desk_entry n.number act)
   told k was cell n c act there to has is =
-      let v = right_of (IsVaultOf count) cells vaults k was all.opened there in
+      let v = beside_right (IsVaultOf count) cells vaults k was all.opened there in
       let closed = all.closed.each k v.0 cell v.1 to in
       let at = at_items cell n has in
       told_at cell was k v.0 n at.0 c act closed v.2.begun at.1 is (cut v.0.id.begun (items cell) at.0 (Entry n) closed.settled.begins at.1)
 
   -- an entry that a chit left stands in the cell
-  left_in : (cell : CellView) (k i p : ℕ) (v : Deposit Item) (hand : List (Chit Item)) (chit : Chit Item) (n : NodeEntry) → IsClosed hands k v cell → slice_get hands i ≡ Some hand → slice_get (reverse hand) k ≡ Some chit → Contains chit.mine (p, Entry n) → Contains cell.journal n
-  left_in cell k i p v hand chit n closed at there left =
+  left_in : (cell : CellView) (k i p : ℕ) (v : Deposit Item) (portion : List (Chit Item)) (chit : Chit Item) (n : NodeEntry) → IsClosed portions k v cell → slice_get portions i ≡ Some portion → slice_get (reverse portion) k ≡ Some chit → Contains chit.mine (p, Entry n) → Contains cell.journal n
+  left_in cell k i p v portion chit n closed at there left =
       let place = place_of chit.mine (p, Entry n) left in
-      let of = right_of (λ j h x. slice_get (reverse h) k ≡ Some x) hands closed.chits i hand closed.of at in
-      let same : of.0 ≡ chit = same_at (reverse hand) k of.0 chit of.2 there in
+      let of = beside_right (λ j h x. slice_get (reverse h) k ≡ Some x) portions closed.chits i portion closed.of at in
+      let same : of.0 ≡ chit = slice_get-unique (reverse portion) k of.0 chit of.2 there in
       let receipt : IsReceipt closed.chits i place.0 p (Entry n) = (chit, of.1 ∙ ap (λ x. Some x) same, place.1) in
       in_items cell p n (closed.stands i place.0 p (Entry n) receipt).1
 
-  side_in : (i c : ℕ) (hand : List (Chit Item)) (e : DeskEntry) → slice_get hands i ≡ Some hand → HasReceipt (reverse hand) c e → HasSideIn now c e
-  side_in i c hand e at s =
-      let own = all.own i hand at in
-      let v = vault_at (reverse hand) vaults s.place s.chit own s.there in
-      let cell = right_of (IsClosed hands) vaults now s.place v.0 all.closed v.1 in
+  side_in : (i c : ℕ) (portion : List (Chit Item)) (e : DeskEntry) → slice_get portions i ≡ Some portion → HasReceipt (reverse portion) c e → HasSideIn now c e
+  side_in i c portion e at s =
+      let own = all.own i portion at in
+      let v = vault_at (reverse portion) vaults s.place s.chit own s.there in
+      let cell = beside_right (IsClosed portions) vaults now s.place v.0 all.closed v.1 in
       record {
         cell = cell.0;
         there = Contains-slice_get now s.place cell.0 cell.1;
         of = s.of;
-        stands = left_in cell.0 s.place i s.at v.0 hand s.chit s.of cell.2 at s.there s.mine;
+        stands = left_in cell.0 s.place i s.at v.0 portion s.chit s.of cell.2 at s.there s.mine;
         number = s.number;
         agree = s.agree;
       }
 
   stands : (i : ℕ) (t : Transport) (c : ℕ) (e : DeskEntry) → slice_get transports i ≡ Some t → IsTold t c e → HasSideIn now c e
   stands i t c e at h =
-      let hand = right_of IsHand transports hands i t all.given at in
-      side_in i c hand.0 e hand.1 (subst (λ (l : List (Chit Item)). HasReceipt l c e) hand.2.list (subst (λ (x : Transport). IsTold x c e) hand.2.is h))
+      let portion = beside_right IsPortion transports portions i t all.given at in
+      side_in i c portion.0 e portion.1 (subst (λ (l : List (Chit Item)). HasReceipt l c e) portion.2.list (subst (λ (x : Transport). IsTold x c e) portion.2.is h))
 
   -- what cells have more, of which a client has a side, is just what was told
   pub just_told : AreJustTold cells now transports

@@ -1,4 +1,4 @@
-pub mod Hands
+pub mod Portions
 pub mod Phased
 pub mod Told
 pub mod Phases

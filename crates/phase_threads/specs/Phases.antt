@@ -4,9 +4,9 @@ use Rattle.std.specs.declared.option.Option.TheVariants.{None}
 use Rattle.std.specs.List.{AllZip}
 use Rattle.quorum_rules.specs.Limits.{Numbers}
 use Rattle.event_clock.specs.Passes.{ClockId}
-use Rattle.locked_nodes.specs.declared.slot.Slot.{Slot}
+use Rattle.locked_nodes.specs.declared.cell_shard.CellShard.{CellShard}
 use Rattle.locked_nodes.specs.Cells.{CellView}
-use Rattle.locked_nodes.specs.Slots.{slots_of}
+use Rattle.locked_nodes.specs.CellShards.{cell_shards_of}
 use Rattle.client_desks.specs.Desks.{DeskView}
 use Rattle.client_desks.specs.Later.{IsLater}
 use Rattle.phase_threads.specs.Standing.{AreCells, IsDeskAt, PairsStand, HasWorked}
@@ -14,10 +14,10 @@ use Rattle.phase_threads.specs.declared.duty.Seat.{Seat}
 use Rattle.phase_threads.specs.declared.phase.Left.{Left}
 
 -- cells and desks are of one cluster and of this clock, and agree in pairs; each duty is ready; and there is a seat, and not too many
-pub record MayPhase {T : Type 0} (can : T → List Slot → DeskView → Type 0) (clock : ClockId) (cells : List CellView) (seats : List (Seat T)) : Type 0 where
+pub record MayPhase {T : Type 0} (can : T → List CellShard → DeskView → Type 0) (clock : ClockId) (cells : List CellView) (seats : List (Seat T)) : Type 0 where
   pub cluster : (config : Numbers) × AreCells config clock cells × All (λ s. IsDeskAt config clock s.desk) seats
   pub pairs : PairsStand cells (map (λ s. s.desk) seats)
-  pub ready : All (λ s. can s.duty (slots_of cells) s.desk) seats
+  pub ready : All (λ s. can s.duty (cell_shards_of cells) s.desk) seats
   pub count : (1 ≤ length seats) × (length seats ≤ 65536)
 
 -- each cell has only entries more, and each desk went on; where no refusal came each duty is done, and cells and desks agree in pairs again

@@ -14,9 +14,9 @@ use Rattle.journals.specs.Acts.{can_prune}
 use Rattle.journals.specs.Steps.{side, IsOwn}
 use Rattle.journals.specs.Phases.{Phase}
 use Rattle.locked_nodes.specs.Cells.{CellView, KeptCell, HasNoLateMail, next_charter, state_of}
-use Rattle.locked_nodes.specs.Slots.{slot_of, slots_of, Cover}
+use Rattle.locked_nodes.specs.CellShards.{cell_shard_of, cell_shards_of, Cover}
 use Rattle.locked_nodes.specs.Joined.{join}
-use Rattle.receipt_lock.specs.Turns.{Begins}
+use Rattle.receipt_lock.specs.Tickets.{Begins}
 use Rattle.client_desks.specs.Desks.{DeskView, KeptDesk, desk_entry}
 use Rattle.client_desks.specs.Later.{IsLater}
 use Rattle.plan_words.specs.declared.plan.Plan.{Plan}
@@ -37,7 +37,7 @@ pub record IsCellOf (config : Numbers) (clock : ClockId) (cell : CellView) : Typ
 -- all are, and each block of a node has its cell
 pub record AreCells (config : Numbers) (clock : ClockId) (cells : List CellView) : Type 0 where
   pub each : All (IsCellOf config clock) cells
-  pub cover : Cover config.n (slots_of cells)
+  pub cover : Cover config.n (cell_shards_of cells)
 
 -- their nodes are those of the cluster
 abbrev pub AreInside : Numbers → List CellView → Type 0
@@ -157,15 +157,15 @@ pub record IsPlanned (plan : Plan) (count : ℕ → ℕ) (cell : CellView) : Typ
   pub nature : cell.charter.nature ≡ nature plan.rules cell.charter.number
   pub crash : cell.charter.crash_after ≡ crash_after plan.rules cell.charter.number
 
--- no slot has two cells
-abbrev pub HaveOwnSlots : List CellView → Type 0
-HaveOwnSlots row = (k m : ℕ) (a b : CellView) → slice_get row k ≡ Some a → slice_get row m ≡ Some b → slot_of a.charter ≡ slot_of b.charter → m ≡ k
+-- no shard has two cells
+abbrev pub HaveOwnShards : List CellView → Type 0
+HaveOwnShards row = (k m : ℕ) (a b : CellView) → slice_get row k ≡ Some a → slice_get row m ≡ Some b → cell_shard_of a.charter ≡ cell_shard_of b.charter → m ≡ k
 
 -- the cells are those of the plan's nodes, each of which has some, and one alone where it needs to be whole
 pub record ArePlanned (plan : Plan) (clock : ClockId) (row : List CellView) : Type 0 where
   pub cells : AreCells plan.config clock row
   pub inside : AreInside plan.config row
-  pub own : HaveOwnSlots row
+  pub own : HaveOwnShards row
   pub shards : ℕ → ℕ
   pub some : (i : ℕ) → 0 < shards i
   pub whole : (i : ℕ) → is_whole plan i ≡ true → shards i ≡ 1

@@ -9,13 +9,13 @@ use Rattle.journals.specs.Steps.{side}
 use Rattle.locked_nodes.specs.Cells.{CellView}
 use Rattle.client_desks.specs.Desks.{DeskView, desk_entry}
 use Rattle.client_desks.specs.Later.{IsLater}
-use Rattle.desk_keys.specs.declared.transport.Transport.{Transport}
-use Rattle.desk_keys.specs.Transports.{IsTold}
-use Rattle.desk_keys.specs.Keys.{KeysView, Agree, fixed}
+use Rattle.client_endpoints.specs.declared.transport.Transport.{Transport}
+use Rattle.client_endpoints.specs.Transports.{IsTold}
+use Rattle.client_endpoints.specs.Endpoint.{EndpointView, Agree, fixed}
 use Rattle.phase_threads.specs.Standing.{HasSideIn}
 
--- keys whose desk went on, and of which stays what is fixed
-pub record GoesOn (old new : KeysView) : Type 0 where
+-- an endpoint whose desk went on, and of which stays what is fixed
+pub record GoesOn (old new : EndpointView) : Type 0 where
   pub later : IsLater old.desk new.desk
   pub stays : fixed new ≡ fixed old
 

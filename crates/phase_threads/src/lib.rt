@@ -7,15 +7,15 @@
 #![tactic(auto)]
 
 mod close;
-mod crew;
 pub mod duty;
-mod hands;
 pub mod laws;
 mod open;
 pub mod phase;
+mod portions;
 pub mod refusal;
+mod thread_state;
 
 pub use duty::{Duty, Seat};
-pub use hands::{Hands, deal, empty_hands};
 pub use phase::{Left, run_phase};
+pub use portions::{Portions, deal, empty_portions};
 pub use refusal::first_refusal;

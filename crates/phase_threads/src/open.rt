@@ -2,37 +2,37 @@
 ghost use Rattle.std.specs.Prelude.{◌≡◌, ◌≤◌, [], List, length, All, None, IfOk};
 ghost use Rattle.receipt_lock.specs.Chits.{Holder as ChitOf, new_chit};
 ghost use Rattle.locked_nodes.specs.declared.charter.Item.{Item};
-ghost use Rattle.crews.specs.Crews.{Beside};
-ghost use Rattle.phase_threads.specs.Phased.{IsVaultOf, IsPostOf, new_hand};
+ghost use Rattle.thread_work.specs.Pairwise.{Beside};
+ghost use Rattle.phase_threads.specs.Phased.{IsVaultOf, IsStateOf, new_portion};
 
-use crate::crew::Post;
 use crate::duty::{Duty, Seat};
-use crate::hands::{Hands, deal, empty_hands};
-use desk_keys::{Keys, Transport};
+use crate::portions::{Portions, deal, empty_portions};
+use crate::thread_state::ThreadState;
+use client_endpoints::{Endpoint, Transport};
 use lists::NoMemory;
 use locked_nodes::NodeCell;
 use receipt_lock::{Chit, Chits, Vault};
 use std::alloc::Global;
 
-/// Each cell in a vault of its own, in their order, and so many hands with a chit for each vault.
+/// Each cell in a vault of its own, in their order, and so many portions with a chit for each vault.
 pub fn open_row(
     alloc: Global,
     cells: Vec<NodeCell>,
     count: u32,
-) -> Result<(Vec<Vault<NodeCell>>, Hands<Chit<NodeCell>>), NoMemory>
+) -> Result<(Vec<Vault<NodeCell>>, Portions<Chit<NodeCell>>), NoMemory>
     requires count { (1 ≤ count) × (count ≤ 65536) }
     ensures vaults { IfOk result (λ r. Beside (IsVaultOf count) cells.items r.0.items) }
-    ensures hands { IfOk result (λ r.
-        (length r.1.items ≡ count) × All (λ h. h ≡ new_hand r.0.items) r.1.items) }
+    ensures portions { IfOk result (λ r.
+        (length r.1.items ≡ count) × All (λ h. h ≡ new_portion r.0.items) r.1.items) }
 {
     let mut vaults = Vec::new(alloc);
-    let mut hands = empty_hands(alloc, count)?;
+    let mut portions = empty_portions(alloc, count)?;
     for cell in cells {
         let (vault, chits) = open_cell(alloc, cell, count)?;
-        deal(&mut hands, chits)?;
+        deal(&mut portions, chits)?;
         vaults.push(vault)?;
     }
-    Ok((vaults, hands))
+    Ok((vaults, portions))
 }
 
 // The cell in a vault, in a phase without prunes.
@@ -50,27 +50,27 @@ fn open_cell(
     Vault::new(alloc, cell.go_on(false), count)
 }
 
-/// Each desk with a hand, and its duty, in their order.
-pub fn open_posts<T: Duty>(
+/// Each desk with a portion, and its duty, in their order.
+pub fn open_states<T: Duty>(
     alloc: Global,
-    mut hands: Hands<Chit<NodeCell>>,
+    mut portions: Portions<Chit<NodeCell>>,
     seats: Vec<Seat<T>>,
-) -> Result<Vec<Post<T>>, NoMemory>
-    requires enough { length hands.items ≡ length seats.items }
-    requires rest { All (λ h. All (λ c. c.holds ≡ None) h) hands.items }
-    requires new { All (λ h. All (λ c. c.mine ≡ []) h) hands.items }
-    ensures { IfOk result (λ posts.
-        (hand : List (ChitOf Item)) → All (λ h. h ≡ hand) hands.items →
-        Beside (IsPostOf hand) seats.items posts.items) }
+) -> Result<Vec<ThreadState<T>>, NoMemory>
+    requires enough { length portions.items ≡ length seats.items }
+    requires rest { All (λ h. All (λ c. c.holds ≡ None) h) portions.items }
+    requires new { All (λ h. All (λ c. c.mine ≡ []) h) portions.items }
+    ensures { IfOk result (λ states.
+        (portion : List (ChitOf Item)) → All (λ h. h ≡ portion) portions.items →
+        Beside (IsStateOf portion) seats.items states.items) }
 {
-    let mut posts = Vec::new(alloc);
+    let mut states = Vec::new(alloc);
     for seat in seats {
-        let Some(hand) = hands.pop() else {
+        let Some(portion) = portions.pop() else {
             unreachable!()
         };
         let Seat { desk, duty } = seat;
-        let keys = Keys::new(desk, Transport::Locks(hand.into_vec()));
-        posts.push(Post { keys, duty })?;
+        let endpoint = Endpoint::new(desk, Transport::Locks(portion.into_vec()));
+        states.push(ThreadState { endpoint, duty })?;
     }
-    Ok(posts)
+    Ok(states)
 }

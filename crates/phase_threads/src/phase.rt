@@ -3,17 +3,17 @@ ghost use Rattle.std.specs.Prelude.{IfOk};
 ghost use Rattle.phase_threads.specs.Phases.{MayPhase, HasPhased};
 
 use crate::close::{Parted, close_row, part};
-use crate::crew::work_all;
 use crate::duty::{Duty, Seat};
-use crate::open::{open_posts, open_row};
-use crews::Gate;
-use desk_keys::{Cells, Floor};
+use crate::open::{open_row, open_states};
+use crate::thread_state::work_all;
+use client_endpoints::{Cells, SharedCells};
 use event_clock::Clock;
 use lists::NoMemory;
-use locked_nodes::{CellRefusal, NodeCell, slots_in};
+use locked_nodes::{CellRefusal, NodeCell, shards_in};
 use std::alloc::Global;
 use std::sync::Wait;
 use std::thread::Threads;
+use thread_work::Gate;
 
 /// What a phase leaves: the cells and the seats, in their order, and the refusal that came, if one did: of two the one that
 /// `first_refusal` gives.
@@ -41,19 +41,19 @@ pub fn run_phase<R: Threads + Wait + Sync, G: Gate + Sync, T: Duty + Send>(
     ensures { IfOk result (λ r. HasPhased T.done clock cells.items seats.items r.0 r.1) }
 {
     let count = seats.len() as u32;
-    let slots = slots_in(alloc, cells.as_slice())?;
-    let (vaults, hands) = open_row(alloc, cells, count)?;
-    let posts = open_posts(alloc, hands, seats)?;
-    let floor = Floor::new(clock, slots, Cells::Vaults(vaults));
-    let posts = work_all(rt, gate, &floor, posts);
-    let (clock, cells) = floor.into_parts();
+    let cell_shards = shards_in(alloc, cells.as_slice())?;
+    let (vaults, portions) = open_row(alloc, cells, count)?;
+    let states = open_states(alloc, portions, seats)?;
+    let shared_cells = SharedCells::new(clock, cell_shards, Cells::Vaults(vaults));
+    let states = work_all(rt, gate, &shared_cells, states);
+    let (clock, cells) = shared_cells.into_parts();
     let vaults = cells.into_vaults();
     let Parted {
         seats,
-        hands,
+        portions,
         refused,
-    } = part(alloc, posts)?;
-    let cells = close_row(alloc, vaults, hands)?;
+    } = part(alloc, states)?;
+    let cells = close_row(alloc, vaults, portions)?;
     let left = Left {
         cells,
         seats,

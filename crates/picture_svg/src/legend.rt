@@ -2,7 +2,7 @@
 use crate::arrows::{draw_lost, draw_unheard};
 use crate::layout::{LINE, Layout, MARGIN};
 use crate::lives::{class_of_bar, draw_sign};
-use crate::picture::{Actor, Arrow, Fate, Picture, Sign, Work};
+use crate::picture::{Actor, Arrow, Fate, PhaseKind, Picture, Sign};
 use crate::px::{Point, Px, at, width_of};
 use crate::svg::Svg;
 use lists::NoMemory;
@@ -23,7 +23,7 @@ enum Item {
     Stale,
     Lost,
     NeverGiven,
-    Phase(Work),
+    Phase(PhaseKind),
     Unended,
     Sign(Sign),
 }
@@ -36,10 +36,10 @@ const ITEMS: [(Item, &'static str); 15] = [
     (Item::Stale, "heard, changes nothing"),
     (Item::Lost, "lost"),
     (Item::NeverGiven, "sent, never given or heard"),
-    (Item::Phase(Work::Times), "a write asks for times"),
-    (Item::Phase(Work::Store), "a write stores"),
-    (Item::Phase(Work::Round), "a read asks for versions"),
-    (Item::Phase(Work::Repair), "a read repairs"),
+    (Item::Phase(PhaseKind::Times), "a write asks for times"),
+    (Item::Phase(PhaseKind::Store), "a write stores"),
+    (Item::Phase(PhaseKind::Round), "a read asks for versions"),
+    (Item::Phase(PhaseKind::Repair), "a read repairs"),
     (Item::Unended, "an operation that never ended"),
     (Item::Sign(Sign::Holds), "holds the version"),
     (Item::Sign(Sign::Prune), "drops old versions"),

@@ -11,4 +11,4 @@ mod px;
 mod svg;
 
 pub use drawing::svg_of;
-pub use picture::{Actor, Arrow, Fate, Lifeline, Mark, Picture, Row, Sign, Stretch, Work};
+pub use picture::{Actor, Arrow, Fate, Lifeline, Mark, PhaseKind, Picture, Row, Sign, Stretch};

@@ -1,7 +1,7 @@
 //! How lifelines, and the bars and the signs on them, are drawn.
 use crate::drawing::Drawing;
 use crate::layout::Layout;
-use crate::picture::{Actor, Lifeline, Mark, Sign, Stretch, Work};
+use crate::picture::{Actor, Lifeline, Mark, PhaseKind, Sign, Stretch};
 use crate::px::{Point, Px, at};
 use crate::svg::Svg;
 use lists::NoMemory;
@@ -12,16 +12,16 @@ use std::collections::BTreeMap;
 type Alive = BTreeMap<Actor, Px>;
 
 /// The words for how a stretch looks.
-pub fn class_of_bar(work: Work, is_open: bool) -> &'static str {
+pub fn class_of_bar(work: PhaseKind, is_open: bool) -> &'static str {
     match (work, is_open) {
-        (Work::Times, false) => "times",
-        (Work::Times, true) => "times open",
-        (Work::Store, false) => "store",
-        (Work::Store, true) => "store open",
-        (Work::Round, false) => "round",
-        (Work::Round, true) => "round open",
-        (Work::Repair, false) => "repair",
-        (Work::Repair, true) => "repair open",
+        (PhaseKind::Times, false) => "times",
+        (PhaseKind::Times, true) => "times open",
+        (PhaseKind::Store, false) => "store",
+        (PhaseKind::Store, true) => "store open",
+        (PhaseKind::Round, false) => "round",
+        (PhaseKind::Round, true) => "round open",
+        (PhaseKind::Repair, false) => "repair",
+        (PhaseKind::Repair, true) => "repair open",
     }
 }
 

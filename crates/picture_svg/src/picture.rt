@@ -83,7 +83,7 @@ pub struct Arrow {
 
 /// What a phase of an operation does.
 #[derive(Clone, Copy, PartialEq, Eq)]
-pub enum Work {
+pub enum PhaseKind {
     /// A write asks for times.
     Times,
     /// A write stores its value.
@@ -98,7 +98,7 @@ pub enum Work {
 #[derive(Clone, Copy)]
 pub struct Stretch {
     pub client: u32,
-    pub work: Work,
+    pub work: PhaseKind,
     /// The rows from which and to which it reaches.
     pub from: usize,
     pub to: usize,

@@ -18,11 +18,11 @@ use Rattle.protocol.proofs.lemmas.Tests.{are_same}
 use Rattle.protocol.proofs.lemmas.Replacing.{with_cases, with_iff}
 use Rattle.protocol.proofs.Growing.{happens_more}
 use Rattle.protocol.proofs.Invariant.{IsSafe}
-use Rattle.protocol.proofs.lemmas.Sending.{working, crash_fewer, back_fewer}
+use Rattle.protocol.proofs.lemmas.Sending.{unless_some, crash_fewer, back_fewer}
 use Rattle.protocol.proofs.Starting.{task_cases}
 use Rattle.protocol.proofs.Heard.{filled, heard_case}
 use Rattle.protocol.proofs.Runs.{happens_safe}
-use Rattle.protocol.proofs.lemmas.Playing.{no_fault, allowed}
+use Rattle.protocol.proofs.lemmas.Playing.{no_fault, events_allowed}
 use Rattle.protocol.proofs.Plays.{IsRight, start_right, plays_right, run_right}
 use Rattle.protocol.proofs.Inductions.{run_keeps}
 use Rattle.protocol.proofs.lemmas.Kept.{run_parts}
@@ -77,7 +77,7 @@ module _ (s : Setting) (w : World) (place c : ℕ) (task : Task) (busy : under_w
       → IsStep w place (moved s w place c next more r)
   goes next more r of_c begun last same = record {
     tasks = λ d z h. inl (elim (update-cases w.task c next d) [
-      | inl e ↦ (let k : unless (w.client_crashed d) next ≡ Some z = rw e.1 at h in (task, ap (under_way w) e.0 ∙ busy, same z (working (w.client_crashed d) next z k).1))
+      | inl e ↦ (let k : unless (w.client_crashed d) next ≡ Some z = rw e.1 at h in (task, ap (under_way w) e.0 ∙ busy, same z (unless_some (w.client_crashed d) next z k).1))
       | inr e ↦ (let k : unless (w.client_crashed d) (w.task d) ≡ Some z = rw e.1 at h in (z, k, refl))
     ]);
     keep = λ x h. (replaced_by r x, Contains-map (replaced_by r) w.records x h, same_operation r x);
@@ -172,7 +172,7 @@ module _ (s : Setting) (good : IsValid s) where
 
   -- what a client does that has crashed isn't under way
   pub crashed_over : (w : World) (r : Record) → w.client_crashed r.client ≡ true → IsOver w r
-  crashed_over w r down task busy same = let k = (working (w.client_crashed r.client) (w.task r.client) task busy).0 in absurd (cc)
+  crashed_over w r down task busy same = let k = (unless_some (w.client_crashed r.client) (w.task r.client) task busy).0 in absurd (cc)
 
   pub ended_stays : (ls : List (ℕ × Line)) (w last : World) → IsRight s good w → Run s w ls last → (r : Record) (end : ℕ) → Contains w.records r → r.end ≡ Some end → Contains last.records r
   ended_stays ls w last right run r end there ended = over_stays ls w last right run r there (ended_over w right r end there ended)
@@ -201,7 +201,7 @@ module _ (s : Setting) (good : IsValid s) where
   run_ends (l ∷ ls) w last right run r end there ended =
       let next = plays s w l.0 l.1 in
       elim (run_ends ls next last (plays_right s good w right l.0 run.0 l.1 run.1 run.2) run.3 r end there ended) [
-        | inl k ↦ elim (events_end l.0 (events s w l.1) w right.safe (allowed s good w right.safe l.0 run.0 l.1 run.1 (no_fault s w l.1 run.2)) r end k ended) [
+        | inl k ↦ elim (events_end l.0 (events s w l.1) w right.safe (events_allowed s good w right.safe l.0 run.0 l.1 run.1 (no_fault s w l.1 run.2)) r end k ended) [
           | inl m ↦ inl m
           | inr e ↦ inr (record {
             before = w;
@@ -288,7 +288,7 @@ module _ (s : Setting) (good : IsValid s) where
   run_begins [] w last right run r there = inl (r, (rw run at there), (refl, refl))
   run_begins (l ∷ ls) w last right run r there =
       elim (run_begins ls (plays s w l.0 l.1) last (plays_right s good w right l.0 run.0 l.1 run.1 run.2) run.3 r there) [
-        | inl k ↦ elim (events_begin l.0 (events s w l.1) w right.safe (allowed s good w right.safe l.0 run.0 l.1 run.1 (no_fault s w l.1 run.2)) k.0 k.1) [
+        | inl k ↦ elim (events_begin l.0 (events s w l.1) w right.safe (events_allowed s good w right.safe l.0 run.0 l.1 run.1 (no_fault s w l.1 run.2)) k.0 k.1) [
           | inl m ↦ inl (m.0, m.1, (m.2.0 ∙ k.2.0, m.2.1 ∙ k.2.1))
           | inr m ↦ (let same = k.2.1 in inr (omega (arith, m, same)))
         ]

@@ -20,7 +20,7 @@ use Rattle.protocol.proofs.Searches.{find_write, find_read, FirstRead}
 use Rattle.protocol.proofs.Invariant.{IsSafe}
 use Rattle.protocol.proofs.Apart.{IsApart}
 use Rattle.protocol.proofs.lemmas.Keys.{one_key}
-use Rattle.lists.proofs.lemmas.Members.{Contains-head, Contains-none, Contains-rest, Contains-cons_cases, Contains-one, all_of}
+use Rattle.lists.proofs.lemmas.Members.{Contains-head, Contains-none, Contains-rest, Contains-cons_cases, Contains-one, all_from_members}
 use Rattle.std.proofs.lemmas.Bool.{cases_Bool}
 
 -- all entries of which P holds, in a list
@@ -70,7 +70,7 @@ module _ (P : Entry → Type 0) (one : (e f : Entry) → P e → P f → entry_c
       at Less e rest = (
         x ∷ y ∷ ys,
         (
-          all_of (λ f. entry_cmp x f ≡ Less) (y ∷ ys) (λ f k. elim (Contains-cons_cases f y ys k)
+          all_from_members (λ f. entry_cmp x f ≡ Less) (y ∷ ys) (λ f k. elim (Contains-cons_cases f y ys k)
               [ inl q ↦ rw q e | inr l ↦ entry_total.trans x y f e (member_of (λ g. entry_cmp y g ≡ Less) ys f s.0 l) ]),
           s,
         ),
@@ -84,7 +84,7 @@ module _ (P : Entry → Type 0) (one : (e f : Entry) → P e → P f → entry_c
       at Greater e rest =
           let less : entry_cmp y x ≡ Less = entry_total.antisymm y x ∙ ap ordering_reverse e in (
             y ∷ rest.0,
-            (all_of (λ f. entry_cmp y f ≡ Less) rest.0 (λ f k. elim ((rest.2 f).0 k) [ inl q ↦ rw q less | inr l ↦ member_of (λ g. entry_cmp y g ≡ Less) ys f s.0 l ]), rest.1),
+            (all_from_members (λ f. entry_cmp y f ≡ Less) rest.0 (λ f k. elim ((rest.2 f).0 k) [ inl q ↦ rw q less | inr l ↦ member_of (λ g. entry_cmp y g ≡ Less) ys f s.0 l ]), rest.1),
             λ f. (
               (λ k. elim (Contains-cons_cases f y rest.0 k) [ inl q ↦ inr (rw q (Contains-head y ys)) | inr l ↦ elim ((rest.2 f).0 l) [ inl g ↦ inl g | inr g ↦ inr (Contains-rest f y ys g) ] ]),
               (λ k. elim k [

@@ -24,14 +24,14 @@ use Rattle.protocol.proofs.lemmas.Counting.{update-cases}
 use Rattle.protocol.proofs.lemmas.Order.{≼-trans, ≼-time}
 use Rattle.protocol.proofs.lemmas.Keeping.{time_at_least, keeps-Contains, greatest_in_above, has-down}
 use Rattle.protocol.proofs.Invariant.{IsSafe, IsTask, IsCoveredBy, Accepts}
-use Rattle.protocol.proofs.lemmas.Sending.{working}
+use Rattle.protocol.proofs.lemmas.Sending.{unless_some}
 use Rattle.protocol.proofs.lemmas.Sending as sending
 use Rattle.protocol.proofs.Starting as starting
 use Rattle.protocol.proofs.Giving as giving
 use Rattle.protocol.proofs.Heard.{filled, heard_case}
 use Rattle.protocol.proofs.Runs.{happens_safe, start_safe}
 use Rattle.protocol.proofs.lemmas.Kept.{run_parts}
-use Rattle.protocol.proofs.lemmas.Playing.{no_fault, allowed}
+use Rattle.protocol.proofs.lemmas.Playing.{no_fault, events_allowed}
 use Rattle.protocol.proofs.Plays.{IsRight, start_right, plays_right, run_right}
 use Rattle.protocol.proofs.Inductions.{run_keeps}
 use Rattle.protocol.proofs.Growing.{Grows, all_place, grows_itself, grows_both, happens_more, plays_more, run_more, still_accepts}
@@ -119,7 +119,7 @@ module _ (s : Setting) (L : Pruning → Type 0) where
     versions = refl;
     accepted = refl;
     tasks = λ d z h. inl (elim (update-cases w.task c next d) [
-      | inl e ↦ (let k : unless (w.client_crashed d) next ≡ Some z = rw e.1 at h in let q = same z (working (w.client_crashed d) next z k).1 in (task, ap (under_way w) e.0 ∙ busy, q.0, q.1))
+      | inl e ↦ (let k : unless (w.client_crashed d) next ≡ Some z = rw e.1 at h in let q = same z (unless_some (w.client_crashed d) next z k).1 in (task, ap (under_way w) e.0 ∙ busy, q.0, q.1))
       | inr e ↦ (let k : unless (w.client_crashed d) (w.task d) ≡ Some z = rw e.1 at h in (z, k, refl, refl))
     ]);
     place = later;
@@ -271,7 +271,7 @@ module _ (s : Setting) where
       With p = L p ⊎ (Some (record { node = i; block = block; place = place; stamp = stamp }) ≡ Some p)
 
       abbrev short : World
-      short = sending.short s w safe place later i block quiet stamp by
+      short = sending.pruned_world s w safe place later i block quiet stamp by
 
       pruned_covers : (j b : ℕ) → j < s.n → s.lying_node j ≡ false → (t : Stamp) → Accepts s w j b t → IsCoveredBy s (IsPruned s With j b) short j b t
       pruned_covers j b l up t a = elim (sending.versions_cases s w safe place later i block quiet stamp by j b) [
@@ -338,7 +338,7 @@ module _ (s : Setting) (good : IsValid s) where
   module _ (L : Pruning → Type 0) (w : World) (safe : IsSafe s w) (logged : IsLogged s L w) (place : ℕ) (later : w.place < place) where
     prune_taken : (i block : ℕ) → FitsLine s (Prune i block) → fault s w (Prune i block) ≡ None → IsTaken L w place (Prune i block)
     prune_taken i block fits fine =
-        let h = (allowed s good w safe place later (Prune i block) fits (no_fault s w (Prune i block) fine)).0 in
+        let h = (events_allowed s good w safe place later (Prune i block) fits (no_fault s w (Prune i block) fine)).0 in
         let now = pruned_logged s L w safe logged place (omega (arith, later)) i block h.quiet h.stamp h.given in
         record {
           logged = subst (λ (o : Option Stamp). IsLogged s (λ p. L p ⊎ (pruning_by i block place o ≡ Some p)) (only_place s (pruned_at s w place i block o) place)) (sym h.given) now;
@@ -348,7 +348,7 @@ module _ (s : Setting) (good : IsValid s) where
     plain_taken : (line : Line) → FitsLine s line → fault s w line ≡ None → pruning_of w place line ≡ None → PruneNothing (events s w line) → IsTaken L w place line
     plain_taken line fits fine unpruned none =
         let u = all_happen s w place (events s w line) in
-        let h = all_within s L good w place (events s w line) w (begin_within s L good w place safe logged) none (allowed s good w safe place later line fits (no_fault s w line fine)) in
+        let h = all_within s L good w place (events s w line) w (begin_within s L good w place safe logged) none (events_allowed s good w safe place later line fits (no_fault s w line fine)) in
         let calm = fewer_calm s L u (only_place s u place) refl refl (all_place s (events s w line) w place (omega (arith, later))) (λ d z e. e) in
         record {
           logged = logged_as s L (λ p. L p ⊎ (pruning_of w place line ≡ Some p)) (λ p k. inl k) (λ p k. elim k [ inl q ↦ q | inr e ↦ absurd (let f : None ≡ Some p = sym unpruned ∙ e in cc) ]) (only_place s u place) (calm_logged s L u (only_place s u place) calm h.logged);

@@ -25,7 +25,7 @@ use Rattle.protocol.proofs.lemmas.Counting.{update-cases, update-same}
 use Rattle.protocol.proofs.lemmas.Lists.{one_more_cases, one_more_left, one_more_new}
 use Rattle.protocol.proofs.lemmas.Order.{≼-refl, ≼-trans, ≼-time}
 use Rattle.protocol.proofs.lemmas.Strings.{NoClash-before, NoClashFor-before}
-use Rattle.protocol.proofs.lemmas.Keeping.{time_at_least, time_of_one, keeps-Contains, keeps-append, greatest_in_is, greatest_in_above, accepts_is, whole_if_taken, taken, keeps_is, has-down}
+use Rattle.protocol.proofs.lemmas.Keeping.{time_at_least, time_of_one, keeps-Contains, keeps-append, greatest_in_is, greatest_in_above, accepts_is, whole_if_taken, kept_or_added, keeps_is, has-down}
 use Rattle.protocol.proofs.Invariant.{AtWork, IsOwned, IsTagged, Quorum, IsTask, IsStage, IsRecord, IsSafe, IsFresh, Fits, Accepts, IsStored, IsCoveredBy, IsPassed}
 use Rattle.lists.proofs.lemmas.Members.{Contains-one}
 
@@ -217,7 +217,7 @@ module _ (s : Setting) (w : World) (safe : IsSafe s w) (place : ℕ) (later : w.
 
   fits_write : (u : Version) (value : List ℕ) → ask.block < s.blocks → ask.request ≡ Write u → (r : Option Reason) → refusal s i u ≡ r → Fits s after i ask.block (Storing u.stamp value) (acknowledged r)
   fits_write u value l e None f =
-      elim (taken s i old u f) [
+      elim (kept_or_added s i old u f) [
         | inl k ↦ (let x = keeps_is old u.stamp k in let a = was_stored.kept x.0 x.1 in accepted_more i ask.block u.stamp (rw x.2 at a))
         | inr k ↦ new_accepted u (accepts_inside s i old ask u l e ∙ k)
       ]

@@ -23,7 +23,7 @@ use Rattle.protocol.specs.Operations.Decision.{GoesOn, Ends}
 use Rattle.protocol.specs.World.{Record, World, moved, decided, advanced, open_record, closed_record, chosen_stamp, stamp_of_outcome, under_way}
 use Rattle.protocol.specs.History.{IsValue}
 use Rattle.protocol.specs.History.IsValue.{zeros_value, written, given}
-use Rattle.protocol.proofs.lemmas.Counting.{both_true, shared}
+use Rattle.protocol.proofs.lemmas.Counting.{both_true, count_shared}
 use Rattle.protocol.proofs.Mails.{in_mail}
 use Rattle.protocol.proofs.lemmas.Strings.{NoClashFor-any}
 use Rattle.protocol.proofs.Invariant.{Quorum, IsGood, IsGiven, IsStage, IsTask, IsOutcome, IsAimed, IsAfter, NoClashFor, IsSafe, Fits, Accepts}
@@ -268,7 +268,7 @@ module _ (s : Setting) (good : IsValid s) (w : World) (safe : IsSafe s w) (place
     held_stored : (p : Stamp) (value : List ℕ) → task.stage ≡ Storing p value → IsHeld s w task.block p
     held_stored p value stage = record {
       members = λ i. honest s i && is_answered (answers i);
-      enough = omega (arith, shared s.n (honest s) (λ i. is_answered (answers i)), honest_many s good, enough, good.quorum_high);
+      enough = omega (arith, count_shared s.n (honest s) (λ i. is_answered (answers i)), honest_many s good, enough, good.quorum_high);
       are_honest = λ i h. is_honest s i (both_true _ _ h).0;
       kept = λ i l h.
           let b = both_true _ _ h in
@@ -310,7 +310,7 @@ module _ (s : Setting) (good : IsValid s) (w : World) (safe : IsSafe s w) (place
       held_pivot : (p : Stamp) → s.qc + s.b ≤ support s answers bound p → IsHeld s w task.block p
       held_pivot p many = record {
         members = λ i. honest s i && carries p (valid s i bound (answers i));
-        enough = omega (arith, shared s.n (honest s) (λ i. carries p (valid s i bound (answers i))), honest_many s good, many);
+        enough = omega (arith, count_shared s.n (honest s) (λ i. carries p (valid s i bound (answers i))), honest_many s good, many);
         are_honest = λ i h. is_honest s i (both_true _ _ h).0;
         kept = λ i l h.
             let b = both_true _ _ h in

@@ -18,7 +18,7 @@ use Rattle.protocol.specs.Operations.Stage.{Times, Versions, Storing}
 use Rattle.run_words.specs.declared.outcome.Outcome.TheVariants.{Spent, Gave}
 use Rattle.protocol.specs.Operations.Decision.{GoesOn, Ends}
 use Rattle.protocol.specs.World.{World, moved, decided, advanced, open_record, closed_record, chosen_stamp, stamp_of_outcome, under_way}
-use Rattle.protocol.proofs.lemmas.Counting.{both_true, shared, some_passes}
+use Rattle.protocol.proofs.lemmas.Counting.{both_true, count_shared, some_passes}
 use Rattle.protocol.proofs.Mails.{in_mail}
 use Rattle.protocol.proofs.Invariant.{IsSafe, IsStage}
 use Rattle.protocol.proofs.lemmas.Rounds.{valid_was, honest_many, some_pivot, honest_valid}
@@ -104,7 +104,7 @@ module _ (s : Setting) (good : IsValid s) (w : World) (safe : IsSafe s w) (origi
       carried_known : (p : Stamp) → s.qc - s.t ≤ support s answers bound p → IsKnown s w task.block p
       carried_known p many =
           let both = λ (i : ℕ). honest s i && carries p (valid s i bound (answers i)) in
-          let x = some_passes s.n both (omega (arith, shared s.n (honest s) (λ i. carries p (valid s i bound (answers i))), honest_many s good, many, good.quorum_low)) in
+          let x = some_passes s.n both (omega (arith, count_shared s.n (honest s) (λ i. carries p (valid s i bound (answers i))), honest_many s good, many, good.quorum_low)) in
           let b = both_true _ _ x.2 in
           let r = carries_is s good w safe place later c task busy answers heard enough bound stage p (valid s x.0 bound (answers x.0)) b.1 in
           let u = valid_was s x.0 bound (answers x.0) r.0 r.1 in

@@ -23,7 +23,7 @@ use Rattle.protocol.proofs.Mails.{in_mail, mail_answers}
 use Rattle.protocol.proofs.Invariant.{IsSafe, IsStored}
 use Rattle.protocol.proofs.Giving.{accepted_more, wrote_there}
 use Rattle.protocol.proofs.Heard.{filled, heard_case}
-use Rattle.lists.proofs.lemmas.Members.{Contains-none, Contains-one, get_left, Contains-slice_get}
+use Rattle.lists.proofs.lemmas.Members.{Contains-none, Contains-one, slice_get-append_left, Contains-slice_get}
 
 pub get_cases : {X : Type 0} (xs ys : List X) (k : ℕ) (x : X) → slice_get (xs ++ ys) k ≡ Some x → (slice_get xs k ≡ Some x) ⊎ ((length xs ≤ k) × Contains ys x)
 get_cases [] ys k x h = inr (omega arith, Contains-slice_get ys k x h)
@@ -59,7 +59,7 @@ module _ (s : Setting) (from : ℕ) (P : ℕ → Ask → Reply → Type 0) where
         asked = h.asked;
         earlier = h.earlier;
         message = h.message;
-        there = rw pool (get_left w.pool fresh h.asked h.message h.there);
+        there = rw pool (slice_get-append_left w.pool fresh h.asked h.message h.there);
         client = h.client;
         node = h.node;
         tag = h.tag;
@@ -137,7 +137,7 @@ module _ (s : Setting) (from : ℕ) (P : ℕ → Ask → Reply → Type 0) where
                 asked = g.0;
                 earlier = omega (arith, g.1, past);
                 message = m;
-                there = get_left w.pool _ g.0 m g.2;
+                there = slice_get-append_left w.pool _ g.0 m g.2;
                 client = sym (ap (λ (y : Message). y.client) e);
                 node = to_i ∙ sym node_is;
                 tag = sym (ap (λ (y : Message). y.tag) e);

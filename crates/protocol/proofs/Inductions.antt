@@ -5,7 +5,7 @@ use Rattle.protocol.specs.World.{World, Event, Allowed, AllAllowed, all_happen, 
 use Rattle.protocol.specs.Lines.{Line, Run, events, plays}
 use Rattle.protocol.proofs.Invariant.{IsSafe}
 use Rattle.protocol.proofs.Runs.{happens_safe}
-use Rattle.protocol.proofs.lemmas.Playing.{no_fault, allowed}
+use Rattle.protocol.proofs.lemmas.Playing.{no_fault, events_allowed}
 use Rattle.protocol.proofs.Plays.{IsRight, plays_right}
 
 module _ (s : Setting) (good : IsValid s) (P : World → Type 0) (event : (w : World) → IsSafe s w → P w → (place : ℕ) (e : Event) → Allowed s w place e → P (happens s w place e))
@@ -18,4 +18,4 @@ module _ (s : Setting) (good : IsValid s) (P : World → Type 0) (event : (w : W
   run_keeps [] w last right run p = rw run p
   run_keeps (l ∷ ls) w last right run p =
       run_keeps ls (plays s w l.0 l.1) last (plays_right s good w right l.0 run.0 l.1 run.1 run.2) run.3
-      (later _ l.0 (events_keep l.0 (events s w l.1) w right.safe p (allowed s good w right.safe l.0 run.0 l.1 run.1 (no_fault s w l.1 run.2))))
+      (later _ l.0 (events_keep l.0 (events s w l.1) w right.safe p (events_allowed s good w right.safe l.0 run.0 l.1 run.1 (no_fault s w l.1 run.2))))

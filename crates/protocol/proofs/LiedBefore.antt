@@ -19,7 +19,7 @@ use Rattle.protocol.proofs.Mails.{in_mail}
 use Rattle.protocol.proofs.Invariant.{IsSafe}
 use Rattle.protocol.proofs.Heard.{filled, heard_case}
 use Rattle.protocol.proofs.Runs.{happens_safe}
-use Rattle.protocol.proofs.lemmas.Playing.{no_fault, allowed}
+use Rattle.protocol.proofs.lemmas.Playing.{no_fault, events_allowed}
 use Rattle.lists.proofs.lemmas.Members.{Contains-none, Contains-one}
 
 -- the event ends no operation
@@ -175,7 +175,7 @@ module _ (s : Setting) (w : World) where
 pub lied_before : (s : Setting) → IsValid s → (w : World) → IsSafe s w → (place : ℕ) → w.place < place → (line : Line) → FitsLine s line → fault s w line ≡ None
     → (r : Record) (end : ℕ) → Contains (plays s w place line).records r → r.end ≡ Some end → (Contains w.records r → ⊥) → (block : ℕ) (stamp : Stamp) → HasLie s (plays s w place line) block stamp → HasLie s w block stamp
 lied_before s good w safe place later line fits fine r end there ended new block stamp lie =
-    let may = allowed s good w safe place later line fits (no_fault s w line fine) in
+    let may = events_allowed s good w safe place later line fits (no_fault s w line fine) in
     elim (either s w place line may) [
       | inl none ↦ absurd (new (all_same s place (events s w line) w none r end there ended))
       | inr none ↦ all_none_new s good place block stamp (events s w line) w safe may none

@@ -21,7 +21,7 @@ use Rattle.protocol.proofs.lemmas.Replacing.{with_cases}
 use Rattle.protocol.proofs.lemmas.Strings.{NoClash-before, NoClashFor-before}
 use Rattle.protocol.proofs.Invariant.{AtWork, IsOwned, IsTagged, Quorum, IsTask, IsRecord, IsOutcome, IsAimed, IsAfter, NoClashFor, IsSafe, Fits, Accepts, IsOpen, IsFresh, IsStored, IsPassed}
 use Rattle.protocol.proofs.Freshness.{IsFresh-more}
-use Rattle.protocol.proofs.lemmas.Sending.{working}
+use Rattle.protocol.proofs.lemmas.Sending.{unless_some}
 use Rattle.lists.proofs.lemmas.Members.{Contains-map}
 
 -- enough honest nodes have accepted the stamp
@@ -69,7 +69,7 @@ module _ (s : Setting) (w : World) (safe : IsSafe s w) (place : ℕ) (later : w.
   module _ (move : IsMove) where
     pub task_cases : (d : ℕ) (z : Task) → under_way after d ≡ Some z → ((d ≡ c) × (next ≡ Some z)) ⊎ ((d ≡ c → ⊥) × (under_way w d ≡ Some z))
     task_cases d z h = elim (update-cases w.task c next d) [
-      | inl e ↦ inl (e.0, (working (w.client_crashed d) next z (let k : unless (w.client_crashed d) next ≡ Some z = rw e.1 at h in k)).1)
+      | inl e ↦ inl (e.0, (unless_some (w.client_crashed d) next z (let k : unless (w.client_crashed d) next ≡ Some z = rw e.1 at h in k)).1)
       | inr e ↦ inr (e.0, (let k : unless (w.client_crashed d) (w.task d) ≡ Some z = rw e.1 at h in k))
     ]
 

@@ -21,7 +21,7 @@ pub use Rattle.protocol.specs.Facts.{IsKnown}
 use Rattle.protocol.proofs.Mails.{mail_asks}
 use Rattle.protocol.proofs.Giving.{accepted_cases}
 use Rattle.protocol.proofs.Starting.{pool_cases, task_cases}
-use Rattle.protocol.proofs.lemmas.Sending.{IsSentNow, IsLess, changed}
+use Rattle.protocol.proofs.lemmas.Sending.{IsSentNow, IsLess, changed_world}
 use Rattle.protocol.proofs.Moving.{IsMove, record_after, pool_cases as moved_pool, task_cases as moved_task, record_cases as moved_record}
 use Rattle.protocol.proofs.Invariant.{IsSafe}
 use Rattle.lists.proofs.lemmas.Members.{Contains-one, Contains-map}
@@ -148,7 +148,7 @@ module _ (s : Setting) where
   module _ (w : World) (safe : IsSafe s w) (origins : HasOrigins w) (place : ℕ) (later : w.place ≤ place) (pool : List Message) (versions : ℕ → ℕ → List Version)
       (task : ℕ → Option Task) (life started : ℕ → ℕ) (nodes clients : ℕ → Bool) (less : IsLess s w safe place later pool versions task life started nodes clients) where
     abbrev less_world : World
-    less_world = changed s w safe place later pool versions task life started nodes clients
+    less_world = changed_world s w safe place later pool versions task life started nodes clients
 
     sent_asks : (m : Message) (ask : Ask) → m.body ≡ Asks ask → IsSentNow s w m → IsKnownRequest w ask.block ask.request
     sent_asks m ask body now =

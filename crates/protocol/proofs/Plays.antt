@@ -17,7 +17,7 @@ use Rattle.protocol.proofs.Apart.{IsApart, IsBefore, before_place, happens_apart
 use Rattle.protocol.specs.Bounds.{IsLow}
 use Rattle.protocol.proofs.RunRounds.{HasRounds, start_rounds, happens_rounds}
 use Rattle.protocol.proofs.RunTimes.{start_low, happens_low, happens_writes, KeepsWrites}
-use Rattle.protocol.proofs.lemmas.Playing.{no_fault, allowed}
+use Rattle.protocol.proofs.lemmas.Playing.{no_fault, events_allowed}
 use Rattle.protocol.proofs.Growing.{all_place}
 use Rattle.lists.proofs.lemmas.Members.{Contains-none}
 
@@ -113,7 +113,7 @@ module _ (s : Setting) (good : IsValid s) where
   pub plays_right : (w : World) → IsRight w → (place : ℕ) → w.place < place → (line : Line) → FitsLine s line → fault s w line ≡ None → IsRight (plays s w place line)
   plays_right w right place l line fits fine =
       let k : IsKept w place = record { safe = right.safe; origins = right.origins; apart = right.apart; rounds = right.rounds; low = right.low; early = before_place s w right.safe place l } in
-      let r = all_events (events s w line) w place k (allowed s good w right.safe place l line fits (no_fault s w line fine)) (quick w place line) in
+      let r = all_events (events s w line) w place k (events_allowed s good w right.safe place l line fits (no_fault s w line fine)) (quick w place line) in
       let last = all_place s (events s w line) w place (omega (arith, l)) in
       record {
         safe = only_safe s (all_happen s w place (events s w line)) r.safe place last;
@@ -137,7 +137,7 @@ module _ (s : Setting) (good : IsValid s) where
   plays_writes : (w : World) → IsRight w → (place : ℕ) → w.place < place → (line : Line) → FitsLine s line → fault s w line ≡ None → KeepsWrites w.records (plays s w place line).records
   plays_writes w right place l line fits fine =
       let k : IsKept w place = record { safe = right.safe; origins = right.origins; apart = right.apart; rounds = right.rounds; low = right.low; early = before_place s w right.safe place l } in
-      all_writes (events s w line) w place k (allowed s good w right.safe place l line fits (no_fault s w line fine)) (quick w place line)
+      all_writes (events s w line) w place k (events_allowed s good w right.safe place l line fits (no_fault s w line fine)) (quick w place line)
 
   pub run_writes : (ls : List (ℕ × Line)) (w last : World) → IsRight w → Run s w ls last → KeepsWrites w.records last.records
   run_writes [] w last r h = rw h (λ block stamp x. x)

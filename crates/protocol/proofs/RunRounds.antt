@@ -24,12 +24,12 @@ use Rattle.protocol.specs.Operations.Decision.{GoesOn, Ends}
 use Rattle.protocol.specs.World.{World, Record, Accepted, Event, Allowed, happens, handled, accepted_at, given, moved, resent_by, pruned_at, open_record, closed_record, under_way, greatest_given, last_op, IsAnswerTo, start_world}
 use Rattle.protocol.specs.World.Event.{Start, Resend, Give, Hear, CrashNode, CrashClient, Lie, Prune, Back}
 use Rattle.protocol.specs.Bounds.{IsFewAt, IsBounded}
-use Rattle.protocol.proofs.lemmas.Counting.{both_true, shared, some_passes, count_within, update-cases}
+use Rattle.protocol.proofs.lemmas.Counting.{both_true, count_shared, some_passes, count_within, update-cases}
 use Rattle.protocol.proofs.lemmas.Order.{≼-antisym, same_stamp-refl}
 use Rattle.protocol.proofs.lemmas.Highest.{highest_is}
 use Rattle.protocol.proofs.lemmas.Order.{stamps_order}
 use Rattle.protocol.proofs.Invariant.{IsSafe, IsStage}
-use Rattle.protocol.proofs.lemmas.Sending.{working}
+use Rattle.protocol.proofs.lemmas.Sending.{unless_some}
 use Rattle.protocol.proofs.lemmas.Rounds.{valid_was, honest_many, some_pivot, honest_valid, pivot_given}
 use Rattle.protocol.proofs.Rounding.{IsRounds, WasAccepted, rounds_below, rounds_at_most, few_rounds, IsRounds-more, IsFewAt-more}
 use Rattle.protocol.proofs.lemmas.Replacing.{with_cases}
@@ -94,7 +94,7 @@ module _ (s : Setting) (good : IsValid s) (w : World) (safe : IsSafe s w) (round
 
   module _ (task : Task) (answers : ℕ → Option Reply) (busy : under_way w c ≡ Some task) (sent : AreSent w c task answers) where
     now : RoundsOf w task.block task.rounds task.work task.stage
-    now = rounds.tasks c task (working (w.client_crashed c) (w.task c) task busy).1
+    now = rounds.tasks c task (unless_some (w.client_crashed c) (w.task c) task busy).1
 
     abbrev IsRoundsDecision : Work → Decision → Type 0
     IsRoundsDecision work (GoesOn stage) = RoundsOf w task.block (rounds_after stage task.rounds) work stage
@@ -116,7 +116,7 @@ module _ (s : Setting) (good : IsValid s) (w : World) (safe : IsSafe s w) (round
       reached p is other =
           let g = highest_is up_to stamps_order s.n (s.qc - s.t) (stamps s answers bound) p is in
           let both = λ (i : ℕ). honest s i && reaches up_to p (stamps s answers bound i) in
-          let x = some_passes s.n both (omega (arith, shared s.n (honest s) (λ i. reaches up_to p (stamps s answers bound i)), honest_many s good, g.3, good.quorum_low)) in
+          let x = some_passes s.n both (omega (arith, count_shared s.n (honest s) (λ i. reaches up_to p (stamps s answers bound i)), honest_many s good, g.3, good.quorum_low)) in
           let b = both_true _ _ x.2 in
           let v = above_of p (valid s x.0 bound (answers x.0)) b.1 in
           let u = valid_was s x.0 bound (answers x.0) v.0 v.1 in

@@ -19,7 +19,7 @@ use Rattle.protocol.specs.World.{World, Record, Event, Allowed, happens, given, 
 use Rattle.protocol.specs.World.Event.{Start, Resend, Give, Hear, CrashNode, CrashClient, Lie, Prune, Back}
 use Rattle.protocol.specs.History.{HasWrite}
 use Rattle.protocol.specs.Bounds.{is_chosen, ceiling, IsLow}
-use Rattle.protocol.proofs.lemmas.Counting.{both_true, shared, some_passes}
+use Rattle.protocol.proofs.lemmas.Counting.{both_true, count_shared, some_passes}
 use Rattle.protocol.proofs.lemmas.Highest.{highest_is}
 use Rattle.protocol.proofs.lemmas.Order.{times_order}
 use Rattle.protocol.proofs.Invariant.{IsSafe, IsStage, IsOutcome, Fits}
@@ -108,7 +108,7 @@ module _ (s : Setting) (good : IsValid s) (w : World) (safe : IsSafe s w) (origi
             at (Some x) e =
                 let g = highest_is leb times_order s.n (s.b + 1) (λ i. time_of (answers i)) x e in
                 let both = λ (i : ℕ). honest s i && reaches leb x (time_of (answers i)) in
-                let y = some_passes s.n both (omega (arith, shared s.n (honest s) (λ i. reaches leb x (time_of (answers i))), honest_many s good, g.3)) in
+                let y = some_passes s.n both (omega (arith, count_shared s.n (honest s) (λ i. reaches leb x (time_of (answers i))), honest_many s good, g.3)) in
                 let b = both_true _ _ y.2 in
                 let t = time_is (answers y.0) x b.1 in
                 let f = fits_time y.0 t.0 task.stage stage (fits_at s good w safe c task busy answers sent enough y.0 (TimeIs t.0) y.1 b.0 t.1) in

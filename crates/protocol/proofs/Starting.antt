@@ -21,7 +21,7 @@ use Rattle.protocol.proofs.lemmas.Strings.{NoClash-before, NoClashFor-before}
 use Rattle.protocol.proofs.Invariant.{AtWork, IsOwned, IsTagged, Quorum, IsTask, IsStage, IsRecord, IsOutcome, IsAimed, IsAfter, NoClashFor, IsSafe, Fits as Fits', IsOpen, IsStored, IsPassed}
 use Rattle.protocol.proofs.lemmas.Forming.{first_formed}
 use Rattle.protocol.proofs.Freshness.{IsFresh-more}
-use Rattle.protocol.proofs.lemmas.Sending.{working}
+use Rattle.protocol.proofs.lemmas.Sending.{unless_some}
 use Rattle.lists.proofs.lemmas.Members.{Contains-one}
 
 first_stage : (s : Setting) (work : Work) → Fits s work → IsStage s work (first_work work)
@@ -47,7 +47,7 @@ module _ (s : Setting) (w : World) (safe : IsSafe s w) (place : ℕ) (later : w.
   pub task_cases : (d : ℕ) (task : Task) → under_way after d ≡ Some task → ((d ≡ c) × (task ≡ new)) ⊎ ((d ≡ c → ⊥) × (under_way w d ≡ Some task))
   task_cases d task h =
       elim (update-cases w.task c (Some new) d) [
-        | inl e ↦ inl (e.0, (let k : unless (w.client_crashed d) (Some new) ≡ Some task = rw e.1 at h in let q = (working (w.client_crashed d) (Some new) task k).1 in let p : new ≡ task = cc in sym p))
+        | inl e ↦ inl (e.0, (let k : unless (w.client_crashed d) (Some new) ≡ Some task = rw e.1 at h in let q = (unless_some (w.client_crashed d) (Some new) task k).1 in let p : new ≡ task = cc in sym p))
         | inr e ↦ inr (e.0, (let k : unless (w.client_crashed d) (w.task d) ≡ Some task = rw e.1 at h in k))
       ]
 

@@ -6,7 +6,7 @@ use Rattle.std.proofs.lemmas.List.Sums.{sum_by-append, sum_by-cons}
 use Rattle.std.proofs.lemmas.List.Elements.{All-cons, All-head, All-nil, All-tail}
 use Rattle.std.proofs.lemmas.Option.{same_Some}
 use native.Mathlib.Decide.{ℕ_discrete}
-use Rattle.receipt_lock.specs.Turns.{once_from, times_placed, AllStand}
+use Rattle.receipt_lock.specs.Tickets.{once_from, times_placed, AllStand}
 use Rattle.receipt_lock.specs.Chits.{Holder, all_mine}
 use Rattle.receipt_lock.specs.Receipts.{IsSettled, IsReceipt, EachHasOneReceipt, EachReceiptStands, AddsUp}
 use Rattle.receipt_lock.proofs.Counts.{counts}

@@ -1,3 +1,3 @@
-pub mod Turns
+pub mod Tickets
 pub mod Chits
 pub mod Receipts

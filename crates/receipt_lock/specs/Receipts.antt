@@ -1,6 +1,6 @@
 -- What the receipts of all chits say, entry by entry, of the list that a closed vault gives back.
 use Rattle.std.specs.Prelude.{◌≡◌, ℕ, ◌+◌, ◌<◌, ◌≤◌, Bool, List, length, count_by, Some, slice_get}
-use Rattle.receipt_lock.specs.Turns.{AllStand, Begins}
+use Rattle.receipt_lock.specs.Tickets.{AllStand, Begins}
 use Rattle.receipt_lock.specs.Chits.{Holder, all_mine, IsPlacedOnce}
 
 module _ {E : Type 0} where

@@ -1,10 +1,12 @@
 ghost use Rattle.std.specs.Prelude.{◌≡◌, ◌+◌, ◌^◌, ◌<◌, ◌≤◌, [], ◌∷◌, length, All, None, Some, IsSome, IfOk};
-ghost use Rattle.receipt_lock.specs.Turns.{Begins, AllStand, HasTurn, times_held, known_of, with_entries, with_turn, without_one, fresh};
+ghost use Rattle.receipt_lock.specs.Tickets.{Begins, AllStand, HasTurn, times_held, known_of, with_entries, with_turn, without_one, fresh};
 ghost use Rattle.receipt_lock.specs.Chits.{vault_id, new_chit, AreNew, took, gave, found_list, all_mine, TookOut};
 ghost use Rattle.receipt_lock.specs.Receipts.{IsSettled};
 
 use crate::Kept;
-use crate::rule::{AddEntries, Call, OneChit, Queue, Serve, Start, TakeIn, Turn, Turns, View};
+use crate::rule::{
+    AddEntries, Call, ChitState, OneChit, Queue, Serve, Start, TakeIn, Tickets, View,
+};
 use atomic_table::{Seat, Table};
 use lists::{ItemList, NoMemory};
 use std::alloc::Global;
@@ -25,7 +27,7 @@ const ENTRIES: usize = 2;
 // The slot in which the value lies while no chit holds it.
 const HOME: usize = 0;
 
-type Ticker<T> = Table<Option<T>, View<<T as Kept>::Entry>, Start<T>, Turns, Global>;
+type Ticker<T> = Table<Option<T>, View<<T as Kept>::Entry>, Start<T>, Tickets, Global>;
 
 type Holding<T> = Seat<Option<T>, View<<T as Kept>::Entry>>;
 
@@ -102,7 +104,7 @@ impl<T: Kept> Chit<T> {
         requires { self.holds ≡ None }
         ensures table { result.table_id ≡ self.vault.table }
         ensures one { result.me.0.chits ≡ 1 }
-        ensures idle { result.me.0.turn ≡ Turn.Idle }
+        ensures idle { result.me.0.turn ≡ ChitState.Idle }
         ensures bare { result.me.1 ≡ [] }
         ensures mine { result.me.0.mine ≡ self.mine }
     {
@@ -229,7 +231,7 @@ fn take_out<T: Kept>(rt: &impl Wait, table: &Ticker<T>, seat: &mut Holding<T>) -
     requires chits { table.now.shared.key.chits ≤ 65536 }
     requires own { seat.old.table_id ≡ table.now.shared.table_id }
     requires one { seat.old.me.0.chits ≡ 1 }
-    requires idle { seat.old.me.0.turn ≡ Turn.Idle }
+    requires idle { seat.old.me.0.turn ≡ ChitState.Idle }
     requires bare { seat.old.me.1 ≡ [] }
     requires left { seat.old.me.0.takes < 2 ^ 41 }
     ensures own { seat.new.table_id ≡ seat.old.table_id }
@@ -250,7 +252,7 @@ fn await_turn<T: Kept>(rt: &impl Wait, table: &Ticker<T>, seat: &mut Holding<T>,
     requires words { table.now.shared.table_id.words ≡ 3 }
     requires own { seat.old.table_id ≡ table.now.shared.table_id }
     requires one { seat.old.me.0.chits ≡ 1 }
-    requires waits { seat.old.me.0.turn ≡ Turn.Waits ticket }
+    requires waits { seat.old.me.0.turn ≡ ChitState.Waits ticket }
     requires bare { seat.old.me.1 ≡ [] }
     ensures own { seat.new.table_id ≡ seat.old.table_id }
     ensures turn { HasTurn T.list seat.old.me.0 seat.new.me }
@@ -282,7 +284,7 @@ fn put_back<T: Kept>(table: &Ticker<T>, seat: &mut Holding<T>, value: T, added: 
     requires small { length (T.list value) < 2 ^ 64 }
     ensures own { seat.new.table_id ≡ seat.old.table_id }
     ensures gave { seat.new.me
-        ≡ (with_turn (with_entries seat.old.me.0 (T.list value)) Turn.Idle, []) }
+        ≡ (with_turn (with_entries seat.old.me.0 (T.list value)) ChitState.Idle, []) }
 {
     let None = table.shared.exchange(seat, HOME, Some(value)) else {
         unreachable!()
@@ -309,7 +311,7 @@ fn join_all<T: Kept>(table: &Ticker<T>, mut chits: Chits<T>) -> Holding<T>
     requires some { 0 < length chits }
     ensures own { result.table_id ≡ table.now.shared.table_id }
     ensures all { result.me.0.chits ≡ length chits }
-    ensures idle { result.me.0.turn ≡ Turn.Idle }
+    ensures idle { result.me.0.turn ≡ ChitState.Idle }
     ensures mine { result.me.0.mine ≡ all_mine chits }
 {
     let Some(last) = chits.pop() else {

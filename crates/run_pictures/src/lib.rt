@@ -1,7 +1,7 @@
 //! Pictures of runs: a replay script is played line by line, told, and drawn.
 #![tactic(auto)]
 
-mod stage;
+mod replayer;
 pub mod status;
 mod telling;
 pub mod top;

@@ -1,7 +1,7 @@
 //! The lines of a script, played once more and told.
 ghost use Rattle.wire_forms.specs.Liars.{AreLiars};
 
-use crate::stage::Stage;
+use crate::replayer::Replayer;
 use history_book::print;
 use history_making::History;
 use lists::NoMemory;
@@ -26,8 +26,14 @@ pub fn told(
     let config = &replay.config;
     let first = *world.first_stamp();
     let run = Run::of(alloc, config, &replay.liars, world.records(), first, &marks)?;
-    let stage = Stage::new(alloc, config, &replay.liars)?;
-    let mut picture = lines_told(alloc, Teller::new(run), stage, script, replay.lines.len())?;
+    let replayer = Replayer::new(alloc, config, &replay.liars)?;
+    let mut picture = lines_told(
+        alloc,
+        Teller::new(run),
+        replayer,
+        script,
+        replay.lines.len(),
+    )?;
     picture.report = report_lines(alloc, history)?;
     Ok(picture)
 }
@@ -47,7 +53,7 @@ fn marks_of(alloc: Global, history: &History) -> Result<BTreeMap<u64, u32>, NoMe
 fn lines_told(
     alloc: Global,
     mut teller: Teller<'_>,
-    mut stage: Stage,
+    mut replayer: Replayer,
     script: &[u8],
     lines: usize,
 ) -> Result<Picture, NoMemory> {
@@ -55,7 +61,7 @@ fn lines_told(
     let head = text.lines().count().saturating_sub(lines);
     for (number, line) in text.lines().skip(head).enumerate() {
         let place = (number as u64).saturating_add(1);
-        tell(alloc, &mut teller, &mut stage, place, line)?;
+        tell(alloc, &mut teller, &mut replayer, place, line)?;
     }
     teller.end()
 }
@@ -64,23 +70,23 @@ fn lines_told(
 fn tell(
     alloc: Global,
     teller: &mut Teller<'_>,
-    stage: &mut Stage,
+    replayer: &mut Replayer,
     place: u64,
     text: &str,
 ) -> Result<(), NoMemory> {
-    let before = stage.pool().len();
+    let before = replayer.pool().len();
     let line = match teller.started_at(place) {
         Some(record) => {
             let start = starting_text(alloc, record)?;
-            stage.play(place, start.as_slice())?
+            replayer.play(place, start.as_slice())?
         }
-        None => stage.play(place, text.as_bytes())?,
+        None => replayer.play(place, text.as_bytes())?,
     };
     teller.tell(&Step {
         place,
         text,
         line: line.as_ref(),
-        pool: stage.pool(),
+        pool: replayer.pool(),
         before,
     })
 }

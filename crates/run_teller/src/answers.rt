@@ -59,7 +59,7 @@ impl<'a> Teller<'a> {
 
     /// The ask that an answer may belong to.
     fn asked<'s>(&self, step: &Step<'s>, answer: &Message) -> Option<&'s Ask> {
-        ask(step, self.post.ask_of(answer)?)
+        ask(step, self.sent_messages.ask_of(answer)?)
     }
 
     /// Adds what a node replies to an ask.

@@ -3,7 +3,7 @@ use crate::run::{Run, block_of};
 use crate::teller::{Step, Teller};
 use crate::words::{add_value, add_words};
 use lists::NoMemory;
-use picture_svg::{Row, Stretch, Work};
+use picture_svg::{PhaseKind, Row, Stretch};
 use run_words::{How, Outcome, Record};
 use stamp_order::Bound;
 use std::collections::BTreeMap;
@@ -14,7 +14,7 @@ use wire_forms::{Ask, Body, Liars, Message, Op, Reply, Request, Tag};
 #[derive(Clone, Copy)]
 pub struct Phase<'a> {
     pub tag: Tag,
-    pub work: Work,
+    pub work: PhaseKind,
     /// The operation.
     pub record: &'a Record,
     /// The row in which the phase began.
@@ -25,9 +25,9 @@ impl<'a> Phase<'a> {
     /// Whether an answer is of the kind that the phase asks for.
     pub(crate) fn is_answered_by(&self, reply: &Reply) -> bool {
         match self.work {
-            Work::Times => matches!(reply, Reply::TimeIs(_)),
-            Work::Round => matches!(reply, Reply::Found(_) | Reply::Nothing),
-            Work::Store | Work::Repair => matches!(reply, Reply::Ack),
+            PhaseKind::Times => matches!(reply, Reply::TimeIs(_)),
+            PhaseKind::Round => matches!(reply, Reply::Found(_) | Reply::Nothing),
+            PhaseKind::Store | PhaseKind::Repair => matches!(reply, Reply::Ack),
         }
     }
 
@@ -44,12 +44,12 @@ impl<'a> Phase<'a> {
 }
 
 /// What a phase of an operation does, by what it asks for.
-fn work_of(op: &Op, request: &Request) -> Work {
+fn work_of(op: &Op, request: &Request) -> PhaseKind {
     match (request, op) {
-        (Request::Time, _) => Work::Times,
-        (Request::Read(_), _) => Work::Round,
-        (Request::Write(_), Op::Write { .. }) => Work::Store,
-        (Request::Write(_), Op::Read { .. }) => Work::Repair,
+        (Request::Time, _) => PhaseKind::Times,
+        (Request::Read(_), _) => PhaseKind::Round,
+        (Request::Write(_), Op::Write { .. }) => PhaseKind::Store,
+        (Request::Write(_), Op::Read { .. }) => PhaseKind::Repair,
     }
 }
 

@@ -87,7 +87,7 @@ impl Sent {
 }
 
 /// All messages that were sent so far, and the last ones of each kind.
-pub struct Post {
+pub struct SentMessages {
     sent: Vec<Sent>,
     questions: BTreeMap<Question, usize>,
     asks: BTreeMap<Pair, usize>,
@@ -95,9 +95,9 @@ pub struct Post {
 }
 
 // By hand, since a derived drop is proved anew wherever a post is let go.
-impl Drop for Post {
+impl Drop for SentMessages {
     fn drop(self) {
-        let Post {
+        let SentMessages {
             sent: _sent,
             questions: _questions,
             asks: _asks,
@@ -106,9 +106,9 @@ impl Drop for Post {
     }
 }
 
-impl Post {
-    pub fn new(alloc: Global) -> Post {
-        Post {
+impl SentMessages {
+    pub fn new(alloc: Global) -> SentMessages {
+        SentMessages {
             sent: Vec::new(alloc),
             questions: BTreeMap::new(alloc),
             asks: BTreeMap::new(alloc),

@@ -3,7 +3,7 @@ use crate::answers::is_store;
 use crate::caption::caption_of;
 use crate::phases::Phase;
 use crate::run::Run;
-use crate::sent::{Pair, Post, pair_of};
+use crate::sent::{Pair, SentMessages, pair_of};
 use crate::words::{add_words, short_line};
 use lists::NoMemory;
 use picture_svg::{Actor, Arrow, Fate, Lifeline, Mark, Picture, Row, Sign};
@@ -49,7 +49,7 @@ impl<'s> Step<'s> {
 /// What was told so far.
 pub struct Teller<'a> {
     pub(crate) run: Run<'a>,
-    pub(crate) post: Post,
+    pub(crate) sent_messages: SentMessages,
     /// The phases that are under way, by client.
     pub(crate) phases: BTreeMap<u32, Phase<'a>>,
     /// The phase in which the last answer counted, by client and node.
@@ -64,7 +64,7 @@ impl<'a> Drop for Teller<'a> {
     fn drop(self) {
         let Teller {
             run: _run,
-            post: _post,
+            sent_messages: _post,
             phases: _phases,
             counted: _counted,
             clients: _clients,
@@ -79,7 +79,7 @@ impl<'a> Teller<'a> {
         let alloc = run.alloc;
         Teller {
             run,
-            post: Post::new(alloc),
+            sent_messages: SentMessages::new(alloc),
             phases: BTreeMap::new(alloc),
             counted: BTreeMap::new(alloc),
             clients: BTreeSet::new(alloc),
@@ -133,7 +133,7 @@ impl<'a> Teller<'a> {
 
     /// Adds the messages that were never given or heard.
     fn add_under_way(&mut self) -> Result<(), NoMemory> {
-        self.post.add_rest(&mut self.picture.arrows)
+        self.sent_messages.add_rest(&mut self.picture.arrows)
     }
 
     /// Adds the clients that took part or are declared lying, and the nodes.
@@ -147,7 +147,7 @@ impl<'a> Teller<'a> {
     fn add_sent(&mut self, step: &Step<'_>) -> Result<(), NoMemory> {
         for message in step.sent() {
             self.clients.insert(message.client)?;
-            self.post.add(message, step.row(), self.run.liars)?;
+            self.sent_messages.add(message, step.row(), self.run.liars)?;
         }
         Ok(())
     }
@@ -184,11 +184,11 @@ impl<'a> Teller<'a> {
     fn call(&mut self, note: &mut String, step: &Step<'_>) -> Result<(), NoMemory> {
         let answer = step.before;
         let ask = match step.message(answer) {
-            Some(message) => self.post.ask_of(message),
+            Some(message) => self.sent_messages.ask_of(message),
             None => None,
         };
         if let Some(ask) = ask {
-            let arrow = self.post.settle_call(ask, step.row());
+            let arrow = self.sent_messages.settle_call(ask, step.row());
             add_arrow(&mut self.picture.arrows, arrow)?;
             self.hold(step, ask, answer)?;
         }
@@ -203,7 +203,7 @@ impl<'a> Teller<'a> {
         ask: usize,
         answer: usize,
     ) -> Result<(), NoMemory> {
-        let arrow = self.post.settle(ask, step.row(), Fate::Arrived);
+        let arrow = self.sent_messages.settle(ask, step.row(), Fate::Arrived);
         add_arrow(&mut self.picture.arrows, arrow)?;
         self.hold(step, ask, answer)?;
         match step.message(answer) {
@@ -222,7 +222,7 @@ impl<'a> Teller<'a> {
             self.counted.insert(pair_of(message), message.tag)?;
         }
         let fate = if counts { Fate::Arrived } else { Fate::Stale };
-        let arrow = self.post.settle(answer, step.row(), fate);
+        let arrow = self.sent_messages.settle(answer, step.row(), fate);
         add_arrow(&mut self.picture.arrows, arrow)?;
         self.add_answer(note, step, message, counts)
     }
@@ -259,7 +259,7 @@ impl<'a> Teller<'a> {
         client: u32,
         node: u8,
     ) -> Result<(), NoMemory> {
-        let arrow = self.post.lose(Pair { client, node }, step.row());
+        let arrow = self.sent_messages.lose(Pair { client, node }, step.row());
         self.clients.insert(client)?;
         self.picture.arrows.push(arrow)?;
         add_words(note, "lost")

@@ -4,15 +4,15 @@ use Rattle.std.specs.List.{All}
 use Rattle.std.proofs.lemmas.List.{length-append}
 use Rattle.std.proofs.lemmas.List.Elements.{recursion_from_All}
 use Rattle.wire_forms.specs.Liars.{IsAscending, has_number, IsClientNumber}
-use Rattle.script_text.proofs.lemmas.Ascending.{below, below_next, below_none, below_all}
+use Rattle.script_text.proofs.lemmas.Ascending.{numbers_below, below_next, below_none, below_all}
 
 -- how many of the numbers are below a limit
 abbrev pub counted_below : ℕ → List ℕ → ℕ
-counted_below limit ks = length (below limit ks)
+counted_below limit ks = length (numbers_below limit ks)
 
-more : (limit : ℕ) (ks : List ℕ) (there : Bool) → length (below limit ks ++ cond there (limit ∷ []) []) ≡ counted_below limit ks + cond there 1 0
-more limit ks true = length-append (below limit ks) (limit ∷ [])
-more limit ks false = length-append (below limit ks) []
+more : (limit : ℕ) (ks : List ℕ) (there : Bool) → length (numbers_below limit ks ++ cond there (limit ∷ []) []) ≡ counted_below limit ks + cond there 1 0
+more limit ks true = length-append (numbers_below limit ks) (limit ∷ [])
+more limit ks false = length-append (numbers_below limit ks) []
 
 -- one number more
 pub counted_next : (limit : ℕ) (ks : List ℕ) (there : Bool) → IsAscending ks → there ≡ has_number ks limit → counted_below (limit + 1) ks ≡ counted_below limit ks + cond there 1 0

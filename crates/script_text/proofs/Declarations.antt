@@ -22,7 +22,7 @@ use Rattle.script_text.specs.Replays.{liar_fields, liar_line, IsDeclarable, is_s
 use Rattle.script_text.specs.Reading.{is_node, has_declared, again_cause, AreDeclared}
 use Rattle.lists.proofs.lemmas.Members.{all_push}
 use Rattle.lists.proofs.lemmas.Tests.{or_swapped, or_twice, bool_eq}
-use Rattle.lists.proofs.lemmas.Orders.{inserted}
+use Rattle.lists.proofs.lemmas.Orders.{insert_key_cases}
 
 -- ---- the line of what is declared
 
@@ -117,21 +117,21 @@ eqb_turned a b = bool_eq (eqb a b) (eqb b a) (λ h. eq-eqb b a (sym (eqb-true a 
 pub insert_has : (ks : List ℕ) (k q : ℕ) → has_number (insert_key nat_cmp ks k) q ≡ (eqb k q || has_number ks q)
 insert_has [] k q = ap (λ (b : Bool). b || false) (eqb_turned q k)
 insert_has (x ∷ xs) k q =
-    inserted x xs k (λ ks. has_number ks q ≡ (eqb k q || has_number (x ∷ xs) q))
+    insert_key_cases x xs k (λ ks. has_number ks q ≡ (eqb k q || has_number (x ∷ xs) q))
     (ap (λ (b : Bool). b || has_number (x ∷ xs) q) (eqb_turned q k))
     (λ same. rw (same, eqb_turned x q) (or_twice (eqb q x) (has_number xs q)))
     (ap (λ (b : Bool). eqb q x || b) (insert_has xs k q) ∙ or_swapped (eqb q x) (eqb k q) (has_number xs q))
 
 pub insert_longer : (ks : List ℕ) (k : ℕ) → length ks ≤ length (insert_key nat_cmp ks k)
 insert_longer [] k = omega arith
-insert_longer (x ∷ xs) k = let h = insert_longer xs k in inserted x xs k (λ ks. length (x ∷ xs) ≤ length ks) (omega arith) (λ same. omega arith) (omega arith)
+insert_longer (x ∷ xs) k = let h = insert_longer xs k in insert_key_cases x xs k (λ ks. length (x ∷ xs) ≤ length ks) (omega arith) (λ same. omega arith) (omega arith)
 
 pub insert_length : (ks : List ℕ) (k : ℕ) → has_number ks k ≡ false → length (insert_key nat_cmp ks k) ≡ length ks + 1
 insert_length [] k h = refl
 insert_length (x ∷ xs) k h =
     let p = or_parts (eqb k x) (has_number xs k) h in
     let more = insert_length xs k p.1 in
-    inserted x xs k (λ ks. length ks ≡ length (x ∷ xs) + 1) (omega arith) (λ same. absurd (false≢true (sym p.0 ∙ eq-eqb k x same))) (omega arith)
+    insert_key_cases x xs k (λ ks. length ks ≡ length (x ∷ xs) + 1) (omega arith) (λ same. absurd (false≢true (sym p.0 ∙ eq-eqb k x same))) (omega arith)
 
 -- ---- liars and one more
 

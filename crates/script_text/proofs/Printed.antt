@@ -12,7 +12,7 @@ use Rattle.event_lines.specs.declared.line.ReplayLine.{ReplayLine}
 use Rattle.script_text.specs.declared.liars.Declared.{Declared}
 use Rattle.script_text.specs.declared.liars.Declared.TheVariants.{Node, Client}
 use Rattle.script_text.specs.Replays.{liar_line, declarations, replay_text}
-use Rattle.script_text.proofs.lemmas.Ascending.{below, below_next}
+use Rattle.script_text.proofs.lemmas.Ascending.{numbers_below, below_next}
 
 -- one more line
 pub line_added : (lines : List (List ℕ)) (line : List ℕ) → text_of_lines (lines ++ line ∷ []) ≡ text_of_lines lines ++ (line ++ 10 ∷ [])
@@ -20,23 +20,23 @@ line_added lines line = flat_map-append (λ l. l ++ 10 ∷ []) lines (line ∷ [
 
 -- the lines of the numbers below a limit, after a text
 abbrev pub written : (ℕ → List ℕ) → List ℕ → ℕ → List ℕ → List ℕ
-written line old limit ks = old ++ text_of_lines (map line (below limit ks))
+written line old limit ks = old ++ text_of_lines (map line (numbers_below limit ks))
 
-pub none_written : (line : ℕ → List ℕ) (old ks : List ℕ) (limit : ℕ) → below limit ks ≡ [] → old ≡ written line old limit ks
+pub none_written : (line : ℕ → List ℕ) (old ks : List ℕ) (limit : ℕ) → numbers_below limit ks ≡ [] → old ≡ written line old limit ks
 none_written line old ks limit none = sym (ap (λ (xs : List ℕ). old ++ text_of_lines (map line xs)) none ∙ append-nil old)
 
-pub all_written : (line : ℕ → List ℕ) (old ks : List ℕ) (limit : ℕ) → below limit ks ≡ ks → written line old limit ks ≡ old ++ text_of_lines (map line ks)
+pub all_written : (line : ℕ → List ℕ) (old ks : List ℕ) (limit : ℕ) → numbers_below limit ks ≡ ks → written line old limit ks ≡ old ++ text_of_lines (map line ks)
 all_written line old ks limit all = ap (λ (xs : List ℕ). old ++ text_of_lines (map line xs)) all
 
 pub number_skipped : (line : ℕ → List ℕ) (old ks : List ℕ) (k : ℕ) → IsAscending ks → has_number ks k ≡ false → written line old k ks ≡ written line old (k + 1) ks
 number_skipped line old ks k up none =
-    ap (λ (xs : List ℕ). old ++ text_of_lines (map line xs)) (sym (below_next k ks up ∙ ap (λ (b : Bool). below k ks ++ cond b (k ∷ []) []) none ∙ append-nil (below k ks)))
+    ap (λ (xs : List ℕ). old ++ text_of_lines (map line xs)) (sym (below_next k ks up ∙ ap (λ (b : Bool). numbers_below k ks ++ cond b (k ∷ []) []) none ∙ append-nil (numbers_below k ks)))
 
 pub number_written : (line : ℕ → List ℕ) (old ks : List ℕ) (k : ℕ) → IsAscending ks → has_number ks k ≡ true → written line old k ks ++ (line k ++ 10 ∷ []) ≡ written line old (k + 1) ks
 number_written line old ks k up there =
-    append_assoc old (text_of_lines (map line (below k ks))) (line k ++ 10 ∷ [])
-    ∙ ap (λ (t : List ℕ). old ++ t) (sym (line_added (map line (below k ks)) (line k)) ∙ ap text_of_lines (sym (map_push line (below k ks) k)))
-    ∙ ap (λ (xs : List ℕ). old ++ text_of_lines (map line xs)) (sym (below_next k ks up ∙ ap (λ (b : Bool). below k ks ++ cond b (k ∷ []) []) there))
+    append_assoc old (text_of_lines (map line (numbers_below k ks))) (line k ++ 10 ∷ [])
+    ∙ ap (λ (t : List ℕ). old ++ t) (sym (line_added (map line (numbers_below k ks)) (line k)) ∙ ap text_of_lines (sym (map_push line (numbers_below k ks) k)))
+    ∙ ap (λ (xs : List ℕ). old ++ text_of_lines (map line xs)) (sym (below_next k ks up ∙ ap (λ (b : Bool). numbers_below k ks ++ cond b (k ∷ []) []) there))
 
 in_pieces : (old w d end : List ℕ) → ((old ++ w) ++ d) ++ end ≡ old ++ ((w ++ d) ++ end)
 in_pieces old w d end = simp append_assoc

@@ -3,12 +3,12 @@ use Rattle.std.proofs.Common.{◌≡◌, inl, inr, ℕ, suc, ◌+◌, ◌-◌, �
 use Rattle.std.proofs.lemmas.Bool.{cases_lt}
 use Rattle.std.proofs.lemmas.List.{append-nil}
 use Rattle.disk_model.specs.Crash.{Pending, MayLeave, IsWithin, Elapses, LeavesOnly, settled, with_range, overwritten}
-use Rattle.disk_model.proofs.lemmas.Crash.{only_settled, settled_stays, synced_may, range_within, before, inside}
+use Rattle.disk_model.proofs.lemmas.Crash.{only_settled, settled_stays, synced_may, range_within, overwritten_before, overwritten_inside}
 use Rattle.slot_disk.specs.Bodies.{bodies, bodies_in, IsClosedAt, AreWithFirst}
 use Rattle.slot_disk.specs.Gates.{gated, AreOpen}
 use Rattle.slot_disk.proofs.lemmas.Gates.{OnlyGates, only_gates, gate_below, gated_up_to, torn_gates, all_there, long_staged}
-use Rattle.slot_disk.proofs.lemmas.Moments.{started, goes_on, joined}
-use Rattle.slot_disk.proofs.lemmas.Moments.{weaker}
+use Rattle.slot_disk.proofs.lemmas.Moments.{leaves_only_started, leaves_only_goes_on, leaves_only_joined}
+use Rattle.slot_disk.proofs.lemmas.Moments.{leaves_only_weaker}
 use Rattle.slot_disk.proofs.Torn.{torn_behind}
 
 module _ {D : Type 0} (moment : D → ℕ) (left_since : D → ℕ → List ℕ → Type 0) (pending : D → Pending) (seen : D → List ℕ) where
@@ -26,7 +26,7 @@ module _ {D : Type 0} (moment : D → ℕ) (left_since : D → ℕ → List ℕ 
     none_written only_now = record {
       within = λ c m. subst (λ (p : Pending). MayLeave p c) settles m;
       stays = subst (λ (p : Pending). MayLeave p S) (sym settles) (settled_stays S);
-      leaves = started moment left_since pending old (MayLeave (gated w gate more (settled S))) (λ c left. gated_up_to w gate 0 more (settled S) (omega arith) c (subst (λ (p : Pending). MayLeave p c) settles (only_now c left)));
+      leaves = leaves_only_started moment left_since pending old (MayLeave (gated w gate more (settled S))) (λ c left. gated_up_to w gate 0 more (settled S) (omega arith) c (subst (λ (p : Pending). MayLeave p c) settles (only_now c left)));
     }
 
     fit : (k : ℕ) → k ≤ more → gate + k * (w + 1) ≤ length S
@@ -58,7 +58,7 @@ module _ {D : Type 0} (moment : D → ℕ) (left_since : D → ℕ → List ℕ 
       next_written stays time = record {
         within = one_more;
         stays = stays;
-        leaves = goes_on moment left_since pending old mid new (MayLeave (gated w gate more (settled S))) so_far.leaves time (λ c m. gated_up_to w gate (suc k) more (settled S) (omega arith) c (one_more c m));
+        leaves = leaves_only_goes_on moment left_since pending old mid new (MayLeave (gated w gate more (settled S))) so_far.leaves time (λ c m. gated_up_to w gate (suc k) more (settled S) (omega arith) c (one_more c m));
       }
 
       pub next_open : AreOpen w gate k (seen mid) → seen new ≡ overwritten (seen mid) (gate + k * (w + 1)) (1 ∷ []) → AreOpen w gate (suc k) (seen new)
@@ -67,14 +67,14 @@ module _ {D : Type 0} (moment : D → ℕ) (left_since : D → ℕ → List ℕ 
           let room = here in
           ap (λ (l : List ℕ). get_or l (gate + i * (w + 1)) 0) written
           ∙ elim (cases_lt i k) [
-            | inl earlier ↦ (let less = gate_below w i k earlier in before (seen mid) (gate + k * (w + 1)) (1 ∷ []) (gate + i * (w + 1)) (omega arith) (omega arith) ∙ opened i earlier)
+            | inl earlier ↦ (let less = gate_below w i k earlier in overwritten_before (seen mid) (gate + k * (w + 1)) (1 ∷ []) (gate + i * (w + 1)) (omega arith) (omega arith) ∙ opened i earlier)
             | inr later ↦ (
                 let same : i ≡ k = omega arith in
                 let place : gate + k * (w + 1) ≡ gate + k * (w + 1) + 0 = omega arith in
                 let at_hand : gate + k * (w + 1) ≤ length (seen mid) = omega arith in
                 ap (λ (n : ℕ). get_or (overwritten (seen mid) (gate + k * (w + 1)) (1 ∷ [])) (gate + n * (w + 1)) 0) same
                 ∙ ap (λ (n : ℕ). get_or (overwritten (seen mid) (gate + k * (w + 1)) (1 ∷ [])) n 0) place
-                ∙ inside (seen mid) (gate + k * (w + 1)) (1 ∷ []) 0 at_hand (omega arith))
+                ∙ overwritten_inside (seen mid) (gate + k * (w + 1)) (1 ∷ []) 0 at_hand (omega arith))
           ]
 
     pub all_written : (k : ℕ) (now : D) → k ≤ more → AreWritten w gate more k old now → AreWritten w gate more more old now
@@ -99,7 +99,7 @@ module _ {D : Type 0} (moment : D → ℕ) (left_since : D → ℕ → List ℕ 
     unchanged c same = (0, omega arith, same ∙ sym (append-nil (bodies w (seen old))))
 
     begun : Leaves old
-    begun = started moment left_since pending old P (λ c left. unchanged c (ap (bodies w) (only_settled (seen old) c (subst (λ (p : Pending). MayLeave p c) settles (only_now c left)))))
+    begun = leaves_only_started moment left_since pending old P (λ c left. unchanged c (ap (bodies w) (only_settled (seen old) c (subst (λ (p : Pending). MayLeave p c) settles (only_now c left)))))
 
     behind : (d : D) → IsWithin (pending d) (with_range (gate + 1) (length piece) (pending old)) → (c : List ℕ) → MayLeave (pending d) c → P c
     behind d crash c m =
@@ -107,11 +107,11 @@ module _ {D : Type 0} (moment : D → ℕ) (left_since : D → ℕ → List ℕ 
         unchanged c (torn_behind w (seen old) count closed (length piece) c (subst (λ (g : ℕ). MayLeave (with_range (g + 1) (length piece) (settled (seen old))) c) at now))
 
     pub first : (d : D) → IsWithin (pending d) (with_range (gate + 1) (length piece) (pending old)) → Elapses moment left_since pending old d → Leaves d
-    first d crash time = goes_on moment left_since pending old old d P begun time (behind d crash)
+    first d crash time = leaves_only_goes_on moment left_since pending old old d P begun time (behind d crash)
 
     pub second : (d e : D) → IsWithin (pending d) (with_range (gate + 1) (length piece) (pending old)) → Elapses moment left_since pending old d
         → IsWithin (pending e) (pending d) → Elapses moment left_since pending d e → Leaves e
-    second d e crash time crash_2 time_2 = goes_on moment left_since pending old d e P (first d crash time) time_2 (λ c m. behind d crash c (crash_2 c m))
+    second d e crash time crash_2 time_2 = leaves_only_goes_on moment left_since pending old d e P (first d crash time) time_2 (λ c m. behind d crash c (crash_2 c m))
 
     module _ (d e f : D) (written : seen d ≡ overwritten (seen old) (gate + 1) piece) (same : seen e ≡ seen d) where
       staged : seen e ≡ overwritten (seen old) (gate + 1) piece
@@ -127,11 +127,11 @@ module _ {D : Type 0} (moment : D → ℕ) (left_since : D → ℕ → List ℕ 
       gates c m = torn_gates w (seen old) count closed gate at more some piece size zero_last (seen e) staged c (only c m)
 
       pub third : Leaves e → LeavesOnly moment left_since e f (MayLeave (gated w gate more (settled (seen e)))) → Leaves f
-      third so_far opening = joined moment left_since pending old e f P so_far (weaker moment left_since e f (MayLeave (gated w gate more (settled (seen e)))) P gates opening)
+      third so_far opening = leaves_only_joined moment left_since pending old e f P so_far (leaves_only_weaker moment left_since e f (MayLeave (gated w gate more (settled (seen e)))) P gates opening)
 
       pub fourth : (h : D) → Leaves e → LeavesOnly moment left_since e f (MayLeave (gated w gate more (settled (seen e)))) → IsWithin (pending f) (gated w gate more (settled (seen e)))
           → IsWithin (pending h) (pending f) → Elapses moment left_since pending f h → Leaves h
-      fourth h so_far opening within crash time = goes_on moment left_since pending old f h P (third so_far opening) time (λ c m. gates c (within c (crash c m)))
+      fourth h so_far opening within crash time = leaves_only_goes_on moment left_since pending old f h P (third so_far opening) time (λ c m. gates c (within c (crash c m)))
 
       -- after all of them the slots are there
       pub all_added : (h : D) → IsWithin (pending f) (gated w gate more (settled (seen e))) → MayLeave (pending f) (seen f) → AreOpen w gate more (seen f) → seen h ≡ seen f

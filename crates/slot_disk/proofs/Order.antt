@@ -4,7 +4,7 @@ use Rattle.std.specs.Prelude.{slice_get, slice_range, Some}
 use Rattle.std.proofs.lemmas.Bool.{cases_eq, cases_lt}
 use Rattle.std.proofs.lemmas.List.{get_or-drop, drop-drop}
 use Rattle.slot_disk.specs.Bodies.{bodies, IsOpen, AreInOrder}
-use Rattle.slot_disk.proofs.lemmas.Bodies.{open_first, shut}
+use Rattle.slot_disk.proofs.lemmas.Bodies.{open_first, bodies_from_shut}
 
 module _ (w : ℕ) where
   at_zero : (gate : ℕ) (rest : List ℕ) → get_or (gate ∷ rest) (0 * (w + 1)) 0 ≡ gate
@@ -77,9 +77,9 @@ module _ (w : ℕ) where
   within (suc most) (gate ∷ rest) le = elim (cases_eq gate 1) [
     | inl one ↦ elim (cases_lt w (length rest)) [
       | inl fits ↦ one_more gate rest one fits (within most (drop w rest) (omega (arith, length-drop w rest, le)))
-      | inr short ↦ none (gate ∷ rest) (shut w gate rest (inr short)) (λ there. let long = there.whole in omega (arith, long, short))
+      | inr short ↦ none (gate ∷ rest) (bodies_from_shut w gate rest (inr short)) (λ there. let long = there.whole in omega (arith, long, short))
     ]
-    | inr other ↦ none (gate ∷ rest) (shut w gate rest (inl other)) (λ there. other (sym (at_zero gate rest) ∙ there.gate))
+    | inr other ↦ none (gate ∷ rest) (bodies_from_shut w gate rest (inl other)) (λ there. other (sym (at_zero gate rest) ∙ there.gate))
   ]
 
   pub in_order : (bytes : List ℕ) → AreInOrder w bytes

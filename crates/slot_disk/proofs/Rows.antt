@@ -3,7 +3,7 @@ use Rattle.std.proofs.Common.{◌≡◌, ◌≢◌, ◌⊎◌, inl, inr, ℕ, ze
 use Rattle.std.proofs.lemmas.Bool.{cases_eq}
 use Rattle.std.proofs.lemmas.List.{ext_get_or, get_or-take, get_or-drop}
 use Rattle.slot_disk.specs.Bodies.{bodies, bodies_in}
-use Rattle.slot_disk.proofs.lemmas.Bodies.{open_first, shut}
+use Rattle.slot_disk.proofs.lemmas.Bodies.{open_first, bodies_from_shut}
 
 -- so many bodies of a piece stand in the bytes, and the gate behind the last of them isn't open
 pub record IsRow (w more : ℕ) (piece bytes : List ℕ) : Type 0 where
@@ -82,7 +82,7 @@ module _ (w : ℕ) where
   first_few zero piece (gate ∷ rest) row = record {
     k = 0;
     le = omega arith;
-    are = shut w gate rest (inl (λ one. row.last (at_zero gate rest ∙ one)));
+    are = bodies_from_shut w gate rest (inl (λ one. row.last (at_zero gate rest ∙ one)));
     stops = inl refl;
   }
   first_few (suc m) piece [] row = absurd (let long = row.long in omega arith)
@@ -91,7 +91,7 @@ module _ (w : ℕ) where
     | inr other ↦ record {
       k = 0;
       le = omega arith;
-      are = shut w gate rest (inl other);
+      are = bodies_from_shut w gate rest (inl other);
       stops = inr (λ one. other (sym (at_zero gate rest) ∙ one));
     }
   ]

@@ -35,7 +35,7 @@ use Rattle.soak_loads.proofs.Records.{writes_by}
 use Rattle.soak_loads.proofs.Bounded.{writes, choices_few, no_lies}
 use Rattle.soak_loads.proofs.OwnStamps.{EndsOwn, own_stamps}
 use Rattle.soak_loads.proofs.OwnedWork.{ops_for, ops_few, ops_there, as_deed, deeds_are, ended_op, on_its_block, ops_ended}
-use Rattle.lists.proofs.lemmas.Members.{Contains-map_cases, Contains-map, filter_is, filter_has, all_of}
+use Rattle.lists.proofs.lemmas.Members.{Contains-map_cases, Contains-map, filter_is, filter_has, all_from_members}
 
 -- ---- lists
 
@@ -174,7 +174,7 @@ module _ (plan : Plan) (j : Journals) (w : World) (history : List Entry) (owners
     block_records block =
         same_ascending (λ (r : Record). r.start) (records_on w block) (map (ended_record c) (ended_on block))
         (ascend_filter (λ r. r.block == block) w.records starts)
-        (ascend_ended c (ended_on block) turns (all_filter (λ x. x.start ≤ x.end) (λ x. x.block == block) (ended_by j c) (all_of (λ x. x.start ≤ x.end) (ended_by j c) (starts_first c))))
+        (ascend_ended c (ended_on block) turns (all_filter (λ x. x.start ≤ x.end) (λ x. x.block == block) (ended_by j c) (all_from_members (λ x. x.start ≤ x.end) (ended_by j c) (starts_first c))))
         to from
       where
         c : ℕ

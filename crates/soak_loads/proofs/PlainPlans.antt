@@ -36,7 +36,7 @@ use Rattle.soak_loads.specs.Loads.{HasOwners, OwnersAreDone, OwnersArePlain}
 use Rattle.soak_loads.proofs.Parts.{same_length}
 use Rattle.soak_loads.proofs.OwnedWork.{deeds_below, steady_client}
 use Rattle.soak_loads.proofs.BlockRecords as of_block
-use Rattle.lists.proofs.lemmas.Members.{Contains-head, Contains-rest, all_of}
+use Rattle.lists.proofs.lemmas.Members.{Contains-head, Contains-rest, all_from_members}
 
 -- ---- counts
 
@@ -86,7 +86,7 @@ module _ (plan : Plan) (j : Journals) (drawn : ℕ) (w : World) (h : List Entry)
     as_many : length w.records ≡ length (deeds_of plan.work)
     as_many =
         same_length (λ (r : Record). r.block) (λ (d : Deed). block_of d.op) plan.config.blocks w.records (deeds_of plan.work)
-        (all_of (λ r. r.block < plan.config.blocks) w.records
+        (all_from_members (λ r. r.block < plan.config.blocks) w.records
         (λ r there. (of_block.owned_record plan j w h owners of_plan.fits config liars steady complete told starts r there).below))
         (deeds_below owners.owner plan.config plan.work owners.owned of_plan.fits.fitting.each_job)
         (λ block. sym (length-map (of_block.records_on w block) record_deed) ∙ ap length (deeds block))

@@ -14,7 +14,7 @@ use Rattle.protocol.proofs.lemmas.Order.{lower_time}
 use Rattle.soak_loads.specs.Serial.{IsPast, AreInTurn}
 use Rattle.soak_loads.proofs.Records.{stamp_of, record_entry, kind_by, IsReading}
 use Rattle.soak_loads.proofs.Walk.{Stamped, IsNext, next_stamp, later, own_next}
-use Rattle.lists.proofs.lemmas.Members.{Contains-head, Contains-none, Contains-rest, all_of}
+use Rattle.lists.proofs.lemmas.Members.{Contains-head, Contains-none, Contains-rest, all_from_members}
 use Rattle.lists.proofs.lemmas.Orders.{nat_less}
 
 -- each starts by its end
@@ -67,7 +67,7 @@ sorted_append [] ys a b h = b
 sorted_append (x ∷ xs) ys a b h = (both xs ys a.0 (λ y j. h x y (Contains-head x xs) j), sorted_append xs ys a.1 b (λ z y i j. h z y (Contains-rest z x xs i) j))
   where
     both : (xs ys : List Entry) → AllByRecursion (λ f. entry_cmp x f ≡ Less) xs → ((y : Entry) → Contains ys y → entry_cmp x y ≡ Less) → AllByRecursion (λ f. entry_cmp x f ≡ Less) (xs ++ ys)
-    both [] ys p k = all_of (λ f. entry_cmp x f ≡ Less) ys k
+    both [] ys p k = all_from_members (λ f. entry_cmp x f ≡ Less) ys k
     both (z ∷ zs) ys p k = (p.0, both zs ys p.1 k)
 
 -- what stands in a flat map over blocks

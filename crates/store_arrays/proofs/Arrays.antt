@@ -5,7 +5,7 @@ use Rattle.std.specs.declared.option.Option.TheVariants.{None, Some}
 use Rattle.std.specs.List.{Contains}
 use Rattle.std.proofs.lemmas.List.{append_assoc}
 use Rattle.std.proofs.lemmas.List.Elements.{Contains-append_left, Contains-append_right}
-use Rattle.lists.proofs.lemmas.Members.{Contains-head, Contains-rest, where_all}
+use Rattle.lists.proofs.lemmas.Members.{Contains-head, Contains-rest, member_of_all}
 use Rattle.quorum_rules.specs.Limits.{Numbers}
 use Rattle.wire_forms.specs.declared.op.Op.{Op}
 use Rattle.protocol.specs.Setting.{zeros}
@@ -55,7 +55,7 @@ pub lives_are_arrays : (c : Numbers) (lying : ℕ → Bool) → LivesAreArrays c
 lives_are_arrays c lying arrays is_done good life lived all each apart =
     arrays life lived
     (λ k op outcome was.
-    by k op outcome was (where_all (λ (p : Op × Option Outcome). is_some p.1 ≡ true) (operations_of life) all (op, outcome) (in_life life k op outcome was)))
+    by k op outcome was (member_of_all (λ (p : Op × Option Outcome). is_some p.1 ≡ true) (operations_of life) all (op, outcome) (in_life life k op outcome was)))
     each apart
   where
     by : (k : ℕ) (op : Op) (outcome : Option Outcome) → WasTold life k op outcome → is_some outcome ≡ true → WasDone op outcome

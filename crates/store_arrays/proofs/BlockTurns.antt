@@ -5,7 +5,7 @@ use Rattle.std.specs.declared.option.Option.TheVariants.{None, Some}
 use Rattle.std.specs.Option.{option_map}
 use Rattle.std.specs.List.{Contains, cons_option}
 use Rattle.std.proofs.lemmas.Bool.{eqb-true, eq-eqb}
-use Rattle.lists.proofs.lemmas.Members.{Contains-head, Contains-rest, Contains-slice_get, where_all}
+use Rattle.lists.proofs.lemmas.Members.{Contains-head, Contains-rest, Contains-slice_get, member_of_all}
 use Rattle.quorum_rules.specs.Limits.{Numbers}
 use Rattle.stamp_order.specs.declared.Stamp.{Stamp}
 use Rattle.wire_forms.specs.declared.op.Op.{Op}
@@ -87,7 +87,7 @@ module _ (c : Numbers) (lying : ℕ → Bool) where
       let is = ap (turn_on (block_of op)) turn ∙ on.1 in
       let first : BlockMoment = record { turn = turn_of on.0 (work_of op) outcome; kept = kept_of m.nodes (block_of op) } in
       record {
-        on = (where_all (λ (o : Op). (block_of o < c.blocks) × Fits (setting c) (work_of o)) was.ops batch.fit op
+        on = (member_of_all (λ (o : Op). (block_of o < c.blocks) × Fits (setting c) (work_of o)) was.ops batch.fit op
             (Contains-slice_get was.ops was.place op was.asked)).0;
         moment = first;
         there =

@@ -5,7 +5,7 @@ use Rattle.std.specs.declared.option.Option.TheVariants.{None, Some}
 use Rattle.std.specs.List.{Contains, AllByRecursion}
 use Rattle.std.proofs.lemmas.Bool.{cases_Bool, cases_lt, cases_eq, eqb-true, eq-eqb}
 use Rattle.std.proofs.lemmas.Bool.Decides.{nat_tests}
-use Rattle.lists.proofs.lemmas.Members.{Contains-head, filter_is, filter_has, where_all, Contains-slice_get}
+use Rattle.lists.proofs.lemmas.Members.{Contains-head, filter_is, filter_has, member_of_all, Contains-slice_get}
 use Rattle.quorum_rules.specs.Limits.{Numbers}
 use Rattle.stamp_order.specs.declared.Stamp.{Stamp}
 use Rattle.wire_forms.specs.declared.op.Op.{Op}
@@ -351,7 +351,7 @@ module _ (written : (zeros : List ℕ) (ops : List Operation) → ReadsAreWritte
           let told_each = was_told k ops outcomes here in
           answered_append (with_outcomes ops outcomes) (operations_of rest) a
           (one_by_one ops outcomes a a (are_own ops is.0.apart) (all_same ops)
-          (λ place op outcome p q. answer k a holds op outcome (where_all _ ops is.0.fit op (Contains-slice_get ops place op p)).0
+          (λ place op outcome p q. answer k a holds op outcome (member_of_all _ ops is.0.fit op (Contains-slice_get ops place op p)).0
           (told_each place op outcome p q) (done k op outcome (told_each place op outcome p q))))
           (more (all_after (with_outcomes ops outcomes) a)
           (holds_then k ops outcomes here (as_long c lying 1 ops outcomes old m.nodes is.1.done) a holds))

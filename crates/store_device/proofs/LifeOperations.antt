@@ -7,7 +7,7 @@ use Rattle.std.specs.List.{AllByRecursion, AllPairs, cons_option}
 use Rattle.std.proofs.lemmas.Bool.{eqb-true, eq-eqb}
 use Rattle.std.proofs.lemmas.List.{append-nil, map-append}
 use Rattle.std.proofs.lemmas.List.Elements.{filter-append}
-use Rattle.lists.proofs.lemmas.Members.{all_of}
+use Rattle.lists.proofs.lemmas.Members.{all_from_members}
 use Rattle.quorum_rules.specs.Limits.{Numbers}
 use Rattle.stamp_order.specs.declared.Stamp.{Stamp}
 use Rattle.wire_forms.specs.declared.op.Op.{Op}
@@ -28,7 +28,7 @@ use Rattle.store_device.specs.Lives.Turn.{Performed, Pruned, Changed}
 module _ {X : Type 0} (of : X → ℕ) (x : X) (xs : List X) (apart : AllPairs (λ y other. of y ≢ of other) (x ∷ xs)) where
   pub apart_first : AllByRecursion (λ other. of other ≢ of x) xs
   apart_first =
-      all_of (λ (other : X). of other ≢ of x) xs
+      all_from_members (λ (other : X). of other ≢ of x) xs
       (λ other there same. apart 0 (suc there.0) other (omega arith) (omega (arith, there.1)) (sym same ∙ ap of (sym there.2)))
 
   pub apart_rest : AllPairs (λ y other. of y ≢ of other) xs

@@ -6,7 +6,7 @@ use Rattle.std.specs.List.{Contains}
 use Rattle.std.proofs.lemmas.Bool.{cases_lt}
 use Rattle.std.proofs.lemmas.Option.{slice_get_within, get_or_from_slice_get}
 use Rattle.std.proofs.lemmas.List.Elements.{Contains-append_cases, Contains-append_left, Contains-append_right}
-use Rattle.lists.proofs.lemmas.Members.{Contains-none, Contains-one, Contains-slice_get, where_all}
+use Rattle.lists.proofs.lemmas.Members.{Contains-none, Contains-one, Contains-slice_get, member_of_all}
 use Rattle.quorum_rules.specs.Limits.{Numbers}
 use Rattle.stamp_order.specs.declared.Stamp.{Stamp}
 use Rattle.wire_forms.specs.declared.op.Op.{Op}
@@ -233,7 +233,7 @@ module _ (c : Numbers) (lying : ℕ → Bool) where
     fits : (k : ℕ) (op : Op) (outcome : Option Outcome) → WasTold life k op outcome
         → (block_of op < c.blocks) × Fits (setting c) (work_of op)
     fits k op outcome was =
-        where_all (λ (x : Op). (block_of x < c.blocks) × Fits (setting c) (work_of x)) was.ops (batch_at k op outcome was).fit op
+        member_of_all (λ (x : Op). (block_of x < c.blocks) × Fits (setting c) (work_of x)) was.ops (batch_at k op outcome was).fit op
         (Contains-slice_get was.ops was.place op was.asked)
 
     -- each was on a block that there is

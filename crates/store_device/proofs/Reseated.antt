@@ -6,7 +6,7 @@ use Rattle.std.specs.Option.{option_copied}
 use Rattle.std.proofs.lemmas.Bool.{cases_Bool, cases_lt, cases_eq}
 use Rattle.std.proofs.lemmas.List.{length-set, length-map, length-replicate, map-set, get_or-map, get_or-replicate, get_or-set_same, get_or-set_other, get_or_past, set_past}
 use Rattle.std.proofs.Math.Seq.{take-append_seam}
-use Rattle.lists.proofs.lemmas.Members.{at_place, all_of}
+use Rattle.lists.proofs.lemmas.Members.{at_place, all_from_members}
 use Rattle.quorum_rules.specs.Limits.{Numbers, IsValid}
 use Rattle.protocol.specs.Messages.{Version}
 use Rattle.protocol.specs.Nodes.{pruned}
@@ -59,7 +59,7 @@ pub record IsPrunedOf (c : Numbers) (prunes : List Prune) (old new : SeenNode) :
 
 pub stays : (c : Numbers) (prunes : List Prune) (old new : SeenNode) → new ≡ old → IsPrunedOf c prunes old new
 stays c prunes old new e = record {
-  there = all_of (λ (p : Prune). IsPrunedAt c p old new) prunes (λ p there. inl (ap (λ (n : SeenNode). versions_in n p.block) e));
+  there = all_from_members (λ (p : Prune). IsPrunedAt c p old new) prunes (λ p there. inl (ap (λ (n : SeenNode). versions_in n p.block) e));
   others = λ block apart. ap (λ (n : SeenNode). versions_in n block) e;
 }
 

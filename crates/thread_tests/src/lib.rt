@@ -1,4 +1,4 @@
-//! Threads beside one another: crews, whose posts wait for one another or may be worked by any thread; inboxes, with two senders and
+//! Threads beside one another: crews, whose thread states wait for one another or may be worked by any thread; inboxes, with two senders and
 //! a taker; numbers that are drawn and receipts that are given; and cells act by act, what they tell and what stands in their
 //! journals. Tests alone.
 #![tactic(auto)]

@@ -1,19 +1,19 @@
 ghost use Rattle.std.specs.Prelude.{◌≡◌, ◌+◌, All, IfOk};
 
-use crews::{Crew, Gate, OpenGate, Started, each, each_at_once};
 use lists::NoMemory;
 use std::alloc::Global;
 use std::sync::{Barrier, Wait};
 use std::test::Fail;
+use thread_work::{Gate, OpenGate, Started, ThreadWork, each, each_at_once};
 
-// A post, and how often it was worked.
+// A thread state, and how often it was worked.
 #[derive(Drop)]
 struct Post {
     number: u32,
     rounds: u32,
 }
 
-// So many posts, from 0 on, at which nobody has worked.
+// So many thread states, from 0 on, at which nobody has worked.
 fn posts_of(alloc: Global, count: u32) -> Result<Vec<Post>, NoMemory>
     ensures { IfOk result (λ v. All (λ p. p.rounds ≡ 0) v.items) }
 {
@@ -24,7 +24,7 @@ fn posts_of(alloc: Global, count: u32) -> Result<Vec<Post>, NoMemory>
     Ok(posts)
 }
 
-// Whether these are all posts in order, each worked once.
+// Whether these are all thread states in order, each worked once.
 fn are_worked(posts: Vec<Post>, count: usize) -> bool {
     let mut fit = posts.len() == count;
     for i in 0..posts.len() {
@@ -33,7 +33,7 @@ fn are_worked(posts: Vec<Post>, count: usize) -> bool {
     fit
 }
 
-// Whether there was a thread for each post, and each was worked once.
+// Whether there was a thread for each thread state, and each was worked once.
 fn are_all_worked(started: Started<Post>, count: usize) -> bool {
     match started {
         Started::Whole(posts) => are_worked(posts, count),
@@ -41,13 +41,13 @@ fn are_all_worked(started: Started<Post>, count: usize) -> bool {
     }
 }
 
-// Whoever works at a post waits until all others do.
+// Whoever works with a thread state waits until all others do.
 #[derive(Drop)]
 struct Meeting {
     all: Barrier,
 }
 
-impl Crew<Post> for Meeting {
+impl ThreadWork<Post> for Meeting {
     ghost use Rattle.std.specs.Prelude.{◌≡◌, ◌+◌};
 
     ghost can_work = { λ m p. p.rounds ≡ 0 };
@@ -60,11 +60,11 @@ impl Crew<Post> for Meeting {
     }
 }
 
-// Whoever works at a post waits for nobody.
+// Whoever works with a thread state waits for nobody.
 #[derive(Drop)]
 struct Alone;
 
-impl Crew<Post> for Alone {
+impl ThreadWork<Post> for Alone {
     ghost use Rattle.std.specs.Prelude.{◌≡◌, ◌+◌};
 
     ghost can_work = { λ a p. p.rounds ≡ 0 };
@@ -79,10 +79,10 @@ impl Crew<Post> for Alone {
 #[test]
 fn posts_that_wait_for_one_another_end(rt: HostRuntime) -> Result<(), Fail> {
     let posts = posts_of(rt.alloc(), 3)?;
-    let crew = Meeting {
+    let work = Meeting {
         all: Barrier::new(3),
     };
-    let started = each_at_once(&rt, rt.alloc(), &OpenGate, &crew, posts)?;
+    let started = each_at_once(&rt, rt.alloc(), &OpenGate, &work, posts)?;
     assert!(&rt; are_all_worked(started, 3));
     Ok(())
 }

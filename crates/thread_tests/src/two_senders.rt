@@ -16,7 +16,7 @@ struct Number {
     value: u32,
 }
 
-impl Mail for Number {
+impl InboxItem for Number {
     type Place = ();
 
     ghost fits = { λ place x. ⊤ };

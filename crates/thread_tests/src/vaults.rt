@@ -1,5 +1,5 @@
 ghost use Rattle.std.specs.Prelude.{◌≡◌, ◌+◌, ◌-◌, ◌≤◌, ◌<◌, ◌^◌, [], ◌∷◌, length, map, All, None, IfOk};
-ghost use Rattle.receipt_lock.specs.Turns.{placed_from};
+ghost use Rattle.receipt_lock.specs.Tickets.{placed_from};
 ghost use Rattle.receipt_lock.specs.Chits.{left_more};
 
 use crate::pairs::{list_of, pair_of};

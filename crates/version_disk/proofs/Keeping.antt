@@ -7,7 +7,7 @@ use Rattle.quorum_rules.specs.Limits.{Numbers}
 use Rattle.node_core.specs.Seen.{SeenNode, new_node}
 use Rattle.protocol.specs.Messages.{flat}
 use Rattle.disk_model.specs.Crash.{Pending, MayLeave, LeavesOnly}
-use Rattle.slot_disk.proofs.lemmas.Moments.{weaker}
+use Rattle.slot_disk.proofs.lemmas.Moments.{leaves_only_weaker}
 use Rattle.version_disk.proofs.Opening.{unread}
 use Rattle.slot_disk.specs.Bodies.{bodies, bodies_in, AreWithFirst}
 use Rattle.slot_disk.specs.Slots.{Slot, body_len, body_of, slot_of, Fits, IsPieceOf, pieces_of}
@@ -137,7 +137,7 @@ pub unmoved : {D : Type 0} (moment : D → ℕ) (left_since : D → ℕ → List
     → ((bytes : List ℕ) → left_since old (moment old) bytes → MayLeave (pending old) bytes)
     → (c : Numbers) (number count : ℕ) (node after : SeenNode) → IsKept pending seen c number node count old → LeavesOnly moment left_since old old (HoldsOneOf c number (slots_of c (seen old)) node after)
 unmoved moment left_since pending seen old only_now c number count node after kept =
-    weaker moment left_since old old _ (HoldsOneOf c number (slots_of c (seen old)) node after)
+    leaves_only_weaker moment left_since old old _ (HoldsOneOf c number (slots_of c (seen old)) node after)
     (same_opens c number (seen old) node after kept.state kept.good)
     (unread moment left_since pending seen old only_now kept.durable)
 

@@ -18,7 +18,7 @@ use Rattle.version_disk.specs.Kept.{IsKept, AreGoodIn, HoldsFirstOf}
 use Rattle.version_disk.specs.Deeds.{Deed, Answers, Prunes, after_deed, drops, slots_among, after_deeds, slots_by_deeds, AreDone, AreDoneInPart}
 use Rattle.version_disk.proofs.Accepting.{version_after, version_slots}
 use Rattle.version_disk.proofs.lemmas.Answering.{nothing_added, no_slots}
-use Rattle.slot_disk.proofs.lemmas.Moments.{weaker}
+use Rattle.slot_disk.proofs.lemmas.Moments.{leaves_only_weaker}
 use Rattle.version_disk.proofs.Opening.{unread}
 
 -- a filter that drops none
@@ -129,7 +129,7 @@ pub undone_yet : {D : Type 0} (moment : D → ℕ) (left_since : D → ℕ → L
     → ((bytes : List ℕ) → left_since old (moment old) bytes → MayLeave (pending old) bytes)
     → (node : SeenNode) (count : ℕ) (deeds : List Deed) → IsKept pending seen node.config node.number node count old → LeavesOnly moment left_since old old (AreDoneInPart node.config node.number node deeds (seen old))
 undone_yet moment left_since pending seen old only_now node count deeds kept =
-    weaker moment left_since old old _ (AreDoneInPart node.config node.number node deeds (seen old))
+    leaves_only_weaker moment left_since old old _ (AreDoneInPart node.config node.number node deeds (seen old))
     (λ left same. record {
       state = (0, omega arith, ap (held node.config node.number) same ∙ sym kept.state);
       begins = ([], ap (slots_of node.config) same ∙ sym (append-nil (slots_of node.config (seen old))));
@@ -186,7 +186,7 @@ module _ {D : Type 0} (moment : D → ℕ) (left_since : D → ℕ → List ℕ 
   deeds_any_moment leaves =
       let here : Leaves (FirstOf node.config node.number) =
       subst (λ (c : Numbers). Leaves (FirstOf c node.number)) from.config (subst (λ (number : ℕ). Leaves (FirstOf d number)) from.numbered leaves) in
-      weaker moment left_since old new _ (AreDoneInPart node.config node.number node deeds (seen old)) (in_part node.config node.number node deeds (seen old))
+      leaves_only_weaker moment left_since old new _ (AreDoneInPart node.config node.number node deeds (seen old)) (in_part node.config node.number node deeds (seen old))
       (subst (λ (n : SeenNode). Leaves (HoldsFirstOf node.config node.number (slots_of node.config (seen old)) n added)) (sym from.state) here)
 
   pub deeds_kept : (count : ℕ) → IsKept pending seen d other (played (held d other (seen old)) added) count new → IsKept pending seen node.config node.number (after_deeds node deeds) count new

@@ -27,7 +27,7 @@ use Rattle.world_state.proofs.KeptWorlds.{added}
 use Rattle.world_state.proofs.ClientSlots.{update-known, world-client_slot, slot-lying, slot-crashed}
 use Rattle.world_state.proofs.GreatestGiven.{greatest-more}
 use Rattle.world_state.proofs.BlockUses.{works_on_task, idle_works_nowhere, use-there, uses-set}
-use Rattle.lists.proofs.lemmas.Members.{get_new}
+use Rattle.lists.proofs.lemmas.Members.{slice_get-pushed}
 use Rattle.lists.proofs.lemmas.Tests.{eqb_self}
 use Rattle.std.proofs.lemmas.Bool.{ne_eqb}
 
@@ -66,7 +66,7 @@ module _ (w : Inside) (k : ℕ) (inside : k < length w.client_slots.items) (slot
               answers = length-begun (setting w.config) (ops_of (client_in (the_view w) k).seen + 1) (block_of op) (work_of op);
               phases = (let l = later in omega (arith, l));
               told = rw map-append
-                  (let e = get_new (map record_of w.records) (record_of new_told) in
+                  (let e = slice_get-pushed (map record_of w.records) (record_of new_told) in
                   let n : length (map record_of w.records) ≡ length w.records = length-map w.records record_of in
                   ap (slice_get (map record_of w.records ++ record_of new_told ∷ [])) (sym n) ∙ e ∙ ap Some told_open);
             });

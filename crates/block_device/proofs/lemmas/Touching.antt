@@ -115,8 +115,8 @@ pub record IsBetween (size start len k : ℕ) : Type 0 where
   pub from : start / size ≤ k
   pub to : k < (start + len - 1) / size + 1
 
-pub reaches : (size start len k : ℕ) → 0 < size → 0 < len → IsBetween size start len k → (k * size < start + len) × (start < (k + 1) * size)
-reaches size start len k sized some h =
+pub between_reaches : (size start len k : ℕ) → 0 < size → 0 < len → IsBetween size start len k → (k * size < start + len) × (start < (k + 1) * size)
+between_reaches size start len k sized some h =
     let last = (start + len - 1) / size in
     let low : k * size ≤ last * size = mul-le-mul_right size (let t = h.to in omega arith) in
     let high : (start / size + 1) * size ≤ (k + 1) * size = mul-le-mul_right size (let f = h.from in omega arith) in
@@ -131,7 +131,7 @@ touched_range size blocks start len n sized some within count =
     filter_between (is_touched size start len) first n blocks (omega arith)
     (λ k h. (untouched_if size start len k).0 (omega (arith, next_block size k first h, first_place size start)))
     (λ k low high.
-    let r = reaches size start len k sized some (record { from = low; to = omega arith }) in
+    let r = between_reaches size start len k sized some (record { from = low; to = omega arith }) in
     touched_if size start len k r.0 r.1 some sized)
     (λ k h. (untouched_if size start len k).1 (omega (arith, next_block size last k (omega arith), last_place size (start + len - 1) sized)))
 

@@ -13,7 +13,7 @@ use Rattle.locked_nodes.specs.declared.answers.CellRefusal.{CellRefusal}
 use Rattle.locked_nodes.specs.declared.answers.Late.{Late}
 use Rattle.locked_nodes.specs.declared.answers.Late.TheVariants.{NoMail, Delivered as CameIn, Lost}
 use Rattle.std.proofs.lemmas.List.{map-append}
-use Rattle.receipt_lock.specs.Turns.{Begins}
+use Rattle.receipt_lock.specs.Tickets.{Begins}
 use Rattle.protocol.specs.Messages.{Message, IsFormedBody}
 use Rattle.quorum_rules.specs.Limits.{Numbers}
 use Rattle.protocol.specs.Seen.{Hearing}
@@ -177,8 +177,8 @@ pub late_side : (s : NodeState) (nature : Nature) (ask : Message) → side (late
 late_side s nature ask = late_by s nature ask s.crashed (is_spent s.crash_after)
 
 -- what a late delivery did to the cell and to the caller's pass
-pub came : (old now : CellView) (before pass : Holder) (n : ℕ) → CameLate old before n now pass → Delivers old now × (pass ≡ with_seen before pass.seen) × (before.seen ≤ pass.seen)
-came old now before pass n late =
+pub came_late_delivers : (old now : CellView) (before pass : Holder) (n : ℕ) → CameLate old before n now pass → Delivers old now × (pass ≡ with_seen before pass.seen) × (before.seen ≤ pass.seen)
+came_late_delivers old now before pass n late =
     let seen : pass.seen ≡ n + 1 = ap (λ p. p.seen) late.caller in (
       inr (n, late_act (state_of old) old.charter.nature late.ask, late.cell, late_side (state_of old) old.charter.nature late.ask),
       late.caller ∙ ap (λ m. with_seen before m) (sym seen),
@@ -194,8 +194,8 @@ pub late_does : (result : Result Late CellRefusal) (old now : CellView) (before 
     → (result ≡ Ok NoMail → (now ≡ old) × (pass ≡ before)) → OnErr result ((now ≡ old) × (pass ≡ before))
     → Delivers old now × (pass ≡ with_seen before pass.seen) × (before.seen ≤ pass.seen)
 late_does (Ok NoMail) old now before pass delivered lost none err = did_nothing old now before pass (none refl)
-late_does (Ok (CameIn n)) old now before pass delivered lost none err = came old now before pass n (delivered n refl).0
-late_does (Ok (Lost n)) old now before pass delivered lost none err = came old now before pass n (lost n refl).0
+late_does (Ok (CameIn n)) old now before pass delivered lost none err = came_late_delivers old now before pass n (delivered n refl).0
+late_does (Ok (Lost n)) old now before pass delivered lost none err = came_late_delivers old now before pass n (lost n refl).0
 late_does (Err e) old now before pass delivered lost none err = did_nothing old now before pass err
 
 -- what the client asks of a node, as the desk's journal tells it

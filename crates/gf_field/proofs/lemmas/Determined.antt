@@ -158,7 +158,7 @@ roots_of_added : (cs ds xs : List ℕ) → length cs ≡ length ds → AgreeAt c
 roots_of_added cs ds [] e h = tt
 roots_of_added cs ds (x ∷ xs) e h = (horner-added cs ds x e ∙ ap (λ z. bit_xor z (horner ds x)) h.0 ∙ xor_self (horner ds x), roots_of_added cs ds xs e h.1)
 
-pub determined : (cs ds xs : List ℕ) → length cs ≡ length xs → length ds ≡ length xs → EachElement cs → EachElement ds → EachElement xs → EachDistinct xs → AgreeAt cs ds xs → cs ≡ ds
-determined cs ds xs e f hc hd hx d h =
+pub coefficients_determined : (cs ds xs : List ℕ) → length cs ≡ length xs → length ds ≡ length xs → EachElement cs → EachElement ds → EachElement xs → EachDistinct xs → AgreeAt cs ds xs → cs ≡ ds
+coefficients_determined cs ds xs e f hc hd hx d h =
     let same : length cs ≡ length ds = e ∙ sym f in
     same_from_added cs ds same (zero_from_roots xs (added cs ds) (length-added cs ds same ∙ e) (added_elements cs ds hc hd) hx d (roots_of_added cs ds xs same h))

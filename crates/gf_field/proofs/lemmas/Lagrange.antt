@@ -9,7 +9,7 @@ use Rattle.gf_field.specs.Interpolation.{product_below, factor, others, weight, 
 use Rattle.gf_field.proofs.lemmas.Additive.{product-xor_left, product-xor_right}
 use Rattle.gf_field.proofs.lemmas.FieldLaws.{product_comm, product_assoc, product-zero_left, product-zero_right, product-one_right, product-one_left, product-lt, product-inverse, inverse-lt}
 use Rattle.gf_field.proofs.lemmas.Sums.{total-lt, sum_below-lt, sum_below-none, sum_below-more, sum_below-same, sum_below-single, product_below-lt, product_below-zero, product_below-positive, horner-value_at}
-use Rattle.gf_field.proofs.lemmas.Determined.{EachElement, EachDistinct, DiffersFrom, AgreeAt, added, horner-added, added_elements, length-added, xor-eq-zero, horner-lt, determined}
+use Rattle.gf_field.proofs.lemmas.Determined.{EachElement, EachDistinct, DiffersFrom, AgreeAt, added, horner-added, added_elements, length-added, xor-eq-zero, horner-lt, coefficients_determined}
 
 -- ---- the premises in their two forms
 pub EachElement-from : (xs : List ℕ) → AreElements xs → EachElement xs
@@ -30,8 +30,8 @@ EachDistinct-from [] h = tt
 EachDistinct-from (x ∷ xs) h =
     (DiffersFrom-from x xs (λ j hj. h 0 (suc j) 0 (omega arith) (omega arith)), EachDistinct-from xs (λ i j d hij hj. h (suc i) (suc j) d (omega arith) (omega arith)))
 
-pub apart : (xs : List ℕ) → AreDistinct xs → (i j : ℕ) → i < length xs → j < length xs → i ≢ j → get_or xs i 0 ≢ get_or xs j 0
-apart xs h i j hi hj ne =
+pub distinct_apart : (xs : List ℕ) → AreDistinct xs → (i j : ℕ) → i < length xs → j < length xs → i ≢ j → get_or xs i 0 ≢ get_or xs j 0
+distinct_apart xs h i j hi hj ne =
     elim (cases_order i j) [
       | inl same ↦ absurd (ne same)
       | inr rest ↦ elim rest [ inl below ↦ h i j 0 below hj | inr above ↦ λ e. h j i 0 above hi (sym e) ]
@@ -49,7 +49,7 @@ AgreeAt-from c d (x ∷ xs) hc hd hx h =
 pub same_polynomial : (m : ℕ) (xs c d : List ℕ) → length xs ≡ m → AreElements xs → AreDistinct xs → IsPolynomial m c → IsPolynomial m d
     → ((k : ℕ) → k < m → value_at c (get_or xs k 0) ≡ value_at d (get_or xs k 0)) → c ≡ d
 same_polynomial m xs c d e hx dx pc pd h =
-    determined c d xs (pc.terms ∙ sym e) (pd.terms ∙ sym e) (EachElement-from c pc.elements) (EachElement-from d pd.elements) (EachElement-from xs hx) (EachDistinct-from xs dx)
+    coefficients_determined c d xs (pc.terms ∙ sym e) (pd.terms ∙ sym e) (EachElement-from c pc.elements) (EachElement-from d pd.elements) (EachElement-from xs hx) (EachDistinct-from xs dx)
     (AgreeAt-from c d xs pc.elements pd.elements hx (λ k hk. h k (omega arith)))
 
 -- ---- one more root
@@ -194,7 +194,7 @@ others-positive xs k hx d hk =
     (λ l hl. elim (cases_eq l k) [
       | inl same ↦ subst (λ b. 0 < cond b 1 (bit_xor (get_or xs k 0) (get_or xs l 0))) (sym (eq-eqb l k same)) (omega arith)
       | inr other ↦ subst (λ b. 0 < cond b 1 (bit_xor (get_or xs k 0) (get_or xs l 0))) (sym (ne_eqb l k other))
-          (let ne : bit_xor (get_or xs k 0) (get_or xs l 0) ≢ 0 = λ e. apart xs d l k hl hk other (sym (xor-eq-zero (get_or xs k 0) (get_or xs l 0) e)) in omega arith)
+          (let ne : bit_xor (get_or xs k 0) (get_or xs l 0) ≢ 0 = λ e. distinct_apart xs d l k hl hk other (sym (xor-eq-zero (get_or xs k 0) (get_or xs l 0) e)) in omega arith)
     ])
 
 pub weight-lt : (xs : List ℕ) (k x : ℕ) → AreElements xs → AreDistinct xs → k < length xs → x < 256 → weight xs k x < 256

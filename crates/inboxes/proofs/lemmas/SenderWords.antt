@@ -5,7 +5,7 @@ use Rattle.std.proofs.lemmas.List.Elements.{All-head, All-tail, filter-append}
 use Rattle.std.proofs.lemmas.Bool.Decides.{eqb_tells}
 use Rattle.std.specs.Prelude.{nat_eq}
 use Rattle.std.specs.List.{filter}
-use Rattle.inboxes.specs.Posts.{words_of, has_ended, IsOrderly, items_of}
+use Rattle.inboxes.specs.Parcels.{words_of, has_ended, IsOrderly, items_of}
 
 pub true_here : (p : ℕ) → nat_eq p p ≡ true
 true_here p = elim (eqb_tells p p) [ inl same ↦ same.0 | inr not ↦ absurd (not.1 refl) ]

@@ -28,8 +28,8 @@ module _ (s : NodeState) where
   not_lied ask reply m None e = absurd (cc)
   not_lied ask reply m (Some r) e = absurd (cc)
 
-  pub answered : (nature : Nature) (ask reply : Message) → Answered ask reply ≡ act s nature Call ask → IsUpright s nature × (reply ≡ true_answer s.node ask ask.body)
-  answered nature ask reply e = at s.crashed (is_spent s.crash_after) refl nature e
+  pub answered_truly : (nature : Nature) (ask reply : Message) → Answered ask reply ≡ act s nature Call ask → IsUpright s nature × (reply ≡ true_answer s.node ask ask.body)
+  answered_truly nature ask reply e = at s.crashed (is_spent s.crash_after) refl nature e
     where
       at : (c spent : Bool) → s.crashed ≡ c → (n : Nature) → Answered ask reply ≡ cond c (Silent ask Crashed) (cond spent (CrashedAt ask false) (answers s n ask)) → IsUpright s n × (reply ≡ true_answer s.node ask ask.body)
       at true spent up n h = absurd (cc)
@@ -72,8 +72,8 @@ module _ (s : NodeState) where
       at false false up used Honest h = absurd (cc)
       at false false up used (Lies rule) h = absurd (cc)
 
-  pub delivered : (nature : Nature) (ask reply : Message) → Delivered ask reply ≡ late_act s nature ask → IsUpright s nature × (reply ≡ true_answer s.node ask ask.body)
-  delivered nature ask reply e = at s.crashed (is_spent s.crash_after) refl nature e
+  pub delivered_truly : (nature : Nature) (ask reply : Message) → Delivered ask reply ≡ late_act s nature ask → IsUpright s nature × (reply ≡ true_answer s.node ask ask.body)
+  delivered_truly nature ask reply e = at s.crashed (is_spent s.crash_after) refl nature e
     where
       at : (c spent : Bool) → s.crashed ≡ c → (n : Nature) → Delivered ask reply ≡ cond c (LateLost ask) (cond spent (CrashedAt ask true) (handles s n ask)) → IsUpright s n × (reply ≡ true_answer s.node ask ask.body)
       at true spent up n h = absurd (cc)
@@ -81,13 +81,13 @@ module _ (s : NodeState) where
       at false false up Honest h = (record { honest = refl; up = up }, cc)
       at false false up (Lies rule) h = absurd (cc)
 
-  pub pruning : (nature : Nature) → can_prune s nature ≡ true → IsUpright s nature
-  pruning Honest e = record { honest = refl; up = up s.crashed e }
+  pub can_prune_upright : (nature : Nature) → can_prune s nature ≡ true → IsUpright s nature
+  can_prune_upright Honest e = record { honest = refl; up = up s.crashed e }
     where
       up : (c : Bool) → not c ≡ true → c ≡ false
       up true h = absurd (cc)
       up false h = refl
-  pruning (Lies rule) e = absurd (cc)
+  can_prune_upright (Lies rule) e = absurd (cc)
 
 -- a lie goes to the ask's client in the node's name, and is formed
 pub record IsLie (ask reply : Message) : Type 0 where

@@ -78,10 +78,10 @@ module _ {A : Type 0} (f : Numbered → Option A) where
   of_first None x xs h = inr h
   of_first (Some y) x xs h = elim (Contains-cons_cases x y xs h) [ inl e ↦ inl (ap (λ z. Some z) (sym e)) | inr r ↦ inr r ]
 
-  pub picked : (ps : List Numbered) (x : A) → Contains (picks f ps) x → (p : Numbered) × Contains ps p × (f p ≡ Some x)
-  picked [] x h = absurd (Contains-none x h)
-  picked (p ∷ ps) x h =
-      let rest = picked ps x in
+  pub picked_from : (ps : List Numbered) (x : A) → Contains (picks f ps) x → (p : Numbered) × Contains ps p × (f p ≡ Some x)
+  picked_from [] x h = absurd (Contains-none x h)
+  picked_from (p ∷ ps) x h =
+      let rest = picked_from ps x in
       elim (of_first (f p) x (picks f ps) h) [ inl e ↦ (p, Contains-head p ps, e) | inr r ↦ (let q = rest r in (q.0, Contains-rest q.0 p ps q.1, q.2)) ]
 
   in_first : (o : Option A) (x : A) (xs : List A) → (o ≡ Some x) ⊎ Contains xs x → Contains (one_first o xs) x

@@ -14,7 +14,7 @@ use Rattle.journals.specs.Desks.{DeskAct, DeskEntry, DeskState, new_desk, desk_a
 use Rattle.journals.specs.Steps.{Step, Cluster, Conduct, side, called, IsOwn, new_cluster, cluster_after, cluster_replay, CallGoes, Prunes, Goes, AllGo}
 use Rattle.journals.specs.Steps.Step.{AtNode, AtDesk}
 use Rattle.journals.specs.Journals.{Journals, setting_for, at_node, at_desk, nodes_before, desks_before, cluster_at, AreKept, HasSide, PairsAgree, Follow, IsEntry, InOrder}
-use Rattle.journals.proofs.lemmas.Picks.{Numbered, one_first, picks-append, picked, is_picked, ascend_picks, picks_before, same_ascending, node_entry, desk_entry, call_entry, node_part, desk_part, node_entry_is, desk_entry_is, node_entry_own, desk_entry_own, call_entry_own, node_numbered, desk_numbered, split_ascends}
+use Rattle.journals.proofs.lemmas.Picks.{Numbered, one_first, picks-append, picked_from, is_picked, ascend_picks, picks_before, same_ascending, node_entry, desk_entry, call_entry, node_part, desk_part, node_entry_is, desk_entry_is, node_entry_own, desk_entry_own, call_entry_own, node_numbered, desk_numbered, split_ascends}
 use Rattle.lists.proofs.lemmas.Members.{Contains-head, Contains-none}
 use Rattle.protocol.proofs.lemmas.Counting.{update-cases}
 
@@ -24,7 +24,7 @@ module _ (j : Journals) (es : List Numbered) (order : InOrder j es) where
   pub node_part_is : (i : ℕ) → Ascend (map (λ e. e.number) (at_node j i)) → node_part i es ≡ at_node j i
   node_part_is i ascends =
       same_ascending (λ (e : NodeEntry). e.number) (node_part i es) (at_node j i) (ascend_picks (λ p. node_entry i p.0 p.1) (λ (e : NodeEntry). e.number) (node_numbered i) es order.ascending) ascends
-      (λ x h. let p = picked (λ p. node_entry i p.0 p.1) es x h in of_step x p.0 (node_entry_is i p.0.0 p.0.1 x p.2) ((order.entries p.0).0 p.1))
+      (λ x h. let p = picked_from (λ p. node_entry i p.0 p.1) es x h in of_step x p.0 (node_entry_is i p.0.0 p.0.1 x p.2) ((order.entries p.0).0 p.1))
       (λ x h. is_picked (λ p. node_entry i p.0 p.1) es (x.number, AtNode i x.act) x ((order.entries (x.number, AtNode i x.act)).1 h) (node_entry_own i x.number x.act))
     where
       of_step : (x : NodeEntry) (p : Numbered) → (x.number ≡ p.0) × (p.1 ≡ AtNode i x.act) → IsEntry j p.0 p.1 → Contains (at_node j i) x
@@ -35,7 +35,7 @@ module _ (j : Journals) (es : List Numbered) (order : InOrder j es) where
   pub desk_part_is : PairsAgree j → (c : ℕ) → Ascend (map (λ e. e.number) (at_desk j c)) → desk_part c es ≡ at_desk j c
   desk_part_is pairs c ascends =
       same_ascending (λ (e : DeskEntry). e.number) (desk_part c es) (at_desk j c) (ascend_picks (λ p. desk_entry c p.0 p.1) (λ (e : DeskEntry). e.number) (desk_numbered c) es order.ascending) ascends
-      (λ x h. let p = picked (λ p. desk_entry c p.0 p.1) es x h in of_step x p.0 (desk_entry_is c p.0.0 p.0.1 x p.2) ((order.entries p.0).0 p.1))
+      (λ x h. let p = picked_from (λ p. desk_entry c p.0 p.1) es x h in of_step x p.0 (desk_entry_is c p.0.0 p.0.1 x p.2) ((order.entries p.0).0 p.1))
       (λ x h. elim (pairs.answered c x h) [ inl own ↦ is_own x own h | inr other ↦ is_call x other ])
     where
       renumbered : (x : DeskEntry) (n : ℕ) → x.number ≡ n → Contains (at_desk j c) (record { number = n; act = x.act }) → Contains (at_desk j c) x

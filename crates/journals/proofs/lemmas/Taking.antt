@@ -53,14 +53,14 @@ asked_is f c client ask own may =
     ∙ ap (λ (k : Numbers). outstanding_of (setting k) client.id client.seen.task ask.node) (sym own.cluster) ∙ may.outstanding)
 
 module _ {f : Frame} {w : World} {g : Cluster} {n : ℕ} (b : Before f w g n) where
-  pub later : w.place < n + 1
-  later = let e = b.at in omega (arith, e)
+  pub place_below_next : w.place < n + 1
+  place_below_next = let e = b.at in omega (arith, e)
 
-  pub soon : w.place ≤ n + 1
-  soon = let e = b.at in omega (arith, e)
+  pub place_at_most_next : w.place ≤ n + 1
+  place_at_most_next = let e = b.at in omega (arith, e)
 
-  pub grows : (line : Line) (m : Message) → Contains w.pool m → Contains (plays (set f) w (n + 1) line).pool m
-  grows line m h = plays_pool b.laws (set f) w (n + 1) line m h
+  pub pool_grows : (line : Line) (m : Message) → Contains w.pool m → Contains (plays (set f) w (n + 1) line).pool m
+  pool_grows line m h = plays_pool b.laws (set f) w (n + 1) line m h
 
   -- one node and some desks changed
   pub agree_node : (v : World) → ((m : Message) → Contains w.pool m → Contains v.pool m) → (i : ℕ) (d : NodeState) (desks : ℕ → DeskState) → (f.nodes i ≡ false → IsNode (set f) v i d)
@@ -112,8 +112,8 @@ module _ {f : Frame} {w : World} {g : Cluster} {n : ℕ} (b : Before f w g n) wh
       (λ x other good. same_desk (set f) w v x (g.desks x) (ap (λ (y : ℕ → ℕ). y x) life) (ap (λ (y : ℕ → ℕ). y x) st ∙ update-other w.started c _ x other) (ap (λ (y : ℕ → Bool). y x) clients)
       (ap (λ (y : ℕ → Option Task). y x) task ∙ update-other w.task c _ x other) (b.agrees.desks x good))
 
-  pub start : (c : ℕ) (op : Op) → Goes (set f) f.conduct g (AtDesk c (Start op)) → Taken f w n (start_line c op) (cluster_after g n (AtDesk c (Start op)))
-  start c op goes = at op (rw (goes.1) at goes.3)
+  pub taken_start : (c : ℕ) (op : Op) → Goes (set f) f.conduct g (AtDesk c (Start op)) → Taken f w n (start_line c op) (cluster_after g n (AtDesk c (Start op)))
+  taken_start c op goes = at op (rw (goes.1) at goes.3)
     where
       h : IsDesk (set f) w c (g.desks c)
       h = b.agrees.desks c goes.1
@@ -127,8 +127,8 @@ module _ {f : Frame} {w : World} {g : Cluster} {n : ℕ} (b : Before f w g n) wh
           let there : block < f.config.blocks = rw (own.cluster) at k.1.fits.block in
           record {
             fits = there;
-            fine = b.laws.taken (set f) w (n + 1) (Read c block) there (tt, (record { later = later; client = goes.0; correct = goes.1; up = h.crashed ∙ k.0; idle = h.task ∙ ap (started_task ((g.desks c).began + 1)) k.1.idle; fresh = fewer; inside = there; fits = tt }, tt));
-            agrees = start_taken c block Reads (ReadOp block) refl refl (plays (set f) w (n + 1) (Read c block)) refl refl refl refl refl refl (grows (Read c block)) goes.1;
+            fine = b.laws.taken (set f) w (n + 1) (Read c block) there (tt, (record { later = place_below_next; client = goes.0; correct = goes.1; up = h.crashed ∙ k.0; idle = h.task ∙ ap (started_task ((g.desks c).began + 1)) k.1.idle; fresh = fewer; inside = there; fits = tt }, tt));
+            agrees = start_taken c block Reads (ReadOp block) refl refl (plays (set f) w (n + 1) (Read c block)) refl refl refl refl refl refl (pool_grows (Read c block)) goes.1;
           }
       at (WriteOp block value) k =
           let fewer : w.started c < 2 ^ 32 - 1 = rw (h.started) k.1.fresh in
@@ -136,8 +136,8 @@ module _ {f : Frame} {w : World} {g : Cluster} {n : ℕ} (b : Before f w g n) wh
           let whole : IsBlock (set f) value = subst (λ (x : Numbers). IsBlock (setting x) value) own.cluster k.1.fits.fits in
           record {
             fits = (there, whole);
-            fine = b.laws.taken (set f) w (n + 1) (Write c block value) (there, whole) (tt, (record { later = later; client = goes.0; correct = goes.1; up = h.crashed ∙ k.0; idle = h.task ∙ ap (started_task ((g.desks c).began + 1)) k.1.idle; fresh = fewer; inside = there; fits = whole }, tt));
-            agrees = start_taken c block (Writes value) (WriteOp block value) refl refl (plays (set f) w (n + 1) (Write c block value)) refl refl refl refl refl refl (grows (Write c block value)) goes.1;
+            fine = b.laws.taken (set f) w (n + 1) (Write c block value) (there, whole) (tt, (record { later = place_below_next; client = goes.0; correct = goes.1; up = h.crashed ∙ k.0; idle = h.task ∙ ap (started_task ((g.desks c).began + 1)) k.1.idle; fresh = fewer; inside = there; fits = whole }, tt));
+            agrees = start_taken c block (Writes value) (WriteOp block value) refl refl (plays (set f) w (n + 1) (Write c block value)) refl refl refl refl refl refl (pool_grows (Write c block value)) goes.1;
           }
 
   -- ---- a client's crash
@@ -148,8 +148,8 @@ module _ {f : Frame} {w : World} {g : Cluster} {n : ℕ} (b : Before f w g n) wh
       let v = plays (set f) w (n + 1) (CrashClient c) in
       record {
         fits = tt;
-        fine = b.laws.taken (set f) w (n + 1) (CrashClient c) tt (tt, ((soon, goes.0, goes.1, h.crashed ∙ up), tt));
-        agrees = agree_desk v (grows (CrashClient c)) c (desk_after (g.desks c) n Crash)
+        fine = b.laws.taken (set f) w (n + 1) (CrashClient c) tt (tt, ((place_at_most_next, goes.0, goes.1, h.crashed ∙ up), tt));
+        agrees = agree_desk v (pool_grows (CrashClient c)) c (desk_after (g.desks c) n Crash)
             (λ j k. same_node (set f) w v j (g.nodes j) refl refl (b.agrees.nodes j k))
             (λ _. record { life = h.life; started = h.started; crashed = update-same w.client_crashed c true; task = h.task; full = h.full })
             (λ x other good. same_desk (set f) w v x (g.desks x) refl refl (update-other w.client_crashed c true x other) refl (b.agrees.desks x good));
@@ -175,7 +175,7 @@ module _ {f : Frame} {w : World} {g : Cluster} {n : ℕ} (b : Before f w g n) wh
       → Agrees (set f) (plays (set f) w (n + 1) (Lost c i)) (record { nodes = update g.nodes i d; desks = desks })
   lost_agrees c i d desks vs up clients late =
       let v = plays (set f) w (n + 1) (Lost c i) in
-      agree_node v (grows (Lost c i)) i d desks
+      agree_node v (pool_grows (Lost c i)) i d desks
       (λ k. record { versions = λ block l. (b.agrees.nodes i k).versions block l ∙ ap (λ (x : SeenNode). versions_in x block) (sym vs); crashed = (b.agrees.nodes i k).crashed ∙ sym up })
       (λ j other k. same_node (set f) w v j (g.nodes j) refl refl (b.agrees.nodes j k))
       clients late
@@ -213,8 +213,8 @@ module _ {f : Frame} {w : World} {g : Cluster} {n : ℕ} (b : Before f w g n) wh
   held_up i ask Dropped = refl
   held_up i ask Lying = refl
 
-  pub silent : (i : ℕ) (ask : Message) (why : Silence) → Goes (set f) f.conduct g (AtNode i (Silent ask why)) → Taken f w n (Lost ask.client i) (cluster_after g n (AtNode i (Silent ask why)))
-  silent i ask why goes = record {
+  pub taken_silent : (i : ℕ) (ask : Message) (why : Silence) → Goes (set f) f.conduct g (AtNode i (Silent ask why)) → Taken f w n (Lost ask.client i) (cluster_after g n (AtNode i (Silent ask why)))
+  taken_silent i ask why goes = record {
     fits = tt;
     fine = lost_fine ask.client i;
     agrees = lost_agrees ask.client i (after (g.nodes i) (Silent ask why)) (called g.desks n (Some (ask.client, Call (way_of why) ask None))) (held_node i ask why) (held_up i ask why)

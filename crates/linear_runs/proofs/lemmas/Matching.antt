@@ -21,10 +21,10 @@ pub record Without {X : Type 0} (ys : List X) (x : X) : Type 0 where
   pub gone : Contains others x → ⊥
   pub back : (z : X) → Contains others z → Contains ys z
 
-pub without : {X : Type 0} (ys : List X) (x : X) → Once ys → Contains ys x → Without ys x
-without [] x once there = absurd (Contains-none x there)
-without {X} (y ∷ ys) x once there =
-    let rest = without ys x once.1 in
+pub without_member : {X : Type 0} (ys : List X) (x : X) → Once ys → Contains ys x → Without ys x
+without_member [] x once there = absurd (Contains-none x there)
+without_member {X} (y ∷ ys) x once there =
+    let rest = without_member ys x once.1 in
     elim (Contains-cons_cases x y ys there) [ inl e ↦ here e | inr k ↦ later k (rest k) ]
   where
     here : x ≡ y → Without (y ∷ ys) x
@@ -50,7 +50,7 @@ pub same_members : {X : Type 0} (xs ys : List X) → Once xs → Once ys → ((x
 same_members [] [] a b to from = IsPermutation-refl []
 same_members [] (y ∷ ys) a b to from = absurd (Contains-none y (from y (Contains-head y ys)))
 same_members {X} (x ∷ xs) ys a b to from =
-    let w = without ys x b (to x (Contains-head x xs)) in
+    let w = without_member ys x b (to x (Contains-head x xs)) in
     IsPermutation-trans _ _ _
     (IsPermutation-cons x xs w.others (same_members xs w.others a.1 w.once (onto w) (back w)))
     (IsPermutation-sym _ _ w.moved)
@@ -86,9 +86,9 @@ once_map f (x ∷ xs) h one = (
 )
 
 -- what a filter_map gives is made of a member
-pub made : {X Y : Type 0} (f : X → Option Y) (xs : List X) (y : Y) → Contains (filter_map f xs) y → (x : X) × Contains xs x × (f x ≡ Some y)
-made f [] y h = absurd (Contains-none y h)
-made {X} {Y} f (x ∷ xs) y h = at (f x) refl h (made f xs y)
+pub filter_map_is : {X Y : Type 0} (f : X → Option Y) (xs : List X) (y : Y) → Contains (filter_map f xs) y → (x : X) × Contains xs x × (f x ≡ Some y)
+filter_map_is f [] y h = absurd (Contains-none y h)
+filter_map_is {X} {Y} f (x ∷ xs) y h = at (f x) refl h (filter_map_is f xs y)
   where
     later : (z : X) × Contains xs z × (f z ≡ Some y) → (z : X) × Contains (x ∷ xs) z × (f z ≡ Some y)
     later k = (k.0, Contains-rest k.0 x xs k.1, k.2)
@@ -97,9 +97,9 @@ made {X} {Y} f (x ∷ xs) y h = at (f x) refl h (made f xs y)
     at None e k rest = later (rest k)
     at (Some v) e k rest = elim (Contains-cons_cases y v (filter_map f xs) k) [ inl g ↦ (x, Contains-head x xs, e ∙ ap (λ z. Some z) (sym g)) | inr m ↦ later (rest m) ]
 
-pub makes : {X Y : Type 0} (f : X → Option Y) (xs : List X) (x : X) (y : Y) → Contains xs x → f x ≡ Some y → Contains (filter_map f xs) y
-makes f [] x y h e = absurd (Contains-none x h)
-makes {X} {Y} f (z ∷ xs) x y h e = elim (Contains-cons_cases x z xs h) [ inl g ↦ here (f z) (ap f (sym g) ∙ e) | inr k ↦ at (f z) (makes f xs x y k e) ]
+pub filter_map_has : {X Y : Type 0} (f : X → Option Y) (xs : List X) (x : X) (y : Y) → Contains xs x → f x ≡ Some y → Contains (filter_map f xs) y
+filter_map_has f [] x y h e = absurd (Contains-none x h)
+filter_map_has {X} {Y} f (z ∷ xs) x y h e = elim (Contains-cons_cases x z xs h) [ inl g ↦ here (f z) (ap f (sym g) ∙ e) | inr k ↦ at (f z) (filter_map_has f xs x y k e) ]
   where
     here : (o : Option Y) → o ≡ Some y → Contains (cons_option o (filter_map f xs)) y
     here o g = rw g (Contains-head y (filter_map f xs))
@@ -115,7 +115,7 @@ once_made {X} {Y} f (x ∷ xs) h one = at (f x) refl (once_made f xs h.1 (λ a b
     at : (o : Option Y) → f x ≡ o → Once (filter_map f xs) → Once (cons_option o (filter_map f xs))
     at None e k = k
     at (Some v) e k = (
-      λ l. let m = made f xs v l in
+      λ l. let m = filter_map_is f xs v l in
           let g = one x m.0 v (Contains-head x xs) (Contains-rest m.0 x xs m.1) e m.2 in
           h.0 (rw g m.1),
       k,
@@ -154,8 +154,8 @@ map_same f g [] h = refl
 map_same {X} {Y} f g (x ∷ xs) h = rw (h x (Contains-head x xs), map_same f g xs (λ y k. h y (Contains-rest y x xs k))) refl
 
 -- two lists that are made of parts
-pub join : {X : Type 0} (all known left own rest other both : List X) → IsPermutation all (known ++ left) → IsPermutation known own → IsPermutation both (other ++ own) → IsPermutation rest other → IsPermutation (all ++ rest) (both ++ left)
-join all known left own rest other both a b c d =
+pub permutation_of_parts : {X : Type 0} (all known left own rest other both : List X) → IsPermutation all (known ++ left) → IsPermutation known own → IsPermutation both (other ++ own) → IsPermutation rest other → IsPermutation (all ++ rest) (both ++ left)
+permutation_of_parts all known left own rest other both a b c d =
     IsPermutation-trans _ _ _ (IsPermutation-append all (known ++ left) rest other a d)
     (IsPermutation-trans _ _ _ (IsPermutation-append_left other (known ++ left) (own ++ left) (IsPermutation-append_left left known own b))
     (IsPermutation-trans _ _ _ (IsPermutation-append_comm (own ++ left) other)

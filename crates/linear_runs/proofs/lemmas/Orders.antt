@@ -22,20 +22,20 @@ abbrev pub client_of : Kind → ℕ → Option ℕ
 client_of Foreign client = None
 client_of _ client = Some client
 
-abbrev pub op : Entry → Operation
-op e = record { block = e.block; act = act_of e.kind e.value; client = client_of e.kind e.client; start = e.start; end = e.end }
+abbrev pub entry_op : Entry → Operation
+entry_op e = record { block = e.block; act = act_of e.kind e.value; client = client_of e.kind e.client; start = e.start; end = e.end }
 
 abbrev pub is_on : ℕ → Entry → Bool
 is_on block e = eqb e.block block
 
 -- the operations of the history's entries on the block, in their order
 abbrev pub ops_on : ℕ → List Entry → List Operation
-ops_on block h = map op (filter (is_on block) h)
+ops_on block h = map entry_op (filter (is_on block) h)
 
 -- ---- in time
 
 abbrev IsRight : Entry → Entry → Type 0
-IsRight e f = e.block ≡ f.block → IsBefore (op f) (op e) → ⊥
+IsRight e f = e.block ≡ f.block → IsBefore (entry_op f) (entry_op e) → ⊥
 
 all_right : (h : List Entry) → InTime h → AllPairs IsRight h
 all_right h time i j d l lj same b =
@@ -52,7 +52,7 @@ pairs_map f R (x ∷ xs) h i j d l lj =
 
 pub in_time_on : (block : ℕ) (h : List Entry) → InTime h → IsInTime (ops_on block h)
 in_time_on block h time =
-    pairs_map op (λ earlier later. IsBefore later earlier → ⊥) (filter (is_on block) h)
+    pairs_map entry_op (λ earlier later. IsBefore later earlier → ⊥) (filter (is_on block) h)
     (λ i j d l lj b.
     AllPairs-filter IsRight (is_on block) h (all_right h time) i j d l lj
     (eqb-true _ _ (filter_passes (is_on block) h i d (omega (arith, l, lj))) ∙ sym (eqb-true _ _ (filter_passes (is_on block) h j d lj)))
@@ -80,6 +80,6 @@ reads_last_on block values (e ∷ es) legal = at (eqb e.block block) refl e.kind
     aside WriteKind other rest = subst (λ (v : List ℕ). ReadsLast v (ops_on block es)) (kept other) rest
     aside Foreign other rest = subst (λ (v : List ℕ). ReadsLast v (ops_on block es)) (kept other) rest
 
-    at : (b : Bool) → eqb e.block block ≡ b → (k : Kind) → e.kind ≡ k → legal_at k e values → ReadsLast (values_after k e values block) (ops_on block es) → ReadsLast (values block) (map op (cond b (e ∷ filter (is_on block) es) (filter (is_on block) es)))
+    at : (b : Bool) → eqb e.block block ≡ b → (k : Kind) → e.kind ≡ k → legal_at k e values → ReadsLast (values_after k e values block) (ops_on block es) → ReadsLast (values block) (map entry_op (cond b (e ∷ filter (is_on block) es) (filter (is_on block) es)))
     at true t k g now rest = subst (λ (x : Kind). gives (act_of x e.value) (values block) × ReadsLast (value_after (act_of x e.value) (values block)) (ops_on block es)) (sym g) (here k g (eqb-true _ _ t) now rest)
     at false t k g now rest = aside k (λ same. absurd (let u = eq-eqb e.block block same in cc)) rest

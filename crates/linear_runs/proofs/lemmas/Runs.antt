@@ -20,14 +20,14 @@ use Rattle.protocol.specs.Laws.{StartsAscend, RecordsAreTold, ReadsAreOfWrites}
 use Rattle.protocol.specs.History.{Entry, Kind, entry_cmp, read_entry, write_entry, IsSorted, IsRead, IsWrite, IsDue, IsEntry, IsHistory, Legal, InTime}
 use Rattle.protocol.specs.History.Kind.{Read as ReadKind, Write as WriteKind, Foreign}
 use Rattle.protocol.proofs.lemmas.Entries.{not_self}
-use Rattle.lists.proofs.lemmas.Members.{Contains-none, Contains-cons_cases, Contains-map, Contains-map_cases, filter_is, filter_has, where_all}
+use Rattle.lists.proofs.lemmas.Members.{Contains-none, Contains-cons_cases, Contains-map, Contains-map_cases, filter_is, filter_has, member_of_all}
 use Rattle.linear_runs.specs.Linear.{Act, Operation, IsOrderOf, Linearizable, on_block}
 use Rattle.linear_runs.specs.Linear.Act.{Read, Write}
 use Rattle.linear_runs.specs.Meaning.{EachTakesTime}
 use Rattle.linear_runs.specs.Of.{op_of, done_by, known, seen_by, each_once, is_unknown, unknown, unknown_write, operations}
-use Rattle.linear_runs.proofs.lemmas.Matching.{Once, same_members, once_filter, once_map, made, makes, once_made, any_is, any_has, filter_map_of, map_same, join}
+use Rattle.linear_runs.proofs.lemmas.Matching.{Once, same_members, once_filter, once_map, filter_map_is, filter_map_has, once_made, any_is, any_has, filter_map_of, map_same, permutation_of_parts}
 use Rattle.linear_runs.proofs.Unknown.{AgreeOn, once_each, unknown_foreign, foreign_unknown}
-use Rattle.linear_runs.proofs.lemmas.Orders.{op, is_on, ops_on, in_time_on, reads_last_on}
+use Rattle.linear_runs.proofs.lemmas.Orders.{entry_op, is_on, ops_on, in_time_on, reads_last_on}
 
 -- what an entry is
 abbrev is_foreign : Kind → Bool
@@ -40,7 +40,7 @@ starts : List Record → List ℕ
 starts rs = map (λ r. r.start) rs
 
 above : (n : ℕ) (rs : List Record) → Ascend (n ∷ map (λ r. r.start) rs) → (x : Record) → Contains rs x → n < x.start
-above n rs up x there = where_all (λ (m : ℕ). n < m) (map (λ r. r.start) rs) up.0 x.start (Contains-map (λ (r : Record). r.start) rs x there)
+above n rs up x there = member_of_all (λ (m : ℕ). n < m) (map (λ r. r.start) rs) up.0 x.start (Contains-map (λ (r : Record). r.start) rs x there)
 
 pub one_start : (rs : List Record) → Ascend (map (λ r. r.start) rs) → (x y : Record) → Contains rs x → Contains rs y → x.start ≡ y.start → x ≡ y
 one_start [] up x y a b same = absurd (Contains-none x a)
@@ -63,7 +63,7 @@ once_records (r ∷ rs) up = (λ k. let l = above r.start rs up r k in omega (ar
 
 pub once_sorted : (h : List Entry) → IsSorted h → Once h
 once_sorted [] s = tt
-once_sorted (e ∷ es) s = (λ k. not_self e (where_all (λ (f : Entry). entry_cmp e f ≡ Less) es s.0 e k), once_sorted es s.1)
+once_sorted (e ∷ es) s = (λ k. not_self e (member_of_all (λ (f : Entry). entry_cmp e f ≡ Less) es s.0 e k), once_sorted es s.1)
 
 -- what a record's operation has of the record
 pub done_is : (r : Record) (work : Work) (o : Option Outcome) (p : Operation) → done_by r work o ≡ Some p → (act : Act) × (p ≡ op_of r act)
@@ -120,7 +120,7 @@ pub takes_time : (s : Setting) (w : World) → RecordsAreTold s w → EachTakesT
 takes_time s w told o start end k e f =
     elim (Contains-append_cases (known w.records) (unknown (first_stamp s) w.records) o k) [
       | inl m ↦ (
-          let x = made (λ r. done_by r r.work r.outcome) w.records o m in
+          let x = filter_map_is (λ r. done_by r r.work r.outcome) w.records o m in
           let d = done_is x.0 x.0.work x.0.outcome o x.2 in
           let a : Some x.0.start ≡ Some start = sym (ap (λ (z : Operation). z.start) d.1) ∙ e in
           let b : x.0.end ≡ Some end = sym (ap (λ (z : Operation). z.end) d.1) ∙ f in
@@ -143,7 +143,7 @@ module _ (s : Setting) (w : World) (up : StartsAscend s w) (told : RecordsAreTol
   record Own (e : Entry) : Type 0 where
     of : Record
     there : Contains w.records of
-    does : done_by of of.work of.outcome ≡ Some (op e)
+    does : done_by of of.work of.outcome ≡ Some (entry_op e)
     gives : entry_by of of.work of.outcome of.stamp ≡ Some e
     started : e.start ≡ Some of.start
     kind : is_foreign e.kind ≡ false
@@ -154,7 +154,7 @@ module _ (s : Setting) (w : World) (up : StartsAscend s w) (told : RecordsAreTol
       record {
         of = k.read;
         there = k.there;
-        does = g.0 ∙ ap (λ (z : Operation). Some z) (sym (ap op k.made));
+        does = g.0 ∙ ap (λ (z : Operation). Some z) (sym (ap entry_op k.made));
         gives = g.1 ∙ ap (λ (z : Entry). Some z) (sym k.made);
         started = ap (λ (z : Entry). z.start) k.made;
         kind = ap is_foreign (ap (λ (z : Entry). z.kind) k.made);
@@ -169,7 +169,7 @@ module _ (s : Setting) (w : World) (up : StartsAscend s w) (told : RecordsAreTol
       record {
         of = k.write;
         there = k.there;
-        does = write_done k.write e.value e.stamp e.block k.there k.writes k.stands ∙ ap (λ (z : Operation). Some z) (sym (ap op k.made));
+        does = write_done k.write e.value e.stamp e.block k.there k.writes k.stands ∙ ap (λ (z : Operation). Some z) (sym (ap entry_op k.made));
         gives = write_entry_by k.write k.write.work k.write.outcome k.write.stamp e.stamp e.value k.writes k.chose ∙ ap (λ (z : Entry). Some z) (sym k.made);
         started = ap (λ (z : Entry). z.start) k.made;
         kind = ap is_foreign (ap (λ (z : Entry). z.kind) k.made);
@@ -178,12 +178,12 @@ module _ (s : Setting) (w : World) (up : StartsAscend s w) (told : RecordsAreTol
   record Unknown (e : Entry) : Type 0 where
     kind : is_foreign e.kind ≡ true
     start : e.start ≡ None
-    does : op e ≡ unknown_write e
+    does : entry_op e ≡ unknown_write e
 
   which : (e : Entry) → IsEntry w.records (first_stamp s) e → (Own e) ⊎ (Unknown e)
   which e (inl k) = inl (own_read e k)
   which e (inr (inl k)) = inl (own_write e k)
-  which e (inr (inr k)) = inr (record { kind = ap is_foreign (ap (λ (z : Entry). z.kind) k.1.made); start = ap (λ (z : Entry). z.start) k.1.made; does = ap op k.1.made })
+  which e (inr (inr k)) = inr (record { kind = ap is_foreign (ap (λ (z : Entry). z.kind) k.1.made); start = ap (λ (z : Entry). z.start) k.1.made; does = ap entry_op k.1.made })
 
   which_of : (e : Entry) → Contains h e → (Own e) ⊎ (Unknown e)
   which_of e there = which e ((hist.1 e).0 there)
@@ -262,7 +262,7 @@ module _ (s : Setting) (w : World) (up : StartsAscend s w) (told : RecordsAreTol
     unfolding all
     made_of o k =
         let a = filter_is (λ (x : Operation). eqb x.block block) (known w.records) o k in
-        let m = made (λ r. done_by r r.work r.outcome) w.records o a.0 in
+        let m = filter_map_is (λ r. done_by r r.work r.outcome) w.records o a.0 in
         record { of = m.0; there = m.1; does = m.2; on = eqb-true _ _ a.1 }
 
     once_all : Once all
@@ -283,10 +283,10 @@ module _ (s : Setting) (w : World) (up : StartsAscend s w) (told : RecordsAreTol
     own_in : (e : Entry) → Contains (filter own entries) e → (Own e) × (Contains h e) × (e.block ≡ block)
     own_in e k = let a = filter_is own entries e k in let b = entry_in e a.0 in (owned e b.0 a.1, b.0, b.1)
 
-    once_ops : Once (map op (filter own entries))
-    once_ops = once_map op (filter own entries) once_entries apart
+    once_ops : Once (map entry_op (filter own entries))
+    once_ops = once_map entry_op (filter own entries) once_entries apart
       where
-        apart : (e f : Entry) → Contains (filter own entries) e → Contains (filter own entries) f → op e ≡ op f → e ≡ f
+        apart : (e f : Entry) → Contains (filter own entries) e → Contains (filter own entries) f → entry_op e ≡ entry_op f → e ≡ f
         apart e f k l same =
             let a = (own_in e k).0 in
             let b = (own_in f l).0 in
@@ -296,7 +296,7 @@ module _ (s : Setting) (w : World) (up : StartsAscend s w) (told : RecordsAreTol
             let g : Some e ≡ Some f = sym a.gives ∙ ap (λ (r : Record). entry_by r r.work r.outcome r.stamp) one ∙ b.gives in
             cc
 
-    to : (o : Operation) → Contains (filter is_there all) o → Contains (map op (filter own entries)) o
+    to : (o : Operation) → Contains (filter is_there all) o → Contains (map entry_op (filter own entries)) o
     unfolding is_there entries own
     to o k =
         let a = filter_is is_there all o k in
@@ -305,30 +305,30 @@ module _ (s : Setting) (w : World) (up : StartsAscend s w) (told : RecordsAreTol
         let t = same_start_is x.0.start o.start m.of.start (started m.of o m.does) x.2 in
         at m x.0 x.1 t (which_of x.0 x.1)
       where
-        at : (m : Made o) (e : Entry) → Contains h e → e.start ≡ Some m.of.start → (Own e) ⊎ (Unknown e) → Contains (map op (filter own entries)) o
+        at : (m : Made o) (e : Entry) → Contains h e → e.start ≡ Some m.of.start → (Own e) ⊎ (Unknown e) → Contains (map entry_op (filter own entries)) o
         at m e there t (inr u) = absurd (let q = u.start in cc)
         at m e there t (inl x) =
             let n : Some x.of.start ≡ Some m.of.start = sym x.started ∙ t in
             let one = one_start w.records up x.of m.of x.there m.there (cc) in
-            let g : Some (op e) ≡ Some o = sym x.does ∙ ap (λ (r : Record). done_by r r.work r.outcome) one ∙ m.does in
-            let i : op e ≡ o = cc in
+            let g : Some (entry_op e) ≡ Some o = sym x.does ∙ ap (λ (r : Record). done_by r r.work r.outcome) one ∙ m.does in
+            let i : entry_op e ≡ o = cc in
             let on : e.block ≡ block = ap (λ (z : Operation). z.block) i ∙ m.on in
-            subst (λ (z : Operation). Contains (map op (filter own entries)) z) i
-            (Contains-map op (filter own entries) e (filter_has own entries e (filter_has (is_on block) h e there (eq-eqb _ _ on)) (rw x.kind refl)))
+            subst (λ (z : Operation). Contains (map entry_op (filter own entries)) z) i
+            (Contains-map entry_op (filter own entries) e (filter_has own entries e (filter_has (is_on block) h e there (eq-eqb _ _ on)) (rw x.kind refl)))
 
-    from : (o : Operation) → Contains (map op (filter own entries)) o → Contains (filter is_there all) o
+    from : (o : Operation) → Contains (map entry_op (filter own entries)) o → Contains (filter is_there all) o
     unfolding all
     from o k =
-        let m = Contains-map_cases op (filter own entries) o k in
+        let m = Contains-map_cases entry_op (filter own entries) o k in
         let e = m.0 in
         let a = own_in e m.1 in
         let x = a.0 in
-        let d = makes (λ r. done_by r r.work r.outcome) w.records x.of (op e) x.there x.does in
-        let on : Contains all (op e) = filter_has (λ (y : Operation). eqb y.block block) (known w.records) (op e) d (eq-eqb _ _ a.2) in
-        rw m.2 (filter_has is_there all (op e) on (has_entry (op e) x.of.start e a.1 x.started x.started))
+        let d = filter_map_has (λ r. done_by r r.work r.outcome) w.records x.of (entry_op e) x.there x.does in
+        let on : Contains all (entry_op e) = filter_has (λ (y : Operation). eqb y.block block) (known w.records) (entry_op e) d (eq-eqb _ _ a.2) in
+        rw m.2 (filter_has is_there all (entry_op e) on (has_entry (entry_op e) x.of.start e a.1 x.started x.started))
 
-    same_ops : IsPermutation (filter is_there all) (map op (filter own entries))
-    same_ops = same_members (filter is_there all) (map op (filter own entries)) (once_filter is_there all once_all) once_ops to from
+    same_ops : IsPermutation (filter is_there all) (map entry_op (filter own entries))
+    same_ops = same_members (filter is_there all) (map entry_op (filter own entries)) (once_filter is_there all once_all) once_ops to from
 
     left : List Operation
     left = filter (λ o. not (is_there o)) all
@@ -362,33 +362,33 @@ module _ (s : Setting) (w : World) (up : StartsAscend s w) (told : RecordsAreTol
         let b = filter_is (is_on block) h e a.0 in
         filter_has (is_on block) _ e (foreign_unknown s w of_write h hist agree e b.0 (foreign_is e.kind a.1)) b.1)
 
-    others : IsPermutation (on_block block (unknown (first_stamp s) w.records)) (map op (filter foreign entries))
+    others : IsPermutation (on_block block (unknown (first_stamp s) w.records)) (map entry_op (filter foreign entries))
     unfolding entries foreign
     others =
         rw (
           filter_map_of unknown_write (λ (o : Operation). eqb o.block block) (is_on block) (λ e. refl) (filter (is_unknown (first_stamp s) w.records) (each_once (filter_map (λ r. seen_by r r.outcome) w.records))),
-          map_same op unknown_write (filter (λ e. is_foreign e.kind) (filter (is_on block) h)) (λ e k.
+          map_same entry_op unknown_write (filter (λ e. is_foreign e.kind) (filter (is_on block) h)) (λ e k.
               let a = filter_is (λ (e : Entry). is_foreign e.kind) (filter (is_on block) h) e k in
               let b = filter_is (is_on block) h e a.0 in
               (unowned e b.0 a.1).does),
         )
         (IsPermutation-map unknown_write _ _ same_others)
 
-    parts : IsPermutation (map op entries) (map op (filter foreign entries) ++ map op (filter own entries))
+    parts : IsPermutation (map entry_op entries) (map entry_op (filter foreign entries) ++ map entry_op (filter own entries))
     unfolding foreign own
-    parts = rw (← map-append) (IsPermutation-map op _ _ (IsPermutation-filter_both (λ e. is_foreign e.kind) (λ e. not (is_foreign e.kind)) (λ e. refl) entries))
+    parts = rw (← map-append) (IsPermutation-map entry_op _ _ (IsPermutation-filter_both (λ e. is_foreign e.kind) (λ e. not (is_foreign e.kind)) (λ e. refl) entries))
 
     pub order_of : IsOrderOf (on_block block (operations s w)) (ops_on block h)
     unfolding all left entries
     order_of = record {
       left_out = left;
-      all = rw filter-append (join all (filter is_there all) left (map op (filter own entries)) (on_block block (unknown (first_stamp s) w.records)) (map op (filter foreign entries)) (map op entries)
+      all = rw filter-append (permutation_of_parts all (filter is_there all) left (map entry_op (filter own entries)) (on_block block (unknown (first_stamp s) w.records)) (map entry_op (filter foreign entries)) (map entry_op entries)
           (IsPermutation-filter_both is_there (λ o. not (is_there o)) (λ o. refl) all) same_ops parts others);
       unended = left_unended;
     }
 
-  pub linearizable : Legal s h → InTime h → Linearizable (zeros s) (operations s w)
-  linearizable legal time block = record {
+  pub history_linearizable : Legal s h → InTime h → Linearizable (zeros s) (operations s w)
+  history_linearizable legal time block = record {
     order = ops_on block h;
     of_these = order_of block;
     in_time = in_time_on block h time;

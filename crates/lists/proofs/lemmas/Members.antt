@@ -57,35 +57,35 @@ filter_has p (y ∷ ys) x h e = elim (Contains-cons_cases x y ys h) [ inl f ↦ 
     at false k = k
 
 -- the elements of a list
-pub all_of : {X : Type 0} (P : X → Type 0) (xs : List X) → ((x : X) → Contains xs x → P x) → AllByRecursion P xs
-all_of P [] h = tt
-all_of P (x ∷ xs) h = (h x (Contains-head x xs), all_of P xs (λ y k. h y (Contains-rest y x xs k)))
+pub all_from_members : {X : Type 0} (P : X → Type 0) (xs : List X) → ((x : X) → Contains xs x → P x) → AllByRecursion P xs
+all_from_members P [] h = tt
+all_from_members P (x ∷ xs) h = (h x (Contains-head x xs), all_from_members P xs (λ y k. h y (Contains-rest y x xs k)))
 
-pub where_all : {X : Type 0} (P : X → Type 0) (xs : List X) → AllByRecursion P xs → (x : X) → Contains xs x → P x
-where_all P [] h x there = absurd (Contains-none x there)
-where_all P (y ∷ xs) h x there = elim (Contains-cons_cases x y xs there) [ inl is ↦ subst P (sym is) h.0 | inr then ↦ where_all P xs h.1 x then ]
+pub member_of_all : {X : Type 0} (P : X → Type 0) (xs : List X) → AllByRecursion P xs → (x : X) → Contains xs x → P x
+member_of_all P [] h x there = absurd (Contains-none x there)
+member_of_all P (y ∷ xs) h x there = elim (Contains-cons_cases x y xs there) [ inl is ↦ subst P (sym is) h.0 | inr then ↦ member_of_all P xs h.1 x then ]
 
 pub all_push : {X : Type 0} (P : X → Type 0) (xs : List X) (x : X) → AllByRecursion P xs → P x → AllByRecursion P (xs ++ x ∷ [])
 all_push P [] x h p = (p, tt)
 all_push P (y ∷ xs) x h p = (h.0, all_push P xs x h.1 p)
 
 -- the new item stands where it was put
-pub set_at : {A : Type 0} (xs : List A) (k : ℕ) (x y : A) → slice_get xs k ≡ Some x → slice_get (slice_set xs k y) k ≡ Some y
-set_at [] k x y at = absurd cc
-set_at (z ∷ xs) zero x y at = refl
-set_at (z ∷ xs) (suc k) x y at = set_at xs k x y at
+pub slice_get-set : {A : Type 0} (xs : List A) (k : ℕ) (x y : A) → slice_get xs k ≡ Some x → slice_get (slice_set xs k y) k ≡ Some y
+slice_get-set [] k x y at = absurd cc
+slice_get-set (z ∷ xs) zero x y at = refl
+slice_get-set (z ∷ xs) (suc k) x y at = slice_get-set xs k x y at
 
 -- what a list contains stands at a place
 pub place_of : {A : Type 0} (xs : List A) (x : A) → Contains xs x → (k : ℕ) × (slice_get xs k ≡ Some x)
 place_of xs x (k, lt, is) = (k, slice_get-get_or xs k x lt ∙ ap (λ y. Some y) is)
 
-pub get_new : {A : Type 0} (xs : List A) (x : A) → slice_get (xs ++ x ∷ []) (length xs) ≡ Some x
-get_new [] x = refl
-get_new (z ∷ xs) x = get_new xs x
+pub slice_get-pushed : {A : Type 0} (xs : List A) (x : A) → slice_get (xs ++ x ∷ []) (length xs) ≡ Some x
+slice_get-pushed [] x = refl
+slice_get-pushed (z ∷ xs) x = slice_get-pushed xs x
 
-pub nil_of : {A : Type 0} (xs : List A) → 0 ≡ length xs → xs ≡ []
-nil_of [] is = refl
-nil_of (x ∷ xs) is = absurd (omega arith)
+pub nil_of_length : {A : Type 0} (xs : List A) → 0 ≡ length xs → xs ≡ []
+nil_of_length [] is = refl
+nil_of_length (x ∷ xs) is = absurd (omega arith)
 
 -- what has a number when one more stands at the end
 pub slice_get-push : {A : Type 0} (xs : List A) (x : A) (k : ℕ) (y : A) → slice_get xs k ≡ Some y → slice_get (xs ++ x ∷ []) k ≡ Some y
@@ -99,13 +99,13 @@ slice_get-front (y ∷ xs) x zero lt = refl
 slice_get-front (y ∷ xs) x (suc i) lt = slice_get-front xs x i (omega arith)
 
 -- an element of a list and of one that begins with it
-pub get_left : {X : Type 0} (xs ys : List X) (k : ℕ) (x : X) → slice_get xs k ≡ Some x → slice_get (xs ++ ys) k ≡ Some x
-get_left [] ys k x h = absurd (cc)
-get_left (y ∷ xs) ys zero x h = h
-get_left (y ∷ xs) ys (suc k) x h = get_left xs ys k x h
+pub slice_get-append_left : {X : Type 0} (xs ys : List X) (k : ℕ) (x : X) → slice_get xs k ≡ Some x → slice_get (xs ++ ys) k ≡ Some x
+slice_get-append_left [] ys k x h = absurd (cc)
+slice_get-append_left (y ∷ xs) ys zero x h = h
+slice_get-append_left (y ∷ xs) ys (suc k) x h = slice_get-append_left xs ys k x h
 
-pub all_at : {A : Type 0} (P : A → Type 0) (xs : List A) (k : ℕ) (x : A) → All P xs → slice_get xs k ≡ Some x → P x
-all_at P xs k x all at = subst P (get_or_from_slice_get xs k x x at) (all k x (slice_get_within xs k x at))
+pub all_at_place : {A : Type 0} (P : A → Type 0) (xs : List A) (k : ℕ) (x : A) → All P xs → slice_get xs k ≡ Some x → P x
+all_at_place P xs k x all at = subst P (get_or_from_slice_get xs k x x at) (all k x (slice_get_within xs k x at))
 
 pub slice_get-seam : {A : Type 0} (xs : List A) (y : A) (ys : List A) → slice_get (xs ++ y ∷ ys) (length xs) ≡ Some y
 slice_get-seam [] y ys = refl

@@ -10,8 +10,8 @@ use Rattle.std.proofs.lemmas.Bool.Decides.{nat_tests}
 pub nat_less : (x y : ℕ) → x < y → nat_cmp x y ≡ Less
 nat_less x y h = let e : ltb x y ≡ true = grind (arith, nat_tests) in rw e refl
 
-pub less_of : (x y : ℕ) → nat_cmp x y ≡ Less → x < y
-less_of x y e = grind (arith, nat_tests)
+pub less_of_nat_cmp : (x y : ℕ) → nat_cmp x y ≡ Less → x < y
+less_of_nat_cmp x y e = grind (arith, nat_tests)
 
 pub lt_less : (o : Ordering) → is_lt o ≡ true → o ≡ Less
 lt_less Less h = refl
@@ -28,10 +28,10 @@ not_gt_le Less h = refl
 not_gt_le Equal h = refl
 not_gt_le Greater h = absurd (cc)
 
-pub eq_is : (o : Ordering) → is_eq o ≡ true → o ≡ Equal
-eq_is Less h = absurd (cc)
-eq_is Equal h = refl
-eq_is Greater h = absurd (cc)
+pub eq_equal : (o : Ordering) → is_eq o ≡ true → o ≡ Equal
+eq_equal Less h = absurd (cc)
+eq_equal Equal h = refl
+eq_equal Greater h = absurd (cc)
 
 pub then_assoc : (a b c : Ordering) → ordering_then (ordering_then a b) c ≡ ordering_then a (ordering_then b c)
 then_assoc Less b c = refl
@@ -43,8 +43,8 @@ then_equal Less c h = absurd (cc)
 then_equal Equal c h = (refl, h)
 then_equal Greater c h = absurd (cc)
 
-pub inserted : (x : ℕ) (xs : List ℕ) (k : ℕ) (P : List ℕ → Type 0) → P (k ∷ x ∷ xs) → (k ≡ x → P (x ∷ xs)) → P (x ∷ insert_key nat_cmp xs k) → P (insert_key nat_cmp (x ∷ xs) k)
-inserted x xs k P before here after =
+pub insert_key_cases : (x : ℕ) (xs : List ℕ) (k : ℕ) (P : List ℕ → Type 0) → P (k ∷ x ∷ xs) → (k ≡ x → P (x ∷ xs)) → P (x ∷ insert_key nat_cmp xs k) → P (insert_key nat_cmp (x ∷ xs) k)
+insert_key_cases x xs k P before here after =
     elim (cases_Bool (ltb k x)) [
       | inl lt ↦ rw lt before
       | inr ge ↦ elim (cases_Bool (eqb k x)) [ inl same ↦ rw (ge, same) (here (eqb-true k x same)) | inr other ↦ rw (ge, other) after ]

@@ -32,5 +32,5 @@ pub some_is : {X : Type 0} (o : Option X) → IsSome o → (x : X) × (o ≡ Som
 some_is None h = absurd (cc)
 some_is (Some x) h = (x, refl)
 
-pub positive : (t : ℕ) → eqb t 0 ≡ false → 1 ≤ t
-positive t e = grind (arith, nat_tests)
+pub nonzero_positive : (t : ℕ) → eqb t 0 ≡ false → 1 ≤ t
+nonzero_positive t e = grind (arith, nat_tests)

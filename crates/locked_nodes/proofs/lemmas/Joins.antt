@@ -9,7 +9,7 @@ use Rattle.protocol.specs.Report.{Ascend}
 use Rattle.journals.specs.declared.node.NodeEntry.{NodeEntry}
 use Rattle.locked_nodes.specs.Cells.{numbers}
 use Rattle.locked_nodes.specs.Joined.{lower, upper, join, JoinHas, JoinGrows}
-use Rattle.lists.proofs.lemmas.Members.{Contains-head, Contains-none, Contains-rest, Contains-cons_cases, where_all}
+use Rattle.lists.proofs.lemmas.Members.{Contains-head, Contains-none, Contains-rest, Contains-cons_cases, member_of_all}
 
 pub below_tells : (a b : ℕ) → ((nat_lt a b ≡ true) × (a < b)) ⊎ ((nat_lt a b ≡ false) × (b ≤ a))
 below_tells a b = at (nat_lt a b) refl
@@ -271,7 +271,7 @@ join_ascends (x ∷ xs) ys a b apart =
     ] in
     let up = ascend_cons x rest above (join_ascends xs (upper n ys) a.1 (upper_ascends n ys b) (λ u v there other. apart u v (Contains-rest u x xs there) (in_upper v other))) in
     ascend_append (lower n ys) (x ∷ rest) (lower_ascends n ys b) up (λ u v low on.
-    let l = where_all (λ (e : NodeEntry). e.number < n) (lower n ys) (lower_under n ys) u low in
+    let l = member_of_all (λ (e : NodeEntry). e.number < n) (lower n ys) (lower_under n ys) u low in
     elim (Contains-cons_cases v x rest on) [ inl is ↦ subst (λ (k : NodeEntry). u.number < k.number) (sym is) l | inr then ↦ (let m = above v then in omega (arith, l, m)) ])
 
 -- ---- the laws

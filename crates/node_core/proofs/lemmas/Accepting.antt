@@ -7,7 +7,7 @@ use Rattle.wire_forms.specs.declared.Request.TheVariants.{Time, Read, Write}
 use Rattle.wire_forms.specs.declared.Reason.TheVariants.{BadLength, TimeZero}
 use Rattle.protocol.specs.Setting.{Setting}
 use Rattle.protocol.specs.Nodes.{refusal, added, added_in, accepts, keeps}
-use Rattle.lists.proofs.lemmas.Tests.{positive}
+use Rattle.lists.proofs.lemmas.Tests.{nonzero_positive}
 
 -- the block is there, the stamp is new in it, and its time isn't 0
 pub record IsNewIn (s : Setting) (vs : List Version) (ask : Ask) (v : Version) : Type 0 where
@@ -21,7 +21,7 @@ tested false true rest e = absurd (cc)
 tested false false rest e = refl
 
 not_zero : (s : Setting) (i : ℕ) (v : Version) → refusal s i v ≡ None → 1 ≤ v.stamp.time
-not_zero s i v e = positive v.stamp.time (tested _ _ _ e)
+not_zero s i v e = nonzero_positive v.stamp.time (tested _ _ _ e)
 
 module _ (s : Setting) (i : ℕ) (vs : List Version) (ask : Ask) (v : Version) where
   of_write : (w : Version) (o : Option Reason) (k : Bool) → refusal s i w ≡ o → keeps vs w.stamp ≡ k → ask.block < s.blocks → added o vs w ≡ Some v → IsNewIn s vs ask v

@@ -36,8 +36,8 @@ module _ (c : Numbers) (config : IsValidConfig c) where
   good : IsValid s
   good = good_setting c config
 
-  pub waits : (1 ≤ wait_of c) × (wait_of c ≤ c.n)
-  waits = (omega (arith, config.low, config.high), omega arith)
+  pub wait_bounds : (1 ≤ wait_of c) × (wait_of c ≤ c.n)
+  wait_bounds = (omega (arith, config.low, config.high), omega arith)
 
   -- the blocks by what the nodes keep are those that they hold
   pub held_is : (nodes : List SeenNode) (held : List Held) → IsHeld c nodes held → held_of c nodes ≡ held
@@ -49,7 +49,7 @@ module _ (c : Numbers) (config : IsValidConfig c) where
       each k m =
           let h = held_at c held k in
           let i : 0 < c.n = omega (arith, config.nodes.0) in
-          let w : 0 < wait_of c = omega (arith, waits) in
+          let w : 0 < wait_of c = omega (arith, wait_bounds) in
           rw (decodes_held c config nodes k h (is.blocks k m) (is.unwritten k m) (λ i l. is.kept i k l m), is.kept 0 k w m, time_is c good 0 i h (is.blocks k m) (is.unwritten k m)) refl
 
   -- new nodes hold blocks that were never written

@@ -45,8 +45,8 @@ adds_more (Some l) (Some m) (Some n) text at k h j =
 pub adds_prefix : (a b c : Option (List ℕ)) (text : List ℕ) (at : ℕ) → Adds a b (take at text) → c ≡ b → TakesPrefix a c text
 adds_prefix a b c text at h e = (take at text, drop at text, sym (take-append-drop at text), rw e h)
 
-pub within : (text : List ℕ) (at k : ℕ) → k ≤ length (take (length text - at) (drop at text)) → at ≤ length text → at + k ≤ length text
-within text at k h in_range = omega (arith, h, length-take (length text - at) (drop at text), length-drop at text)
+pub place_within_text : (text : List ℕ) (at k : ℕ) → k ≤ length (take (length text - at) (drop at text)) → at ≤ length text → at + k ≤ length text
+place_within_text text at k h in_range = omega (arith, h, length-take (length text - at) (drop at text), length-drop at text)
 
 -- a room that kept a piece whole took it
 pub adds_told : (before now fits : Bool) (kept later piece : List ℕ) (room : ℕ) → now ≡ (before && fits) → fits ≡ leb (length piece) room → later ≡ kept ++ take room piece → Adds (cond before (Some kept) None) (cond now (Some later) None) (take (length piece) piece)

@@ -11,7 +11,7 @@ use Rattle.locked_nodes.specs.Cells.{CellView, numbers}
 use Rattle.locked_nodes.specs.Joined.{join}
 use Rattle.phase_threads.specs.Standing.{add_cell, node_journal}
 use Rattle.locked_nodes.proofs.lemmas.Joins.{AreUnder, AreFrom, join_cases, join_left, join_right, join_own, join_other, join_more, join_ascends}
-use Rattle.lists.proofs.lemmas.Members.{Contains-head, Contains-none, Contains-rest, Contains-cons_cases, all_of, where_all, place_of, Contains-slice_get}
+use Rattle.lists.proofs.lemmas.Members.{Contains-head, Contains-none, Contains-rest, Contains-cons_cases, all_from_members, member_of_all, place_of, Contains-slice_get}
 
 -- the cell's part in the journal of node i
 added : (i : ℕ) (acc : List NodeEntry) (c : CellView) → c.charter.number ≡ i → add_cell i acc c ≡ join acc c.journal
@@ -88,10 +88,10 @@ record HasGrown (from : ℕ) (old new : List NodeEntry) : Type 0 where
   later : AreFrom from more
 
 join_under : (n : ℕ) (xs ys : List NodeEntry) → AreUnder n xs → AreUnder n ys → AreUnder n (join xs ys)
-join_under n xs ys a b = all_of (λ e. e.number < n) (join xs ys) (λ e there. elim (join_cases xs ys e there) [ inl x ↦ where_all (λ e. e.number < n) xs a e x | inr y ↦ where_all (λ e. e.number < n) ys b e y ])
+join_under n xs ys a b = all_from_members (λ e. e.number < n) (join xs ys) (λ e there. elim (join_cases xs ys e there) [ inl x ↦ member_of_all (λ e. e.number < n) xs a e x | inr y ↦ member_of_all (λ e. e.number < n) ys b e y ])
 
 join_from : (n : ℕ) (xs ys : List NodeEntry) → AreFrom n xs → AreFrom n ys → AreFrom n (join xs ys)
-join_from n xs ys a b = all_of (λ e. n ≤ e.number) (join xs ys) (λ e there. elim (join_cases xs ys e there) [ inl x ↦ where_all (λ e. n ≤ e.number) xs a e x | inr y ↦ where_all (λ e. n ≤ e.number) ys b e y ])
+join_from n xs ys a b = all_from_members (λ e. n ≤ e.number) (join xs ys) (λ e there. elim (join_cases xs ys e there) [ inl x ↦ member_of_all (λ e. n ≤ e.number) xs a e x | inr y ↦ member_of_all (λ e. n ≤ e.number) ys b e y ])
 
 fold_on : (i from : ℕ) (old new : List CellView) (acc more : List NodeEntry) → AllZip (GoesOnAs from) old new → AreUnder from acc → AreFrom from more → HasGrown from (fold (add_cell i) acc old) (fold (add_cell i) (acc ++ more) new)
 fold_on i from [] [] acc more z under later = record { more = more; is = refl; later = later }
@@ -123,7 +123,7 @@ pub record JournalGrows (from : ℕ) (old new : List NodeEntry) : Type 0 where
 pub journal_on : (i from : ℕ) (old new : List CellView) → AllZip (GoesOnAs from) old new → JournalGrows from (node_journal old i) (node_journal new i)
 journal_on i from old new z =
     let g = fold_on i from old new [] [] z tt tt in
-    record { more = g.more; grown = g.is; later = where_all (λ e. from ≤ e.number) g.more g.later }
+    record { more = g.more; grown = g.is; later = member_of_all (λ e. from ≤ e.number) g.more g.later }
 
 -- ---- one entry more in one cell
 

@@ -21,40 +21,40 @@ use Rattle.journals.specs.contracts.node.NodeEntry as node_entry
 use Rattle.journals.specs.contracts.desk.DeskEntry as desk_entry
 use Rattle.run_words.specs.contracts.record.Record as told
 use Rattle.locked_nodes.specs.contracts.charter.Terms as terms
-use Rattle.locked_nodes.specs.contracts.state.State as state
+use Rattle.locked_nodes.specs.contracts.state.CellState as cell_state
 use Rattle.locked_nodes.specs.contracts.cell.NodeCell as cell
 use Rattle.client_desks.specs.contracts.desk.Desk as desk
 use Rattle.inboxes.proofs.lemmas.CrossesThreads.{taker_send, putter_send}
-use Rattle.desk_keys.proofs.lemmas.Sending.{all, pass_send, bytes_send, sum_send, version_send, message_send, asked_send, answered_send}
-use Rattle.desk_keys.specs.contracts.mail.ByMail as mail
-use Rattle.desk_keys.specs.contracts.transport.Transport as transport
-use Rattle.desk_keys.specs.contracts.keys.Keys as keys
-use Rattle.desk_keys.specs.contracts.keys.Keys.TheInside as keys_inside
-use Rattle.desk_keys.specs.contracts.floor.Floor as floor
-use Rattle.desk_keys.specs.contracts.floor.Floor.TheInside as inside
-use Rattle.phase_threads.specs.contracts.crew.Post as post
+use Rattle.client_endpoints.proofs.lemmas.Sending.{crossing_rules, pass_send, bytes_send, sum_send, version_send, message_send, asked_send, answered_send}
+use Rattle.client_endpoints.specs.contracts.mail.ByMail as mail
+use Rattle.client_endpoints.specs.contracts.transport.Transport as transport
+use Rattle.client_endpoints.specs.contracts.endpoint.Endpoint as endpoint
+use Rattle.client_endpoints.specs.contracts.endpoint.Endpoint.TheInside as endpoint_inside
+use Rattle.client_endpoints.specs.contracts.shared_cells.SharedCells as shared_cells
+use Rattle.client_endpoints.specs.contracts.shared_cells.SharedCells.TheInside as inside
+use Rattle.phase_threads.specs.contracts.thread_state.ThreadState as state
 
 pub clock_sync : IsSync clock.the_row
-clock_sync = search all depth 60 fits 50000
+clock_sync = search crossing_rules depth 60 fits 50000
 
 pub operation_send : IsSend operation.the_row
-operation_send = search (all, bytes_send, sum_send) depth 60 fits 50000
+operation_send = search (crossing_rules, bytes_send, sum_send) depth 60 fits 50000
 
 pub writer_send : IsSend writer.the_row
-writer_send = search (all, operation_send) depth 40
+writer_send = search (crossing_rules, operation_send) depth 40
 
 pub reader_send : IsSend reader.the_row
-reader_send = search (all, operation_send) depth 40
+reader_send = search (crossing_rules, operation_send) depth 40
 
 pub client_send : IsSend client.the_row
-client_send = search (all, writer_send, reader_send) depth 40
+client_send = search (crossing_rules, writer_send, reader_send) depth 40
 
 pub node_send : IsSend node.the_row
-node_send = search (all, version_send, bytes_send, sum_send) depth 60 fits 50000
+node_send = search (crossing_rules, version_send, bytes_send, sum_send) depth 60 fits 50000
 
 -- an act of a node, variant by variant: the whole is too large for one search
 message_field : IsSend message.the_field.row
-message_field = search all depth 60 fits 50000
+message_field = search crossing_rules depth 60 fits 50000
 
 silence_field : IsSend silence.the_field.row
 silence_field = search sendable depth 40
@@ -91,52 +91,52 @@ pub node_entry_send : IsSend node_entry.the_row
 node_entry_send = recorded_send _ _ _ (node_entry.the_type.to_one) (struct_send (shape_of node_entry.the_type) (search sendable depth 10, (act_field, tt)))
 
 pub terms_send : IsSend terms.the_row
-terms_send = search all depth 40
+terms_send = search crossing_rules depth 40
 
-pub state_send : IsSend state.the_row
-state_send = search (all, node_send, message_send, bytes_send, sum_send) depth 60 fits 50000
+pub cell_state_send : IsSend cell_state.the_row
+cell_state_send = search (crossing_rules, node_send, message_send, bytes_send, sum_send) depth 60 fits 50000
 
 pub cell_send : IsSend cell.the_row
-cell_send = search (all, terms_send, state_send, node_entry_send, pass_send) depth 40
+cell_send = search (crossing_rules, terms_send, cell_state_send, node_entry_send, pass_send) depth 40
 
 pub desk_entry_send : IsSend desk_entry.the_row
-desk_entry_send = search (all, message_send) depth 60 fits 50000
+desk_entry_send = search (crossing_rules, message_send) depth 60 fits 50000
 
 pub record_send : IsSend told.the_row
-record_send = search (all, bytes_send) depth 60 fits 50000
+record_send = search (crossing_rules, bytes_send) depth 60 fits 50000
 
 pub desk_send : IsSend desk.the_row
-desk_send = search (all, client_send, desk_entry_send, record_send, pass_send) depth 40 fits 50000
+desk_send = search (crossing_rules, client_send, desk_entry_send, record_send, pass_send) depth 40 fits 50000
 
 pub mail_send : IsSend mail.the_row
-mail_send = search (all, asked_send, answered_send, putter_send, taker_send) depth 40
+mail_send = search (crossing_rules, asked_send, answered_send, putter_send, taker_send) depth 40
 
 mail_field : IsSend mail.the_field.row
-mail_field = search (all, asked_send, answered_send, putter_send, taker_send) depth 40
+mail_field = search (crossing_rules, asked_send, answered_send, putter_send, taker_send) depth 40
 
 -- variant by variant: the whole is too large for one search
 transport_field : IsSend transport.the_field.row
-transport_field = enum_send (variants_of transport.the_type) ((search (all, cell_send) depth 40, tt), ((mail_field, tt), tt))
+transport_field = enum_send (variants_of transport.the_type) ((search (crossing_rules, cell_send) depth 40, tt), ((mail_field, tt), tt))
 
 -- and field by field
-keys_inside_send : IsSend (row_of keys_inside.the_type)
-keys_inside_send =
-    recorded_send _ _ _ (keys_inside.the_type.to_one)
-    (struct_send (shape_of keys_inside.the_type) (search (all, desk_send) depth 40, (search (all, desk_send) depth 40, (transport_field, (search all depth 40, tt)))))
+endpoint_inside_send : IsSend (row_of endpoint_inside.the_type)
+endpoint_inside_send =
+    recorded_send _ _ _ (endpoint_inside.the_type.to_one)
+    (struct_send (shape_of endpoint_inside.the_type) (search (crossing_rules, desk_send) depth 40, (search (crossing_rules, desk_send) depth 40, (transport_field, (search crossing_rules depth 40, tt)))))
 
-pub keys_send : IsSend keys.the_row
-keys_send = search (sendable, keys_inside_send) depth 20
+pub endpoint_send : IsSend endpoint.the_row
+endpoint_send = search (sendable, endpoint_inside_send) depth 20
 
-pub post_send : (T : RattleType) → IsSend T → IsSend (post.the_row T)
-post_send T s = search (all, keys_send) depth 40
+pub state_send : (T : RattleType) → IsSend T → IsSend (state.the_row T)
+state_send T s = search (crossing_rules, endpoint_send) depth 40
 
 pub vault_sync : (T E : RattleType) (g : kept.Ghosts T.Denot E.Denot) → IsSend T → IsSync (vault.the_row T E g)
-vault_sync T E g s = search all depth 60 fits 50000
+vault_sync T E g s = search crossing_rules depth 60 fits 50000
 
 inside_sync : IsSync (row_of inside.the_type)
 inside_sync =
     recorded_sync _ _ _ (inside.the_type.to_one)
     (struct_sync (shape_of inside.the_type) (search (sendable, std.crosses) depth 20, (search (sendable, std.crosses, vault_sync, cell_send) depth 30, (search (sendable, clock_sync) depth 20, tt))))
 
-pub floor_sync : IsSync floor.the_row
-floor_sync = search (sendable, inside_sync) depth 20
+pub shared_cells_sync : IsSync shared_cells.the_row
+shared_cells_sync = search (sendable, inside_sync) depth 20

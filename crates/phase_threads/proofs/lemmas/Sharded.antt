@@ -18,9 +18,9 @@ use Rattle.journals.specs.declared.node.Nature.{Nature}
 use Rattle.journals.specs.declared.node.Nature.TheVariants.{Honest, Lying as Lies}
 use Rattle.journals.specs.Acts.{NodeState, Cause, cause_of, can_prune, new_state, after_all, NodeKept}
 use Rattle.journals.specs.Acts.Cause.{Comes, ComesLate, Prunes}
-use Rattle.locked_nodes.specs.declared.slot.Slot.{Slot}
+use Rattle.locked_nodes.specs.declared.cell_shard.CellShard.{CellShard}
 use Rattle.locked_nodes.specs.Cells.{CellView, KeptCell, HasNoLateMail, IsOfShard, ComesTo, IsShare, numbers, state_of}
-use Rattle.locked_nodes.specs.Slots.{slot_of, slots_of}
+use Rattle.locked_nodes.specs.CellShards.{cell_shard_of, cell_shards_of}
 use Rattle.locked_nodes.specs.Shards.{IsJournal, IsShardOf, AreShards, AreJoined, block_in, block_for, is_of_shard, OneCell, SeveralCells, SeveralCalm}
 use Rattle.phase_threads.specs.Standing.{node_journal}
 use Rattle.plan_words.specs.declared.fault.Fault.{Fault}
@@ -95,8 +95,8 @@ one_or_several plan clock row h i = at (is_whole plan i) refl
 
 -- ---- the cells of a node
 
-slot_with : (s t : Slot) → s.node ≡ t.node → s.shard ≡ t.shard → s.shards ≡ t.shards → s ≡ t
-slot_with s t a b c = λ i. record { node = a i; shard = b i; shards = c i }
+shard_with : (s t : CellShard) → s.node ≡ t.node → s.shard ≡ t.shard → s.shards ≡ t.shards → s ≡ t
+shard_with s t a b c = λ i. record { node = a i; shard = b i; shards = c i }
 
 module _ (plan : Plan) (clock : ClockId) (row : List CellView) (h : ArePlanned plan clock row) (kept : All KeptCell row) where
   planned : (cell : CellView) → Contains row cell → IsPlanned plan h.shards cell
@@ -113,21 +113,21 @@ module _ (plan : Plan) (clock : ClockId) (row : List CellView) (h : ArePlanned p
     number : cell.charter.number ≡ i
     share : block % cell.charter.shards ≡ cell.charter.shard
 
-  get_map : (cells : List CellView) (k : ℕ) (s : Slot) → slice_get (slots_of cells) k ≡ Some s → (c : CellView) × (slice_get cells k ≡ Some c) × (slot_of c.charter ≡ s)
+  get_map : (cells : List CellView) (k : ℕ) (s : CellShard) → slice_get (cell_shards_of cells) k ≡ Some s → (c : CellView) × (slice_get cells k ≡ Some c) × (cell_shard_of c.charter ≡ s)
   get_map [] k s at = absurd (Contains-none s (Contains-slice_get [] k s at))
-  get_map (c ∷ cs) zero s at = (let e : slot_of c.charter ≡ s = cc in (c, refl, e))
+  get_map (c ∷ cs) zero s at = (let e : cell_shard_of c.charter ≡ s = cc in (c, refl, e))
   get_map (c ∷ cs) (suc k) s at = get_map cs k s at
 
   cell_for : (i block : ℕ) → i < plan.config.n → IsCellFor i block
   cell_for i block l =
       let p = h.cells.cover i block l in
-      let c = get_map row p.0 p.1.slot p.1.there in
+      let c = get_map row p.0 p.1.cell_shard p.1.there in
       record {
         place = p.0;
         cell = c.0;
         there = c.1;
-        number = ap (λ (s : Slot). s.node) c.2 ∙ p.1.is.of;
-        share = ap (λ (s : Slot). block % s.shards) c.2 ∙ p.1.is.share ∙ ap (λ (s : Slot). s.shard) (sym c.2);
+        number = ap (λ (s : CellShard). s.node) c.2 ∙ p.1.is.of;
+        share = ap (λ (s : CellShard). block % s.shards) c.2 ∙ p.1.is.share ∙ ap (λ (s : CellShard). s.shard) (sym c.2);
       }
 
   -- ---- a node with one cell
@@ -144,7 +144,7 @@ module _ (plan : Plan) (clock : ClockId) (row : List CellView) (h : ArePlanned p
     alone k c at is m d there own =
         let a = first c (Contains-slice_get row k c at) is in
         let b = first d (Contains-slice_get row m d there) own in
-        h.own k m c d at there (slot_with (slot_of c.charter) (slot_of d.charter) (is ∙ sym own) (a.0 ∙ sym b.0) (a.1 ∙ sym b.1))
+        h.own k m c d at there (shard_with (cell_shard_of c.charter) (cell_shard_of d.charter) (is ∙ sym own) (a.0 ∙ sym b.0) (a.1 ∙ sym b.1))
 
     pub journal_one : (cell : CellView) → Contains row cell → cell.charter.number ≡ i → node_journal row i ≡ cell.journal
     journal_one cell there is = (let q = place_of row cell there in journal_alone row i q.0 cell q.1 is (alone q.0 cell q.1 is))
@@ -159,8 +159,8 @@ module _ (plan : Plan) (clock : ClockId) (row : List CellView) (h : ArePlanned p
   -- ---- a node with several
 
   module _ (i : ℕ) (more : 1 < h.shards i) (lasts : crash_after plan.rules i ≡ None) where
-    pub serves : (cell : CellView) → Contains row cell → cell.charter.number ≡ i → IsShardOf plan.config i (nature plan.rules i) (h.shards i) cell.charter.shard cell
-    serves cell there is =
+    pub serves_shard : (cell : CellView) → Contains row cell → cell.charter.number ≡ i → IsShardOf plan.config i (nature plan.rules i) (h.shards i) cell.charter.shard cell
+    serves_shard cell there is =
         let p = planned cell there in
         record {
           kept = All-contains KeptCell row cell kept there;
@@ -173,7 +173,7 @@ module _ (plan : Plan) (clock : ClockId) (row : List CellView) (h : ArePlanned p
     -- entries of its cells leave the node calm
     pub stays_calm : SeveralCalm → (es : List NodeEntry) → ((e : NodeEntry) → Contains es e → IsIn row i e) → ((node_after plan i es).crashed ≡ false) × ((node_after plan i es).late ≡ [])
     stays_calm calm es in_cells =
-        let c = calm plan.config i (nature plan.rules i) (h.shards i) es more (λ e there. (let q = in_cells e there in record { cell = q.cell; serves = serves q.cell q.there q.number; stands = q.stands })) in
+        let c = calm plan.config i (nature plan.rules i) (h.shards i) es more (λ e there. (let q = in_cells e there in record { cell = q.cell; serves = serves_shard q.cell q.there q.number; stands = q.stands })) in
         let s : new_state plan.config i None ≡ new_state plan.config i (crash_after plan.rules i) = ap (new_state plan.config i) (sym lasts) in
         (subst (λ (x : NodeState). (after_all x es).crashed ≡ false) s c.0, subst (λ (x : NodeState). (after_all x es).late ≡ []) s c.1)
 
@@ -285,7 +285,7 @@ module _ (plan : Plan) (clock : ClockId) (row : List CellView) (h : ArePlanned p
         let in_row = Contains-slice_get row m d there in
         filter_none (is_of_shard s n) d.journal (λ e stands. elim (eqb_tells (block_for (cause_of e.act) % n) s) [
           | inr other ↦ other.0
-          | inl same ↦ absurd (apart (h.own (at s).place m (at s).cell d (at s).there there (slot_with (slot_of (at s).cell.charter) (slot_of d.charter) ((at s).number ∙ sym own)
+          | inl same ↦ absurd (apart (h.own (at s).place m (at s).cell d (at s).there there (shard_with (cell_shard_of (at s).cell.charter) (cell_shard_of d.charter) ((at s).number ∙ sym own)
               (shard_at s below ∙ sym same.1 ∙ of_shard d in_row own e stands) (shards_are (at s).cell (there_at s) (at s).number ∙ sym (shards_are d in_row own)))))
         ]))
         ∙ filter_all (is_of_shard s n) (at s).cell.journal (λ e stands. elim (eqb_tells (block_for (cause_of e.act) % n) s) [
@@ -309,7 +309,7 @@ module _ (plan : Plan) (clock : ClockId) (row : List CellView) (h : ArePlanned p
     are_shards = record {
       count = long;
       each = by_shard (λ s cell. IsShardOf plan.config i (nature plan.rules i) n s cell)
-          (λ s below. subst (λ (k : ℕ). IsShardOf plan.config i (nature plan.rules i) n k (at s).cell) (shard_at s below) (serves plan clock row h kept i more lasts (at s).cell (there_at s) (at s).number));
+          (λ s below. subst (λ (k : ℕ). IsShardOf plan.config i (nature plan.rules i) n k (at s).cell) (shard_at s below) (serves_shard plan clock row h kept i more lasts (at s).cell (there_at s) (at s).number));
     }
 
     are_joined : AreJoined cells (node_journal row i)

@@ -25,7 +25,7 @@ use Rattle.phase_threads.specs.Standing.{AreInside, HasWorked, node_journal, Pha
 use Rattle.locked_nodes.proofs.lemmas.Joins.{AreUnder}
 use Rattle.phase_threads.proofs.lemmas.Nodes.{GoesOnAs, journal_cases, journal_has, journal_on}
 use Rattle.phase_threads.proofs.lemmas.Cells.{journal_of, journal_is, past_range, node_rises, desk_rises, rises_from, entries_at, desk_at}
-use Rattle.lists.proofs.lemmas.Members.{Contains-head, Contains-none, Contains-rest, Contains-cons_cases, all_of}
+use Rattle.lists.proofs.lemmas.Members.{Contains-head, Contains-none, Contains-rest, Contains-cons_cases, all_from_members}
 
 -- ---- one cell
 
@@ -79,7 +79,7 @@ goes_on from all (x ∷ xs) (y ∷ ys) among under z s k = (
         more = on.more;
         grown = on.grown;
         under = under x (among x (Contains-head x xs));
-        later = all_of (λ e. from ≤ e.number) on.more on.later;
+        later = all_from_members (λ e. from ≤ e.number) on.more on.later;
       }
       ),
   goes_on from all xs ys (λ c there. among c (Contains-rest c x xs there)) under z.1 (All-tail (λ c. from ≤ c.pass.seen) x xs s) (All-tail KeptCell y ys k),
@@ -106,7 +106,7 @@ was_cell (a ∷ xs) (b ∷ ys) z k y there = elim (Contains-cons_cases y b ys th
 module _ (config : Numbers) (from : ℕ) (old new : List CellView) (z : AllZip HasWorked old new) (inside : AreInside config old) (k : All KeptCell new) where
   nodes_on : All (λ c. from ≤ c.pass.seen) old → ((i : ℕ) (e : NodeEntry) → Contains (journal_of config old i) e → e.number < from) → (i : ℕ) → NodeGoesOn from (journal_of config old i) (journal_of config new i)
   nodes_on s below i =
-      let under : (x : CellView) → Contains old x → AreUnder from x.journal = λ x there. all_of (λ e. e.number < from) x.journal (λ e at.
+      let under : (x : CellView) → Contains old x → AreUnder from x.journal = λ x there. all_from_members (λ e. e.number < from) x.journal (λ e at.
       below x.charter.number e (subst (λ (l : List NodeEntry). Contains l e) (sym (journal_is config old inside x.charter.number)) (journal_has old x e there at))) in
       let on = journal_on i from old new (goes_on from old old new (λ x there. there) under z s k) in
       record {

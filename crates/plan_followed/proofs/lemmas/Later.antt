@@ -17,11 +17,11 @@ filter-none test (x ∷ xs) h =
 
 module _ {E : Type 0} (number : E → ℕ) where
   -- the entries below a number, and those of a phase's prunes
-  abbrev pub below : ℕ → List E → List E
-  below k es = filter (λ e. nat_lt (number e) k) es
+  abbrev pub entries_below : ℕ → List E → List E
+  entries_below k es = filter (λ e. nat_lt (number e) k) es
 
-  abbrev pub within : Phase → List E → List E
-  within p es = filter (λ e. nat_le p.close (number e) && nat_lt (number e) p.end) es
+  abbrev pub entries_within : Phase → List E → List E
+  entries_within p es = filter (λ e. nat_le p.close (number e) && nat_lt (number e) p.end) es
 
   not_below : (k n : ℕ) → k ≤ n → nat_lt n k ≡ false
   not_below k n l = grind (arith, nat_tests)
@@ -50,20 +50,20 @@ module _ {E : Type 0} (number : E → ℕ) where
         split ∙ ap (λ (l : List E). filter test old ++ l) none ∙ sym (append_nil (filter test old))
 
     -- what stood below a number up to the first later one is all that stands there
-    pub below_same : (k : ℕ) → k ≤ from → below k new ≡ below k old
+    pub below_same : (k : ℕ) → k ≤ from → entries_below k new ≡ entries_below k old
     below_same k l = same (λ e. nat_lt (number e) k) (λ e m. not_below k (number e) (omega (arith, l, m)))
 
     -- and so it is with a phase that ended before
-    pub within_same : (p : Phase) → p.end ≤ from → within p new ≡ within p old
+    pub within_same : (p : Phase) → p.end ≤ from → entries_within p new ≡ entries_within p old
     within_same p l = same (λ e. nat_le p.close (number e) && nat_lt (number e) p.end) (λ e m. not_after p (number e) (omega (arith, l, m)))
 
   -- all entries stand below a number that is above theirs
-  pub below_all : (k : ℕ) (es : List E) → ((e : E) → Contains es e → number e < k) → below k es ≡ es
+  pub below_all : (k : ℕ) (es : List E) → ((e : E) → Contains es e → number e < k) → entries_below k es ≡ es
   below_all k es h = filter-all (λ e. nat_lt (number e) k) es (λ e there. is_below k (number e) (h e there))
 
   -- what comes after the close of a phase and before its end is what stands within
   pub within_more : (p : Phase) (old new : List E) (h : ComesLater number p.close old new)
-      → ((e : E) → Contains old e → number e < p.close) → ((e : E) → Contains h.more e → number e < p.end) → within p new ≡ h.more
+      → ((e : E) → Contains old e → number e < p.close) → ((e : E) → Contains h.more e → number e < p.end) → entries_within p new ≡ h.more
   within_more p old new h before after =
       let test = λ (e : E). nat_le p.close (number e) && nat_lt (number e) p.end in
       let split : filter test new ≡ filter test old ++ filter test h.more = ap (filter test) h.grown ∙ filter-append test old h.more in

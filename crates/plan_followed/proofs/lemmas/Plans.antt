@@ -23,21 +23,21 @@ use Rattle.journals.specs.Steps.{is_lying}
 use Rattle.plan_followed.specs.Asked.{nature, crash_after}
 use Rattle.plan_followed.specs.Laws.{OfPlans, HasConduct, HasLiars, HasCluster}
 use Rattle.lists.proofs.lemmas.Tests.{or_swapped, or_twice}
-use Rattle.lists.proofs.lemmas.Orders.{inserted}
+use Rattle.lists.proofs.lemmas.Orders.{insert_key_cases}
 
 -- ---- numbers in ascending order, each once
 
 has_inserted : (ks : List ℕ) (k q : ℕ) → has_number (insert_key nat_cmp ks k) q ≡ (eqb q k || has_number ks q)
 has_inserted [] k q = refl
 has_inserted (x ∷ xs) k q =
-    inserted x xs k (λ ks. has_number ks q ≡ (eqb q k || has_number (x ∷ xs) q))
+    insert_key_cases x xs k (λ ks. has_number ks q ≡ (eqb q k || has_number (x ∷ xs) q))
     refl
     (λ same. rw same (or_twice (eqb q x) (has_number xs q)))
     (ap (λ (b : Bool). eqb q x || b) (has_inserted xs k q) ∙ or_swapped (eqb q x) (eqb q k) (has_number xs q))
 
 length_inserted : (ks : List ℕ) (k : ℕ) → length (insert_key nat_cmp ks k) ≤ length ks + 1
 length_inserted [] k = omega arith
-length_inserted (x ∷ xs) k = let h = length_inserted xs k in inserted x xs k (λ ks. length ks ≤ length (x ∷ xs) + 1) (omega arith) (λ same. omega arith) (omega (arith, h))
+length_inserted (x ∷ xs) k = let h = length_inserted xs k in insert_key_cases x xs k (λ ks. length ks ≤ length (x ∷ xs) + 1) (omega arith) (λ same. omega arith) (omega (arith, h))
 
 has_all : (ks xs : List ℕ) (q : ℕ) → has_number (fold (insert_key nat_cmp) xs ks) q ≡ (has_number ks q || has_number xs q)
 has_all [] xs q = refl

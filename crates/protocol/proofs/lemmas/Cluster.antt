@@ -20,7 +20,7 @@ use Rattle.protocol.specs.Operations.Stage.{Times, Versions, Storing}
 use Rattle.protocol.specs.Seen.{SeenTask, hearing}
 use Rattle.protocol.specs.Setting.{Setting, IsValid, IsAscending}
 use Rattle.protocol.specs.Instance.{setting, setting_of, part_numbers, part_strings, IsCluster}
-use Rattle.protocol.proofs.lemmas.Firsts.{shape}
+use Rattle.protocol.proofs.lemmas.Firsts.{shape_of_valid}
 use Rattle.lists.proofs.lemmas.Members.{Contains-head, Contains-rest}
 
 all_map : {X Y : Type 0} (P : Y → Type 0) (f : X → Y) (xs : List X) → ((x : X) → Contains xs x → P (f x)) → AllByRecursion P (map f xs)
@@ -63,7 +63,7 @@ module _ (c : Numbers) (nodes clients : ℕ → Bool) (good : IsCluster c nodes)
 
   fragment_is_bytes : (value : List ℕ) (i : ℕ) → IsBytes value → IsBytes (slice_index_or (fragments_of c.n c.m value) i [])
   fragment_is_bytes value i h = elim (cases_lt i c.n) [
-    | inl l ↦ bytes _ (fragment_bytes c.n c.m i value (shape c good.config) (elements value h) l)
+    | inl l ↦ bytes _ (fragment_bytes c.n c.m i value (shape_of_valid c good.config) (elements value h) l)
     | inr k ↦ subst IsBytes (sym (get_or_past (fragments_of c.n c.m value) i [] (let e = length-fragments_of c.n c.m value in omega (arith, e, k)))) tt
   ]
 
@@ -73,7 +73,7 @@ module _ (c : Numbers) (nodes clients : ℕ → Bool) (good : IsCluster c nodes)
   decodes_to : (value : List ℕ) (parts : List (ℕ × List ℕ)) → (length value ≡ c.size) × IsBytes value → length parts ≡ c.m → IsAscending parts
       → ((q : ℕ × List ℕ) → Contains parts q → (q.0 < c.n) × (q.1 ≡ slice_index_or (fragments_of c.n c.m value) q.0 [])) → decoded c.m c.size (part_numbers parts) (part_strings parts) ≡ value
   decodes_to value parts h len up each =
-      decoded-fragments_of c.n c.m c.size (part_numbers parts) (part_strings parts) value (shape c good.config) (elements value h.1) h.0
+      decoded-fragments_of c.n c.m c.size (part_numbers parts) (part_strings parts) value (shape_of_valid c good.config) (elements value h.1) h.0
       (length-map parts _ ∙ len) (length-map parts _ ∙ len)
       (All-from_recursion (λ x. x < c.n) (part_numbers parts) (all_map (λ x. x < c.n) (λ q. q.0) parts (λ q k. (each q k).0)))
       (distinct parts up)
@@ -87,7 +87,7 @@ module _ (c : Numbers) (nodes clients : ℕ → Bool) (good : IsCluster c nodes)
       → (length (decoded c.m c.size (part_numbers parts) (part_strings parts)) ≡ c.size) × IsBytes (decoded c.m c.size (part_numbers parts) (part_strings parts))
   decoded_to_block parts len up each =
       let are = are_parts c parts len up (λ q k. let e = each q k in (e.0, e.1)) in
-      let r = decoded_is_block c.n c.m c.size (part_numbers parts) (part_strings parts) (shape c good.config) are
+      let r = decoded_is_block c.n c.m c.size (part_numbers parts) (part_strings parts) (shape_of_valid c good.config) are
       (All-from_recursion AreElements (part_strings parts) (all_map AreElements (λ q. q.1) parts (λ q k. elements q.1 (each q k).2))) in
       (r.0, bytes _ r.1)
 

@@ -12,9 +12,9 @@ bits true false = omega arith
 bits false true = omega arith
 bits false false = omega arith
 
-pub shared : (n : ℕ) (p q : ℕ → Bool) → count n p + count n q ≤ n + count n (λ i. p i && q i)
-shared zero p q = omega arith
-shared (suc k) p q = omega (arith, shared k p q, bits (p k) (q k))
+pub count_shared : (n : ℕ) (p q : ℕ → Bool) → count n p + count n q ≤ n + count n (λ i. p i && q i)
+count_shared zero p q = omega arith
+count_shared (suc k) p q = omega (arith, count_shared k p q, bits (p k) (q k))
 
 bits_within : (a c : Bool) → (a ≡ true → c ≡ true) → cond a 1 0 ≤ cond c 1 0
 bits_within true true h = omega arith

@@ -15,8 +15,8 @@ use Rattle.protocol.specs.Seen.{as_version}
 
 module _ (c : Numbers) (h : IsValid c) where
   -- the code of a valid configuration
-  pub shape : IsShape c.n c.m
-  shape = record { some = h.shares.0; enough = (let a = h.shares.1 in let b = h.high in omega arith); few = h.nodes.1 }
+  pub shape_of_valid : IsShape c.n c.m
+  shape_of_valid = record { some = h.shares.0; enough = (let a = h.shares.1 in let b = h.high in omega arith); few = h.nodes.1 }
 
   version_of : ℕ → List (List ℕ) → Version
   version_of i fs = record { stamp = record { time = 0; client = 0; verifier = verifier (map digest fs) }; sum = map digest fs; fragment = slice_index_or fs i [] }
@@ -25,7 +25,7 @@ module _ (c : Numbers) (h : IsValid c) where
   unfolding version_of
   first_is i l =
       let e = get_or-replicate c.n i (replicate (share_of c) 0) [] l in
-      let f : version_of i (fragments_of c.n c.m (replicate c.size 0)) ≡ version_of i (zero_fragments c) = ap (version_of i) (fragments_of-zeros c.n c.m c.size shape) in
+      let f : version_of i (fragments_of c.n c.m (replicate c.size 0)) ≡ version_of i (zero_fragments c) = ap (version_of i) (fragments_of-zeros c.n c.m c.size shape_of_valid) in
       let g : version_of i (zero_fragments c) ≡ as_version (first_of c) = ap (λ (x : List ℕ). record { stamp = (first_of c).stamp; sum = (first_of c).sum; fragment = x }) e in
       sym (f ∙ g)
 

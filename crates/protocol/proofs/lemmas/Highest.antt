@@ -4,7 +4,7 @@ use Rattle.std.specs.declared.option.Option.TheVariants.{None, Some}
 use Rattle.std.proofs.lemmas.Bool.Decides.{nat_tests}
 use Rattle.protocol.specs.Count.{count}
 use Rattle.protocol.specs.Reach.{reaches, greater, greatest, reach, if_reached, highest, IsOrder}
-use Rattle.protocol.proofs.lemmas.Counting.{shared, count_within, some_passes, both_true}
+use Rattle.protocol.proofs.lemmas.Counting.{count_shared, count_within, some_passes, both_true}
 
 pub upto_last : (n : ℕ) (P : ℕ → Type 0) → ((k : ℕ) → k < n → P k) → P n → (k : ℕ) → k < suc n → P k
 upto_last n P h last k l =
@@ -99,14 +99,14 @@ module _ {X : Type 0} (le : X → X → Bool) (o : IsOrder le) where
   least_or_none zero f x = inr (λ k l r. absurd (omega arith))
   least_or_none (suc n) f x = least_step n f x (least_or_none n f x) (f n) refl (reaches le x (f n)) refl
 
-  pub least : (n : ℕ) (f : ℕ → Option X) (x : X) (i : ℕ) → i < n → reaches le x (f i) ≡ true → Least n f x
-  least n f x i l e = elim (least_or_none n f x) [ inl h ↦ h | inr none ↦ absurd (none i l e) ]
+  pub least_reaching : (n : ℕ) (f : ℕ → Option X) (x : X) (i : ℕ) → i < n → reaches le x (f i) ≡ true → Least n f x
+  least_reaching n f x i l e = elim (least_or_none n f x) [ inl h ↦ h | inr none ↦ absurd (none i l e) ]
 
   -- where at least k reach x, the k-th highest is x or above
   pub highest_reaches : (n k : ℕ) (f : ℕ → Option X) (x : X) → 0 < k → k ≤ reach le n f x → Above (highest le n f k) x
   highest_reaches n k f x pos h =
       let some = some_passes n (λ i. reaches le x (f i)) (omega arith) in
-      let low = least n f x some.0 some.1 some.2 in
+      let low = least_reaching n f x some.0 some.1 some.2 in
       let more : reach le n f x ≤ reach le n f low.given = count_within n (λ i. reaches le x (f i)) (λ i. reaches le low.given (f i)) low.least in
       let test : leb k (reach le n f low.given) ≡ true = grind (arith, nat_tests) in
       let e : if_reached le n f k (f low.at) ≡ Some low.given = rw (low.is, test) refl in
@@ -121,7 +121,7 @@ module _ {X : Type 0} (le : X → X → Bool) (o : IsOrder le) where
   highest_above n k f x members counted pos many each =
       let both = λ (i : ℕ). members i && counted i in
       let fit : count n both ≤ reach le n f x = count_within n both (λ i. reaches le x (f i)) (λ i l h. let c = both_true _ _ h in each i l c.0 c.1) in
-      highest_reaches n k f x pos (omega (arith, shared n members counted, fit))
+      highest_reaches n k f x pos (omega (arith, count_shared n members counted, fit))
 
   if_reached_is : (n k : ℕ) (f : ℕ → Option X) (a : Option X) (x : X) → if_reached le n f k a ≡ Some x → (a ≡ Some x) × (k ≤ reach le n f x)
   if_reached_is n k f None x e = absurd (cc)

@@ -146,8 +146,8 @@ accepts_is s i vs ask v e = at (ltb ask.block s.blocks) e
     at false f = absurd (cc)
 
 -- a version that isn't refused is kept already, or is added
-pub taken : (s : Setting) (i : ℕ) (vs : List Version) (v : Version) → refusal s i v ≡ None → (keeps vs v.stamp ≡ true) ⊎ (added (refusal s i v) vs v ≡ Some v)
-taken s i vs v e = rw e (at (keeps vs v.stamp) refl)
+pub kept_or_added : (s : Setting) (i : ℕ) (vs : List Version) (v : Version) → refusal s i v ≡ None → (keeps vs v.stamp ≡ true) ⊎ (added (refusal s i v) vs v ≡ Some v)
+kept_or_added s i vs v e = rw e (at (keeps vs v.stamp) refl)
   where
     at : (b : Bool) → keeps vs v.stamp ≡ b → (keeps vs v.stamp ≡ true) ⊎ (cond b None (Some v) ≡ Some v)
     at true k = inl k

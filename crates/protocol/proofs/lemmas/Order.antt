@@ -10,7 +10,7 @@ use Rattle.std.proofs.lemmas.Map.Lookups.{exact_bytes, exact_unsigned}
 use Rattle.stamp_order.specs.declared.Stamp.{Stamp}
 use Rattle.stamp_order.specs.Stamps.{stamp_cmp, up_to, before, same_stamp, ◌≼◌}
 use Rattle.protocol.specs.Reach.{IsOrder}
-use Rattle.lists.proofs.lemmas.Orders.{le_not_gt, not_gt_le, eq_is, then_equal}
+use Rattle.lists.proofs.lemmas.Orders.{le_not_gt, not_gt_le, eq_equal, then_equal}
 use Rattle.std.proofs.lemmas.Bool.{cases_Bool}
 
 pub stamp_total : IsTotalOrder stamp_cmp
@@ -56,7 +56,7 @@ before-≼ s t h = lt_le _ h
 
 pub same_stamp-≡ : (s t : Stamp) → same_stamp s t ≡ true → s ≡ t
 unfolding same_stamp
-same_stamp-≡ s t h = stamp_exact s t (eq_is _ h)
+same_stamp-≡ s t h = stamp_exact s t (eq_equal _ h)
 
 pub same_stamp-refl : (s : Stamp) → same_stamp s s ≡ true
 unfolding same_stamp

@@ -18,7 +18,7 @@ use Rattle.protocol.specs.Lines.{Line, some_of, sender, roles, is_ask_to, is_ans
 use Rattle.run_words.specs.declared.line.Line.TheVariants.{Write, Read, Resend, Call, Give, Hear, Lost, CrashNode, CrashClient, Lie, Tell, Poke, False, Sound, Mix, Prune, Back, Restart}
 use Rattle.protocol.specs.Lines.Actor.{Node, Client}
 use Rattle.protocol.proofs.lemmas.Counting.{both_true}
-use Rattle.protocol.proofs.lemmas.Tests.{neither, not_false, not_leb}
+use Rattle.protocol.proofs.lemmas.Tests.{neither_of_or, not_false, not_leb}
 use Rattle.protocol.proofs.Invariant.{IsSafe}
 use Rattle.protocol.proofs.lemmas.Sending.{is_under_way}
 use Rattle.lists.proofs.lemmas.Members.{Contains-slice_get}
@@ -34,7 +34,7 @@ find_none p (x ∷ xs) h = at (p x) refl h (find_none p xs)
 
 some_none : {A : Type 0} (test : A → Bool) (xs : List A) → some_of test xs ≡ false → AllByRecursion (λ x. test x ≡ false) xs
 some_none test [] h = tt
-some_none test (x ∷ xs) h = let k = neither (test x) (some_of test xs) h in (k.0, some_none test xs k.1)
+some_none test (x ∷ xs) h = let k = neither_of_or (test x) (some_of test xs) h in (k.0, some_none test xs k.1)
 
 count_none : (n : ℕ) (p : ℕ → Bool) (i : ℕ) → i < n → p i ≡ true → 0 < count n p
 count_none zero p i l e = absurd (omega arith)
@@ -173,61 +173,61 @@ module _ (s : Setting) (good : IsValid s) (w : World) (safe : IsSafe s w) (place
   in_pool : (k : ℕ) (m : Message) → slice_get w.pool k ≡ Some m → Contains w.pool m
   in_pool k m e = Contains-slice_get w.pool k m e
 
-  pub allowed : (line : Line) → FitsLine s line → NoFault s w line → AllAllowed s w place (events s w line)
-  allowed (Write c block value) fits fine =
+  pub events_allowed : (line : Line) → FitsLine s line → NoFault s w line → AllAllowed s w place (events s w line)
+  events_allowed (Write c block value) fits fine =
       let a = fine.actors.0 in
       (record { later = later; client = client_is c a; correct = fine.upright.0; up = (some_none (has_crashed s w) (Client c ∷ []) fine.up).0; idle = idle_task (w.task c) fine.free; fresh = few (w.started c) fine.fresh; inside = fits.0; fits = fits.1 }, tt)
-  allowed (Read c block) fits fine =
+  events_allowed (Read c block) fits fine =
       (record { later = later; client = client_is c (fine.actors.0); correct = fine.upright.0; up = (some_none (has_crashed s w) (Client c ∷ []) fine.up).0; idle = idle_task (w.task c) fine.free; fresh = few (w.started c) fine.fresh; inside = fits; fits = tt }, tt)
-  allowed (Resend c) fits fine =
+  events_allowed (Resend c) fits fine =
       let h = fine.upright.0 in
       let t = task_is c h fine.working in
       (record { later = soon; client = client_is c (fine.actors.0); correct = h; up = (some_none (has_crashed s w) (Client c ∷ []) fine.up).0; task = t.0; busy = t.1 }, tt)
-  allowed (Call c i) fits fine =
+  events_allowed (Call c i) fits fine =
       let ups = some_none (has_crashed s w) (Client c ∷ Node i ∷ []) fine.up in
       let h = fine.upright.0 in
       let t = task_is c h fine.working in
       rw t.1 (call_allowed c i (client_is c (fine.actors.0)) (node_is i (fine.actors.1.0)) h (fine.upright.1.0) (ups.0)
       (ups.1.0) t.0 t.1)
-  allowed (Give i k) fits fine =
+  events_allowed (Give i k) fits fine =
       given_number i (slice_get w.pool k) (λ m e. in_pool k m e) (node_is i (fine.actors.0)) (fine.upright.0) ((some_none (has_crashed s w) (Node i ∷ []) fine.up).0) fine.receiver
-  allowed (Hear c k) fits fine =
+  events_allowed (Hear c k) fits fine =
       heard_number c (slice_get w.pool k) (λ m e. in_pool k m e) (client_is c (fine.actors.0)) (fine.upright.0) ((some_none (has_crashed s w) (Client c ∷ []) fine.up).0) fine.receiver
-  allowed (Lost c i) fits fine = tt
-  allowed (CrashNode i) fits fine = ((soon, node_is i (fine.actors.0), fine.upright.0, (some_none (has_crashed s w) (Node i ∷ []) fine.up).0), tt)
-  allowed (CrashClient c) fits fine = ((soon, client_is c (fine.actors.0), fine.upright.0, (some_none (has_crashed s w) (Client c ∷ []) fine.up).0), tt)
-  allowed (Lie m) fits fine =
+  events_allowed (Lost c i) fits fine = tt
+  events_allowed (CrashNode i) fits fine = ((soon, node_is i (fine.actors.0), fine.upright.0, (some_none (has_crashed s w) (Node i ∷ []) fine.up).0), tt)
+  events_allowed (CrashClient c) fits fine = ((soon, client_is c (fine.actors.0), fine.upright.0, (some_none (has_crashed s w) (Client c ∷ []) fine.up).0), tt)
+  events_allowed (Lie m) fits fine =
       ((soon, node_is m.node (fine.actors.0), client_is m.client (fine.actors.1.0), of_liar m m.body (fine.liars.0), fits), tt)
-  allowed (Tell m) fits fine =
+  events_allowed (Tell m) fits fine =
       let a = fine.actors.1 in (
         (soon, node_is m.node (a.0), client_is m.client (a.1.0), of_liar m m.body (fine.liars.0), fits),
         (record { later = omega arith; client = client_is m.client (fine.actors.0); correct = fine.upright.0; up = (some_none (has_crashed s w) (Client m.client ∷ []) fine.up).0; sent = Contains-push w.pool m; answers = answer_is m.client m fine.receiver }, tt),
       )
-  allowed (Poke m) fits fine =
+  events_allowed (Poke m) fits fine =
       let a = fine.actors.1 in (
         (soon, node_is m.node (a.0), client_is m.client (a.1.0), of_liar m m.body (fine.liars.0), fits),
         (record { later = omega arith; node = node_is m.node (fine.actors.0); honest = fine.upright.0; up = (some_none (has_crashed s w) (Node m.node ∷ []) fine.up).0; sent = Contains-push w.pool m; asks = ask_is m.node m fine.receiver }, tt),
       )
-  allowed (False c i rule) fits fine =
+  events_allowed (False c i rule) fits fine =
       let h = fine.upright.0 in
       let t = task_is c h fine.working in
       rw t.1 (false_allowed rule c i (client_is c (fine.actors.0)) (node_is i (fine.actors.1.0)) h (not_false _ (fine.liars.0)) ((some_none (has_crashed s w) (Client c ∷ []) fine.up).0) t.0)
-  allowed (Sound c i block time value) fits fine =
+  events_allowed (Sound c i block time value) fits fine =
       let l = node_is i (fine.actors.0) in (
         (soon, l, client_is c (fine.actors.1.1.0), not_false _ (fine.liars.0), (sum_formed s good value fits, good.bytes-fragment value i fits)),
         (record { later = omega arith; node = l; honest = fine.upright.0; up = (some_none (has_crashed s w) (Node i ∷ []) fine.up).0; sent = Contains-push w.pool _; asks = (refl, _, refl) }, tt),
       )
-  allowed (Mix c i block time value other) fits fine =
+  events_allowed (Mix c i block time value other) fits fine =
       let l = node_is i (fine.actors.0) in (
         (soon, l, client_is c (fine.actors.1.1.0), not_false _ (fine.liars.0), (digests_formed value other, mixed_formed value other fits.0 fits.1 i)),
         (record { later = omega arith; node = l; honest = fine.upright.0; up = (some_none (has_crashed s w) (Node i ∷ []) fine.up).0; sent = Contains-push w.pool _; asks = (refl, _, refl) }, tt),
       )
-  allowed (Prune i block) fits fine =
+  events_allowed (Prune i block) fits fine =
       let r = read_is (greatest_given block w.records) fine.read in
       (record { later = soon; node = node_is i (fine.actors.0); honest = fine.upright.0; up = (some_none (has_crashed s w) (Node i ∷ []) fine.up).0; quiet = quiet_is block fine.quiet; stamp = r.0; given = r.1 }, tt)
-  allowed (Back c) fits fine =
+  events_allowed (Back c) fits fine =
       ((soon, client_is c (fine.actors.0), fine.upright.0, not_false _ fine.down, few (w.life c) fine.fresh), tt)
-  allowed (Restart i) fits fine = tt
+  events_allowed (Restart i) fits fine = tt
 
   pub named_there : (line : Line) → NoFault s w line → Names s w line
   named_there (Write c block value) fine = tt

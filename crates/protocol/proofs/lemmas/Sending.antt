@@ -28,9 +28,9 @@ use Rattle.lists.proofs.lemmas.Members.{Contains-one}
 use Rattle.std.proofs.lemmas.Bool.{cases_Bool}
 
 -- what a client does that hasn't crashed
-pub working : (b : Bool) (o : Option Task) (task : Task) → unless b o ≡ Some task → (b ≡ false) × (o ≡ Some task)
-working true o task h = absurd (cc)
-working false o task h = (refl, h)
+pub unless_some : (b : Bool) (o : Option Task) (task : Task) → unless b o ≡ Some task → (b ≡ false) × (o ≡ Some task)
+unless_some true o task h = absurd (cc)
+unless_some false o task h = (refl, h)
 
 module _ (s : Setting) (w : World) where
   -- the message is one that its client's present phase sends
@@ -43,24 +43,24 @@ module _ (s : Setting) (w : World) where
 
   module _ (safe : IsSafe s w) (place : ℕ) (later : w.place ≤ place) (pool : List Message) (versions : ℕ → ℕ → List Version)
       (task : ℕ → Option Task) (life started : ℕ → ℕ) (nodes clients : ℕ → Bool) where
-    abbrev pub changed : World
-    changed = record { pool = pool; versions = versions; accepted = w.accepted; task = task; life = life; started = started; node_crashed = nodes; client_crashed = clients; records = w.records; place = place }
+    abbrev pub changed_world : World
+    changed_world = record { pool = pool; versions = versions; accepted = w.accepted; task = task; life = life; started = started; node_crashed = nodes; client_crashed = clients; records = w.records; place = place }
 
     -- no client does anything new
     pub record IsLess : Type 0 where
-      pub fewer : (c : ℕ) (z : Task) → under_way changed c ≡ Some z → under_way w c ≡ Some z
-      pub ops : (c : ℕ) → last_op w c ≤ last_op changed c
-      pub same_op : (c : ℕ) (z : Task) → under_way changed c ≡ Some z → last_op changed c ≡ last_op w c
+      pub fewer : (c : ℕ) (z : Task) → under_way changed_world c ≡ Some z → under_way w c ≡ Some z
+      pub ops : (c : ℕ) → last_op w c ≤ last_op changed_world c
+      pub same_op : (c : ℕ) (z : Task) → under_way changed_world c ≡ Some z → last_op changed_world c ≡ last_op w c
       pub lives : (c : ℕ) → started c < 2 ^ 32
       pub all : (m : Message) → Contains w.pool m → Contains pool m
       pub each : (m : Message) → Contains pool m → Contains w.pool m ⊎ MayBeSent m
       pub formed : (m : Message) → Contains pool m → IsFormedBody m.body
 
     module _ (less : IsLess) where
-      before_it : (m : Message) (z : Task) → AtWork s changed m z → AtWork s w m z
+      before_it : (m : Message) (z : Task) → AtWork s changed_world m z → AtWork s w m z
       before_it m z at = record { client = less.fewer m.client z at.client; op = at.op; phase = at.phase }
 
-      pub passed_still : (block : ℕ) (stamp : Stamp) → IsPassed s w block stamp → IsPassed s changed block stamp
+      pub passed_still : (block : ℕ) (stamp : Stamp) → IsPassed s w block stamp → IsPassed s changed_world block stamp
       passed_still block stamp p = record {
         past = p.past;
         there = p.there;
@@ -73,10 +73,10 @@ module _ (s : Setting) (w : World) where
         before_all = λ c z e f. p.before_all c z (less.fewer c z e) f;
       }
 
-      tagged_still : (m : Message) → IsTagged s w m → IsTagged s changed m
+      tagged_still : (m : Message) → IsTagged s w m → IsTagged s changed_world m
       tagged_still m t = record { begun = omega (arith, t.begun, less.ops m.client); phase = λ z e f. t.phase z (less.fewer m.client z e) f }
 
-      tagged_now : (m : Message) → IsSentNow m → s.lying_client m.client ≡ false → IsTagged s changed m
+      tagged_now : (m : Message) → IsSentNow m → s.lying_client m.client ≡ false → IsTagged s changed_world m
       tagged_now m now honest =
           let t = safe.tasks m.client now.0 now.2 in
           let op : m.tag.op ≡ now.0.op = ap (λ (x : Message). x.tag.op) now.3 in
@@ -86,7 +86,7 @@ module _ (s : Setting) (w : World) where
             phase = λ z e f. let q : now.0 ≡ z = (let g = now.2 in let h = less.fewer m.client z e in cc) in let p : now.0.phase ≡ z.phase = ap (λ (x : Task). x.phase) q in omega arith;
           }
 
-      asked_now : (m : Message) (z : Task) (ask : Ask) → IsSentNow m → m.body ≡ Asks ask → AtWork s changed m z → (ask.block ≡ z.block) × (ask.request ≡ request_of s z.stage m.node)
+      asked_now : (m : Message) (z : Task) (ask : Ask) → IsSentNow m → m.body ≡ Asks ask → AtWork s changed_world m z → (ask.block ≡ z.block) × (ask.request ≡ request_of s z.stage m.node)
       asked_now m z ask now body at =
           let q : z ≡ now.0 = (let g = now.2 in let h = less.fewer m.client z at.client in cc) in
           rw q (mail_asks s m.client now.0 m now.1 ask now.3 body)
@@ -94,7 +94,7 @@ module _ (s : Setting) (w : World) where
       not_now : (m : Message) (reply : Reply) → IsSentNow m → m.body ≡ Answers reply → ⊥
       not_now m reply now body = mail_answers s m.client now.0 m now.1 reply now.3 body
 
-      pub quorum_after : (b : ℕ) (stamp : Stamp) (end : ℕ) → Quorum s w b stamp end → Quorum s changed b stamp end
+      pub quorum_after : (b : ℕ) (stamp : Stamp) (end : ℕ) → Quorum s w b stamp end → Quorum s changed_world b stamp end
       quorum_after b stamp end q = record {
         members = q.members;
         enough = q.enough;
@@ -106,15 +106,15 @@ module _ (s : Setting) (w : World) where
         ];
       }
 
-      apart_before : NoClash s changed → NoClash s w
-      apart_before = NoClash-before s w changed less.all value
+      apart_before : NoClash s changed_world → NoClash s w
+      apart_before = NoClash-before s w changed_world less.all value
         where
-          value : (x : List ℕ) → IsValue s w x → IsValue s changed x
+          value : (x : List ℕ) → IsValue s w x → IsValue s changed_world x
           value x zeros_value = zeros_value
           value x (written {r = r} {value = v} {stamp = t} h k e) = written {r = r} {value = v} {stamp = t} h k e
           value x (given {block = b} {end = e} {stamp = t} {value = v} h) = given {block = b} {end = e} {stamp = t} {value = v} h
 
-      pub changed_safe : ((i block : ℕ) → i < s.n → s.lying_node i ≡ false → IsStored s changed i block) → IsSafe s changed
+      pub changed_safe : ((i block : ℕ) → i < s.n → s.lying_node i ≡ false → IsStored s changed_world i block) → IsSafe s changed_world
       changed_safe stored = record {
         lives = less.lives;
         formed = less.formed;
@@ -144,8 +144,8 @@ module _ (s : Setting) (w : World) where
           running = λ z e f. k.running z (less.fewer r.client z e) f;
           completed = λ end stamp e f. quorum_after r.block stamp end (k.completed end stamp e f);
         };
-        aimed = λ c z apart x end stamp h e f g. safe.aimed c z (NoClashFor-before s w changed apart_before z.work apart) x end stamp h e f (less.fewer c z g);
-        ordered = λ x y apart. safe.ordered x y (NoClashFor-before s w changed apart_before y.work apart);
+        aimed = λ c z apart x end stamp h e f g. safe.aimed c z (NoClashFor-before s w changed_world apart_before z.work apart) x end stamp h e f (less.fewer c z g);
+        ordered = λ x y apart. safe.ordered x y (NoClashFor-before s w changed_world apart_before y.work apart);
       }
 
 module _ (s : Setting) (w : World) (safe : IsSafe s w) (place : ℕ) (later : w.place ≤ place) where
@@ -166,10 +166,10 @@ module _ (s : Setting) (w : World) (safe : IsSafe s w) (place : ℕ) (later : w.
   }
 
   nodes_same : (pool : List Message) (task : ℕ → Option Task) (life started : ℕ → ℕ) (nodes clients : ℕ → Bool) → IsLess s w safe place later pool w.versions task life started nodes clients
-      → IsSafe s (changed s w safe place later pool w.versions task life started nodes clients)
+      → IsSafe s (changed_world s w safe place later pool w.versions task life started nodes clients)
   nodes_same pool task life started nodes clients less =
       changed_safe s w safe place later pool w.versions task life started nodes clients less
-      (λ i block l h. same_stored (changed s w safe place later pool w.versions task life started nodes clients) (λ i block. refl)
+      (λ i block l h. same_stored (changed_world s w safe place later pool w.versions task life started nodes clients) (λ i block. refl)
       (λ i block stamp p. passed_still s w safe place later pool w.versions task life started nodes clients less block stamp p) refl i block (safe.stored i block l h))
 
   -- messages are added
@@ -210,7 +210,7 @@ module _ (s : Setting) (w : World) (safe : IsSafe s w) (place : ℕ) (later : w.
   pub back_fewer : (c d : ℕ) (z : Task) → unless (update w.client_crashed c false d) (update w.task c None d) ≡ Some z → (d ≡ c → ⊥) × (under_way w d ≡ Some z)
   back_fewer c d z h =
       elim (update-cases w.task c None d) [
-        | inl e ↦ absurd (let k : unless (update w.client_crashed c false d) None ≡ Some z = rw e.1 at h in let q = (working (update w.client_crashed c false d) None z k).1 in cc)
+        | inl e ↦ absurd (let k : unless (update w.client_crashed c false d) None ≡ Some z = rw e.1 at h in let q = (unless_some (update w.client_crashed c false d) None z k).1 in cc)
         | inr e ↦ elim (update-cases w.client_crashed c false d) [ inl f ↦ absurd (e.0 f.0) | inr f ↦ (e.0, rw (← f.1, ← e.1) h) ]
       ]
 
@@ -253,14 +253,14 @@ module _ (s : Setting) (w : World) (safe : IsSafe s w) (place : ℕ) (later : w.
     abbrev pub less_kept : ℕ → ℕ → List Version
     less_kept = update w.versions i (update (w.versions i) block (pruned s stamp (w.versions i block)))
 
-    abbrev pub short : World
-    short = record w { versions = less_kept; place = place }
+    abbrev pub pruned_world : World
+    pruned_world = record w { versions = less_kept; place = place }
 
     read : IsGreatest w.records block stamp
     read = greatest_is block w.records stamp by
 
     -- what isn't above the stamp was passed
-    passed_now : (t : Stamp) → t ≼ stamp → IsPassed s short block t
+    passed_now : (t : Stamp) → t ≼ stamp → IsPassed s pruned_world block t
     passed_now t up =
         let r = safe.records read.read read.there in
         let g = given_ends r.outcome r.open_end in
@@ -293,7 +293,7 @@ module _ (s : Setting) (w : World) (safe : IsSafe s w) (place : ℕ) (later : w.
         ap (λ (g : ℕ → List Version). g block) (update-same w.versions i blocks) ∙ update-same (w.versions i) block (pruned s stamp (w.versions i block))
 
     -- what was covered still is, by itself or by what isn't above the prune's stamp
-    pub covered_pruned : (P Q : Stamp → Type 0) → ((t : Stamp) → P t → Q t) → ((t : Stamp) → t ≼ stamp → Q t) → (t : Stamp) → IsCoveredBy s P w i block t → IsCoveredBy s Q short i block t
+    pub covered_pruned : (P Q : Stamp → Type 0) → ((t : Stamp) → P t → Q t) → ((t : Stamp) → t ≼ stamp → Q t) → (t : Stamp) → IsCoveredBy s P w i block t → IsCoveredBy s Q pruned_world i block t
     covered_pruned P Q map now t c = elim (cases_Bool (before stamp c.version.stamp)) [
       | inl e ↦ record {
         version = c.version;
@@ -306,10 +306,10 @@ module _ (s : Setting) (w : World) (safe : IsSafe s w) (place : ℕ) (later : w.
     ]
 
     -- elsewhere what was covered is covered in the same way
-    pub covered_elsewhere : (P Q : Stamp → Type 0) → ((t : Stamp) → P t → Q t) → (j b : ℕ) → less_kept j b ≡ w.versions j b → (t : Stamp) → IsCoveredBy s P w j b t → IsCoveredBy s Q short j b t
+    pub covered_elsewhere : (P Q : Stamp → Type 0) → ((t : Stamp) → P t → Q t) → (j b : ℕ) → less_kept j b ≡ w.versions j b → (t : Stamp) → IsCoveredBy s P w j b t → IsCoveredBy s Q pruned_world j b t
     covered_elsewhere P Q map j b e t c = record { version = c.version; there = rw e c.there; above = c.above; how = elim c.how [ inl q ↦ inl q | inr p ↦ inr (map c.version.stamp p) ] }
 
-    passed_short : (b : ℕ) (t : Stamp) → IsPassed s w b t → IsPassed s short b t
+    passed_short : (b : ℕ) (t : Stamp) → IsPassed s w b t → IsPassed s pruned_world b t
     passed_short b t p = passed_still s w safe place later w.pool less_kept w.task w.life w.started w.node_crashed w.client_crashed (place_less less_kept w.node_crashed) b t p
 
     pub versions_cases : (j b : ℕ) → (less_kept j b ≡ w.versions j b) ⊎ ((j ≡ i) × (b ≡ block) × (less_kept j b ≡ pruned s stamp (w.versions i block)))
@@ -322,25 +322,25 @@ module _ (s : Setting) (w : World) (safe : IsSafe s w) (place : ℕ) (later : w.
           | inr e ↦ inl (ap (λ (g : ℕ → List Version). g b) e.1)
         ]
 
-    stored_here : (vs : List Version) → vs ≡ pruned s stamp (w.versions i block) → IsStored s w i block → less_kept i block ≡ vs → IsStored s short i block
+    stored_here : (vs : List Version) → vs ≡ pruned s stamp (w.versions i block) → IsStored s w i block → less_kept i block ≡ vs → IsStored s pruned_world i block
     stored_here vs e h f = record {
       first = rw (f ∙ e) (pruned_first s stamp (w.versions i block) h.first);
       whole = λ v k. h.whole v (pruned_was s stamp (w.versions i block) v (rw (f ∙ e) at k));
       formed = λ v k. h.formed v (pruned_was s stamp (w.versions i block) v (rw (f ∙ e) at k));
       kept = λ v k. h.kept v (pruned_was s stamp (w.versions i block) v (rw (f ∙ e) at k));
-      covered = λ t k. covered_pruned (IsPassed s w block) (IsPassed s short block) (passed_short block) passed_now t (h.covered t k);
+      covered = λ t k. covered_pruned (IsPassed s w block) (IsPassed s pruned_world block) (passed_short block) passed_now t (h.covered t k);
     }
 
-    still_stored : (j b : ℕ) → less_kept j b ≡ w.versions j b → IsStored s w j b → IsStored s short j b
+    still_stored : (j b : ℕ) → less_kept j b ≡ w.versions j b → IsStored s w j b → IsStored s pruned_world j b
     still_stored j b e h = record {
       first = rw e h.first;
       whole = λ u k. h.whole u (rw e at k);
       formed = λ u k. h.formed u (rw e at k);
       kept = λ u k. h.kept u (rw e at k);
-      covered = λ t k. covered_elsewhere (IsPassed s w b) (IsPassed s short b) (passed_short b) j b e t (h.covered t k);
+      covered = λ t k. covered_elsewhere (IsPassed s w b) (IsPassed s pruned_world b) (passed_short b) j b e t (h.covered t k);
     }
 
-    pub pruned_safe : IsSafe s short
+    pub pruned_safe : IsSafe s pruned_world
     pruned_safe =
         changed_safe s w safe place later w.pool less_kept w.task w.life w.started w.node_crashed w.client_crashed (place_less less_kept w.node_crashed)
         (λ j b l h. elim (versions_cases j b) [

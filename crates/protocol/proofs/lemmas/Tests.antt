@@ -18,9 +18,9 @@ not_true true h = absurd (cc)
 not_true false h = refl
 
 -- neither of an `or` that fails passes, and the other way round
-pub neither : (a c : Bool) → a || c ≡ false → (a ≡ false) × (c ≡ false)
-neither true c h = absurd (cc)
-neither false c h = (refl, h)
+pub neither_of_or : (a c : Bool) → a || c ≡ false → (a ≡ false) × (c ≡ false)
+neither_of_or true c h = absurd (cc)
+neither_of_or false c h = (refl, h)
 
 pub or_false : (a c : Bool) → a ≡ false → c ≡ false → a || c ≡ false
 or_false a c h k = rw (h, k) refl

@@ -17,8 +17,8 @@ pub first_passed : (b : Bool) (e : ConfigFault) (o : Option ConfigFault) → b �
 first_passed true e o h = cc
 first_passed false e o h = refl
 
-pub inside : (most x : ℕ) → is_outside most x ≡ false → (1 ≤ x) × (x ≤ most)
-inside most x h = grind arith
+pub inside_bounds : (most x : ℕ) → is_outside most x ≡ false → (1 ≤ x) × (x ≤ most)
+inside_bounds most x h = grind arith
 
 pub not_outside : (most x : ℕ) → 1 ≤ x → x ≤ most → is_outside most x ≡ false
 not_outside most x h k = grind arith
@@ -29,8 +29,8 @@ not_less x y h = grind arith
 pub is_not_less : (x y : ℕ) → y ≤ x → nat_lt x y ≡ false
 is_not_less x y h = grind arith
 
-pub both : (x y p q : ℕ) → not (nat_le x y && nat_le p q) ≡ false → (x ≤ y) × (p ≤ q)
-both x y p q h = grind arith
+pub both_at_most : (x y p q : ℕ) → not (nat_le x y && nat_le p q) ≡ false → (x ≤ y) × (p ≤ q)
+both_at_most x y p q h = grind arith
 
 pub are_both : (x y p q : ℕ) → x ≤ y → p ≤ q → not (nat_le x y && nat_le p q) ≡ false
 are_both x y p q h k = grind arith
@@ -45,13 +45,13 @@ valid_of_none c h =
     let p6 = first_fails _ _ _ p5.1 in
     let p7 = first_fails _ _ _ p6.1 in
     record {
-      nodes = inside _ _ p1.0;
+      nodes = inside_bounds _ _ p1.0;
       liars = not_less _ _ p2.0;
       low = not_less _ _ p3.0;
       high = not_less _ _ p4.0;
-      shares = both _ _ _ _ p5.0;
-      size = inside _ _ p6.0;
-      blocks = inside _ _ p7.0;
+      shares = both_at_most _ _ _ _ p5.0;
+      size = inside_bounds _ _ p6.0;
+      blocks = inside_bounds _ _ p7.0;
     }
 
 pub none_of_valid : (c : Numbers) → IsValid c → fault c ≡ None

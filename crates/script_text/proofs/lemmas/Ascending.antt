@@ -8,11 +8,11 @@ use Rattle.std.proofs.lemmas.Bool.{cases_lt, eq-eqb}
 use Rattle.std.proofs.lemmas.Bool.Decides.{nat_tests}
 use Rattle.wire_forms.specs.Liars.{IsAscending, has_number}
 use Rattle.lists.proofs.lemmas.Tests.{other_below}
-use Rattle.lists.proofs.lemmas.Orders.{less_of}
+use Rattle.lists.proofs.lemmas.Orders.{less_of_nat_cmp}
 
 -- the numbers below a limit
-abbrev pub below : ℕ → List ℕ → List ℕ
-below limit ks = filter (λ k. ltb k limit) ks
+abbrev pub numbers_below : ℕ → List ℕ → List ℕ
+numbers_below limit ks = filter (λ k. ltb k limit) ks
 
 yes : (a b : ℕ) → a < b → ltb a b ≡ true
 yes a b h = grind (arith, nat_tests)
@@ -32,9 +32,9 @@ AllAbove least ks = AllByRecursion (λ k. least < k) ks
 
 rest_above : (least x : ℕ) (ks : List ℕ) → least ≤ x → AllByRecursion (λ k. nat_cmp x k ≡ Less) ks → AllAbove least ks
 rest_above least x [] le h = tt
-rest_above least x (k ∷ ks) le h = let lt = less_of x k h.0 in (omega arith, rest_above least x ks le h.1)
+rest_above least x (k ∷ ks) le h = let lt = less_of_nat_cmp x k h.0 in (omega arith, rest_above least x ks le h.1)
 
-none_below : (limit least : ℕ) (ks : List ℕ) → limit ≤ least + 1 → AllAbove least ks → below limit ks ≡ []
+none_below : (limit least : ℕ) (ks : List ℕ) → limit ≤ least + 1 → AllAbove least ks → numbers_below limit ks ≡ []
 none_below limit least [] le h = refl
 none_below limit least (k ∷ ks) le h = let lt = h.0 in rw (no_less k limit (omega arith)) (none_below limit least ks le h.1)
 
@@ -43,16 +43,16 @@ has_none least [] h = refl
 has_none least (k ∷ ks) h = rw (other_above least k h.0) (has_none least ks h.1)
 
 -- where all are at least so much, none is below
-pub below_none : (limit : ℕ) (ks : List ℕ) → AllByRecursion (λ k. limit ≤ k) ks → below limit ks ≡ []
+pub below_none : (limit : ℕ) (ks : List ℕ) → AllByRecursion (λ k. limit ≤ k) ks → numbers_below limit ks ≡ []
 below_none limit [] h = refl
 below_none limit (k ∷ ks) h = rw (no_less k limit h.0) (below_none limit ks h.1)
 
-pub below_all : (limit : ℕ) (ks : List ℕ) → AllByRecursion (λ k. k < limit) ks → below limit ks ≡ ks
+pub below_all : (limit : ℕ) (ks : List ℕ) → AllByRecursion (λ k. k < limit) ks → numbers_below limit ks ≡ ks
 below_all limit [] h = refl
 below_all limit (k ∷ ks) h = rw (yes k limit h.0) (ap (λ (xs : List ℕ). k ∷ xs) (below_all limit ks h.1))
 
 -- one number more
-pub below_next : (limit : ℕ) (ks : List ℕ) → IsAscending ks → below (limit + 1) ks ≡ below limit ks ++ cond (has_number ks limit) (limit ∷ []) []
+pub below_next : (limit : ℕ) (ks : List ℕ) → IsAscending ks → numbers_below (limit + 1) ks ≡ numbers_below limit ks ++ cond (has_number ks limit) (limit ∷ []) []
 unfolding IsStrictlySortedBy
 below_next limit [] h = refl
 below_next limit (k ∷ ks) h =
@@ -69,6 +69,6 @@ below_next limit (k ∷ ks) h =
       ]
     ]
 
-pub below_zero : (ks : List ℕ) → below 0 ks ≡ []
+pub below_zero : (ks : List ℕ) → numbers_below 0 ks ≡ []
 below_zero [] = refl
 below_zero (k ∷ ks) = rw (no_less k 0 (omega arith)) (below_zero ks)

@@ -37,7 +37,7 @@ use Rattle.script_text.proofs.Steps.{body_here, body_lines}
 use Rattle.script_text.proofs.lemmas.Ascending.{no_less, other_above}
 use Rattle.lists.proofs.lemmas.Members.{all_push}
 use Rattle.lists.proofs.lemmas.Tests.{not_zero, other_below}
-use Rattle.lists.proofs.lemmas.Orders.{less_of}
+use Rattle.lists.proofs.lemmas.Orders.{less_of_nat_cmp}
 
 -- ---- liar lines
 
@@ -190,7 +190,7 @@ one_replay text c d l m es fs r q s t =
 insert_end : (ks : List ℕ) (k : ℕ) → AllByRecursion (λ x. nat_cmp x k ≡ Less) ks → insert_key nat_cmp ks k ≡ ks ++ k ∷ []
 insert_end [] k h = refl
 insert_end (x ∷ xs) k h =
-    let lt = less_of x k h.0 in
+    let lt = less_of_nat_cmp x k h.0 in
     rw (no_less k x (omega arith), other_below k x lt) (ap (λ (ys : List ℕ). x ∷ ys) (insert_end xs k h.1))
 
 each_before : (before : List ℕ) (k : ℕ) (ks : List ℕ) → IsStrictlySortedBy nat_cmp (before ++ k ∷ ks) → AllByRecursion (λ x. nat_cmp x k ≡ Less) before
@@ -228,11 +228,11 @@ clients_differ n (k ∷ ks) = (refl, clients_differ n ks)
 
 nodes_differ : (n : ℕ) (ks cs : List ℕ) → AllByRecursion (λ y. nat_cmp n y ≡ Less) ks → AllByRecursion (λ y. is_same (Node n) y ≡ false) (map Node ks ++ map Client cs)
 nodes_differ n [] cs h = clients_differ n cs
-nodes_differ n (k ∷ ks) cs h = (other_above n k (less_of n k h.0), nodes_differ n ks cs h.1)
+nodes_differ n (k ∷ ks) cs h = (other_above n k (less_of_nat_cmp n k h.0), nodes_differ n ks cs h.1)
 
 later_differ : (n : ℕ) (ks : List ℕ) → AllByRecursion (λ y. nat_cmp n y ≡ Less) ks → AllByRecursion (λ y. is_same (Client n) y ≡ false) (map Client ks)
 later_differ n [] h = tt
-later_differ n (k ∷ ks) h = (other_above n k (less_of n k h.0), later_differ n ks h.1)
+later_differ n (k ∷ ks) h = (other_above n k (less_of_nat_cmp n k h.0), later_differ n ks h.1)
 
 once_all : (ns cs : List ℕ) → IsStrictlySortedBy nat_cmp ns → IsStrictlySortedBy nat_cmp cs → IsDistinct is_same (map Node ns ++ map Client cs)
 unfolding IsStrictlySortedBy IsDistinct

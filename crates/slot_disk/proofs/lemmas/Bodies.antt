@@ -23,21 +23,21 @@ skip_all w (x ∷ xs) ys = skip_all w xs ys
 is_open : (w gate : ℕ) (rest : List ℕ) → gate ≡ 1 → w < length rest → (eqb gate 1 && ltb w (length rest)) ≡ true
 is_open w gate rest is long = grind (arith, nat_tests)
 
-pub opened : (w gate : ℕ) (rest : List ℕ) → gate ≡ 1 → w < length rest → bodies_from w 0 (gate ∷ rest) ≡ take w rest ∷ bodies_from w w rest
-opened w gate rest is long = ap (λ (t : Bool). cond t (take w rest ∷ bodies_from w w rest) []) (is_open w gate rest is long)
+pub bodies_from_open : (w gate : ℕ) (rest : List ℕ) → gate ≡ 1 → w < length rest → bodies_from w 0 (gate ∷ rest) ≡ take w rest ∷ bodies_from w w rest
+bodies_from_open w gate rest is long = ap (λ (t : Bool). cond t (take w rest ∷ bodies_from w w rest) []) (is_open w gate rest is long)
 
 is_shut : (w gate : ℕ) (rest : List ℕ) → (gate ≢ 1) ⊎ (length rest ≤ w) → (eqb gate 1 && ltb w (length rest)) ≡ false
 is_shut w gate rest (inl other) = grind (arith, nat_tests)
 is_shut w gate rest (inr short) = grind (arith, nat_tests)
 
-pub shut : (w gate : ℕ) (rest : List ℕ) → (gate ≢ 1) ⊎ (length rest ≤ w) → bodies_from w 0 (gate ∷ rest) ≡ []
-shut w gate rest why = ap (λ (t : Bool). cond t (take w rest ∷ bodies_from w w rest) []) (is_shut w gate rest why)
+pub bodies_from_shut : (w gate : ℕ) (rest : List ℕ) → (gate ≢ 1) ⊎ (length rest ≤ w) → bodies_from w 0 (gate ∷ rest) ≡ []
+bodies_from_shut w gate rest why = ap (λ (t : Bool). cond t (take w rest ∷ bodies_from w w rest) []) (is_shut w gate rest why)
 
 -- one slot that is open, and what stands behind it
 pub one_slot : (w : ℕ) (b rest : List ℕ) → length b ≡ w → 0 < length rest → bodies_from w 0 (1 ∷ (b ++ rest)) ≡ b ∷ bodies_from w 0 rest
 one_slot w b rest long some =
     let fits : w < length (b ++ rest) = omega (arith, length-append b rest, long, some) in
-    opened w 1 (b ++ rest) refl fits
+    bodies_from_open w 1 (b ++ rest) refl fits
     ∙ ap (λ (l : List ℕ). l ∷ bodies_from w w (b ++ rest)) (take_at b rest w long)
     ∙ ap (λ (n : ℕ). b ∷ bodies_from w n (b ++ rest)) (sym long)
     ∙ ap (λ (l : List (List ℕ)). b ∷ l) (skip_all w b rest)
@@ -59,7 +59,7 @@ length-chain w (b ∷ bs) long = omega (arith, length-append b (chain bs), lengt
 -- a closed gate ends the slots, whatever stands behind it
 pub bodies_closed : (w : ℕ) (bs : List (List ℕ)) (gate : ℕ) (rest : List ℕ) → AreLong w bs → gate ≢ 1 → bodies w (chain bs ++ gate ∷ rest) ≡ bs
 bodies_closed w bs gate rest long other =
-    bodies_chain w bs (gate ∷ rest) long (omega arith) ∙ ap (λ (l : List (List ℕ)). bs ++ l) (shut w gate rest (inl other)) ∙ append-nil bs
+    bodies_chain w bs (gate ∷ rest) long (omega arith) ∙ ap (λ (l : List (List ℕ)). bs ++ l) (bodies_from_shut w gate rest (inl other)) ∙ append-nil bs
 
 -- bytes as open slots, and an end that has none
 pub record Parts (w : ℕ) (bytes : List ℕ) : Type 0 where
@@ -71,7 +71,7 @@ pub record Parts (w : ℕ) (bytes : List ℕ) : Type 0 where
 
 shut_parts : (w gate : ℕ) (rest : List ℕ) → (gate ≢ 1) ⊎ (length rest ≤ w) → Parts w (gate ∷ rest)
 shut_parts w gate rest why =
-    let none = shut w gate rest why in
+    let none = bodies_from_shut w gate rest why in
     record { end = gate ∷ rest; split = ap (λ (l : List (List ℕ)). chain l ++ (gate ∷ rest)) (sym none); long = subst (AreLong w) (sym none) tt; nothing = none; behind = inl none }
 
 -- one slot that is open, as its body and what stands behind it
@@ -80,7 +80,7 @@ open_first w gate rest one fits =
     let whole : length (take w rest) ≡ w = omega (arith, length-take w rest, fits) in
     let skipped : bodies_from w w rest ≡ bodies_from w 0 (drop w rest) =
     ap (λ (l : List ℕ). bodies_from w w l) (sym (take-append-drop w rest)) ∙ ap (λ (n : ℕ). bodies_from w n (take w rest ++ drop w rest)) (sym whole) ∙ skip_all w (take w rest) (drop w rest) in
-    opened w gate rest one fits ∙ ap (λ (l : List (List ℕ)). take w rest ∷ l) skipped
+    bodies_from_open w gate rest one fits ∙ ap (λ (l : List (List ℕ)). take w rest ∷ l) skipped
 
 some_behind : (w : ℕ) (rest : List ℕ) (p : Parts w (drop w rest)) → w < length rest → 0 < length p.end
 some_behind w rest p fits = elim p.behind [
@@ -117,8 +117,8 @@ parts_within w (suc most) (gate ∷ rest) le = elim (cases_eq gate 1) [
   | inr other ↦ shut_parts w gate rest (inl other)
 ]
 
-pub parts : (w : ℕ) (bytes : List ℕ) → Parts w bytes
-parts w bytes = parts_within w (length bytes) bytes (omega arith)
+pub parts_of_bytes : (w : ℕ) (bytes : List ℕ) → Parts w bytes
+parts_of_bytes w bytes = parts_within w (length bytes) bytes (omega arith)
 
 -- bytes with a closed gate behind their slots, as slots, the gate, and the rest
 pub record ClosedParts (w : ℕ) (bytes : List ℕ) (count : ℕ) : Type 0 where
@@ -131,7 +131,7 @@ pub record ClosedParts (w : ℕ) (bytes : List ℕ) (count : ℕ) : Type 0 where
 
 pub closed_parts : (w : ℕ) (bytes : List ℕ) (count : ℕ) → IsClosedAt w bytes count → ClosedParts w bytes count
 closed_parts w bytes count is =
-    let p = parts w bytes in
+    let p = parts_of_bytes w bytes in
     let size : length (chain (bodies w bytes)) ≡ count * (w + 1) = length-chain w (bodies w bytes) p.long ∙ ap (λ (n : ℕ). n * (w + 1)) (sym is.counted) in
     let front : drop (count * (w + 1)) bytes ≡ p.end = ap (drop (count * (w + 1))) p.split ∙ drop_at (chain (bodies w bytes)) p.end (count * (w + 1)) size in
     record {

@@ -5,23 +5,23 @@ use Rattle.std.proofs.lemmas.List.{append-nil, take_at, get_or-append-add}
 use Rattle.disk_model.specs.Crash.{Pending, MayLeave, Elapses, LeavesOnly, settled, with_range, overwritten, IsWithin}
 use Rattle.disk_model.proofs.lemmas.Crash.{only_settled}
 use Rattle.slot_disk.specs.Bodies.{bodies, IsClosedAt}
-use Rattle.slot_disk.proofs.lemmas.Bodies.{chain, AreLong, length-chain, bodies_chain, bodies_closed, shut, opened, Parts, parts}
+use Rattle.slot_disk.proofs.lemmas.Bodies.{chain, AreLong, length-chain, bodies_chain, bodies_closed, bodies_from_shut, bodies_from_open, Parts, parts_of_bytes}
 use Rattle.slot_disk.proofs.Torn.{front_kept, closed_from}
-use Rattle.slot_disk.proofs.lemmas.Moments.{started, goes_on}
+use Rattle.slot_disk.proofs.lemmas.Moments.{leaves_only_started, leaves_only_goes_on}
 use Rattle.std.proofs.lemmas.Bool.{le-leb}
 use Rattle.std.proofs.Common.{true, leb}
 
 -- too few bytes for a slot and one byte more hold no open slot
 short : (w : ℕ) (end : List ℕ) → length end ≤ w + 1 → bodies w end ≡ []
 short w [] le = refl
-short w (gate ∷ rest) le = shut w gate rest (inr (omega arith))
+short w (gate ∷ rest) le = bodies_from_shut w gate rest (inr (omega arith))
 
 -- where nothing is open behind a gate that is 1 or missing, there are too few bytes
 end_short : (w : ℕ) (end : List ℕ) → bodies w end ≡ [] → (length end ≡ 0) ⊎ (get_or end 0 0 ≡ 1) → length end ≤ w + 1
 end_short w [] none gate = omega arith
 end_short w (g ∷ rest) none (inl zero_long) = absurd (omega arith)
 end_short w (g ∷ rest) none (inr one) = elim (cases_lt w (length rest)) [
-  | inl fits ↦ absurd (let h = sym (opened w g rest one fits) ∙ none in cc)
+  | inl fits ↦ absurd (let h = sym (bodies_from_open w g rest one fits) ∙ none in cc)
   | inr le ↦ omega arith
 ]
 
@@ -31,7 +31,7 @@ short_behind w bs end long le (inr some) = bodies_chain w bs end long some ∙ a
 
 module _ (w : ℕ) (B : List ℕ) (count : ℕ) (counts : count ≡ length (bodies w B)) where
   abbrev p : Parts w B
-  p = parts w B
+  p = parts_of_bytes w B
 
   size : length (chain (bodies w B)) ≡ count * (w + 1)
   size = length-chain w (bodies w B) p.long ∙ ap (λ (n : ℕ). n * (w + 1)) (sym counts)
@@ -39,12 +39,12 @@ module _ (w : ℕ) (B : List ℕ) (count : ℕ) (counts : count ≡ length (bodi
   long_B : length B ≡ count * (w + 1) + length p.end
   long_B = ap length p.split ∙ length-append (chain (bodies w B)) p.end ∙ ap (λ (n : ℕ). n + length p.end) size
 
-  pub begins : count * (w + 1) ≤ length B
-  begins = omega (arith, long_B)
+  pub slots_within : count * (w + 1) ≤ length B
+  slots_within = omega (arith, long_B)
 
   -- the byte behind the slots fits where any byte does
-  pub ends : (most : ℕ) → length B ≤ most → 1 ≤ most → count * (w + 1) + 1 ≤ most
-  ends most fits some = elim p.behind [
+  pub gate_within : (most : ℕ) → length B ≤ most → 1 ≤ most → count * (w + 1) + 1 ≤ most
+  gate_within most fits some = elim p.behind [
     | inl none ↦ let zero_count : count ≡ 0 = counts ∙ ap length none in let zero_at : count * (w + 1) ≡ 0 * (w + 1) = ap (λ (n : ℕ). n * (w + 1)) zero_count in omega (arith, zero_at)
     | inr more ↦ omega (arith, long_B)
   ]
@@ -66,7 +66,7 @@ module _ (w : ℕ) (B : List ℕ) (count : ℕ) (counts : count ≡ length (bodi
     pub torn_end : (c : List ℕ) → MayLeave (with_range (count * (w + 1)) 1 (settled B)) c → bodies w c ≡ bodies w B
     torn_end c m =
         let before : take (count * (w + 1)) c ≡ chain (bodies w B) =
-        front_kept B c (count * (w + 1)) 1 begins m ∙ ap (take (count * (w + 1))) p.split ∙ take_at (chain (bodies w B)) p.end (count * (w + 1)) size in
+        front_kept B c (count * (w + 1)) 1 slots_within m ∙ ap (take (count * (w + 1))) p.split ∙ take_at (chain (bodies w B)) p.end (count * (w + 1)) size in
         let whole : c ≡ chain (bodies w B) ++ drop (count * (w + 1)) c = sym (take-append-drop (count * (w + 1)) c) ∙ ap (λ (l : List ℕ). l ++ drop (count * (w + 1)) c) before in
         let long_end = length-drop (count * (w + 1)) c in
         let le : length (drop (count * (w + 1)) c) ≤ w + 1 = omega (arith, long_end, m.no_longer, long_B, few) in
@@ -90,7 +90,7 @@ module _ {D : Type 0} (moment : D → ℕ) (left_since : D → ℕ → List ℕ 
   P c = bodies w c ≡ bodies w (seen old)
 
   pub nothing_done : LeavesOnly moment left_since old old P
-  nothing_done = started moment left_since pending old P (λ c left. ap (bodies w) (only_settled (seen old) c (subst (λ (p : Pending). MayLeave p c) settles (only_now c left))))
+  nothing_done = leaves_only_started moment left_since pending old P (λ c left. ap (bodies w) (only_settled (seen old) c (subst (λ (p : Pending). MayLeave p c) settles (only_now c left))))
 
   module _ (counts : count ≡ length (bodies w (seen old))) (at : gate ≡ count * (w + 1)) (isn_t : (length (seen old) ≤ gate) ⊎ (get_or (seen old) gate 0 ≡ 1)) where
     missing : (length (seen old) ≤ count * (w + 1)) ⊎ (get_or (seen old) (count * (w + 1)) 0 ≡ 1)
@@ -102,11 +102,11 @@ module _ {D : Type 0} (moment : D → ℕ) (left_since : D → ℕ → List ℕ 
         torn_end w (seen old) count counts missing c (subst (λ (g : ℕ). MayLeave (with_range g 1 (settled (seen old))) c) at now)
 
     pub one_call : (d : D) → IsWithin (pending d) (with_range gate 1 (pending old)) → Elapses moment left_since pending old d → LeavesOnly moment left_since old d P
-    one_call d crash time = goes_on moment left_since pending old old d P nothing_done time (closing d crash)
+    one_call d crash time = leaves_only_goes_on moment left_since pending old old d P nothing_done time (closing d crash)
 
     pub two_calls : (d e : D) → IsWithin (pending d) (with_range gate 1 (pending old)) → Elapses moment left_since pending old d
         → IsWithin (pending e) (pending d) → Elapses moment left_since pending d e → LeavesOnly moment left_since old e P
-    two_calls d e crash time crash_2 time_2 = goes_on moment left_since pending old d e P (one_call d crash time) time_2 (λ c m. closing d crash c (crash_2 c m))
+    two_calls d e crash time crash_2 time_2 = leaves_only_goes_on moment left_since pending old d e P (one_call d crash time) time_2 (λ c m. closing d crash c (crash_2 c m))
 
     pub gate_closed : (d e : D) → seen d ≡ overwritten (seen old) gate (0 ∷ []) → seen e ≡ seen d → (bodies w (seen e) ≡ bodies w (seen old)) × IsClosedAt w (seen e) count
     gate_closed d e written same = written_end w (seen old) count counts missing (seen e) (same ∙ written ∙ ap (λ (g : ℕ). overwritten (seen old) g (0 ∷ [])) at)
@@ -114,7 +114,7 @@ module _ {D : Type 0} (moment : D → ℕ) (left_since : D → ℕ → List ℕ 
 -- a room for the bytes, a slot and one byte has place for the next slot
 pub fits_room : (w : ℕ) (B : List ℕ) (room : ℕ) → length B + (w + 1 + 1) ≤ room → leb ((length (bodies w B) + 1) * (w + 1) + 1) room ≡ true
 fits_room w B room le =
-    let front = begins w B (length (bodies w B)) refl in
+    let front = slots_within w B (length (bodies w B)) refl in
     let more : (length (bodies w B) + 1) * (w + 1) ≡ length (bodies w B) * (w + 1) + (w + 1) = omega arith in
     let enough : (length (bodies w B) + 1) * (w + 1) + 1 ≤ room = omega (arith, front, more, le) in
     le-leb _ _ enough

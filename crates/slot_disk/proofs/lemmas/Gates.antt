@@ -3,7 +3,7 @@ use Rattle.std.proofs.Common.{◌≡◌, ◌≢◌, inl, inr, ℕ, zero, suc, �
 use Rattle.std.proofs.lemmas.Bool.{cases_lt}
 use Rattle.std.proofs.lemmas.List.{ext_get_or, take_at, take_all, get_or-take, get_or-drop}
 use Rattle.disk_model.specs.Crash.{Pending, IsOutside, MayLeave, IsWithin, settled, overwritten}
-use Rattle.disk_model.proofs.lemmas.Crash.{outside_push, wider, before, inside, length_overwritten}
+use Rattle.disk_model.proofs.lemmas.Crash.{outside_push, within_with_range, overwritten_before, overwritten_inside, length_overwritten}
 use Rattle.slot_disk.specs.Bodies.{bodies, bodies_in, IsClosedAt, AreWithFirst}
 use Rattle.slot_disk.specs.Gates.{gated, AreOpen}
 use Rattle.slot_disk.proofs.lemmas.Bodies.{chain, bodies_chain, ClosedParts, closed_parts}
@@ -33,7 +33,7 @@ module _ (w gate : ℕ) where
 
   -- more gates take nothing away
   pub gated_wider : (k : ℕ) (p : Pending) → IsWithin (gated w gate k p) (gated w gate (suc k) p)
-  gated_wider k p = wider (gated w gate k p) (gate + k * (w + 1)) 1
+  gated_wider k p = within_with_range (gated w gate k p) (gate + k * (w + 1)) 1
 
   pub gated_more : (d k : ℕ) (p : Pending) → IsWithin (gated w gate k p) (gated w gate (k + d) p)
   gated_more zero k p = λ c m. let same : k ≡ k + 0 = omega arith in subst (λ (n : ℕ). MayLeave (gated w gate n p) c) same m
@@ -87,7 +87,7 @@ module _ (w : ℕ) (B : List ℕ) (count : ℕ) (is : IsClosedAt w B count) (gat
   in_piece : (q : ℕ) → q < length piece → get_or S (gate + q + 1) 0 ≡ get_or piece q 0
   in_piece q below =
       let place : gate + q + 1 ≡ gate + 1 + q = omega arith in
-      ap (λ (l : List ℕ). get_or l (gate + q + 1) 0) written ∙ ap (λ (n : ℕ). get_or (overwritten B (gate + 1) piece) n 0) place ∙ inside B (gate + 1) piece q begins below
+      ap (λ (l : List ℕ). get_or l (gate + q + 1) 0) written ∙ ap (λ (n : ℕ). get_or (overwritten B (gate + 1) piece) n 0) place ∙ overwritten_inside B (gate + 1) piece q begins below
 
   front : (c : List ℕ) → OnlyGates w gate S (more) c → take gate c ≡ chain (bodies w B)
   front c only =
@@ -96,7 +96,7 @@ module _ (w : ℕ) (B : List ℕ) (count : ℕ) (is : IsClosedAt w B count) (gat
       let there = begins in
       ext_get_or 0 (take gate c) (take gate B) (omega (arith, length-take gate c, length-take gate B)) (λ j below.
       let lt : j < gate = omega (arith, length-take gate c) in
-      get_or-take gate c j 0 lt ∙ only.same j (omega arith) (λ i _. omega arith) ∙ ap (λ (l : List ℕ). get_or l j 0) written ∙ before B (gate + 1) piece j begins (omega arith) ∙ sym (get_or-take gate B j 0 lt))
+      get_or-take gate c j 0 lt ∙ only.same j (omega arith) (λ i _. omega arith) ∙ ap (λ (l : List ℕ). get_or l j 0) written ∙ overwritten_before B (gate + 1) piece j begins (omega arith) ∙ sym (get_or-take gate B j 0 lt))
       ∙ ap (take gate) p.split ∙ take_at (chain (bodies w B)) (p.gate ∷ p.rest) gate (p.size ∙ sym at)
 
   last_byte : (c : List ℕ) → OnlyGates w gate S (more) c → get_or c (gate + more * (w + 1)) 0 ≡ 0

@@ -2,7 +2,7 @@ use Rattle.std.proofs.Common.{length, sym, ap, subst, ◌∙◌, arith}
 use Rattle.std.specs.Vec.Iter.{into_iter_items}
 use Rattle.std.proofs.lemmas.List.{length-map}
 use Rattle.std.proofs.lemmas.Grind.{common_steps}
-use Rattle.lists.proofs.lemmas.Members.{nil_of}
+use Rattle.lists.proofs.lemmas.Members.{nil_of_length}
 use Rattle.protocol.specs.Instance.{setting}
 use Rattle.batch_clients.specs.Parts.{lists_of, items_of}
 use Rattle.batch_clients.proofs.Dealing.{IsDealing, dealing_begins, next_there, next_asks, dealing_goes_on, dealing_ends}
@@ -41,6 +41,6 @@ loop-message-preserved c = record {
 
 pub returns : goal.returns
 returns c = λ client t is full.
-    let none = nil_of (into_iter_items c.loop-message.message-iterator) (sym c.in-None.ensures.steps.0 ∙ c.loop-message.invariant.left) in
+    let none = nil_of_length (into_iter_items c.loop-message.message-iterator) (sym c.in-None.ensures.steps.0 ∙ c.loop-message.invariant.left) in
     dealing_ends (setting client.config) client.id t (lists_of c.args.asks.now.items) (lists_of c.loop-message.asks.items)
     (subst (IsDealing (setting client.config) client.id t (lists_of c.args.asks.now.items) (lists_of c.loop-message.asks.items)) none (c.loop-message.invariant.dealing client t is full))

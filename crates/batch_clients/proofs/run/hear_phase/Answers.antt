@@ -1,7 +1,7 @@
 use Rattle.std.proofs.Common.{length, sym, ap, subst, ◌∙◌, arith}
 use Rattle.std.specs.Vec.Iter.{into_iter_items}
 use Rattle.std.proofs.lemmas.Grind.{common_steps}
-use Rattle.lists.proofs.lemmas.Members.{nil_of}
+use Rattle.lists.proofs.lemmas.Members.{nil_of_length}
 use Rattle.batch_clients.proofs.Hearing.{IsHearing, LeadsTo, hearing_begins, in_phase, hearing_step, still_hearing, hearing_lost}
 use Rattle.batch_clients.proofs.run.hear_phase.Goals as goal
 
@@ -56,5 +56,5 @@ loop-given-preserved c =
 
 pub returns : goal.returns
 returns c = λ t is.
-    let none = nil_of (into_iter_items c.loop-given.given-iterator) (sym c.in-None.ensures.steps.0 ∙ c.loop-given.invariant.left) in
+    let none = nil_of_length (into_iter_items c.loop-given.given-iterator) (sym c.in-None.ensures.steps.0 ∙ c.loop-given.invariant.left) in
     hearing_lost c.args.client.now t c.args.replies.items c.loop-given.client c.loop-given.node (subst (IsHearing c.args.client.now t c.args.replies.items c.loop-given.client c.loop-given.node) none (c.loop-given.invariant.hearing t is))

@@ -4,7 +4,7 @@ use Rattle.std.proofs.lemmas.List.{with_items_is, length-map}
 use Rattle.plan_followed.specs.declared.prunes.BlockStamp.{BlockStamp}
 use Rattle.plan_followed.specs.Prunings.{ArePrunings}
 use Rattle.phase_threads.specs.declared.duty.Seat.{Seat}
-use Rattle.client_work.specs.declared.work.Work.{Work}
+use Rattle.client_duties.specs.declared.work.ClientDuty.{ClientDuty}
 use Rattle.plan_words.specs.declared.plan.Plan.{Plan}
 use Rattle.phase_threads.specs.Standing.{ArePlanned}
 use Rattle.client_threads.specs.Pruned.{AllPruned}
@@ -55,7 +55,7 @@ returns-clause-closed c none k worked =
     let met = c.meet_all.ensures.met in
     let ps = c.as_slice-4.result.now in
     let new : Run = record { plan = run.plan; clock = run.clock; cells = c.in_ok-cells.cells; clients = run.clients; courier = run.courier; keeper = c.prune_all.new.keeper; counted = with_items run.counted c.count.new.counted } in
-    let reads : Seat Work → ℕ = λ s. length (reads_of s) in
+    let reads : Seat ClientDuty → ℕ = λ s. length (reads_of s) in
     let many = as_many k c.args.run run worked met c.as_slice-5.result.now c.as_mut_slice.result.now c.as_slice-5.ensures.value c.as_mut_slice.ensures.value in
     let size = ap length c.count.ensures ∙ length-map c.as_slice-5.result.now reads ∙ sym many ∙ c.as_mut_slice.ensures.len in
     let did : HasPruned ps run new = record {

@@ -6,7 +6,7 @@ use Rattle.locked_nodes.specs.Cells.{CellView}
 use Rattle.client_desks.specs.Desks.{DeskView}
 use Rattle.phase_threads.specs.Standing.{AreCells, AreInside, IsDeskAt}
 use Rattle.phase_threads.specs.declared.duty.Seat.{Seat}
-use Rattle.client_work.specs.declared.work.Work.{Work}
+use Rattle.client_duties.specs.declared.work.ClientDuty.{ClientDuty}
 use Rattle.client_threads.specs.Met.{HasMetCell, HasMetSeat}
 use Rattle.client_threads.specs.Running.{desks_of, plan_of}
 use Rattle.client_threads.proofs.Keepers.{keeper_then, keeper_on}
@@ -17,7 +17,7 @@ use Rattle.client_threads.proofs.between.meet_all.Goals as goal
 pub meet_desks-requires-clause-desks : goal.meet_desks-requires-clause-desks
 meet_desks-requires-clause-desks c =
     let run = c.args.run.now in
-    subst (All (λ (s : Seat Work). s.desk.pass.clock ≡ run.clock)) (sym c.as_mut_slice-2.ensures.value) (seats_tick (plan_of run).config run.clock run.clients.items c.requires.desks)
+    subst (All (λ (s : Seat ClientDuty). s.desk.pass.clock ≡ run.clock)) (sym c.as_mut_slice-2.ensures.value) (seats_tick (plan_of run).config run.clock run.clients.items c.requires.desks)
 
 pub returns-clause-open : goal.returns-clause-open
 returns-clause-open c =
@@ -26,7 +26,7 @@ returns-clause-open c =
     let cells = c.meet_cells.new.cells in
     let seats = c.meet_desks.new.seats in
     let zc = subst (λ (l : List CellView). AllZip HasMetCell l cells) c.as_mut_slice.ensures.value c.meet_cells.ensures.cells in
-    let zs = subst (λ (l : List (Seat Work)). AllZip HasMetSeat l seats) c.as_mut_slice-2.ensures.value c.meet_desks.ensures.seats in
+    let zs = subst (λ (l : List (Seat ClientDuty)). AllZip HasMetSeat l seats) c.as_mut_slice-2.ensures.value c.meet_desks.ensures.seats in
     let lc = zip_long HasMetCell run.cells.items cells zc in
     let ls = zip_long HasMetSeat run.clients.items seats zs in
     let bc : (with_items run.cells cells).items ≡ cells = with_items_is run.cells cells (zip_long HasMetCell c.as_mut_slice.result.now cells c.meet_cells.ensures.cells ∙ c.as_mut_slice.ensures.len) in
@@ -38,7 +38,7 @@ returns-clause-open c =
     record {
       cells = subst (AreCells config run.clock) (sym bc) (cells_met config run.clock run.cells.items cells zc c.requires.cells);
       inside = subst (AreInside config) (sym bc) (inside_met config run.cells.items cells zc c.requires.inside);
-      desks = subst (λ (l : List (Seat Work)). All (IsDeskAt config run.clock) (desks_of l)) (sym bs) (seats_met config run.clock run.clients.items seats zs c.requires.desks);
+      desks = subst (λ (l : List (Seat ClientDuty)). All (IsDeskAt config run.clock) (desks_of l)) (sym bs) (seats_met config run.clock run.clients.items seats zs c.requires.desks);
       courier = courier_at config run.clock run.courier c.meet.new.self c.meet_desks.new.keeper c.meet.ensures.desk c.requires.courier;
       keeper = (three.clock ∙ c.requires.keeper.0, three.drawn ∙ c.requires.keeper.1);
       passes = omega (arith, c.requires.passes, lc, ls, mc, ms);
@@ -58,7 +58,7 @@ returns-clause-met c =
     let last = keeper_on k1 k2 run.courier.pass k3 two c.meet.ensures.other in
     let three = keeper_on k2 k2 run.courier.pass k3 (record { clock = refl; number = refl; drawn = refl; seen = omega arith }) c.meet.ensures.other in
     let zc = subst (λ (l : List CellView). AllZip HasMetCell l cells) c.as_mut_slice.ensures.value c.meet_cells.ensures.cells in
-    let zs = subst (λ (l : List (Seat Work)). AllZip HasMetSeat l seats) c.as_mut_slice-2.ensures.value c.meet_desks.ensures.seats in
+    let zs = subst (λ (l : List (Seat ClientDuty)). AllZip HasMetSeat l seats) c.as_mut_slice-2.ensures.value c.meet_desks.ensures.seats in
     let bc : (with_items run.cells cells).items ≡ cells = with_items_is run.cells cells (zip_long HasMetCell c.as_mut_slice.result.now cells c.meet_cells.ensures.cells ∙ c.as_mut_slice.ensures.len) in
     let bs : (with_items run.clients seats).items ≡ seats = with_items_is run.clients seats (zip_long HasMetSeat c.as_mut_slice-2.result.now seats c.meet_desks.ensures.seats ∙ c.as_mut_slice-2.ensures.len) in
     record {
@@ -70,5 +70,5 @@ returns-clause-met c =
       cells = subst (AllZip HasMetCell run.cells.items) (sym bc) zc;
       seats = subst (AllZip HasMetSeat run.clients.items) (sym bs) zs;
       cells_seen = subst (All (λ (x : CellView). (k0.seen ≤ x.pass.seen) × (x.pass.seen ≤ k3.seen))) (sym bc) (cells_within k0.seen k1.seen k3.seen cells last.seen c.meet_cells.ensures.seen);
-      desks_seen = subst (λ (l : List (Seat Work)). All (λ (d : DeskView). (k0.seen ≤ d.pass.seen) × (d.pass.seen ≤ k3.seen)) (desks_of l)) (sym bs) (desks_within k0.seen k1.seen k2.seen k3.seen seats one.seen three.seen c.meet_desks.ensures.seen);
+      desks_seen = subst (λ (l : List (Seat ClientDuty)). All (λ (d : DeskView). (k0.seen ≤ d.pass.seen) × (d.pass.seen ≤ k3.seen)) (desks_of l)) (sym bs) (desks_within k0.seen k1.seen k2.seen k3.seen seats one.seen three.seen c.meet_desks.ensures.seen);
     }

@@ -4,7 +4,7 @@ use Rattle.std.proofs.lemmas.List.Elements.{All-nil, All-push}
 use Rattle.locked_nodes.specs.Cells.{CellView, KeptCell}
 use Rattle.client_threads.specs.Running.{node_journals}
 use Rattle.client_threads.proofs.Adding.{none_joined, one_added, journals_long}
-use Rattle.crews.proofs.lemmas.Places.{walk_on, walk_end}
+use Rattle.thread_work.proofs.lemmas.Places.{walk_on, walk_end}
 use Rattle.client_threads.proofs.Walking.{all_mid, made_more}
 use Rattle.client_threads.proofs.closing.finish_cells.Goals as goal
 

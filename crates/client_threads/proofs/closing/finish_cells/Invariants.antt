@@ -2,7 +2,7 @@ use Rattle.std.proofs.Common.{◌≡◌, ◌++◌, List, map, All}
 use Rattle.std.specs.Vec.Iter.{into_iter_items, into_iter_len}
 use Rattle.locked_nodes.specs.Cells.{CellView, KeptCell}
 use Rattle.client_threads.specs.Running.{node_journals}
-use Rattle.crews.proofs.lemmas.Places.{Walked}
+use Rattle.thread_work.proofs.lemmas.Places.{Walked}
 use Rattle.client_threads.proofs.closing.finish_cells.Given as goal
 
 -- the cells so far gave their journals and passes

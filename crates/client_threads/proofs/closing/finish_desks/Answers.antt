@@ -7,9 +7,9 @@ use Rattle.protocol.specs.Seen.{record_of}
 use Rattle.client_desks.specs.Desks.{DeskView, KeptDesk}
 use Rattle.phase_threads.specs.Standing.{journal_at}
 use Rattle.phase_threads.specs.declared.duty.Seat.{Seat}
-use Rattle.client_work.specs.declared.work.Work.{Work}
+use Rattle.client_duties.specs.declared.work.ClientDuty.{ClientDuty}
 use Rattle.client_threads.specs.Running.{desks_of, kept_records}
-use Rattle.crews.proofs.lemmas.Places.{walk_end}
+use Rattle.thread_work.proofs.lemmas.Places.{walk_end}
 use Rattle.client_threads.proofs.Together.{one_finished}
 use Rattle.client_threads.proofs.closing.finish_desks.Goals as goal
 
@@ -37,22 +37,22 @@ pub returns-clause-desks : goal.returns-clause-desks
 returns-clause-desks c =
     let inv = c.loop-seat.invariant in
     let all = walk_end c.args.seats.items inv.0 (into_iter_items c.loop-seat.seat-iterator) (into_iter_len c.loop-seat.seat-iterator) inv.1 c.in-None.ensures.steps.0 in
-    inv.2 ∙ ap (λ (l : List (Seat Work)). map journal_at (desks_of l)) (sym all)
+    inv.2 ∙ ap (λ (l : List (Seat ClientDuty)). map journal_at (desks_of l)) (sym all)
 
 pub returns-clause-passes : goal.returns-clause-passes
 returns-clause-passes c =
     let inv = c.loop-seat.invariant in
     let all = walk_end c.args.seats.items inv.0 (into_iter_items c.loop-seat.seat-iterator) (into_iter_len c.loop-seat.seat-iterator) inv.1 c.in-None.ensures.steps.0 in
-    inv.3 ∙ ap (λ (l : List (Seat Work)). c.args.passes.now ++ map (λ (x : DeskView). x.pass) (desks_of l)) (sym all)
+    inv.3 ∙ ap (λ (l : List (Seat ClientDuty)). c.args.passes.now ++ map (λ (x : DeskView). x.pass) (desks_of l)) (sym all)
 
 pub returns-clause-kept : goal.returns-clause-kept
 returns-clause-kept c =
     let inv = c.loop-seat.invariant in
     let all = walk_end c.args.seats.items inv.0 (into_iter_items c.loop-seat.seat-iterator) (into_iter_len c.loop-seat.seat-iterator) inv.1 c.in-None.ensures.steps.0 in
-    subst (λ (l : List (Seat Work)). All KeptDesk (desks_of l)) (sym all) inv.4
+    subst (λ (l : List (Seat ClientDuty)). All KeptDesk (desks_of l)) (sym all) inv.4
 
 pub returns-clause-records : goal.returns-clause-records
 returns-clause-records c =
     let inv = c.loop-seat.invariant in
     let all = walk_end c.args.seats.items inv.0 (into_iter_items c.loop-seat.seat-iterator) (into_iter_len c.loop-seat.seat-iterator) inv.1 c.in-None.ensures.steps.0 in
-    inv.5 ∙ ap (λ (l : List (Seat Work)). kept_records (desks_of l)) (sym all)
+    inv.5 ∙ ap (λ (l : List (Seat ClientDuty)). kept_records (desks_of l)) (sym all)

@@ -7,7 +7,7 @@ use Rattle.client_threads.proofs.Stepping.Partly.{Same}
 use Rattle.client_threads.proofs.Keepers.{partly_map, partly_next, zip_right, set_all}
 use Rattle.client_threads.proofs.Mailing.{HasAllAside, same_desk, keeps_then}
 use Rattle.client_threads.proofs.mail.bring_all.Goals as goal
-use Rattle.lists.proofs.lemmas.Members.{all_at}
+use Rattle.lists.proofs.lemmas.Members.{all_at_place}
 
 pub loop-cell-init : goal.loop-cell-init
 loop-cell-init g c = (same_desk c.args.courier.now, Same c.args.cells.now, c.know_cells.ensures)
@@ -17,7 +17,7 @@ bring-requires-clause-cell g c =
     let i = c.loop-cell.cell-index in
     let x = get_or c.loop-cell.cells i c.cell-item.result in
     let at = slice_get-get_or c.loop-cell.cells i c.cell-item.result (omega (arith, c.loop-cell-test.true, c.loop-cell.auto.cells)) in
-    all_at (λ x. x.charter.pass.clock ≡ c.args.clock.now) c.args.cells.now i x c.requires.cells (partly_old HasAllAside c.args.cells.now c.loop-cell.cells i x c.loop-cell.invariant.1 at)
+    all_at_place (λ x. x.charter.pass.clock ≡ c.args.clock.now) c.args.cells.now i x c.requires.cells (partly_old HasAllAside c.args.cells.now c.loop-cell.cells i x c.loop-cell.invariant.1 at)
 
 pub returns-in_err-bring-clause-cells : goal.returns-in_err-bring-clause-cells
 returns-in_err-bring-clause-cells g c =

@@ -7,7 +7,7 @@ use Rattle.client_threads.proofs.Stepping.Partly.{Same}
 use Rattle.client_threads.proofs.Working.{zip_map}
 use Rattle.client_threads.proofs.Keepers.{MeetsCell, same_keeper, keeper_on, meets_cell, cells_on, zip_right, partly_next}
 use Rattle.client_threads.proofs.meeting.meet_cells.Goals as goal
-use Rattle.lists.proofs.lemmas.Members.{all_at}
+use Rattle.lists.proofs.lemmas.Members.{all_at_place}
 
 pub loop-cell-init : goal.loop-cell-init
 loop-cell-init c = (same_keeper c.args.keeper.now, Same c.args.cells.now)
@@ -20,7 +20,7 @@ meet-requires-clause-clock c =
     let x = get_or c.loop-cell.cells i c.cell-item.result in
     let at = slice_get-get_or c.loop-cell.cells i c.cell-item.result (omega (arith, c.loop-cell-test.true, c.loop-cell.auto.cells)) in
     let was = partly_old (MeetsCell low c.loop-cell.keeper.seen) cells c.loop-cell.cells i x c.loop-cell.invariant.1 at in
-    all_at (λ x. x.charter.pass.clock ≡ c.args.clock.now) cells i x c.requires.cells was
+    all_at_place (λ x. x.charter.pass.clock ≡ c.args.clock.now) cells i x c.requires.cells was
 
 pub loop-cell-preserved : goal.loop-cell-preserved
 loop-cell-preserved c =

@@ -2,14 +2,14 @@ use Rattle.std.proofs.Common.{◌≡◌, ◌≤◌, get_or, refl, ap, arith}
 use Rattle.std.proofs.lemmas.Option.{slice_get-get_or}
 use Rattle.client_desks.specs.Desks.{KeptDesk}
 use Rattle.phase_threads.specs.declared.duty.Seat.{Seat}
-use Rattle.client_work.specs.declared.work.Work.{Work}
+use Rattle.client_duties.specs.declared.work.ClientDuty.{ClientDuty}
 use Rattle.client_threads.specs.Met.{HasMetSeat}
 use Rattle.client_threads.proofs.Stepping.{partly_all, partly_old, partly_long}
 use Rattle.client_threads.proofs.Stepping.Partly.{Same}
 use Rattle.client_threads.proofs.Working.{zip_map}
 use Rattle.client_threads.proofs.Keepers.{MeetsSeat, same_keeper, keeper_on, meets_seat, seats_on, zip_right, all_desks, partly_next}
 use Rattle.client_threads.proofs.meeting.meet_desks.Goals as goal
-use Rattle.lists.proofs.lemmas.Members.{all_at}
+use Rattle.lists.proofs.lemmas.Members.{all_at_place}
 
 pub loop-seat-init : goal.loop-seat-init
 loop-seat-init c = (same_keeper c.args.keeper.now, Same c.args.seats.now)
@@ -22,7 +22,7 @@ meet-requires-clause-clock c =
     let x = get_or c.loop-seat.seats i c.seat-item.result in
     let at = slice_get-get_or c.loop-seat.seats i c.seat-item.result (omega (arith, c.loop-seat-test.true, c.loop-seat.auto.seats)) in
     let was = partly_old (MeetsSeat low c.loop-seat.keeper.seen) seats c.loop-seat.seats i x c.loop-seat.invariant.1 at in
-    all_at (λ x. x.desk.pass.clock ≡ c.args.clock.now) seats i x c.requires.desks was
+    all_at_place (λ x. x.desk.pass.clock ≡ c.args.clock.now) seats i x c.requires.desks was
 
 pub loop-seat-preserved : goal.loop-seat-preserved
 loop-seat-preserved c =
@@ -34,7 +34,7 @@ loop-seat-preserved c =
     let x = get_or c.loop-seat.seats i c.seat-item.result in
     let keeper = c.loop-seat.keeper in
     let next = c.meet.new.other in
-    let y : Seat Work = record { desk = c.meet.new.self; duty = x.duty } in
+    let y : Seat ClientDuty = record { desk = c.meet.new.self; duty = x.duty } in
     let at = slice_get-get_or c.loop-seat.seats i c.seat-item.result (omega (arith, c.loop-seat-test.true, c.loop-seat.auto.seats)) in
     let goes = keeper_on first keeper x.desk.pass next inv.0 c.meet.ensures.other in
     let grew : keeper.seen ≤ next.seen = omega (arith, ap (λ p. p.seen) c.meet.ensures.other) in (

@@ -1,9 +1,9 @@
 use Rattle.std.proofs.Common.{rules, ◌≡◌, ◌+◌, Some, ℕ, length, ap, ◌∙◌, arith}
 use Rattle.std.specs.Prelude.{replicate}
 use Rattle.std.proofs.lemmas.List.Elements.{All-pop}
-use Rattle.client_work.specs.Tasks.{client_of}
+use Rattle.client_duties.specs.Tasks.{client_of}
 use Rattle.phase_threads.specs.declared.duty.Seat.{Seat}
-use Rattle.client_work.specs.declared.work.Work.{Work}
+use Rattle.client_duties.specs.declared.work.ClientDuty.{ClientDuty}
 use Rattle.client_threads.specs.Opened.{IsUnusedPass}
 use Rattle.client_threads.proofs.Newcomers.{count_few, tasks_few, same_long, all_unused, liars_named, stands_first}
 use Rattle.client_threads.proofs.opening.open.Goals as goal
@@ -48,7 +48,7 @@ returns-clause-stands c =
     let clock = c.in_ok-clock.clock in
     let one = All-pop (IsUnusedPass clock) c.open_seats.new.passes c.pop.new.self (Some c.in-Some.pass) c.in-Some.ensures.items c.in_ok-clients.ensures.unused in
     let other = All-pop (IsUnusedPass clock) c.pop.new.self c.pop-2.new.self (Some c.in-Some-pop.keeper) c.in-Some-pop.ensures.items one.0 in
-    let long = same_long (λ (s : Seat Work). s.desk.id) client_of c.in_ok-clients.clients.items c.in_ok-tasks.tasks c.in_ok-clients.ensures.ids in
+    let long = same_long (λ (s : Seat ClientDuty). s.desk.id) client_of c.in_ok-clients.clients.items c.in_ok-tasks.tasks c.in_ok-clients.ensures.ids in
     let count : c.len.result ≡ length c.in_ok-clients.clients.items = search rules in
     stands_first c.phases_close.ensures.begins _ c.args.plan.now c.of.ensures (record {
       shards = c.args.shards;

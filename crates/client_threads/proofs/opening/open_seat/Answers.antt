@@ -1,6 +1,6 @@
 use Rattle.std.proofs.Common.{subst}
-use Rattle.client_work.specs.declared.task.Task.{Task}
-use Rattle.client_work.specs.Tasks.{IsTaskOf}
+use Rattle.client_duties.specs.declared.task.Task.{Task}
+use Rattle.client_duties.specs.Tasks.{IsTaskOf}
 use Rattle.client_threads.proofs.Newcomers.{client_new, liar_new}
 use Rattle.client_threads.proofs.opening.open_seat.Goals as goal
 

@@ -2,12 +2,12 @@ use Rattle.std.proofs.Common.{◌++◌, ◌∷◌, [], Some, length, map, sym, a
 use Rattle.std.specs.Vec.Iter.{into_iter_items, into_iter_len}
 use Rattle.std.proofs.lemmas.List.{map_push}
 use Rattle.std.proofs.lemmas.List.Elements.{All-push, All-pop}
-use Rattle.client_work.specs.Tasks.{client_of}
+use Rattle.client_duties.specs.Tasks.{client_of}
 use Rattle.phase_threads.specs.declared.duty.Seat.{Seat}
-use Rattle.client_work.specs.declared.work.Work.{Work}
+use Rattle.client_duties.specs.declared.work.ClientDuty.{ClientDuty}
 use Rattle.event_clock.specs.Passes.{ClockId}
 use Rattle.client_threads.specs.Opened.{IsUnusedPass, IsNewSeat}
-use Rattle.crews.proofs.lemmas.Places.{walk_on}
+use Rattle.thread_work.proofs.lemmas.Places.{walk_on}
 use Rattle.client_threads.proofs.Walking.{made_more}
 use Rattle.client_threads.proofs.opening.open_seats.Goals as goal
 
@@ -25,7 +25,7 @@ loop-task-preserved c =
     let seat = c.in_ok-open_seat.field-0 in
     let was = c.loop-task.seats.items in
     let pushed = c.in_ok-push.ensures.items in
-    let id = λ (s : Seat Work). s.desk.id in (
+    let id = λ (s : Seat ClientDuty). s.desk.id in (
       inv.0 ++ task ∷ [],
       walk_on c.args.tasks inv.0 (into_iter_items c.loop-task.task-iterator) (into_iter_items c.next.new.self) task (into_iter_len c.loop-task.task-iterator) (into_iter_len c.next.new.self) inv.1 steps.0 steps.1,
       subst (All (IsNewSeat plan clock)) (sym pushed) (All-push (IsNewSeat plan clock) was seat inv.2 (subst (λ (k : ClockId). IsNewSeat plan k seat) u.1.ticks c.in_ok-open_seat.ensures.seat)),

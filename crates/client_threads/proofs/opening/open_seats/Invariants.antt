@@ -1,9 +1,9 @@
 use Rattle.std.proofs.Common.{◌≡◌, ◌+◌, List, length, map, All}
 use Rattle.std.specs.Vec.Iter.{into_iter_items, into_iter_len}
-use Rattle.client_work.specs.declared.task.Task.{Task}
-use Rattle.client_work.specs.Tasks.{client_of}
+use Rattle.client_duties.specs.declared.task.Task.{Task}
+use Rattle.client_duties.specs.Tasks.{client_of}
 use Rattle.client_threads.specs.Opened.{IsUnusedPass, IsNewSeat}
-use Rattle.crews.proofs.lemmas.Places.{Walked}
+use Rattle.thread_work.proofs.lemmas.Places.{Walked}
 use Rattle.client_threads.proofs.opening.open_seats.Given as goal
 
 -- the tasks so far have their seats

@@ -15,7 +15,7 @@ loop-pruning-init c = prunes_none c.args.clock.now c.args.keeper.now c.args.prun
 pub bounds-cells-place : goal.bounds-cells-place
 bounds-cells-place c =
     let block = (get_or c.args.prunings.now c.loop-pruning.pruning-index none_named).block in
-    (found c.args.cells.now c.loop-pruning.cells c.args.slots.now c.args.node block c.index-place.result.now c.in_ok-places.places.items c.len.result c.requires.slots c.loop-pruning.invariant.some c.in_ok-places.ensures (c.len.ensures ∙ c.in_ok-places.places.ok.0) c.index-place.ensures).within
+    (found c.args.cells.now c.loop-pruning.cells c.args.cell_shards.now c.args.node block c.index-place.result.now c.in_ok-places.places.items c.len.result c.requires.cell_shards c.loop-pruning.invariant.some c.in_ok-places.ensures (c.len.ensures ∙ c.in_ok-places.places.ok.0) c.index-place.ensures).within
 
 pub prune-requires-clause-block : goal.prune-requires-clause-block
 prune-requires-clause-block c =
@@ -24,7 +24,7 @@ prune-requires-clause-block c =
     let place = c.index-place.result.now in
     let d : CellView = c.index-cells-place.result in
     let block = (get_or c.args.prunings.now i none_named).block in
-    let at = found c.args.cells.now cells c.args.slots.now c.args.node block place c.in_ok-places.places.items c.len.result c.requires.slots c.loop-pruning.invariant.some c.in_ok-places.ensures (c.len.ensures ∙ c.in_ok-places.places.ok.0) c.index-place.ensures in
+    let at = found c.args.cells.now cells c.args.cell_shards.now c.args.node block place c.in_ok-places.places.items c.len.result c.requires.cell_shards c.loop-pruning.invariant.some c.in_ok-places.ensures (c.len.ensures ∙ c.in_ok-places.places.ok.0) c.index-place.ensures in
     ((c.loop-pruning.invariant.cells place d at.within).blocks i none_named c.loop-pruning-test.true, at.share d)
 
 pub prune-requires-clause-may : goal.prune-requires-clause-may
@@ -32,7 +32,7 @@ prune-requires-clause-may c =
     let cells = c.loop-pruning.cells in
     let place = c.index-place.result.now in
     let block = (get_or c.args.prunings.now c.loop-pruning.pruning-index none_named).block in
-    let at = found c.args.cells.now cells c.args.slots.now c.args.node block place c.in_ok-places.places.items c.len.result c.requires.slots c.loop-pruning.invariant.some c.in_ok-places.ensures (c.len.ensures ∙ c.in_ok-places.places.ok.0) c.index-place.ensures in
+    let at = found c.args.cells.now cells c.args.cell_shards.now c.args.node block place c.in_ok-places.places.items c.len.result c.requires.cell_shards c.loop-pruning.invariant.some c.in_ok-places.ensures (c.len.ensures ∙ c.in_ok-places.places.ok.0) c.index-place.ensures in
     (c.loop-pruning.invariant.cells place c.index-cells-place.result at.within).may
 
 pub prune-requires-clause-clock : goal.prune-requires-clause-clock
@@ -40,7 +40,7 @@ prune-requires-clause-clock c =
     let cells = c.loop-pruning.cells in
     let place = c.index-place.result.now in
     let block = (get_or c.args.prunings.now c.loop-pruning.pruning-index none_named).block in
-    let at = found c.args.cells.now cells c.args.slots.now c.args.node block place c.in_ok-places.places.items c.len.result c.requires.slots c.loop-pruning.invariant.some c.in_ok-places.ensures (c.len.ensures ∙ c.in_ok-places.places.ok.0) c.index-place.ensures in
+    let at = found c.args.cells.now cells c.args.cell_shards.now c.args.node block place c.in_ok-places.places.items c.len.result c.requires.cell_shards c.loop-pruning.invariant.some c.in_ok-places.ensures (c.len.ensures ∙ c.in_ok-places.places.ok.0) c.index-place.ensures in
     (c.loop-pruning.invariant.cells place c.index-cells-place.result at.within).ticks
 
 pub loop-pruning-preserved : goal.loop-pruning-preserved
@@ -56,7 +56,7 @@ loop-pruning-preserved c =
     let next = c.prune.new.caller in
     let new = c.prune.new.self in
     let told = c.in_ok-_pruning.ensures in
-    let at = found old cells c.args.slots.now c.args.node x.block place c.in_ok-places.places.items c.len.result c.requires.slots c.loop-pruning.invariant.some c.in_ok-places.ensures (c.len.ensures ∙ c.in_ok-places.places.ok.0) c.index-place.ensures in
+    let at = found old cells c.args.cell_shards.now c.args.node x.block place c.in_ok-places.places.items c.len.result c.requires.cell_shards c.loop-pruning.invariant.some c.in_ok-places.ensures (c.len.ensures ∙ c.in_ok-places.places.ok.0) c.index-place.ensures in
     let d : CellView = c.index-cells-place.result in
     let step = prune_step c.args.clock.now first keeper ps c.args.node (take i ps) x old cells place (get_or cells place d) (at.there d) (at.number d) c.loop-pruning.invariant next new c.in_ok-_pruning._pruning
     (λ n is. told.pruned n (cc)) (λ may. let said = told.skipped.1 may in cc) (λ is. told.skipped.0 (cc)) (λ is. told.same (cc)) in
@@ -65,7 +65,7 @@ loop-pruning-preserved c =
 pub offset_bounds-cells-place : goal.offset_bounds-cells-place
 offset_bounds-cells-place c =
     let block = (get_or c.args.prunings.now c.loop-pruning.pruning-index none_named).block in
-    let at = found c.args.cells.now c.loop-pruning.cells c.args.slots.now c.args.node block c.index-place.result.now c.in_ok-places.places.items c.len.result c.requires.slots c.loop-pruning.invariant.some c.in_ok-places.ensures (c.len.ensures ∙ c.in_ok-places.places.ok.0) c.index-place.ensures in
+    let at = found c.args.cells.now c.loop-pruning.cells c.args.cell_shards.now c.args.node block c.index-place.result.now c.in_ok-places.places.items c.len.result c.requires.cell_shards c.loop-pruning.invariant.some c.in_ok-places.ensures (c.len.ensures ∙ c.in_ok-places.places.ok.0) c.index-place.ensures in
     let within = at.within in
     let long = c.loop-pruning.auto.cells in
     omega arith

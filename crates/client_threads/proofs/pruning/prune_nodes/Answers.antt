@@ -1,23 +1,23 @@
 use Rattle.std.proofs.Common.{◌∙◌, sym, subst, List, arith}
-use Rattle.locked_nodes.specs.declared.slot.Slot.{Slot}
+use Rattle.locked_nodes.specs.declared.cell_shard.CellShard.{CellShard}
 use Rattle.client_threads.specs.Pruned.{HasMorePrunes, IsServed}
 use Rattle.client_threads.proofs.Places.{served, none_pruned, one_pruned, all_prune}
-use Rattle.client_threads.proofs.Prunes.{none_more, more_then, slots_same}
+use Rattle.client_threads.proofs.Prunes.{none_more, more_then, shards_same}
 use Rattle.client_threads.proofs.Working.{zip_then}
 use Rattle.client_threads.proofs.pruning.prune_nodes.Goals as goal
 
-pub returns-in_err-slots-clause-some : goal.returns-in_err-slots-clause-some
-returns-in_err-slots-clause-some c = none_more c.args.cells.now
+pub returns-in_err-cell_shards-clause-some : goal.returns-in_err-cell_shards-clause-some
+returns-in_err-cell_shards-clause-some c = none_more c.args.cells.now
 
 pub loop-node-init : goal.loop-node-init
 loop-node-init c = none_pruned c.args.plan.now c.args.clock.now c.args.keeper.now c.args.prunings.now c.args.cells.now c.requires.cells
 
-pub prune-requires-clause-slots : goal.prune-requires-clause-slots
-prune-requires-clause-slots c = c.as_slice.ensures.value ∙ c.in_ok-slots.ensures ∙ sym (slots_same c.args.cells.now c.loop-node.cells c.loop-node.invariant.some)
+pub prune-requires-clause-cell_shards : goal.prune-requires-clause-cell_shards
+prune-requires-clause-cell_shards c = c.as_slice.ensures.value ∙ c.in_ok-cell_shards.ensures ∙ sym (shards_same c.args.cells.now c.loop-node.cells c.loop-node.invariant.some)
 
 pub prune-requires-clause-served : goal.prune-requires-clause-served
 prune-requires-clause-served c =
-    subst (λ (l : List Slot). IsServed l c.loop-node.node) (sym (c.as_slice.ensures.value ∙ c.in_ok-slots.ensures))
+    subst (λ (l : List CellShard). IsServed l c.loop-node.node) (sym (c.as_slice.ensures.value ∙ c.in_ok-cell_shards.ensures))
     (served c.args.plan.now c.args.clock.now c.args.cells.now c.requires.planned c.loop-node.node (omega (arith, c.loop-node-test.true, c.n-node-end.ensures.is)))
 
 pub returns-in_err-prune-clause-some : goal.returns-in_err-prune-clause-some

@@ -2,7 +2,7 @@ use Rattle.std.proofs.Common.{true, ◌++◌, ◌∷◌, [], All, sym, subst}
 use Rattle.std.specs.Vec.Iter.{into_iter_items, into_iter_len}
 use Rattle.std.proofs.lemmas.List.Elements.{All-push}
 use Rattle.locked_nodes.specs.Cells.{CellView, KeptCell, rechartered}
-use Rattle.crews.proofs.lemmas.Places.{walk_on}
+use Rattle.thread_work.proofs.lemmas.Places.{walk_on}
 use Rattle.client_threads.proofs.Walking.{made_more}
 use Rattle.client_threads.proofs.pruning.reopen.Goals as goal
 

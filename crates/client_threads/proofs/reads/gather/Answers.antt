@@ -1,6 +1,6 @@
 use Rattle.std.proofs.Common.{◌≡◌, ◌++◌, ◌+◌, ◌≤◌, List, length, map, take, drop, get_or, sym, ◌∙◌, ap, subst, arith}
 use Rattle.std.proofs.lemmas.Option.{slice_get-get_or}
-use Rattle.client_work.specs.declared.reads.GivenRead.{GivenRead}
+use Rattle.client_duties.specs.declared.reads.GivenRead.{GivenRead}
 use Rattle.client_threads.specs.Reads.{reads_of, early_reads, late_reads, block_stamp}
 use Rattle.client_threads.proofs.Keepers.{item_at}
 use Rattle.client_threads.proofs.Reading.{early_next, late_next, add_on, enough}

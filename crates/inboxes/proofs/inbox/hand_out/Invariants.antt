@@ -1,7 +1,7 @@
 use Rattle.std.proofs.Common.{◌≡◌, [], length, Some}
 use Rattle.crossbeam_channel.specs.Claims.{view, IsSeatAt}
 use Rattle.crossbeam_channel.specs.Ends.{sends_on}
-use Rattle.inboxes.specs.Posts.{start, taking}
+use Rattle.inboxes.specs.Parcels.{start, taking}
 use Rattle.inboxes.specs.Sides.{inbox_of, AreNew, IsSameSeat}
 use Rattle.inboxes.proofs.inbox.hand_out.Given as goal
 

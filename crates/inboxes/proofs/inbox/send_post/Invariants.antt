@@ -8,4 +8,4 @@ invariant-loop g l =
     IsSeatAt (sends_on l.end) l.pass
     × (l.pass.id ≡ l.initial.pass.id)
     × (view l.pass ≡ view l.initial.pass)
-    × (l.post ≡ l.initial.post)
+    × (l.parcel ≡ l.initial.parcel)

@@ -5,7 +5,7 @@ use Rattle.protocol.specs.Report.{Ascend}
 use Rattle.journals.specs.declared.desk.DeskJournal.{DeskJournal}
 use Rattle.journals.specs.declared.node.NodeEntry.{NodeEntry}
 use Rattle.journals.specs.Journals.{setting_for}
-use Rattle.merge_trace.specs.Turns.{IsOnce}
+use Rattle.merge_trace.specs.RunSteps.{IsOnce}
 use Rattle.merge_trace.specs.Numbered.{all_node_steps, all_desk_steps, AreNew, AreAdded, CanMerge}
 use Rattle.merge_trace.proofs.Adding.{refused}
 use Rattle.merge_trace.proofs.Entries.{are_once, can, nodes_new, desks_new, empty_has}

@@ -1,18 +1,18 @@
 use Rattle.std.proofs.Common.{◌≡◌, List, map, All}
 use Rattle.std.specs.declared.option.Option.TheVariants.{None}
 use Rattle.std.specs.Vec.Iter.{into_iter_items, into_iter_len}
-use Rattle.crews.proofs.lemmas.Places.{Walked}
-use Rattle.desk_keys.specs.declared.mail.ByMail.{ByMail}
-use Rattle.desk_keys.specs.declared.transport.Transport.TheVariants.{Mail}
-use Rattle.desk_keys.specs.Keys.{Agree}
-use Rattle.node_workers.specs.declared.crew.Post.{Post}
-use Rattle.node_workers.specs.Posts.{nodes_in, clients_in, seat_of}
+use Rattle.thread_work.proofs.lemmas.Places.{Walked}
+use Rattle.client_endpoints.specs.declared.mail.ByMail.{ByMail}
+use Rattle.client_endpoints.specs.declared.transport.Transport.TheVariants.{Mail}
+use Rattle.client_endpoints.specs.Endpoint.{Agree}
+use Rattle.node_workers.specs.declared.thread_state.ThreadState.{ThreadState}
+use Rattle.node_workers.specs.ThreadStates.{nodes_in, clients_in, seat_of}
 use Rattle.node_workers.proofs.close.part.Given as goal
 
--- the posts so far are parted
-abbrev pub invariant-loop-post : goal.invariant-loop-post
-invariant-loop-post g l =
-    (done : List (Post g.row.T.Denot)) × Walked l.fn.posts.items done (into_iter_items l.post-iterator) (into_iter_len l.post-iterator)
+-- the thread states so far are parted
+abbrev pub invariant-loop-state : goal.invariant-loop-state
+invariant-loop-state g l =
+    (done : List (ThreadState g.row.T.Denot)) × Walked l.fn.states.items done (into_iter_items l.state-iterator) (into_iter_len l.state-iterator)
     × (l.cells.items ≡ map (λ w. w.cell) (nodes_in done))
     × (l.rows.items ≡ map (λ w. w.sents) (nodes_in done))
     × (l.seats.items ≡ map seat_of (clients_in done))

@@ -1,9 +1,9 @@
 use Rattle.std.proofs.Common.{◌++◌, ◌∷◌, [], List, subst, ◌∙◌}
 use Rattle.std.specs.Vec.Iter.{into_iter_items, into_iter_len}
 use Rattle.std.proofs.lemmas.List.Elements.{All-push}
-use Rattle.crews.specs.Crews.{Beside}
-use Rattle.crews.proofs.lemmas.Places.{walk_on}
-use Rattle.desk_keys.specs.declared.mail.ByMail.{ByMail}
+use Rattle.thread_work.specs.Pairwise.{Beside}
+use Rattle.thread_work.proofs.lemmas.Places.{walk_on}
+use Rattle.client_endpoints.specs.declared.mail.ByMail.{ByMail}
 use Rattle.node_workers.specs.Closed.{HasAllOf}
 use Rattle.node_workers.proofs.close.settle_all.Goals as goal
 

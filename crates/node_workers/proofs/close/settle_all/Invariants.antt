@@ -1,7 +1,7 @@
 use Rattle.std.proofs.Common.{◌≡◌, List, All}
 use Rattle.std.specs.Vec.Iter.{into_iter_items, into_iter_len}
-use Rattle.crews.specs.Crews.{Beside}
-use Rattle.crews.proofs.lemmas.Places.{Walked}
+use Rattle.thread_work.specs.Pairwise.{Beside}
+use Rattle.thread_work.proofs.lemmas.Places.{Walked}
 use Rattle.node_workers.specs.Workers.{AnswerPutter}
 use Rattle.node_workers.specs.Closed.{HasAllOf}
 use Rattle.node_workers.proofs.close.settle_all.Given as goal

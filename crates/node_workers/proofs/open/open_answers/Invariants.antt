@@ -1,5 +1,5 @@
 use Rattle.std.proofs.Common.{◌≡◌, length}
-use Rattle.node_workers.specs.Hands.{AreSpread}
+use Rattle.node_workers.specs.Portions.{AreSpread}
 use Rattle.node_workers.specs.Opened.{IsAnswerBox}
 use Rattle.node_workers.proofs.Opening.{UpTo}
 use Rattle.node_workers.proofs.open.open_answers.Given as goal

@@ -3,12 +3,12 @@ use Rattle.std.proofs.Common.{◌≡◌, ◌++◌, ◌∷◌, [], ◌+◌, lengt
 use Rattle.std.specs.declared.option.Option.TheVariants.{Some}
 use Rattle.std.specs.Prelude.{slice_get}
 use Rattle.std.specs.Vec.Iter.{into_iter_items, into_iter_len}
-use Rattle.crews.proofs.lemmas.Places.{walk_on, walk_end}
+use Rattle.thread_work.proofs.lemmas.Places.{walk_on, walk_end}
 use Rattle.inboxes.specs.Sides.{took_in}
 use Rattle.client_desks.specs.Desks.{DeskView}
-use Rattle.desk_keys.specs.declared.mail.ByMail.{ByMail}
-use Rattle.node_workers.specs.declared.crew.Post.TheVariants.{Client}
-use Rattle.node_workers.specs.Posts.{nodes_in, clients_in}
+use Rattle.client_endpoints.specs.declared.mail.ByMail.{ByMail}
+use Rattle.node_workers.specs.declared.thread_state.ThreadState.TheVariants.{Client}
+use Rattle.node_workers.specs.ThreadStates.{nodes_in, clients_in}
 use Rattle.node_workers.specs.Opened.{IsClientOf}
 use Rattle.node_workers.proofs.Opening.{UpTo, AreLeft, up_to_none, up_to_more, up_to_all, all_left, next_left, client_nodes, client_clients, here_of}
 use Rattle.node_workers.proofs.open.open_clients.Goals as goal
@@ -26,8 +26,8 @@ loop-seat-init g c =
       all_left c.args.putters.items c.reverse-2.new.self.items c.reverse-2.ensures.items,
     )
 
-pub new-keys-requires-clause-new : goal.new-keys-requires-clause-new
-new-keys-requires-clause-new g c =
+pub new-endpoint-requires-clause-new : goal.new-endpoint-requires-clause-new
+new-endpoint-requires-clause-new g c =
     let inv = c.loop-seat.invariant in
     let seat = c.in-Some.seat in
     let answers = c.in-Some-pop.answers in
@@ -42,40 +42,40 @@ loop-seat-preserved g c =
     let steps = c.in-Some.ensures.steps in
     let seats = c.args.seats.items in
     let boxes = c.args.boxes in
-    let hands = c.args.putters.items in
+    let portions = c.args.putters.items in
     let seat = c.in-Some.seat in
     let answers = c.in-Some-pop.answers in
     let asks = c.in-Some-pop-2.asks in
     let rest = into_iter_items c.next.new.self in
-    let was = c.loop-seat.posts.items in
-    let keys = c.new-keys.result in
+    let was = c.loop-seat.states.items in
+    let endpoint = c.new-endpoint.result in
     let pushed = c.in_ok-push.ensures.items in
-    let clients : clients_in c.push.new.self.items ≡ clients_in was ++ (keys, seat.duty) ∷ [] = ap (λ l. clients_in l) pushed ∙ client_clients was (Client keys seat.duty) keys seat.duty refl in
-    let nodes : nodes_in c.push.new.self.items ≡ nodes_in was = ap (λ l. nodes_in l) pushed ∙ client_nodes was (Client keys seat.duty) keys seat.duty refl in
+    let clients : clients_in c.push.new.self.items ≡ clients_in was ++ (endpoint, seat.duty) ∷ [] = ap (λ l. clients_in l) pushed ∙ client_clients was (Client endpoint seat.duty) endpoint seat.duty refl in
+    let nodes : nodes_in c.push.new.self.items ≡ nodes_in was = ap (λ l. nodes_in l) pushed ∙ client_nodes was (Client endpoint seat.duty) endpoint seat.duty refl in
     let at : slice_get seats (length (clients_in was)) ≡ Some seat = here_of seats inv.0 rest seat (length (clients_in was)) (inv.1.0 ∙ ap (λ l. inv.0 ++ l) steps.0) inv.3 in
     let box = next_left boxes c.loop-seat.takers.items c.pop.new.self.items answers (length inv.0) inv.6 c.in-Some-pop.ensures.items in
-    let hand = next_left hands c.loop-seat.putters.items c.pop-in-loop-seat.new.self.items asks (length inv.0) inv.7 c.in-Some-pop-2.ensures.items in
+    let portion = next_left portions c.loop-seat.putters.items c.pop-in-loop-seat.new.self.items asks (length inv.0) inv.7 c.in-Some-pop-2.ensures.items in
     let mail : ByMail = record { seat = c.loop-seat.number; asks = c.into_vec.result; answers = answers } in
-    let is : IsClientOf boxes hands (length (clients_in was)) seat (keys, seat.duty) = record {
+    let is : IsClientOf boxes portions (length (clients_in was)) seat (endpoint, seat.duty) = record {
       mail = mail;
-      keys = c.new-keys.ensures;
+      endpoint = c.new-endpoint.ensures;
       duty = refl;
       seat = inv.5 ∙ sym inv.3;
-      asks = ap (slice_get hands) inv.3 ∙ hand.1 ∙ ap (λ l. Some l) (sym c.into_vec.ensures);
+      asks = ap (slice_get portions) inv.3 ∙ portion.1 ∙ ap (λ l. Some l) (sym c.into_vec.ensures);
       answers = ap (slice_get boxes) inv.3 ∙ box.1;
     } in (
       inv.0 ++ seat ∷ [],
       walk_on seats inv.0 (into_iter_items c.loop-seat.seat-iterator) rest seat (into_iter_len c.loop-seat.seat-iterator) (into_iter_len c.next.new.self) inv.1 steps.0 steps.1,
-      subst (UpTo (IsClientOf boxes hands) seats) (sym clients) (up_to_more (IsClientOf boxes hands) seats (clients_in was) seat (keys, seat.duty) inv.2 at is),
-      ap length clients ∙ length-append (clients_in was) ((keys, seat.duty) ∷ []) ∙ ap (λ n. n + 1) inv.3 ∙ sym (length-append inv.0 (seat ∷ [])),
+      subst (UpTo (IsClientOf boxes portions) seats) (sym clients) (up_to_more (IsClientOf boxes portions) seats (clients_in was) seat (endpoint, seat.duty) inv.2 at is),
+      ap length clients ∙ length-append (clients_in was) ((endpoint, seat.duty) ∷ []) ∙ ap (λ n. n + 1) inv.3 ∙ sym (length-append inv.0 (seat ∷ [])),
       nodes ∙ inv.4,
       ap (λ n. n + 1) inv.5 ∙ sym (length-append inv.0 (seat ∷ [])),
       subst (AreLeft boxes c.pop.new.self.items) (sym (length-append inv.0 (seat ∷ []))) box.0,
-      subst (AreLeft hands c.pop-in-loop-seat.new.self.items) (sym (length-append inv.0 (seat ∷ []))) hand.0,
+      subst (AreLeft portions c.pop-in-loop-seat.new.self.items) (sym (length-append inv.0 (seat ∷ []))) portion.0,
     )
 
 pub returns-clause-clients : goal.returns-clause-clients
 returns-clause-clients g c =
     let inv = c.loop-seat.invariant in
     let all = walk_end c.args.seats.items inv.0 (into_iter_items c.loop-seat.seat-iterator) (into_iter_len c.loop-seat.seat-iterator) inv.1 c.in-None.ensures.steps.0 in
-    up_to_all (IsClientOf c.args.boxes c.args.putters.items) c.args.seats.items (clients_in c.loop-seat.posts.items) inv.2 (inv.3 ∙ ap length (sym all))
+    up_to_all (IsClientOf c.args.boxes c.args.putters.items) c.args.seats.items (clients_in c.loop-seat.states.items) inv.2 (inv.3 ∙ ap length (sym all))

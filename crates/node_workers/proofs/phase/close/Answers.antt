@@ -1,5 +1,5 @@
 use Rattle.std.proofs.Common.{List, sym, subst, All}
-use Rattle.crews.specs.Crews.{Beside}
+use Rattle.thread_work.specs.Pairwise.{Beside}
 use Rattle.node_workers.specs.Workers.{AnswerPutter}
 use Rattle.node_workers.specs.Closed.{IsOfMail, HasAllOf}
 use Rattle.node_workers.proofs.phase.close.Goals as goal

@@ -1,7 +1,7 @@
 use Rattle.std.proofs.Common.{◌≡◌, ◌⊎◌, ℕ, List, ◌+◌, ◌≤◌, length, get_or, sym, ◌∙◌, ap, subst}
 use Rattle.std.proofs.lemmas.Result.{on_ok_weaker}
 use Rattle.slot_disk.specs.Bodies.{bodies}
-use Rattle.slot_disk.proofs.lemmas.Closing.{ends, nothing_done, one_call, two_calls, gate_closed}
+use Rattle.slot_disk.proofs.lemmas.Closing.{gate_within, nothing_done, one_call, two_calls, gate_closed}
 use Rattle.slot_disk.proofs.close.close_gate.Goals as goal
 
 pub returns-then-is_closed-clause-any_moment : goal.returns-then-is_closed-clause-any_moment
@@ -11,7 +11,7 @@ returns-then-is_closed-clause-any_moment g c =
 
 pub write_at-requires-clause-ends : goal.write_at-requires-clause-ends
 write_at-requires-clause-ends g c =
-    let le = ends c.args.body c.args.bytes.now c.args.count c.requires.count (g.D.Disk.most c.args.disk.now) c.requires.fits c.requires.some in
+    let le = gate_within c.args.body c.args.bytes.now c.args.count c.requires.count (g.D.Disk.most c.args.disk.now) c.requires.fits c.requires.some in
     subst (λ (n : ℕ). n + 1 ≤ g.D.Disk.most c.args.disk.now) (sym c.gate_behind-gate.ensures.gate) le
 
 pub returns-in_err-write_at-clause-any_moment : goal.returns-in_err-write_at-clause-any_moment

@@ -4,7 +4,7 @@ use Rattle.slot_disk.specs.Slots.{body_of}
 use Rattle.version_disk.specs.Held.{after_slot, held, slots_of}
 use Rattle.version_disk.specs.Kept.{HoldsOneOf}
 use Rattle.version_disk.proofs.Keeping.{holds_one}
-use Rattle.slot_disk.proofs.lemmas.Moments.{weaker}
+use Rattle.slot_disk.proofs.lemmas.Moments.{leaves_only_weaker}
 use Rattle.version_disk.proofs.keep.keep_slot.Goals as goal
 
 pub returns-clause-any_moment : goal.returns-clause-any_moment
@@ -14,7 +14,7 @@ returns-clause-any_moment g c slot good is =
     let number = c.args.number in
     let old = D.seen c.args.disk.now in
     let now = held config number old in
-    weaker D.moment D.left_since c.args.disk.now c.keep_slots.new.disk _ (HoldsOneOf config number (slots_of config old) now (after_slot now slot))
+    leaves_only_weaker D.moment D.left_since c.args.disk.now c.keep_slots.new.disk _ (HoldsOneOf config number (slots_of config old) now (after_slot now slot))
     (λ left few. holds_one config number (slots_of config old) now slot left few)
     (c.keep_slots.ensures.any_moment (slot ∷ []) (good, tt) refl (is ∙ sym (append-nil (body_of slot ++ 0 ∷ []))))
 

@@ -6,7 +6,7 @@ use Rattle.slot_disk.specs.Slots.{body_len, body_of}
 use Rattle.version_disk.specs.Held.{held, slots_of}
 use Rattle.version_disk.specs.Kept.{HoldsFirstOf}
 use Rattle.version_disk.proofs.Keeping.{bodies_in_pieces, held_more, slots_more, good_more_slots, opens, on_ok_three}
-use Rattle.slot_disk.proofs.lemmas.Moments.{weaker}
+use Rattle.slot_disk.proofs.lemmas.Moments.{leaves_only_weaker}
 use Rattle.version_disk.proofs.keep.keep_slots.Goals as goal
 
 pub returns-clause-any_moment : goal.returns-clause-any_moment
@@ -21,7 +21,7 @@ returns-clause-any_moment g c slots good count is =
     let added : LeavesOnly D.moment D.left_since c.args.disk.now c.add_slots.new.disk (AreWithFirst (body_len config) (bodies (body_len config) old) (map body_of slots)) =
     subst (λ (b : List (List ℕ)). LeavesOnly D.moment D.left_since c.args.disk.now c.add_slots.new.disk (AreWithFirst (body_len config) (bodies (body_len config) old) b)) are
     (subst (λ (w : ℕ). LeavesOnly D.moment D.left_since c.args.disk.now c.add_slots.new.disk (AreWithFirst w (bodies w old) (bodies_in w c.args.more c.args.piece.now))) c.body_size.ensures.size c.add_slots.ensures.any_moment) in
-    weaker D.moment D.left_since c.args.disk.now c.add_slots.new.disk _ (HoldsFirstOf config number (slots_of config old) now slots)
+    leaves_only_weaker D.moment D.left_since c.args.disk.now c.add_slots.new.disk _ (HoldsFirstOf config number (slots_of config old) now slots)
     (λ left few. opens config number old left slots good c.requires.kept.good few) added
 
 pub returns-clause-kept : goal.returns-clause-kept

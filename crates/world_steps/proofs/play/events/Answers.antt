@@ -8,7 +8,7 @@ use Rattle.std.proofs.lemmas.Result.{on_ok_weaker}
 use Rattle.protocol.specs.World.{heard, sent, happens, only_place}
 use Rattle.protocol.specs.World.Event.{Prune as Prunes}
 use Rattle.protocol.proofs.lemmas.Playing.{no_fault}
-use Rattle.world_state.proofs.lemmas.Became.{is_this}
+use Rattle.world_state.proofs.lemmas.Became.{became_this}
 use Rattle.world_steps.proofs.SingleEvents.{happens-place}
 use Rattle.world_steps.proofs.LineEvents.{placed, is_node, is_ask, is_pooled, heard_plays, told_plays}
 
@@ -27,7 +27,7 @@ returns-in-Hear-clause-ok c =
     let line = lines.Hear c.in-Hear.client c.in-Hear.message in
     let there = is_pooled s c.args.place w c.in-Hear.message (no_fault s w line (rw c.in-Hear.is at c.requires.allowed)).message in
     rw c.in-Hear.is (on_ok_weaker c.hear.result
-    (λ h. is_this _ _ _ _ h (heard_plays s c.args.place w c.in-Hear.client c.in-Hear.message there.0 there.1))
+    (λ h. became_this _ _ _ _ h (heard_plays s c.args.place w c.in-Hear.client c.in-Hear.message there.0 there.1))
     (c.hear.ensures.ok there.0 there.1))
 
 -- src/play.rt:39:5
@@ -36,7 +36,7 @@ returns-in_ok-message-in-Tell-clause-ok c =
     let s = setting_in c.args.state.now in
     let w = world_in c.args.state.now in
     rw c.in-Tell.is (on_ok_weaker c.hear_sent.result
-    (λ h. is_this _ _ _ _ h
+    (λ h. became_this _ _ _ _ h
     (ap (λ (z : Messages). heard s (sent s w c.args.place (z ∷ [])) c.args.place z.client z z.body) (c.in_ok-message-in-Tell.ensures ∙ c.get-in-Tell.ensures) ∙ told_plays s c.args.place w c.in-Tell.message))
     c.hear_sent.ensures.ok)
 
@@ -60,7 +60,7 @@ returns-in-Prune-clause-ok c =
     let event = Prunes c.in-Prune.node c.in-Prune.block in
     rw c.in-Prune.is
     (on_ok_weaker c.prune.result
-    (λ h. is_this c.args.state.now c.prune.new.self (happens s w c.args.place event) (only_place s (happens s w c.args.place event) c.args.place) h (sym (placed s c.args.place (happens s w c.args.place event) (happens-place s w c.args.place event))))
+    (λ h. became_this c.args.state.now c.prune.new.self (happens s w c.args.place event) (only_place s (happens s w c.args.place event) c.args.place) h (sym (placed s c.args.place (happens s w c.args.place event) (happens-place s w c.args.place event))))
     c.prune.ensures.ok)
 
 pub poke-requires-clause-asked : goal.poke-requires-clause-asked

@@ -2,7 +2,7 @@ use Rattle.std.proofs.Common.{None, refl, ap, ◌∙◌}
 use Rattle.crossbeam_channel.specs.Claims.{view}
 use Rattle.crossbeam_channel.specs.Ends.{sends_on, ruled_capacity}
 use Rattle.inboxes.specs.declared.rule.View.{View}
-use Rattle.inboxes.specs.Posts.{start, items_of}
+use Rattle.inboxes.specs.Parcels.{start, items_of}
 use Rattle.inboxes.proofs.lemmas.SenderWords.{items_last}
 use Rattle.inboxes.proofs.RuleIsKept.{says}
 use Rattle.inboxes.proofs.TakenInOrder.{same_inbox, same_putting, ended_push}
@@ -12,7 +12,7 @@ pub send_post-requires-clause-rule : goal.send_post-requires-clause-rule
 send_post-requires-clause-rule g c =
     let p = c.self.inside.sender in
     let i = c.self.invariant.1 in
-    says g.T.Mail.fits (ruled_capacity (sends_on p.end)) p.pass.id (view p.pass) p.number None (start p.place.value i.senders) i.role i.starts i.going tt
+    says g.T.InboxItem.fits (ruled_capacity (sends_on p.end)) p.pass.id (view p.pass) p.number None (start p.place.value i.senders) i.role i.starts i.going tt
 
 pub invariant_of-result : goal.invariant_of-result
 invariant_of-result g c =

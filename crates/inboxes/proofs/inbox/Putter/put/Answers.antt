@@ -2,7 +2,7 @@ use Rattle.std.proofs.Common.{Some, refl, sym, ap, subst, ◌∙◌}
 use Rattle.crossbeam_channel.specs.Claims.{view}
 use Rattle.crossbeam_channel.specs.Ends.{sends_on, ruled_capacity}
 use Rattle.inboxes.specs.declared.rule.View.{View}
-use Rattle.inboxes.specs.Posts.{start, items_of, has_ended}
+use Rattle.inboxes.specs.Parcels.{start, items_of, has_ended}
 use Rattle.inboxes.specs.Sides.{Putting, put_more}
 use Rattle.inboxes.proofs.lemmas.SenderWords.{going_push, items_push}
 use Rattle.inboxes.proofs.RuleIsKept.{says}
@@ -14,8 +14,8 @@ send_post-requires-clause-rule g c =
     let p = c.self.inside.sender in
     let i = c.self.invariant.1 in
     let place = ap (λ (v : Putting g.row.T.Denot g.row.T-Place.Denot). v.inbox.place) c.self.view_is in
-    let fit = subst (λ q. g.T.Mail.fits q c.args.item) (sym place) c.requires in
-    says g.T.Mail.fits (ruled_capacity (sends_on p.end)) p.pass.id (view p.pass) p.number (Some c.args.item) (start p.place.value i.senders) i.role i.starts i.going fit
+    let fit = subst (λ q. g.T.InboxItem.fits q c.args.item) (sym place) c.requires in
+    says g.T.InboxItem.fits (ruled_capacity (sends_on p.end)) p.pass.id (view p.pass) p.number (Some c.args.item) (start p.place.value i.senders) i.role i.starts i.going fit
 
 pub invariant_of-self : goal.invariant_of-self
 invariant_of-self g c =

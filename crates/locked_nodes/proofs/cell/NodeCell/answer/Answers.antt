@@ -13,5 +13,5 @@ invariant_of-self-2 c =
     let was = c.self.inside in
     let serves = subst (λ (v : CellView). Serves v.charter c.args.ask.now) (sym c.self.view_is) c.requires.ask in
     let whole = subst (λ (v : CellView). HoldsWhole v.charter c.args.way) (sym c.self.view_is) c.requires.whole in
-    cell_steps c.acts.ensures.calls was.terms was.state was.journal.items was.pass c.nature.result c.args.way c.args.ask.now c.enter-number.result c.in_ok-act.act c.act.new.self c.reserve.new.self.items c.enter-number.new.journal.items c.enter-number.new.pass
-    c.self.invariant c.nature.ensures serves whole c.enter-number.ensures.later.0 c.in_ok-act.ensures.act c.in_ok-act.ensures.ok c.reserve.ensures.items c.enter-number.ensures.journal c.enter-number.ensures.pass
+    cell_steps c.acts.ensures.calls was.terms was.state was.journal.items was.pass c.nature.result c.args.way c.args.ask.now c.add_entry-number.result c.in_ok-act.act c.act.new.self c.reserve.new.self.items c.add_entry-number.new.journal.items c.add_entry-number.new.pass
+    c.self.invariant c.nature.ensures serves whole c.add_entry-number.ensures.later.0 c.in_ok-act.ensures.act c.in_ok-act.ensures.ok c.reserve.ensures.items c.add_entry-number.ensures.journal c.add_entry-number.ensures.pass

@@ -25,5 +25,5 @@ invariant_of-self-2 c =
       share = share;
       calm = λ none prune. absurd (let a = may in let b = none in cc);
     } in
-    cell_joins was.terms was.state was.journal.items was.pass c.enter-number.result pruned c.prune.new.self c.reserve.new.self.items c.enter-number.new.journal.items c.enter-number.new.pass
-    c.self.invariant joins c.enter-number.ensures.later.0 c.prune.ensures c.reserve.ensures.items c.enter-number.ensures.journal c.enter-number.ensures.pass
+    cell_joins was.terms was.state was.journal.items was.pass c.add_entry-number.result pruned c.prune.new.self c.reserve.new.self.items c.add_entry-number.new.journal.items c.add_entry-number.new.pass
+    c.self.invariant joins c.add_entry-number.ensures.later.0 c.prune.ensures c.reserve.ensures.items c.add_entry-number.ensures.journal c.add_entry-number.ensures.pass

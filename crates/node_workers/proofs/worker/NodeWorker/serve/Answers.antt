@@ -5,7 +5,7 @@ use Rattle.std.specs.Prelude.{slice_get, slice_set}
 use Rattle.std.proofs.lemmas.Option.{slice_get_read}
 use Rattle.inboxes.specs.Sides.{took, put_more, IsDone}
 use Rattle.locked_nodes.specs.declared.charter.Charter.{Charter}
-use Rattle.locked_nodes.specs.Slots.{slot_of}
+use Rattle.locked_nodes.specs.CellShards.{cell_shard_of}
 use Rattle.protocol.specs.Messages.{Message}
 use Rattle.node_workers.specs.Workers.{HasAnswered, AreAnswered, clients_of}
 use Rattle.node_workers.proofs.Answering.{IsServing, serving_none, answered_more, answered_late, asked_more, seat_within, putter_of}
@@ -35,7 +35,7 @@ answer_to-answer-requires-clause-fits g c =
       c.self.inside.asks.inbox.place,
       c.in-Some-take.ensures.fits,
       ap (λ i. i.place.clock.value) so.asks ∙ c.requires.ticks,
-      ap (λ i. i.place.slot) so.asks ∙ c.requires.slot ∙ ap slot_of (sym so.answered.charter),
+      ap (λ i. i.place.cell_shard) so.asks ∙ c.requires.cell_shard ∙ ap cell_shard_of (sym so.answered.charter),
     )
 
 pub index_mut-putter-requires : goal.index_mut-putter-requires

@@ -1,7 +1,7 @@
 use Rattle.std.proofs.Common.{◌≡◌, ℕ, List, length, Some, sym, ap, subst, ◌∙◌}
 use Rattle.std.specs.Slots.{slots_items}
 use mathlib.Core.Option.{some-injective}
-use Rattle.receipt_lock.specs.Turns.{Begins, AllStand, times_placed, once_from}
+use Rattle.receipt_lock.specs.Tickets.{Begins, AllStand, times_placed, once_from}
 use Rattle.receipt_lock.specs.Chits.{Deposit, all_mine}
 use Rattle.receipt_lock.proofs.Steps.{closes}
 use Rattle.receipt_lock.proofs.Seats.{story_of}

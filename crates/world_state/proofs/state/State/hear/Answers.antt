@@ -6,7 +6,7 @@ use Rattle.std.specs.Prelude.{slice_get, slice_index_or}
 use Rattle.protocol.specs.Seen.{client_at, new_client}
 use Rattle.world_state.specs.Worlds.{setting_in, world_in}
 use Rattle.world_state.specs.Changes.{client_in, IsAnswer}
-use Rattle.world_state.proofs.lemmas.Became.{and_then}
+use Rattle.world_state.proofs.lemmas.Became.{became_then}
 use Rattle.world_state.proofs.HeardEffects.{Fits, slot-fits, may-apply, heard-applied}
 use Rattle.world_state.proofs.state.State.hear.Goals as goal
 
@@ -38,7 +38,7 @@ returns-clause-ok c = λ m known.
     let asked = c.requires.answer in
     let same_asked = here v.seen.pool c.as_slice.result.now c.args.message x asked.0 c.index-as_slice-message.is (c.as_slice.ensures ∙ ap (λ y. y.seen.pool) c.self.view_is) asked.1 in
     let e = c.in_ok-send.ensures.ok in
-    and_then v c.send.new.self c.apply.new.state _ _ _ e c.apply.ensures
+    became_then v c.send.new.self c.apply.new.state _ _ _ e c.apply.ensures
     (heard-applied v k c.args.place x (subst (λ y. IsAnswer k y) (sym same_asked) asked.2) c.in_ok-effect.effect (world_in v) refl
     (subst (λ y. Fits y.config.n y.seen.place (client_at y.seen k).task) c.self.view_is (slot-fits c.self.inside c.self.invariant.0 k c.requires.client)) c.in_ok-effect.ensures.effect
     (client_in c.send.new.self k) (λ i. record { config = e.config i; id = k; seen = slice_index_or (c.in_ok-send.ensures.clients i) k new_client })

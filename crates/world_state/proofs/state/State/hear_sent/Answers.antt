@@ -4,7 +4,7 @@ use Rattle.std.specs.Prelude.{slice_index_or}
 use Rattle.protocol.specs.Seen.{client_at, new_client}
 use Rattle.world_state.specs.Worlds.{setting_in, world_in}
 use Rattle.world_state.specs.Changes.{client_in}
-use Rattle.world_state.proofs.lemmas.Became.{and_then}
+use Rattle.world_state.proofs.lemmas.Became.{became_then}
 use Rattle.world_state.proofs.HeardEffects.{Fits, slot-fits, may-apply, heard-applied, sent-together}
 use Rattle.world_state.proofs.state.State.hear_sent.Goals as goal
 
@@ -28,7 +28,7 @@ returns-clause-ok c =
     let one = sent (setting_in v) (world_in v) c.args.place (m ∷ []) in
     let pool = sent-together (world_in v).pool c.in_ok-mail.mail c.in_ok-effect.next _ m c.in_ok-mail.ensures c.in_ok-effect.ensures.mail in
     let e = c.in_ok-send.ensures.ok in
-    and_then v c.send.new.self c.apply.new.state _ _ _ e c.apply.ensures
+    became_then v c.send.new.self c.apply.new.state _ _ _ e c.apply.ensures
     (heard-applied v k c.args.place m c.requires.answer c.in_ok-effect.effect one refl
     (subst (λ x. Fits x.config.n x.seen.place (client_at x.seen k).task) c.self.view_is (slot-fits c.self.inside c.self.invariant.0 k c.requires.client)) c.in_ok-effect.ensures.effect
     (client_in c.send.new.self k) (λ i. record { config = e.config i; id = k; seen = slice_index_or (c.in_ok-send.ensures.clients i) k new_client })

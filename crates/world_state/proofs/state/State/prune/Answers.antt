@@ -8,7 +8,7 @@ use Rattle.node_core.specs.Seen.{SeenNode}
 use Rattle.world_state.specs.Worlds.{setting_in, world_in}
 use Rattle.world_state.specs.contracts.state.State.{the_view}
 use Rattle.world_state.proofs.KeptWorlds.{raised}
-use Rattle.world_state.proofs.lemmas.Became.{is_this, known_as, passed}
+use Rattle.world_state.proofs.lemmas.Became.{became_this, known_as, became_passed}
 use Rattle.world_state.proofs.NodeSlots.{within, node_slot-there, node_slots_versions, node_slots_same, with_node_slot, slot-lying, world-versions, versions-there, view-same, held_after_err}
 use Rattle.world_state.proofs.state.State.prune.Goals as goal
 
@@ -57,13 +57,13 @@ returns-clause-ok c =
       lying_nodes = slot-lying c.self.inside i inside old there (record old { stored = c.keep_prune.new.self }) refl;
       lying_clients = refl;
     }) in
-    is_this c.args.self.now _ _ _ became
+    became_this c.args.self.now _ _ _ became
     (ap (pruned_at (setting_in c.args.self.now) (world_in c.args.self.now) c.args.place c.args.node c.args.block) (sym c.in-Some.is ∙ c.greatest_given.ensures))
 
 pub returns-in_default-clause-ok : goal.returns-in_default-clause-ok
 returns-in_default-clause-ok c =
     let v = c.args.self.now in
-    is_this v _ _ _ (passed v c.pass.new.self c.args.place c.pass.ensures) (ap (pruned_at (setting_in v) (world_in v) c.args.place c.args.node c.args.block) (sym c.in_default.is ∙ c.greatest_given.ensures))
+    became_this v _ _ _ (became_passed v c.pass.new.self c.args.place c.pass.ensures) (ap (pruned_at (setting_in v) (world_in v) c.args.place c.args.node c.args.block) (sym c.in_default.is ∙ c.greatest_given.ensures))
 
 pub invariant_of-self : goal.invariant_of-self
 invariant_of-self c =

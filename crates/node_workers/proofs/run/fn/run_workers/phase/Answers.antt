@@ -1,6 +1,6 @@
 -- What a thread is to do may go to it.
 use denote.Param.Send.{sendable}
-use Rattle.client_work.proofs.lemmas.Sending.{work_send}
+use Rattle.client_duties.proofs.lemmas.Sending.{work_send}
 use Rattle.node_workers.proofs.run.fn.run_workers.phase.Goals as goal
 
 pub run_mail_phase-requires-send-T : goal.run_mail_phase-requires-send-T

@@ -1,0 +1,27 @@
+//! What a plan asks of each client and of each node, as data, and what the thread of each client does by it in a run.
+//!
+//! A correct client gets its steps, phase by phase, how many of its asks to each node are lost or held back, and when it
+//! crashes. A lying client gets the messages that it sends. `tasks_of` makes all of them, by ascending client. Then a correct
+//! client does its steps, a lying one sends its messages, and a courier brings what nodes hold back.
+#![tactic(auto)]
+
+pub mod conduct;
+pub mod correct_client;
+pub mod liar;
+mod mail;
+mod named;
+mod phases;
+pub mod reads;
+mod sends;
+mod steps;
+pub mod task;
+mod turns;
+mod ways;
+pub mod work;
+
+pub use conduct::{crash_after, nature_of};
+pub use correct_client::CorrectClient;
+pub use liar::Liar;
+pub use reads::GivenRead;
+pub use task::{ClientTask, Task, Ways, tasks_of};
+pub use work::ClientDuty;

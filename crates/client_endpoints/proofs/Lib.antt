@@ -1,0 +1,5 @@
+pub mod lemmas
+mod Lists
+mod Turns
+mod Telling
+mod EndpointSteps

@@ -1,0 +1,13 @@
+-- Lemmas of `EndpointSteps`.
+use Rattle.std.proofs.Common.{◌≡◌, None, sym, ap, subst, ◌∙◌}
+use Rattle.client_endpoints.specs.Endpoint.{EndpointView, IsEndpoint}
+use Rattle.client_endpoints.proofs.EndpointSteps.{endpoint_nothing}
+use Rattle.client_endpoints.proofs.endpoint.Endpoint.deliver.Goals as goal
+
+pub invariant_of-self : goal.invariant_of-self
+invariant_of-self g c =
+    let was = c.self.inside in
+    let turn = c.deliver-answer in
+    let sound : was.refused ≡ None = ap (λ (k : EndpointView). k.refused) c.self.view_is ∙ c.requires.sound in
+    let endpoint : IsEndpoint was.began.value was.desk was.transport None = subst (IsEndpoint was.began.value was.desk was.transport) sound c.self.invariant in
+    subst (IsEndpoint was.began.value turn.new.desk turn.new.self) (sym c.refusal_of-self-inside.ensures) (endpoint_nothing turn.result was.began.value was.desk turn.new.desk was.transport turn.new.self endpoint turn.ensures.kept turn.ensures.nothing turn.ensures.rest)

@@ -1,0 +1,4 @@
+pub mod Mail
+pub mod Asking
+pub mod Transports
+pub mod Endpoint

@@ -1,5 +1,0 @@
-pub mod lemmas
-mod Lists
-mod Turns
-mod Telling
-mod Keying

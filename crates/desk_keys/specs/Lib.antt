@@ -1,4 +1,0 @@
-pub mod Mail
-pub mod Asking
-pub mod Transports
-pub mod Keys
