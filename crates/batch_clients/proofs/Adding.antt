@@ -13,7 +13,8 @@ use Rattle.protocol.specs.Setting.{Setting}
 use Rattle.protocol.specs.Instance.{setting}
 use Rattle.protocol.specs.Operations.{Outcome}
 use Rattle.protocol.specs.Seen.{SeenTask, ops_of, phase_of, block_of, work_of, seen_begun}
-use Rattle.client_core.specs.Clients.{ClientView, idle_client, started, with_started}
+use Rattle.operation_core.specs.Clients.{ClientView, started, with_started}
+use Rattle.client_core.specs.Clients.{idle_client}
 use Rattle.client_core.specs.declared.heard.Heard.{Heard}
 use Rattle.client_core.specs.declared.heard.Heard.TheVariants.{Unchanged, More, Send, Ended as EndedWith}
 use Rattle.block_lives.specs.Phases.{Progress, after_phase}

@@ -9,7 +9,8 @@ use Rattle.protocol.specs.Operations.{Outcome, Decision, decide, answered, is_of
 use Rattle.protocol.specs.Operations.Decision.{GoesOn, Ends}
 use Rattle.protocol.specs.Seen.{SeenTask, Hearing, task_at, answers_of, seen_counted, seen_goes_on, is_counted, by_decision, after_counting, hearing, phase_of, ops_of}
 use Rattle.protocol.specs.Seen.Hearing.{Ignored, Counted, Begins, Ended}
-use Rattle.client_core.specs.Clients.{ClientView, with_task, hears, IsHeard}
+use Rattle.operation_core.specs.Clients.{ClientView, with_task, hears}
+use Rattle.client_core.specs.Clients.{IsHeard}
 use Rattle.client_core.specs.declared.heard.Heard.{Heard}
 use Rattle.client_core.specs.declared.heard.Heard.TheVariants.{Unchanged, More, Send, Ended as EndedWith}
 use Rattle.client_core.proofs.lemmas.AnswersHeard.{told_is}

@@ -8,7 +8,8 @@ use Rattle.wire_forms.specs.declared.Body.TheVariants.{Ask as Asks, Answer as An
 use Rattle.protocol.specs.Setting.{Setting}
 use Rattle.protocol.specs.Instance.{setting}
 use Rattle.protocol.specs.Seen.{SeenTask, ops_of}
-use Rattle.client_core.specs.Clients.{ClientView, with_task, mail_of, IsHeard}
+use Rattle.operation_core.specs.Clients.{ClientView, with_task}
+use Rattle.client_core.specs.Clients.{mail_of, IsHeard}
 use Rattle.client_core.specs.declared.heard.Heard.{Heard}
 use Rattle.client_core.specs.declared.heard.Heard.TheVariants.{Unchanged, Send, Ended as EndedWith}
 use Rattle.block_lives.specs.Phases.{after_phase}

@@ -3,7 +3,8 @@ ghost use Rattle.std.specs.Prelude.{◌≡◌, ◌<◌, ◌≤◌, map, length, 
 ghost use Rattle.protocol.specs.Seen.{SeenTask};
 ghost use Rattle.protocol.specs.Messages.{IsAsk};
 ghost use Rattle.protocol.specs.Instance.{setting};
-ghost use Rattle.client_core.specs.Clients.{ClientView, mail_of};
+ghost use Rattle.operation_core.specs.Clients.{ClientView};
+ghost use Rattle.client_core.specs.Clients.{mail_of};
 ghost use Rattle.batch_clients.specs.Batches.Stand.{Asks as AsksOne};
 ghost use Rattle.batch_clients.specs.Parts.{AskMore, IsDealt};
 

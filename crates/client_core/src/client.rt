@@ -5,7 +5,8 @@ ghost use Rattle.protocol.specs.Instance.{setting};
 ghost use Rattle.wire_forms.specs.Firsts.{first_of};
 ghost use Rattle.operation_core.specs.Counting.{begun_task, first_mail, ends_in, outstanding_in, GoesOn, IsAtEnd, IsPhaseEnd};
 ghost use Rattle.client_core.specs.Works.{HasBegun};
-ghost use Rattle.client_core.specs.Clients.{operation_of, idle_client, hears, hears_answer, with_task, with_started, next_of, started, mail_of, is_only_counted, goes_to, IsStep, IsHeard};
+ghost use Rattle.operation_core.specs.Clients.{hears, with_task, with_started, started};
+ghost use Rattle.client_core.specs.Clients.{operation_of, idle_client, hears_answer, next_of, mail_of, is_only_counted, goes_to, IsStep, IsHeard};
 
 use crate::heard::Heard;
 use crate::step::Step;
@@ -60,7 +61,7 @@ impl Drop for Client {
 }
 
 impl Model for Client {
-    ghost use Rattle.client_core.specs.Clients.{ClientView};
+    ghost use Rattle.operation_core.specs.Clients.{ClientView};
     ghost use Rattle.operation_core.specs.Counting.{begun_task, first_mail, outstanding_in};
     ghost use Rattle.client_core.specs.Works.{task_of, IsClient};
 

@@ -7,7 +7,7 @@ use Rattle.protocol.specs.Messages.{Message}
 use Rattle.protocol.specs.World.{Record, open_record}
 use Rattle.protocol.specs.Seen.{SeenTask, task_at, started_task}
 use Rattle.protocol.specs.Seen.Hearing.{Ignored}
-use Rattle.client_core.specs.Clients.{ClientView, started}
+use Rattle.operation_core.specs.Clients.{ClientView, started}
 use Rattle.journals.specs.declared.desk.DeskAct.TheVariants.{Start}
 use Rattle.journals.specs.Desks.{DeskState, ended_by, by_hearing, desk_heard, desk_told, desk_after}
 use Rattle.journals.specs.Agreement.{ended_record}

@@ -8,7 +8,7 @@ use Rattle.protocol.specs.Instance.{setting}
 use Rattle.protocol.specs.Seen.{SeenTask, Hearing, outstanding_of, has_answered, phase_of}
 use Rattle.protocol.specs.Seen.Hearing.{Ignored, Counted, Begins, Ended}
 use Rattle.quorum_rules.specs.Limits.{Numbers}
-use Rattle.client_core.specs.Clients.{ClientView, hears}
+use Rattle.operation_core.specs.Clients.{ClientView, hears}
 use Rattle.event_clock.specs.Passes.{Holder, drew, met}
 use Rattle.journals.specs.declared.node.NodeAct.{NodeAct}
 use Rattle.journals.specs.declared.desk.Way.{Way}

@@ -7,7 +7,8 @@ use Rattle.protocol.specs.Operations.{Outcome}
 use Rattle.protocol.specs.World.{Record}
 use Rattle.protocol.specs.Seen.{Hearing}
 use Rattle.protocol.specs.Seen.Hearing.{Ignored}
-use Rattle.client_core.specs.Clients.{ClientView, hears, IsStep}
+use Rattle.operation_core.specs.Clients.{ClientView, hears}
+use Rattle.client_core.specs.Clients.{IsStep}
 use Rattle.client_core.specs.declared.step.Step.{Step}
 use Rattle.journals.specs.Desks.{DeskState}
 use Rattle.journals.specs.Records.{client_records}

@@ -2,7 +2,8 @@
 ghost use Rattle.std.specs.Prelude.{◌≡◌, ◌<◌, ◌+◌, ◌-◌, ◌^◌, ◌++◌, ◌∷◌, [], ℕ, List, IfOk, map};
 ghost use Rattle.protocol.specs.Seen.{Hearing, record_of, phase_of, task_at};
 ghost use Rattle.protocol.specs.World.{Record as AnyRecord, open_record, stamp_of_outcome};
-ghost use Rattle.client_core.specs.Clients.{ClientView, IsStep, started};
+ghost use Rattle.operation_core.specs.Clients.{ClientView, started};
+ghost use Rattle.client_core.specs.Clients.{IsStep};
 ghost use Rattle.journals.specs.Desks.{DeskState, by_hearing, desk_heard};
 ghost use Rattle.journals.specs.Records.{client_records};
 ghost use Rattle.locked_nodes.specs.Cells.{reply_told};

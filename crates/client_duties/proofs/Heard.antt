@@ -13,7 +13,7 @@ use Rattle.protocol.specs.Operations.{Outcome, Decision}
 use Rattle.protocol.specs.Operations.Decision.{GoesOn, Ends as EndsWith}
 use Rattle.protocol.specs.Seen.{SeenTask, Hearing, is_counted, seen_counted, by_decision, after_counting, hearing}
 use Rattle.protocol.specs.Seen.Hearing.{Ignored, Counted, Begins, Ended as Ends}
-use Rattle.client_core.specs.Clients.{ClientView, told, hears}
+use Rattle.operation_core.specs.Clients.{ClientView, told, hears}
 use Rattle.journals.specs.declared.desk.DeskAct.{DeskAct}
 use Rattle.journals.specs.declared.desk.DeskAct.TheVariants.{Start, Crash, Call}
 use Rattle.journals.specs.declared.desk.DeskEntry.{DeskEntry}

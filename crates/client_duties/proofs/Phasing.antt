@@ -158,7 +158,7 @@ fits_block config (Merge k at bytes) h = h.0
 pub start_on : (d : DeskView) (n : ℕ) (op : Op) (block : ℕ) → block_of op ≡ block → IsOn block (with_own d n (Start op))
 start_on d n op block e =
     let now = state_snoc (new_desk d.config d.id) d.entries (desk_entry n (Start op)) in
-    (Rattle.client_core.specs.Clients.started (state_at d).client op, ap (λ (x : DeskState). x.client.seen.task) now, e)
+    (Rattle.operation_core.specs.Clients.started (state_at d).client op, ap (λ (x : DeskState). x.client.seen.task) now, e)
 
 pub start_up : (d : DeskView) (n : ℕ) (op : Op) → (state_at d).crashed ≡ false → (state_at (with_own d n (Start op))).crashed ≡ false
 start_up d n op e = ap (λ (x : DeskState). x.crashed) (state_snoc (new_desk d.config d.id) d.entries (desk_entry n (Start op))) ∙ e

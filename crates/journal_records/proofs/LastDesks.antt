@@ -6,7 +6,7 @@ use Rattle.std.proofs.lemmas.Bool.Decides.{nat_tests}
 use Rattle.std.proofs.lemmas.List.{take_all}
 use Rattle.protocol.specs.World.{World, start_world}
 use Rattle.protocol.specs.Lines.{Line, IsRun}
-use Rattle.client_core.specs.Clients.{hears}
+use Rattle.operation_core.specs.Clients.{hears}
 use Rattle.journals.specs.declared.desk.DeskEntry.{DeskEntry}
 use Rattle.journals.specs.declared.desk.DeskAct.{DeskAct}
 use Rattle.journals.specs.declared.desk.DeskAct.TheVariants.{Start, Crash, Call}

@@ -24,7 +24,7 @@ use Rattle.protocol.specs.Report.{rounds_of}
 use Rattle.protocol.specs.Count.{one_more}
 use Rattle.protocol.specs.Seen.{SeenTask, Hearing, hearing, after_counting, by_decision, seen_counted, is_counted, task_at, started_task, work_of}
 use Rattle.protocol.specs.Seen.Hearing.{Ignored, Counted, Begins, Ended as Ends_}
-use Rattle.client_core.specs.Clients.{ClientView, told, hears}
+use Rattle.operation_core.specs.Clients.{ClientView, told, hears}
 use Rattle.journals.specs.declared.desk.DeskEntry.{DeskEntry}
 use Rattle.journals.specs.declared.desk.DeskAct.{DeskAct}
 use Rattle.journals.specs.declared.desk.DeskAct.TheVariants.{Start, Crash, Call}

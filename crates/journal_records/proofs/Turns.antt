@@ -7,7 +7,7 @@ use Rattle.protocol.specs.Count.{one_more}
 use Rattle.protocol.specs.Report.{Ascend}
 use Rattle.protocol.specs.Seen.{SeenTask, Hearing}
 use Rattle.protocol.specs.Seen.Hearing.{Ignored, Counted, Begins, Ended as Ends}
-use Rattle.client_core.specs.Clients.{hears}
+use Rattle.operation_core.specs.Clients.{hears}
 use Rattle.journals.specs.declared.desk.DeskEntry.{DeskEntry}
 use Rattle.journals.specs.declared.desk.DeskAct.{DeskAct}
 use Rattle.journals.specs.declared.desk.DeskAct.TheVariants.{Start, Crash, Call}

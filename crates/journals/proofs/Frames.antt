@@ -12,7 +12,7 @@ use Rattle.protocol.specs.Instance.{setting_of, IsCluster}
 use Rattle.protocol.specs.Seen.{Hearing}
 use Rattle.protocol.specs.Seen.Hearing.{Ignored, Counted, Begins, Ended as Ends}
 use Rattle.protocol.specs.Facts.{IsWorking}
-use Rattle.client_core.specs.Clients.{ClientView, hears}
+use Rattle.operation_core.specs.Clients.{ClientView, hears}
 use Rattle.journals.specs.Acts.{NodeState, after}
 use Rattle.journals.specs.Desks.{DeskState, DeskAct, by_hearing, desk_told, desk_after}
 use Rattle.journals.specs.declared.desk.DeskAct.TheVariants.{Start, Crash, Call}

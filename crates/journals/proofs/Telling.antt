@@ -19,7 +19,7 @@ use Rattle.run_words.specs.declared.line.Line.TheVariants.{Call as Calls, Give, 
 use Rattle.protocol.specs.Seen.{SeenTask, Hearing, started_task, task_at, hearing}
 use Rattle.protocol.specs.Seen.Hearing.{Ignored, Counted, Begins, Ended as Ends}
 use Rattle.protocol.specs.Views.{IsFull, after_hearing}
-use Rattle.client_core.specs.Clients.{hears}
+use Rattle.operation_core.specs.Clients.{hears}
 use Rattle.journals.specs.declared.node.NodeAct.TheVariants.{Answered, Lied, Silent, CrashedAt, Delivered, LateLost, Pruned}
 use Rattle.journals.specs.declared.desk.DeskAct.TheVariants.{Start, Crash, Call}
 use Rattle.journals.specs.declared.desk.Way.TheVariants.{Call as ByCall}

@@ -10,7 +10,7 @@ use Rattle.protocol.specs.World.{Fits}
 use Rattle.protocol.specs.Instance.{setting}
 use Rattle.protocol.specs.Seen.{SeenTask, Hearing, outstanding_of, has_answered, block_of, work_of, new_client}
 use Rattle.protocol.specs.Seen.Hearing.{Ignored, Counted, Begins, Ended as Ends}
-use Rattle.client_core.specs.Clients.{ClientView, with_task, with_started, started, hears}
+use Rattle.operation_core.specs.Clients.{ClientView, with_task, with_started, started, hears}
 pub use Rattle.journals.specs.declared.desk.Way.{Way}
 pub use Rattle.journals.specs.declared.desk.DeskAct.{DeskAct}
 pub use Rattle.journals.specs.declared.desk.DeskEntry.{DeskEntry}

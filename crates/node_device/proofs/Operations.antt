@@ -20,7 +20,8 @@ use Rattle.wire_forms.specs.declared.Reply.TheVariants.{Found}
 use Rattle.std.specs.List.{slice_index_or}
 use Rattle.std.proofs.lemmas.List.{get_or_default}
 use Rattle.node_core.specs.Seen.{SeenNode, reply_of}
-use Rattle.client_core.specs.Clients.{ClientView, started, with_started, with_task, mail_of}
+use Rattle.operation_core.specs.Clients.{ClientView, started, with_started, with_task}
+use Rattle.client_core.specs.Clients.{mail_of}
 use Rattle.client_core.specs.declared.heard.Heard.{Heard}
 use Rattle.client_core.specs.declared.heard.Heard.TheVariants.{Send, Ended as EndedWith}
 use Rattle.node_device.specs.Held.{Held, the_client, node_at, held_at, held_of, stamp_of, version_of, rewritten, IsHeld}

@@ -17,7 +17,8 @@ use Rattle.protocol.specs.Views.{task_after}
 use Rattle.protocol.specs.Seen.{SeenTask, Hearing, task_at, answers_of, by_decision, is_counted, seen_counted, after_counting, hearing}
 use Rattle.protocol.specs.Seen.Hearing.{Ignored, Counted, Begins, Ended}
 use Rattle.node_core.specs.Seen.{SeenNode}
-use Rattle.client_core.specs.Clients.{ClientView, IsHeard, with_task, hears}
+use Rattle.operation_core.specs.Clients.{ClientView, with_task, hears}
+use Rattle.client_core.specs.Clients.{IsHeard}
 use Rattle.client_core.specs.declared.heard.Heard.{Heard}
 use Rattle.client_core.specs.declared.heard.Heard.TheVariants.{Unchanged, More, Send, Ended as EndedWith}
 use Rattle.node_device.specs.Held.{node_at}

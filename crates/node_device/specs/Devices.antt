@@ -6,7 +6,7 @@ use Rattle.stamp_order.specs.declared.Stamp.{Stamp}
 use Rattle.protocol.specs.Nodes.{pruned}
 use Rattle.protocol.specs.Instance.{setting}
 use Rattle.node_core.specs.Seen.{SeenNode, versions_in, with_versions}
-use Rattle.client_core.specs.Clients.{ClientView}
+use Rattle.operation_core.specs.Clients.{ClientView}
 use Rattle.node_device.specs.Held.{Held, IsHeld, held_of, the_client}
 
 -- a device: the cluster's numbers, its blocks, and the client's life and how many operations it has

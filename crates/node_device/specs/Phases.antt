@@ -13,7 +13,8 @@ use Rattle.protocol.specs.Views.{task_after}
 use Rattle.protocol.specs.Seen.{SeenTask, Hearing, task_at, by_decision}
 use Rattle.protocol.specs.Seen.Hearing.{Ignored, Counted, Begins, Ended}
 use Rattle.node_core.specs.Seen.{SeenNode, reply_of, after_of, with_versions}
-use Rattle.client_core.specs.Clients.{ClientView, IsHeard, with_task, mail_of}
+use Rattle.operation_core.specs.Clients.{ClientView, with_task}
+use Rattle.client_core.specs.Clients.{IsHeard, mail_of}
 use Rattle.client_core.specs.declared.heard.Heard.{Heard}
 use Rattle.client_core.specs.declared.heard.Heard.TheVariants.{Unchanged, More, Send, Ended as EndedWith}
 use Rattle.node_device.specs.Held.{node_at}

@@ -1,3 +1,4 @@
 pub mod Stages
 pub mod Mails
 pub mod Counting
+pub mod Clients

@@ -20,7 +20,7 @@ use Rattle.protocol.specs.Operations.Decision.{GoesOn, Ends}
 use Rattle.protocol.specs.Seen.{SeenTask, Hearing, task_at, hearing, after_counting, by_decision, seen_counted, work_of}
 use Rattle.protocol.specs.Seen.Hearing.{Ignored, Counted, Begins, Ended as EndsTask}
 use Rattle.protocol.proofs.lemmas.Entries.{member_of}
-use Rattle.client_core.specs.Clients.{ClientView, told, hears}
+use Rattle.operation_core.specs.Clients.{ClientView, told, hears}
 use Rattle.journals.specs.declared.desk.DeskAct.{DeskAct}
 use Rattle.journals.specs.declared.desk.DeskAct.TheVariants.{Start, Crash, Call}
 use Rattle.journals.specs.declared.desk.DeskEntry.{DeskEntry}

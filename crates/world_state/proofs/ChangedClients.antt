@@ -6,7 +6,8 @@ use Rattle.protocol.specs.Seen.{SeenTask, seen_goes_on}
 use Rattle.operation_core.specs.declared.stage.Stage.{Stage}
 use Rattle.operation_core.specs.Stages.{stage_of}
 use Rattle.operation_core.specs.Counting.{next_task}
-use Rattle.client_core.specs.Clients.{ClientView, with_task, next_of}
+use Rattle.operation_core.specs.Clients.{ClientView, with_task}
+use Rattle.client_core.specs.Clients.{next_of}
 use Rattle.world_state.specs.declared.client_slot.ClientSlot.{ClientSlot}
 use Rattle.world_state.specs.declared.state.State.TheInside.{Inside}
 use Rattle.world_state.specs.contracts.state.State.{the_view}

@@ -9,7 +9,8 @@ use Rattle.protocol.specs.Operations.Decision.{GoesOn, Ends as EndsWith}
 use Rattle.protocol.specs.World.{chosen_stamp}
 use Rattle.protocol.specs.Seen.{SeenTask, Hearing, hearing, hears as hears_answer, task_at, seen_counted, is_counted, answers_of, by_decision, after_counting, chosen_of}
 use Rattle.protocol.specs.Seen.Hearing.{Ignored, Counted, Begins, Ended}
-use Rattle.client_core.specs.Clients.{ClientView, with_task, goes_to, is_only_counted}
+use Rattle.operation_core.specs.Clients.{ClientView, with_task}
+use Rattle.client_core.specs.Clients.{goes_to, is_only_counted}
 use Rattle.world_state.specs.declared.client_slot.ClientSlot.{ClientSlot}
 use Rattle.world_state.specs.declared.state.State.TheInside.{Inside}
 use Rattle.world_state.specs.contracts.state.State.{the_view}

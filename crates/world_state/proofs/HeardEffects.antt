@@ -15,7 +15,8 @@ use Rattle.protocol.specs.Seen.{SeenTask, record_of, phase_of, Hearing, new_clie
 use Rattle.protocol.specs.Seen.Hearing.{Ignored, Counted, Begins, Ended}
 use Rattle.protocol.proofs.lemmas.Seeing.{length-goes_on, length-counted, after_hearing, heard_by-seen}
 use Rattle.operation_core.specs.Counting.{GoesOn as GoesOnIn, IsAtEnd}
-use Rattle.client_core.specs.Clients.{ClientView, operation_of, hears, goes_to, is_only_counted, next_of}
+use Rattle.operation_core.specs.Clients.{ClientView, hears}
+use Rattle.client_core.specs.Clients.{operation_of, goes_to, is_only_counted, next_of}
 use Rattle.world_state.specs.declared.answer_effect.AnswerEffect.{AnswerEffect}
 use Rattle.world_state.specs.declared.answer_effect.AnswerEffect.TheVariants.{Same, Counts, Goes, Ends}
 use Rattle.world_state.specs.declared.client_slot.ClientSlot.{ClientSlot}

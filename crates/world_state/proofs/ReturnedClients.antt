@@ -6,7 +6,7 @@ use Rattle.std.specs.Vec.{with_item}
 use Rattle.protocol.specs.Count.{update}
 use Rattle.protocol.specs.World.{back_again}
 use Rattle.protocol.specs.Seen.{client_at, started_task, record_of}
-use Rattle.client_core.specs.Clients.{ClientView}
+use Rattle.operation_core.specs.Clients.{ClientView}
 use Rattle.world_state.specs.declared.client_slot.ClientSlot.{ClientSlot}
 use Rattle.world_state.specs.declared.state.State.TheInside.{Inside}
 use Rattle.world_state.specs.contracts.state.State.{the_view}

@@ -16,7 +16,7 @@ use Rattle.protocol.specs.Operations.{Task, Outcome}
 use Rattle.protocol.specs.World.{Record, open_record, with_record, replaced_by, chosen_stamp}
 use Rattle.protocol.specs.Report.{Ascend}
 use Rattle.protocol.specs.Seen.{SeenTask, task_at, started_task, record_of}
-use Rattle.client_core.specs.Clients.{ClientView}
+use Rattle.operation_core.specs.Clients.{ClientView}
 use Rattle.world_state.specs.declared.client_slot.ClientSlot.{ClientSlot}
 use Rattle.world_state.specs.declared.state.State.TheInside.{Inside}
 use Rattle.world_state.specs.contracts.state.State.{the_view}

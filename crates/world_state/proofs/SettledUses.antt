@@ -13,7 +13,7 @@ use Rattle.protocol.specs.Operations.{Task, Outcome}
 use Rattle.protocol.specs.World.{Record, open_record, chosen_stamp, unless, under_way, stamp_given, given_of, greater_stamp, greatest_given}
 use Rattle.protocol.specs.Lines.{is_at, is_busy_at}
 use Rattle.protocol.specs.Seen.{SeenTask, task_at, started_task, block_of, chosen_of, record_of}
-use Rattle.client_core.specs.Clients.{ClientView}
+use Rattle.operation_core.specs.Clients.{ClientView}
 use Rattle.world_state.specs.declared.block_use.BlockUse.{BlockUse}
 use Rattle.world_state.specs.declared.client_slot.ClientSlot.{ClientSlot}
 use Rattle.world_state.specs.declared.state.State.TheInside.{Inside}

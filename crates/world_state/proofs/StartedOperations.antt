@@ -14,7 +14,8 @@ use Rattle.protocol.specs.Operations.{Task, first_work, begun, mail}
 use Rattle.protocol.specs.World.{greatest_given, Record, open_record, chosen_stamp, last_op, started_by}
 use Rattle.protocol.specs.Seen.{SeenTask, task_at, started_task, record_of, ops_of, block_of, work_of}
 use Rattle.protocol.proofs.lemmas.Seeing.{begun-seen, length-begun}
-use Rattle.client_core.specs.Clients.{ClientView, started, with_started, mail_of}
+use Rattle.operation_core.specs.Clients.{ClientView, started, with_started}
+use Rattle.client_core.specs.Clients.{mail_of}
 use Rattle.world_state.specs.declared.block_use.BlockUse.{BlockUse}
 use Rattle.world_state.specs.declared.client_slot.ClientSlot.{ClientSlot}
 use Rattle.world_state.specs.declared.state.State.TheInside.{Inside}

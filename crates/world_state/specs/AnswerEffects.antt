@@ -10,7 +10,8 @@ use Rattle.protocol.specs.World.{World, stamp_of_outcome, with_record}
 use Rattle.protocol.specs.Seen.{SeenTask, Hearing, client_at, started_task, chosen_of, hears as hears_answer}
 use Rattle.protocol.specs.Seen.Hearing.{Ignored, Counted, Begins, Ended}
 use Rattle.operation_core.specs.Counting.{GoesOn, IsAtEnd}
-use Rattle.client_core.specs.Clients.{ClientView, operation_of, mail_of, goes_to, is_only_counted, next_of}
+use Rattle.operation_core.specs.Clients.{ClientView}
+use Rattle.client_core.specs.Clients.{operation_of, mail_of, goes_to, is_only_counted, next_of}
 use Rattle.world_state.specs.declared.answer_effect.AnswerEffect.{AnswerEffect}
 use Rattle.world_state.specs.declared.answer_effect.AnswerEffect.TheVariants.{Same, Counts, Goes, Ends}
 use Rattle.world_state.specs.Worlds.{WorldView, world_in}

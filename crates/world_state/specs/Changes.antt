@@ -10,7 +10,7 @@ use Rattle.protocol.specs.World.{World, accepted_at}
 use Rattle.protocol.specs.Operations.{Task, outstanding}
 use Rattle.protocol.specs.Lines.{Rule, false_answer}
 use Rattle.protocol.specs.Seen.{client_at}
-use Rattle.client_core.specs.Clients.{ClientView}
+use Rattle.operation_core.specs.Clients.{ClientView}
 use Rattle.world_state.specs.Worlds.{WorldView, world_in}
 
 -- the client of a number

@@ -11,7 +11,8 @@ ghost use Rattle.protocol.specs.Instance.{setting};
 ghost use Rattle.world_state.specs.Worlds.{setting_in, world_in};
 ghost use Rattle.run_words.specs.declared.record.Record.{Record as Told};
 ghost use Rattle.operation_core.specs.Counting.{GoesOn, IsAtEnd};
-ghost use Rattle.client_core.specs.Clients.{operation_of, hears, goes_to, is_only_counted, next_of};
+ghost use Rattle.operation_core.specs.Clients.{hears};
+ghost use Rattle.client_core.specs.Clients.{operation_of, goes_to, is_only_counted, next_of};
 ghost use Rattle.world_state.specs.Changes.{HasBecome, accepts_in, handles, client_in, IsAnswer};
 ghost use Rattle.world_state.specs.AnswerEffects.{IsEffect, next_mail, answer_does, Becomes, goes_on, settled};
 

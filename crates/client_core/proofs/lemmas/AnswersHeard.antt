@@ -8,7 +8,7 @@ use Rattle.protocol.specs.Messages.{Reply}
 use Rattle.protocol.specs.Instance.{setting}
 use Rattle.protocol.specs.Seen.{SeenTask, hearing, hears as hears_answer}
 use Rattle.protocol.specs.Seen.Hearing.{Ignored}
-use Rattle.client_core.specs.Clients.{ClientView, told, hears}
+use Rattle.operation_core.specs.Clients.{ClientView, told, hears}
 
 module _ (c : ClientView) (m : Message) (reply : Reply) (own : m.client ≡ c.id) (answer : m.body ≡ Answers reply) where
   pub told_is : (t : SeenTask) → hears c (Some t) m ≡ hearing (setting c.config) c.id t m.node m.tag reply

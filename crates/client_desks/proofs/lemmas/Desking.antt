@@ -18,7 +18,7 @@ use Rattle.protocol.specs.Messages.{Message, IsFormedBody}
 use Rattle.quorum_rules.specs.Limits.{Numbers}
 use Rattle.protocol.specs.Seen.{Hearing}
 use Rattle.protocol.specs.Seen.Hearing.{Ignored, Counted, Begins as BeginsPhase, Ended}
-use Rattle.client_core.specs.Clients.{ClientView, hears}
+use Rattle.operation_core.specs.Clients.{ClientView, hears}
 use Rattle.event_clock.specs.Passes.{Holder, met, heeded}
 use Rattle.liar_rules.specs.Answers.{answer_to}
 use Rattle.journals.specs.declared.desk.Way.{Way}

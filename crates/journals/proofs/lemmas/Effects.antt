@@ -21,7 +21,7 @@ use Rattle.protocol.specs.Seen.{SeenTask, Hearing, started_task, task_at, hearin
 use Rattle.protocol.specs.Seen.Hearing.{Ignored, Counted, Begins, Ended as Ends}
 use Rattle.protocol.specs.Views.{IsFull, task_after, after_hearing}
 use Rattle.node_core.specs.Seen.{SeenNode, versions_in, with_versions, reply_of, after_of}
-use Rattle.client_core.specs.Clients.{ClientView, hears, told}
+use Rattle.operation_core.specs.Clients.{ClientView, hears, told}
 use Rattle.journals.specs.Acts.{NodeState, served}
 use Rattle.journals.specs.Desks.{DeskState, by_hearing, desk_heard, desk_told}
 use Rattle.journals.specs.Agreement.{IsNode, IsDesk}

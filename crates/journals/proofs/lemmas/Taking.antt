@@ -18,7 +18,7 @@ use Rattle.run_words.specs.declared.line.Line.TheVariants.{Write, Read, Lost, Cr
 use Rattle.protocol.specs.Seen.{SeenTask, started_task, task_at, seen_begun, ops_of, block_of, work_of, outstanding_of}
 use Rattle.protocol.specs.Views.{IsFull}
 use Rattle.node_core.specs.Seen.{SeenNode, versions_in}
-use Rattle.client_core.specs.Clients.{ClientView, started}
+use Rattle.operation_core.specs.Clients.{ClientView, started}
 use Rattle.journals.specs.declared.node.NodeAct.TheVariants.{Silent, LateLost}
 use Rattle.journals.specs.declared.node.Silence.TheVariants.{Crashed, Dropped, Held, Lying}
 use Rattle.journals.specs.declared.desk.DeskAct.TheVariants.{Start, Crash, Call}

@@ -2,7 +2,8 @@ use Rattle.std.proofs.Common.{◌≡◌, length}
 use Rattle.std.specs.Vec.Iter.{into_iter_items, into_iter_len}
 use Rattle.protocol.specs.Instance.{setting}
 use Rattle.protocol.specs.Seen.{SeenTask}
-use Rattle.client_core.specs.Clients.{ClientView, mail_of}
+use Rattle.operation_core.specs.Clients.{ClientView}
+use Rattle.client_core.specs.Clients.{mail_of}
 use Rattle.batch_clients.specs.Parts.{lists_of}
 use Rattle.batch_clients.proofs.Dealing.{IsDealing}
 use Rattle.batch_clients.proofs.asking.deal.Given as goal

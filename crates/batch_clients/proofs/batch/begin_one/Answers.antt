@@ -1,6 +1,6 @@
 use Rattle.std.proofs.Common.{sym, ap, subst, ◌∙◌}
 use Rattle.wire_forms.specs.Ops.{Fits}
-use Rattle.client_core.specs.Clients.{ClientView, started}
+use Rattle.operation_core.specs.Clients.{ClientView, started}
 use Rattle.batch_clients.specs.Parts.{lists_of}
 use Rattle.batch_clients.proofs.Adding.{added_first}
 use Rattle.batch_clients.proofs.batch.begin_one.Goals as goal

@@ -2,7 +2,7 @@ use Rattle.std.proofs.Common.{◌≡◌, sym, ◌∙◌, ap, subst}
 use Rattle.run_words.specs.declared.outcome.Outcome.TheVariants.{Gave}
 use Rattle.run_words.specs.declared.outcome.How.TheVariants.{Plain}
 use Rattle.client_core.specs.declared.heard.Heard.TheVariants.{Ended as EndedWith}
-use Rattle.client_core.specs.Clients.{ClientView}
+use Rattle.operation_core.specs.Clients.{ClientView}
 use Rattle.node_device.specs.Phases.{HasAsked}
 use Rattle.node_device.specs.Held.{stamp_of}
 use Rattle.node_device.proofs.Operations.{h, reading, read_asks, read_gives, read_done, read_there}

@@ -1,7 +1,7 @@
 use Rattle.std.proofs.Common.{◌≡◌, sym, ◌∙◌, ap, subst}
 use Rattle.run_words.specs.declared.outcome.Outcome.TheVariants.{Wrote}
 use Rattle.client_core.specs.declared.heard.Heard.TheVariants.{Send, Ended as EndedWith}
-use Rattle.client_core.specs.Clients.{ClientView}
+use Rattle.operation_core.specs.Clients.{ClientView}
 use Rattle.protocol.specs.Instance.{setting}
 use Rattle.protocol.specs.Operations.{mail}
 use Rattle.protocol.specs.Seen.{task_at}

@@ -2,7 +2,7 @@ use Rattle.std.proofs.Common.{false, sym, ◌∙◌, ap, subst, arith}
 use Rattle.std.proofs.lemmas.Grind.{common_steps}
 use Rattle.wire_forms.specs.Liars.{has_number}
 use Rattle.protocol.specs.Seen.{new_client}
-use Rattle.client_core.specs.Clients.{ClientView}
+use Rattle.operation_core.specs.Clients.{ClientView}
 use Rattle.world_state.specs.Beginnings.{new_client_slot, AreNewClientSlots}
 use Rattle.world_state.proofs.FirstWorlds.{client_slots-push}
 use Rattle.world_state.proofs.state.new_client_slots.Goals as goal

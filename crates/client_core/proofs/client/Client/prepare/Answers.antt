@@ -1,5 +1,5 @@
 use Rattle.std.proofs.Common.{◌∙◌, ap}
-use Rattle.client_core.specs.Clients.{ClientView}
+use Rattle.operation_core.specs.Clients.{ClientView}
 use Rattle.client_core.proofs.lemmas.AnswersHeard.{answer_is}
 use Rattle.client_core.proofs.client.Client.prepare.Goals as goal
 

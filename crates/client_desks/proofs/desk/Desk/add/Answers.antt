@@ -4,7 +4,7 @@ use Rattle.journals.specs.declared.desk.DeskAct.{DeskAct}
 use Rattle.journals.specs.declared.desk.DeskAct.TheVariants.{Call}
 use Rattle.journals.specs.Desks.{DeskState, new_desk, desk_after_all, desk_heard, ActsAs}
 use Rattle.journals.specs.Records.{client_records}
-use Rattle.client_core.specs.Clients.{ClientView}
+use Rattle.operation_core.specs.Clients.{ClientView}
 use Rattle.locked_nodes.specs.Cells.{number_of, with_seen, reply_told}
 use Rattle.client_desks.specs.Desks.{DeskView, state_at, heard, ending, desk_entry, with_call}
 use Rattle.client_desks.specs.Recording.{hearing_of}

@@ -4,7 +4,7 @@ use Rattle.wire_forms.specs.declared.op.Op.{Op}
 use Rattle.protocol.specs.World.{Record, Fits, open_record}
 use Rattle.protocol.specs.Instance.{setting}
 use Rattle.protocol.specs.Seen.{block_of, work_of, record_of, task_at}
-use Rattle.client_core.specs.Clients.{ClientView, with_started, started}
+use Rattle.operation_core.specs.Clients.{ClientView, with_started, started}
 use Rattle.journals.specs.declared.desk.DeskAct.TheVariants.{Start}
 use Rattle.journals.specs.Desks.{DeskState, new_desk, desk_after_all, ActsAs, FitsOp, MayStart}
 use Rattle.journals.specs.Records.{client_records}

@@ -1,6 +1,7 @@
 use Rattle.std.proofs.Common.{◌+◌, ◌≤◌, sym, ◌∙◌, ap, arith}
 use Rattle.protocol.specs.World.{back_again}
-use Rattle.client_core.specs.Clients.{ClientView, idle_client}
+use Rattle.operation_core.specs.Clients.{ClientView}
+use Rattle.client_core.specs.Clients.{idle_client}
 use Rattle.world_state.specs.contracts.state.State.{the_view}
 use Rattle.world_state.specs.Worlds.{setting_in, world_in}
 use Rattle.world_state.proofs.KeptWorlds.{client-within}

@@ -1,6 +1,7 @@
 use Rattle.std.proofs.Common.{◌<◌, length, get_or, sym, ◌∙◌, ap, arith}
 use Rattle.protocol.specs.World.{started_by}
-use Rattle.client_core.specs.Clients.{ClientView, started, with_started, mail_of}
+use Rattle.operation_core.specs.Clients.{ClientView, started, with_started}
+use Rattle.client_core.specs.Clients.{mail_of}
 use Rattle.world_state.specs.contracts.state.State.{the_view}
 use Rattle.world_state.specs.Worlds.{setting_in, world_in}
 use Rattle.world_state.specs.Changes.{client_in}
