@@ -1,4 +1,5 @@
 //! How messages are drawn.
+use crate::classes::Class;
 use crate::drawing::Drawing;
 use crate::layout::Layout;
 use crate::picture::{Actor, Arrow, Fate};
@@ -18,20 +19,20 @@ const BAR: Px = Px(6);
 /// How far before its end a message is lost.
 const SHORT: Px = Px(12);
 
-/// The words for how a message looks.
-fn class_of(arrow: &Arrow) -> &'static str {
+/// How a message looks.
+fn class_of(arrow: &Arrow) -> Class {
     let is_ask = matches!(arrow.from, Actor::Client(_));
     match (arrow.fate, arrow.is_lie) {
-        (Fate::Arrived, false) if is_ask => "ask",
-        (Fate::Arrived, false) => "answer",
-        (Fate::Arrived, true) if is_ask => "ask lie",
-        (Fate::Arrived, true) => "answer lie",
-        (Fate::Stale, false) => "stale",
-        (Fate::Stale, true) => "stale lie",
-        (Fate::Lost, false) => "lost",
-        (Fate::Lost, true) => "lost lie",
-        (Fate::NeverGiven, false) => "never",
-        (Fate::NeverGiven, true) => "never lie",
+        (Fate::Arrived, false) if is_ask => Class::Ask,
+        (Fate::Arrived, false) => Class::Answer,
+        (Fate::Arrived, true) if is_ask => Class::AskLie,
+        (Fate::Arrived, true) => Class::AnswerLie,
+        (Fate::Stale, false) => Class::Stale,
+        (Fate::Stale, true) => Class::StaleLie,
+        (Fate::Lost, false) => Class::Lost,
+        (Fate::Lost, true) => Class::LostLie,
+        (Fate::NeverGiven, false) => Class::Never,
+        (Fate::NeverGiven, true) => Class::NeverLie,
     }
 }
 
@@ -102,13 +103,13 @@ impl<'p> Drawing<'p> {
 }
 
 /// Draws a message that was lost at a point.
-pub fn draw_lost(svg: &mut Svg, class: &str, from: Point, to: Point) -> Result<(), NoMemory> {
+pub fn draw_lost(svg: &mut Svg, class: Class, from: Point, to: Point) -> Result<(), NoMemory> {
     svg.line(class, from, to)?;
-    svg.cross("cross", to, Px(4))
+    svg.cross(Class::Cross, to, Px(4))
 }
 
 /// Draws a message that came to a point and was never given or heard.
-pub fn draw_unheard(svg: &mut Svg, class: &str, from: Point, to: Point) -> Result<(), NoMemory> {
+pub fn draw_unheard(svg: &mut Svg, class: Class, from: Point, to: Point) -> Result<(), NoMemory> {
     svg.line(class, from, to)?;
-    svg.circle("ring", to, Px(3))
+    svg.circle(Class::Ring, to, Px(3))
 }

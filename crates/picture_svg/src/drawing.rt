@@ -1,5 +1,7 @@
 //! A picture as SVG.
-use crate::layout::{LABEL_GAP, LINE, Layout, MARGIN, ROW, STAMPS};
+use crate::classes::Class;
+use crate::head::text_of;
+use crate::layout::{LABEL_GAP, LINE, Layout, MARGIN, ROW, STAMPS, has_heads};
 use crate::legend::Legend;
 use crate::picture::{Actor, Lifeline, Picture, Row};
 use crate::px::{Point, Px, at};
@@ -11,15 +13,14 @@ use std::alloc::Global;
 pub fn svg_of(alloc: Global, picture: &Picture) -> Result<String, NoMemory> {
     let layout = Layout::of(alloc, picture)?;
     let legend = Legend::of(alloc, picture, &layout)?;
-    let svg = Svg::new(alloc, layout.width, legend.end() + MARGIN)?;
+    let size = at(layout.width, legend.end() + MARGIN);
     let mut drawing = Drawing {
         picture,
         layout: &layout,
-        svg,
+        svg: Svg::new(alloc),
     };
     drawing.draw(alloc, &legend)?;
-    let Drawing { svg, .. } = drawing;
-    svg.into_text()
+    text_of(alloc, picture, size, &drawing.svg)
 }
 
 /// A picture of which a part is drawn.
@@ -34,9 +35,10 @@ impl<'p> Drawing<'p> {
     fn draw(&mut self, alloc: Global, legend: &Legend) -> Result<(), NoMemory> {
         self.draw_lines(&self.picture.caption, MARGIN + LINE.half())?;
         self.draw_rows()?;
-        self.draw_heads()?;
+        self.draw_heads(self.layout.top - Px(6))?;
         self.draw_lifelines(alloc)?;
         self.draw_between()?;
+        self.draw_heads_again()?;
         self.draw_below(legend)
     }
 
@@ -56,7 +58,8 @@ impl<'p> Drawing<'p> {
             let y = self.layout.y(number);
             if number % 2 == 0 {
                 let right = at(self.layout.width, y + ROW.half());
-                self.svg.rect("stripe", at(Px(0), y - ROW.half()), right)?;
+                self.svg
+                    .rect(Class::Stripe, at(Px(0), y - ROW.half()), right)?;
             }
             self.draw_row(row, number, y + Px(4))?;
         }
@@ -75,9 +78,6 @@ impl<'p> Drawing<'p> {
     /// Draws what is written beside a client's bar, two lines above and below the row's text.
     fn draw_label(&mut self, row: &Row, y: Px) -> Result<(), NoMemory> {
         let x = self.layout.x(Actor::Client(row.client)) - LABEL_GAP;
-        if row.first.is_empty() {
-            return Ok(());
-        }
         if row.second.is_empty() {
             return self.draw_strong(at(x, y), row.first.as_str());
         }
@@ -87,21 +87,39 @@ impl<'p> Drawing<'p> {
 
     /// Draws a strong text, which ends at its point.
     fn draw_strong(&mut self, point: Point, words: &str) -> Result<(), NoMemory> {
-        self.svg.text("strong", Anchor::End, point, words)
+        self.svg
+            .text(Some(Class::Strong), Anchor::End, point, words)
     }
 
-    /// Draws the names of those who take part.
-    fn draw_heads(&mut self) -> Result<(), NoMemory> {
-        let y = self.layout.top - Px(6);
+    /// Draws the names of those who take part, at this height.
+    fn draw_heads(&mut self, y: Px) -> Result<(), NoMemory> {
         for Lifeline { actor, is_liar } in &self.picture.lifelines {
             let x = self.layout.x(*actor);
             self.svg.name(at(x, y), *actor)?;
             if *is_liar {
                 let above = at(x, y - LINE.half() - Px(4));
-                self.svg.text("lying", Anchor::Middle, above, "lies")?;
+                self.svg
+                    .text(Some(Class::Lying), Anchor::Middle, above, "lies")?;
             }
         }
         Ok(())
+    }
+
+    /// Draws the names again above each row that has them, on a ground that hides what passes below.
+    fn draw_heads_again(&mut self) -> Result<(), NoMemory> {
+        for number in 0..self.picture.rows.len() {
+            if has_heads(number) {
+                self.draw_band(self.layout.y(number) - ROW.half())?;
+            }
+        }
+        Ok(())
+    }
+
+    /// Draws the names in a band that ends at this height.
+    fn draw_band(&mut self, end: Px) -> Result<(), NoMemory> {
+        let right = at(self.layout.width, end);
+        self.svg.rect(Class::Heads, at(Px(0), end - ROW), right)?;
+        self.draw_heads(end - Px(6))
     }
 
     /// Draws what takes place between those who take part.
@@ -121,7 +139,8 @@ impl<'p> Drawing<'p> {
     /// Draws the report of the run, and what explains the picture.
     fn draw_below(&mut self, legend: &Legend) -> Result<(), NoMemory> {
         let title = at(MARGIN, self.layout.report);
-        self.svg.text("strong", Anchor::Start, title, "report")?;
+        self.svg
+            .text(Some(Class::Strong), Anchor::Start, title, "report")?;
         self.draw_lines(&self.picture.report, title.y + LINE)?;
         self.svg.plain(at(MARGIN, self.layout.stamps), STAMPS)?;
         legend.draw(&mut self.svg)

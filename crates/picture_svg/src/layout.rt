@@ -1,4 +1,6 @@
 //! Where everything stands: columns by the widths of their texts, rows of one height.
+ghost use Rattle.std.specs.Prelude.{◌≡◌, ◌≢◌, ◌↔◌, ◌/◌, ◌%◌, IsTrue};
+
 use crate::picture::{Actor, Picture, Row};
 use crate::px::{Px, width_of};
 use lists::NoMemory;
@@ -10,6 +12,9 @@ pub const ROW: Px = Px(34);
 
 /// How high a line of text is.
 pub const LINE: Px = Px(18);
+
+/// How many rows stand below the heads until these are drawn again.
+const ROWS: usize = 40;
 
 /// What is left free round the picture, and between its columns.
 pub const MARGIN: Px = Px(16);
@@ -109,7 +114,7 @@ impl Layout {
         let columns = Columns::of(alloc, picture, line + lines + MARGIN)?;
         let note = columns.end + CHANNEL + MARGIN;
         let top = MARGIN + LINE.times(picture.caption.len()) + ROW;
-        let end = top + ROW.times(picture.rows.len()) + MARGIN;
+        let end = top + ROW.times(rows_with_heads(picture.rows.len())) + MARGIN;
         let report = end + LINE * 2;
         Ok(Layout {
             place,
@@ -134,8 +139,28 @@ impl Layout {
 
     /// The middle of a row.
     pub fn y(&self, row: usize) -> Px {
-        self.top + ROW.times(row) + ROW.half() + MARGIN.half()
+        let above = row.saturating_add(heads_above(row));
+        self.top + ROW.times(above) + ROW.half() + MARGIN.half()
     }
+}
+
+/// Whether the heads are drawn again right above a row.
+pub fn has_heads(row: usize) -> bool
+    ensures { IsTrue result ↔ ((row ≢ 0) × (row % ROWS ≡ 0)) }
+{
+    row != 0 && row % ROWS == 0
+}
+
+/// How often the heads are drawn again between the first row and this one.
+fn heads_above(row: usize) -> usize
+    ensures { result ≡ row / ROWS }
+{
+    row / ROWS
+}
+
+/// So many rows, and the heads that are drawn again between them.
+fn rows_with_heads(rows: usize) -> usize {
+    rows.saturating_add(heads_above(rows.saturating_sub(1)))
 }
 
 /// How wide the lines above and below the rows are, with their margins.

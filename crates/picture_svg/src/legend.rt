@@ -1,5 +1,6 @@
 //! The legend: what the signs of a picture mean, for those that it has.
 use crate::arrows::{draw_lost, draw_unheard};
+use crate::classes::Class;
 use crate::layout::{LINE, Layout, MARGIN};
 use crate::lives::{class_of_bar, draw_sign};
 use crate::picture::{Actor, Arrow, Fate, PhaseKind, Picture, Sign};
@@ -75,20 +76,20 @@ fn draw_sample(svg: &mut Svg, item: Item, point: Point) -> Result<(), NoMemory> 
     let Point { x, y } = point;
     let right = at(x + Px(34), y);
     match item {
-        Item::Ask => svg.line("ask", point, right),
-        Item::Answer => svg.line("answer", right, point),
-        Item::Lie => svg.line("answer lie", right, point),
-        Item::Stale => svg.line("stale", right, point),
-        Item::Lost => draw_lost(svg, "lost", point, at(right.x - Px(4), y)),
-        Item::NeverGiven => draw_unheard(svg, "never", point, at(right.x - Px(3), y)),
+        Item::Ask => svg.line(Class::Ask, point, right),
+        Item::Answer => svg.line(Class::Answer, right, point),
+        Item::Lie => svg.line(Class::AnswerLie, right, point),
+        Item::Stale => svg.line(Class::Stale, right, point),
+        Item::Lost => draw_lost(svg, Class::Lost, point, at(right.x - Px(4), y)),
+        Item::NeverGiven => draw_unheard(svg, Class::Never, point, at(right.x - Px(3), y)),
         Item::Phase(work) => draw_bar(svg, class_of_bar(work, false), point),
-        Item::Unended => draw_bar(svg, "store open", point),
+        Item::Unended => draw_bar(svg, Class::StoreOpen, point),
         Item::Sign(sign) => draw_sign(svg, sign, at(x + Px(17), y)),
     }
 }
 
 /// Draws a piece of a bar in the room of a sample.
-fn draw_bar(svg: &mut Svg, class: &str, point: Point) -> Result<(), NoMemory> {
+fn draw_bar(svg: &mut Svg, class: Class, point: Point) -> Result<(), NoMemory> {
     let Point { x, y } = point;
     svg.rect(class, at(x + Px(12), y - Px(6)), at(x + Px(22), y + Px(6)))
 }

@@ -2,13 +2,18 @@
 #![tactic(auto)]
 
 mod arrows;
+mod classes;
 mod drawing;
+mod head;
 mod layout;
 mod legend;
 mod lives;
 pub mod picture;
 mod px;
 mod svg;
+mod telling;
 
 pub use drawing::svg_of;
-pub use picture::{Actor, Arrow, Fate, Lifeline, Mark, PhaseKind, Picture, Row, Sign, Stretch};
+pub use picture::{
+    Actor, Arrow, Fate, Lifeline, Mark, Outcomes, PhaseKind, Picture, Row, Sign, Stretch,
+};

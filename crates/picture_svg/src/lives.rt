@@ -1,4 +1,5 @@
 //! How lifelines, and the bars and the signs on them, are drawn.
+use crate::classes::Class;
 use crate::drawing::Drawing;
 use crate::layout::Layout;
 use crate::picture::{Actor, Lifeline, Mark, PhaseKind, Sign, Stretch};
@@ -11,17 +12,17 @@ use std::collections::BTreeMap;
 /// Who is alive, and the height from which on.
 type Alive = BTreeMap<Actor, Px>;
 
-/// The words for how a stretch looks.
-pub fn class_of_bar(work: PhaseKind, is_open: bool) -> &'static str {
+/// How a stretch looks.
+pub fn class_of_bar(work: PhaseKind, is_open: bool) -> Class {
     match (work, is_open) {
-        (PhaseKind::Times, false) => "times",
-        (PhaseKind::Times, true) => "times open",
-        (PhaseKind::Store, false) => "store",
-        (PhaseKind::Store, true) => "store open",
-        (PhaseKind::Round, false) => "round",
-        (PhaseKind::Round, true) => "round open",
-        (PhaseKind::Repair, false) => "repair",
-        (PhaseKind::Repair, true) => "repair open",
+        (PhaseKind::Times, false) => Class::Times,
+        (PhaseKind::Times, true) => Class::TimesOpen,
+        (PhaseKind::Store, false) => Class::Store,
+        (PhaseKind::Store, true) => Class::StoreOpen,
+        (PhaseKind::Round, false) => Class::Round,
+        (PhaseKind::Round, true) => Class::RoundOpen,
+        (PhaseKind::Repair, false) => Class::Repair,
+        (PhaseKind::Repair, true) => Class::RepairOpen,
     }
 }
 
@@ -39,7 +40,7 @@ impl<'p> Drawing<'p> {
         }
         let end = self.layout.end;
         for (actor, from) in alive.iter() {
-            self.draw_life("life", *actor, *from, end)?;
+            self.draw_life(Class::Life, *actor, *from, end)?;
         }
         Ok(())
     }
@@ -49,7 +50,7 @@ impl<'p> Drawing<'p> {
         let Layout { top, end, .. } = *self.layout;
         for Lifeline { actor, is_liar } in &self.picture.lifelines {
             if *is_liar {
-                self.draw_life("liar", *actor, top, end)?;
+                self.draw_life(Class::Liar, *actor, top, end)?;
             } else {
                 alive.insert(*actor, top)?;
             }
@@ -62,7 +63,7 @@ impl<'p> Drawing<'p> {
         let y = self.layout.y(mark.row);
         match mark.sign {
             Sign::Crash => match alive.remove(&mark.actor) {
-                Some(from) => self.draw_life("life", mark.actor, from, y),
+                Some(from) => self.draw_life(Class::Life, mark.actor, from, y),
                 None => Ok(()),
             },
             Sign::Back => {
@@ -75,7 +76,7 @@ impl<'p> Drawing<'p> {
         }
     }
 
-    fn draw_life(&mut self, class: &str, actor: Actor, from: Px, to: Px) -> Result<(), NoMemory> {
+    fn draw_life(&mut self, class: Class, actor: Actor, from: Px, to: Px) -> Result<(), NoMemory> {
         let x = self.layout.x(actor);
         self.svg.line(class, at(x, from), at(x, to))
     }
@@ -105,13 +106,17 @@ impl<'p> Drawing<'p> {
 pub fn draw_sign(svg: &mut Svg, sign: Sign, point: Point) -> Result<(), NoMemory> {
     let Point { x, y } = point;
     match sign {
-        Sign::Crash => svg.cross("crash", point, Px(6)),
-        Sign::Back => svg.circle("back", point, Px(6)),
+        Sign::Crash => svg.cross(Class::Crash, point, Px(6)),
+        Sign::Back => svg.circle(Class::Back, point, Px(6)),
         Sign::Prune => {
             let left = x - Px(7);
-            svg.line("prune", at(left, y - Px(3)), at(x + Px(7), y - Px(3)))?;
-            svg.line("prune", at(left, y + Px(3)), at(x + Px(7), y + Px(3)))
+            svg.line(Class::Prune, at(left, y - Px(3)), at(x + Px(7), y - Px(3)))?;
+            svg.line(Class::Prune, at(left, y + Px(3)), at(x + Px(7), y + Px(3)))
         }
-        Sign::Holds => svg.rect("holds", at(x - Px(3), y - Px(3)), at(x + Px(4), y + Px(4))),
+        Sign::Holds => svg.rect(
+            Class::Holds,
+            at(x - Px(3), y - Px(3)),
+            at(x + Px(4), y + Px(4)),
+        ),
     }
 }

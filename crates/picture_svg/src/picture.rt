@@ -127,6 +127,26 @@ pub struct Mark {
     pub sign: Sign,
 }
 
+/// What became of how many operations of those who don't lie.
+#[derive(Clone, Copy)]
+pub struct Outcomes {
+    /// Reads that gave a value, and writes that stored theirs.
+    pub done: usize,
+    /// Writes for which no time was left.
+    pub spent: usize,
+    /// Operations that never ended.
+    pub pending: usize,
+}
+
+impl Outcomes {
+    /// Those of no operation.
+    pub const NONE: Outcomes = Outcomes {
+        done: 0,
+        spent: 0,
+        pending: 0,
+    };
+}
+
 /// A picture of a run.
 pub struct Picture {
     /// What the numbers of the cluster mean, a line each.
@@ -137,6 +157,7 @@ pub struct Picture {
     pub arrows: Vec<Arrow>,
     pub stretches: Vec<Stretch>,
     pub marks: Vec<Mark>,
+    pub outcomes: Outcomes,
     /// The lines of the run's report.
     pub report: Vec<String>,
 }
@@ -150,6 +171,7 @@ impl Drop for Picture {
             arrows: _arrows,
             stretches: _stretches,
             marks: _marks,
+            outcomes: _outcomes,
             report: _report,
         } = self;
     }
@@ -172,6 +194,7 @@ impl Picture {
             arrows: Vec::new(alloc),
             stretches: Vec::new(alloc),
             marks: Vec::new(alloc),
+            outcomes: Outcomes::NONE,
             report: Vec::new(alloc),
         }
     }

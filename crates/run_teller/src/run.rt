@@ -1,7 +1,11 @@
 //! A run whose lines have all taken place, and are told again.
+ghost use Rattle.std.specs.Prelude.{◌≡◌, count_by, is_none};
+ghost use Rattle.run_teller.specs.Outcomes.{is_done as done, is_spent as spent};
+
 use lists::NoMemory;
+use picture_svg::Outcomes;
 use quorum_rules::Config;
-use run_words::Record;
+use run_words::{Outcome, Record};
 use stamp_order::Stamp;
 use std::alloc::Global;
 use std::collections::BTreeMap;
@@ -60,6 +64,11 @@ impl<'a> Run<'a> {
         Ok(())
     }
 
+    /// What became of how many operations.
+    pub(crate) fn outcomes(&self) -> Outcomes {
+        outcomes_of(self.records)
+    }
+
     /// The operation that starts at a place.
     pub(crate) fn started_at(&self, place: u64) -> Option<&'a Record> {
         let number = self
@@ -101,6 +110,31 @@ impl<'a> Run<'a> {
         }
         Ok(())
     }
+}
+
+/// What became of how many of these operations. No read is outvoted where only so many nodes lie as may.
+fn outcomes_of(records: &[Record]) -> Outcomes
+    ensures done { result.done ≡ count_by done records.now }
+    ensures spent { result.spent ≡ count_by spent records.now }
+    ensures pending { result.pending ≡ count_by (λ r. is_none r.outcome) records.now }
+{
+    Outcomes {
+        done: records.iter().filter(|it| is_done(it)).count(),
+        spent: records.iter().filter(|it| is_spent(it)).count(),
+        pending: records.iter().filter(|it| it.outcome.is_none()).count(),
+    }
+}
+
+fn is_done(told: &Record) -> bool
+    ensures { result ≡ done told.now }
+{
+    matches!(told.outcome, Some(Outcome::Wrote(_) | Outcome::Gave { .. }))
+}
+
+fn is_spent(told: &Record) -> bool
+    ensures { result ≡ spent told.now }
+{
+    matches!(told.outcome, Some(Outcome::Spent))
 }
 
 /// The block that an operation is on.

@@ -127,6 +127,7 @@ impl<'a> Teller<'a> {
         self.add_open_phases()?;
         self.add_under_way()?;
         self.add_lifelines()?;
+        self.picture.outcomes = self.run.outcomes();
         self.picture.caption = caption_of(self.run.alloc, self.run.config)?;
         Ok(replace(&mut self.picture, Picture::new(self.run.alloc)))
     }
