@@ -48,10 +48,10 @@ module _ {D : Type 0} where
       ((all.0, rest.0), rest.1)
 
 module _ (c : Numbers) where
-  alike_back : (a b : Nodes) → KeepAlike c a b → KeepAlike c b a
+  pub alike_back : (a b : Nodes) → KeepAlike c a b → KeepAlike c b a
   alike_back a b alike i block below = sym (alike i block below)
 
-  alike_on : (a b d : Nodes) → KeepAlike c a b → KeepAlike c b d → KeepAlike c a d
+  pub alike_on : (a b d : Nodes) → KeepAlike c a b → KeepAlike c b d → KeepAlike c a d
   alike_on a b d one two i block below = one i block below ∙ two i block below
 
   -- prunes of nodes that keep the same

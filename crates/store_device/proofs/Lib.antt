@@ -18,3 +18,5 @@ pub mod Calling
 pub mod Rooms
 pub mod Coming
 pub mod LifeArrays
+pub mod LifeSteps
+pub mod lemmas

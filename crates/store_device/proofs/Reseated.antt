@@ -144,6 +144,12 @@ module _ {D : Type 0} (pending : D → Pending) (seen : D → List ℕ) where
   config_of store has i None e = tt
   config_of store has i (Some node) e = λ (up : is_up (seat_at store i) ≡ true). (has.sound i node.now (sym e) (not_true node.now.broken (ap is_up e ∙ up))).config
 
+  -- and of its number
+  pub number_of : (store : SeenStore D) → IsStore pending seen store → (i : ℕ) (result : Option (Bor (Stored D))) → option_copied result ≡ seat_at store i
+      → IfSome result (λ node. is_up (seat_at store i) ≡ true → node.now.node.number ≡ i)
+  number_of store has i None e = tt
+  number_of store has i (Some node) e = λ (up : is_up (seat_at store i) ≡ true). (has.sound i node.now (sym e) (not_true node.now.broken (ap is_up e ∙ up))).numbered
+
   module _ (prunes : List Prune) (moment : D → ℕ) (left_since : D → ℕ → List ℕ → Type 0) where
     abbrev pub Tries : Option (Stored D) → Option (Stored D) → Type 0
     Tries old new = TriesIn pending seen prunes moment left_since old new

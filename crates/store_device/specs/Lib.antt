@@ -7,3 +7,4 @@ pub mod Seating
 pub mod Calls
 pub mod Answered
 pub mod Arrays
+pub mod Steps

@@ -1,12 +1,13 @@
 -- Who sits on a store's seats, and what prunes leave of a node.
-use Rattle.std.specs.Prelude.{◌≡◌, ◌≢◌, ◌<◌, ◌⊎◌, ℕ, ⊤, true, false, cond, All, List, Option, Some, None, slice_set}
+use Rattle.std.specs.Prelude.{◌≡◌, ◌≢◌, ◌<◌, ◌⊎◌, ℕ, ⊤, true, false, cond, All, List, length, Option, Some, None, slice_set}
 use Rattle.std.specs.List.{AllPairs}
+use Rattle.quorum_rules.specs.Limits.{Numbers}
 use Rattle.disk_model.specs.Crash.{Pending, LeavesOnly, settled}
 use Rattle.version_disk.specs.Held.{held}
 use Rattle.version_disk.specs.Deeds.{pruning, after_prunes, AreDoneInPart}
 use Rattle.version_disk.specs.Stored.{Stored}
 use Rattle.version_disk.specs.declared.prune.Prune.{Prune}
-use Rattle.store_device.specs.Stores.{SeenStore}
+use Rattle.store_device.specs.Stores.{SeenStore, IsSound, seat_at}
 
 -- the prunes are of blocks of their own
 abbrev pub ArePrunesApart : List Prune → Type 0
@@ -46,3 +47,24 @@ module _ {D : Type 0} where
       abbrev pub TriesIn : (old new : Option (Stored D)) → Type 0
       TriesIn None new = new ≡ None
       TriesIn (Some was) new = cond was.broken (new ≡ Some was) ((is : Stored D) × (new ≡ Some is) × HasTried was is)
+
+  module _ (pending : D → Pending) (seen : D → List ℕ) where
+    -- a node that is up goes on as it is, on another disk, which has it, safe from a crash
+    pub record GoesOn (c : Numbers) (i : ℕ) (was is : Stored D) : Type 0 where
+      pub up : was.broken ≡ false
+      pub whole : is.broken ≡ false
+      pub same : is.node ≡ was.node
+      pub sound : IsSound pending seen c i is
+
+    -- what sits at a seat is what sat there, or the node that sat there goes on as it is, or nobody sits there any more
+    abbrev pub IsReseatedAt : Numbers → ℕ → (old new : Option (Stored D)) → Type 0
+    IsReseatedAt c i old new =
+        (new ≡ old)
+        ⊎ ((was : Stored D) × (is : Stored D) × (old ≡ Some was) × (new ≡ Some is) × GoesOn c i was is)
+        ⊎ (new ≡ None)
+
+    -- so it is at each seat, and the cluster is the same
+    pub record IsReseated (old new : SeenStore D) : Type 0 where
+      pub config : new.config ≡ old.config
+      pub count : length new.seats ≡ length old.seats
+      pub each : (i : ℕ) → IsReseatedAt old.config i (seat_at old i) (seat_at new i)

@@ -5,6 +5,7 @@ ghost use Rattle.store_device.specs.Lives.{LivesAreLinearizable, LivesAreLineari
 ghost use Rattle.store_device.specs.Lives.{AcknowledgedWritesAreRead, TellsAlike, FoundIsKept};
 ghost use Rattle.store_device.specs.Arrays.{LivesAreArrays};
 ghost use Rattle.store_device.specs.Calls.{CallsAreLives, CrashedCallsAreLives, CallsGoOn, CallsKeepStores};
+ghost use Rattle.store_device.specs.Steps.{StepsAreLives, StepsGoOn};
 
 use disk_model::Disk;
 
@@ -52,4 +53,11 @@ pub fn calls_are_lives<D: Disk>()
     ensures crashed { CrashedCallsAreLives D.pending D.seen D.moment D.left_since }
     ensures go_on { CallsGoOn D.pending D.seen D.moment D.left_since }
     ensures keep { CallsKeepStores D.pending D.seen D.moment D.left_since }
+{}
+
+/// A life goes on over calls of a store between which nodes go on on other disks that have them, or are taken out: such a node keeps
+/// what it told then. Steps after steps are steps.
+pub fn steps_are_lives<D: Disk>()
+    ensures lives { StepsAreLives D.pending D.seen D.moment D.left_since }
+    ensures go_on { StepsGoOn D.pending D.seen D.moment D.left_since }
 {}

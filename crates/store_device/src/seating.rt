@@ -39,6 +39,8 @@ impl<D: Disk> Store<D> {
         // one that is up is a node of the cluster
         ensures config { IfSome result (λ node. is_up (seat_at self.now seat) ≡ true
             → node.now.node.config ≡ self.now.config) }
+        ensures number { IfSome result (λ node. is_up (seat_at self.now seat) ≡ true
+            → node.now.node.number ≡ seat) }
     {
         self.seats.get(seat)?.node.as_ref()
     }
@@ -93,7 +95,8 @@ impl<D: Disk + Drop> Store<D> {
         requires there { seat < self.old.config.n }
         ensures config { self.new.config ≡ self.old.config }
         ensures seated { OnOk result ((node : Stored D) × (self.new ≡ with_seat self.old seat (Some node))
-            × (node.node ≡ held self.old.config seat (D.seen disk))) }
+            × (node.node ≡ held self.old.config seat (D.seen disk)) × (node.broken ≡ false)
+            × IsSound D.pending D.seen self.old.config seat node) }
         ensures up { OnOk result (is_up (seat_at self.new seat) ≡ true) }
         ensures err { OnErr result (self.new ≡ self.old) }
     {

@@ -1,7 +1,6 @@
 pub mod Asking
 pub mod Blocks
 pub mod Inputs
-pub mod Keeping
 pub mod Replies
 pub mod Rounds
 pub mod Sessions

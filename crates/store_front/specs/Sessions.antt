@@ -1,20 +1,21 @@
 -- A whole session: the greeting, and then rounds of requests and their replies, by what the store told.
 use Rattle.std.specs.Prelude.{◌≡◌, ◌≢◌, ◌⊎◌, ⊤, ℕ, ◌+◌, ◌-◌, ◌*◌, ◌^◌, ◌<◌, ◌≤◌, min, Bool, true, false, List, [], ◌∷◌, ◌++◌, length, Option, Result, Ok, Err}
+use Rattle.std.proofs.Common.{inl, inr}
 use Rattle.std.specs.Io.KnownBytes.{Consumes, IsAtEnd}
 use Rattle.std.specs.List.{All, AllByRecursion, concat, flat_map}
 use Rattle.quorum_rules.specs.Limits.{Numbers}
+use Rattle.stamp_order.specs.declared.Stamp.{Stamp}
 use Rattle.disk_model.specs.Crash.{Pending}
 use Rattle.nbd_front.specs.Requests.{request_magic, magic_of}
 use Rattle.nbd_front.specs.Replies.{greeting}
 use Rattle.nbd_front.specs.Sessions.{IsRequest, IsLeave, IsPart, HasTaken, end_as}
 use Rattle.nbd_front.specs.declared.ending.SessionEnd.{SessionEnd}
 use Rattle.nbd_front.specs.declared.ending.SessionEnd.TheVariants.{NoMemory, ReadFault, WriteFault, BadMagic, CutRequest, TooManyRequests}
-use Rattle.protocol.specs.Instance.{IsCluster}
-use Rattle.store_device.specs.Stores.{SeenStore, Nodes, IsStore, IsFound, kept_in}
-use Rattle.store_device.specs.Lives.{Moment, IsLife, KeepAlike}
-use Rattle.store_device.specs.Calls.{Call, Leads, moments_of, nodes_of}
+use Rattle.store_device.specs.Stores.{SeenStore, Nodes}
+use Rattle.store_device.specs.Lives.{Moment}
+use Rattle.store_device.specs.Calls.{Call, Leads, MayDoAll}
+use Rattle.store_device.specs.Steps.{Step, called, calls_among, moments_in, gone_after, HasComeTo, AreFound, StepsLead, IsTended}
 use Rattle.store_front.specs.Asking.{IsFront}
-use Rattle.store_front.specs.Keeping.{LeavesAlone}
 use Rattle.store_front.specs.Rounds.{BeginsWithRequest, Exchange, IsExchange, calls_of}
 use Rattle.store_front.specs.Replies.{text_of, IsCutOff}
 
@@ -77,9 +78,6 @@ module _ {D : Type 0} where
   abbrev pub requests_in : List (Exchange D) → List (List ℕ)
   requests_in rounds = flat_map (λ (e : Exchange D). e.requests) rounds
 
-  abbrev pub calls_in : List (Exchange D) → List (Call D)
-  calls_in rounds = flat_map calls_of rounds
-
   -- at least one
   abbrev pub HasRequest : Exchange D → Type 0
   HasRequest e = 0 < length e.requests
@@ -125,21 +123,57 @@ module _ {D : Type 0} where
 
 -- ---- a session in a store's life
 
--- A life that has come to what the store's nodes keep when a session begins, whose keeper leaves the store alone, goes on over the calls of
--- its rounds, to what its nodes are found to keep after them.
-abbrev pub SessionsAreLives : {D : Type 0} → (D → Pending) → (D → List ℕ) → (D → ℕ) → (D → ℕ → List ℕ → Type 0) → Type 0
-SessionsAreLives {D} pending seen moment left_since =
-    (lying : ℕ → Bool) (life : List Moment) (c : Numbers) (old new : SeenStore D) (result : Result Unit SessionEnd)
-    (left left_after taken taken_after : Option (List ℕ)) (gone kept : Nodes)
-    → IsCluster old.config lying
-    → IsLife old.config lying life
-    → KeepAlike old.config (nodes_of old.config life) (kept_in old gone)
-    → IsStore pending seen old
-    → (session : IsSession pending seen moment left_since LeavesAlone c old new result left left_after taken taken_after)
-    → length life + length (calls_in session.rounds) < 2 ^ 31
-    → IsFound pending old session.store gone kept
-    → IsLife old.config lying (life ++ moments_of kept (calls_in session.rounds))
-    × KeepAlike old.config (nodes_of old.config (life ++ moments_of kept (calls_in session.rounds))) kept
+module _ {D : Type 0} (pending : D → Pending) (seen : D → List ℕ) (moment : D → ℕ) (left_since : D → ℕ → List ℕ → Type 0) where
+  -- the store is only looked after
+  abbrev Tends : SeenStore D → SeenStore D → Type 0
+  Tends old new = IsTended pending seen moment left_since old new
+
+  -- What is done in rounds, in order: before the calls of each the steps by which the store was looked after.
+  abbrev pub steps_in : (rounds : List (Exchange D)) (old new : SeenStore D) → RoundsLead pending seen moment left_since Tends old rounds new → List (Step D)
+  steps_in [] old new led = []
+  steps_in (round ∷ rounds) old new led = led.2.taken.steps ++ (called (calls_of round) ++ steps_in rounds led.1 new led.4)
+
+  -- and behind them
+  abbrev pub steps_left : (result : Result Unit SessionEnd) (c : Numbers) (rest : List ℕ) (old new : SeenStore D)
+      → LeavesStore pending seen moment left_since Tends result c rest old new → List (Step D)
+  steps_left (Err NoMemory) c rest old new (inl same) = []
+  steps_left (Err NoMemory) c rest old new (inr cut) = cut.2.taken.steps ++ called (calls_of cut.1)
+  steps_left (Err WriteFault) c rest old new left = []
+  steps_left (Err TooManyRequests) c rest old new left = []
+  steps_left (Err ReadFault) c rest old new left = left.taken.steps
+  steps_left (Err (BadMagic at)) c rest old new left = left.taken.steps
+  steps_left (Err (CutRequest at)) c rest old new left = left.taken.steps
+  steps_left (Ok done) c rest old new left = left.taken.steps
+
+  module _ (c : Numbers) (old new : SeenStore D) (result : Result Unit SessionEnd) (left left_after taken taken_after : Option (List ℕ)) where
+    -- a session in which the store is only looked after
+    abbrev pub IsTendedSession : Type 0
+    IsTendedSession = IsSession pending seen moment left_since Tends c old new result left left_after taken taken_after
+
+    -- all that is done in it, in order
+    abbrev pub steps_of : IsTendedSession → List (Step D)
+    steps_of session =
+        steps_in session.rounds old session.store session.calls ++ steps_left result c session.rest session.store new session.left_store
+
+  -- It is steps that lead from the one store to the other, and that may be taken at any time.
+  abbrev pub SessionsAreSteps : Type 0
+  SessionsAreSteps =
+      (c : Numbers) (old new : SeenStore D) (result : Result Unit SessionEnd) (left left_after taken taken_after : Option (List ℕ))
+      (session : IsTendedSession c old new result left left_after taken taken_after)
+      → StepsLead pending seen moment left_since old (steps_of c old new result left left_after taken taken_after session) new
+      × ((last : ℕ → Option Stamp) → MayDoAll last (calls_among (steps_of c old new result left left_after taken taken_after session)))
+
+  -- A life that has come to the store when a session begins goes on over all that is done in it, to the store when it ends.
+  abbrev pub SessionsAreLives : Type 0
+  SessionsAreLives =
+      (lying : ℕ → Bool) (life : List Moment) (gone : Nodes) (found : List Nodes)
+      (c : Numbers) (old new : SeenStore D) (result : Result Unit SessionEnd) (left left_after taken taken_after : Option (List ℕ))
+      (session : IsTendedSession c old new result left left_after taken taken_after)
+      → HasComeTo pending seen lying life old gone
+      → length life + length (calls_among (steps_of c old new result left left_after taken taken_after session)) < 2 ^ 31
+      → AreFound pending old gone (steps_of c old new result left left_after taken taken_after session) found
+      → HasComeTo pending seen lying (life ++ moments_in (steps_of c old new result left left_after taken taken_after session) found) new
+      (gone_after old gone (steps_of c old new result left left_after taken taken_after session) found)
 
 -- ---- what an input says of its end
 

@@ -14,6 +14,6 @@ pub mod session;
 mod standing;
 mod values;
 
-pub use keeper::{Idle, Keeper};
+pub use keeper::Keeper;
 pub use nbd_front::SessionEnd;
 pub use session::{Session, serve};

@@ -121,6 +121,7 @@ pub fn serve<D: Disk + Send, U: Keeper<D>, S: Source, K: Sink, R: Threads + Sync
     source: &mut S,
     sink: &mut K,
 ) -> Result<(), SessionEnd>
+    requires ready { U.ready keeper.old }
     ensures session { IsSession D.pending D.seen D.moment D.left_since U.keeps store.old.config
         store.old store.new result (S.left source.old) (S.left source.new) (K.taken sink.old)
         (K.taken sink.new) }

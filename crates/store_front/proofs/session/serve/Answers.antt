@@ -30,6 +30,7 @@ loop-round-preserved g c =
     let r = c.in_ok-served.ensures in
     let len = c.in_ok-served.served in
     record {
+      ready = c.tend.ensures.ready;
       config = r.config ∙ c.tend.ensures.config ∙ inv.config;
       reads = c.in_ok-wait.ensures.calm (λ e. cc) ∙ inv.reads;
       writes = r.calm (λ e. cc) ∙ inv.writes;

@@ -4,6 +4,7 @@ use Rattle.store_front.proofs.session.serve.Given as goal
 
 abbrev pub invariant-loop-round : goal.invariant-loop-round
 invariant-loop-round g l = record {
+  ready : g.U.Keeper.ready l.keeper;
   config : l.store.config ≡ l.fn.store.config;
   reads : g.S.Source.faults l.source ≡ g.S.Source.faults l.fn.source;
   writes : g.K.Sink.faults l.sink ≡ g.K.Sink.faults l.fn.sink;

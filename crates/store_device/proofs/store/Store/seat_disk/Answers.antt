@@ -1,4 +1,4 @@
-use Rattle.std.proofs.Common.{◌∙◌, ap}
+use Rattle.std.proofs.Common.{◌∙◌, ap, sym}
 use Rattle.version_disk.specs.Held.{held}
 use Rattle.store_device.specs.Stores.{SeenStore}
 use Rattle.store_device.specs.Seating.{with_seat}
@@ -8,5 +8,16 @@ use Rattle.store_device.proofs.store.Store.seat_disk.Goals as goal
 pub returns-clause-seated : goal.returns-clause-seated
 returns-clause-seated g c =
     let n = c.in_ok-node.node in
-    let e = ap (λ k. with_seat c.args.self.now k (Some n)) c.from.ensures in
-    (n, c.seat_node.ensures ∙ e, c.in_ok-node.ensures.state ∙ ap (λ (s : SeenStore g.row.D.Denot). held s.config c.args.seat (g.D.Disk.seen c.args.disk)) c.self.view_is)
+    let opened = c.in_ok-node.ensures in
+    let e = ap (λ k. with_seat c.args.self.now k (Some n)) c.from.ensures in (
+      n,
+      c.seat_node.ensures ∙ e,
+      opened.state ∙ ap (λ (s : SeenStore g.row.D.Denot). held s.config c.args.seat (g.D.Disk.seen c.args.disk)) c.self.view_is,
+      opened.whole,
+      record {
+        config = opened.config ∙ ap (λ (s : SeenStore g.row.D.Denot). s.config) c.self.view_is;
+        numbered = opened.number;
+        durable = opened.durable;
+        state = sym (ap (λ (s : SeenStore g.row.D.Denot). held s.config c.args.seat (g.D.Disk.seen n.disk)) c.self.view_is) ∙ opened.held;
+      },
+    )
