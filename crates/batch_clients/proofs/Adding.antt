@@ -1,5 +1,5 @@
 -- Operations are put beside one another, and what they ask.
-use Rattle.std.proofs.Common.{◌≡◌, ◌⊎◌, inl, inr, ℕ, zero, suc, ◌+◌, ◌-◌, ◌^◌, ◌<◌, ◌≤◌, Bool, true, false, cond, eqb, List, [], ◌∷◌, ◌++◌, length, map, replicate, drop, get_or, refl, sym, ap, subst, ◌∙◌, arith, add-one, drop-cons, append_assoc, append-nil, Option}
+use Rattle.std.proofs.Common.{◌≡◌, ◌⊎◌, inl, inr, ℕ, zero, suc, ◌+◌, ◌-◌, ◌^◌, ◌<◌, ◌≤◌, Bool, true, false, cond, eqb, List, Vec, [], ◌∷◌, ◌++◌, length, map, replicate, drop, get_or, refl, sym, ap, subst, ◌∙◌, arith, add-one, drop-cons, append_assoc, append-nil, Option}
 use Rattle.std.specs.Prelude.{slice_get, option_to_list, All}
 use Rattle.std.specs.List.{filter_map}
 use Rattle.std.specs.declared.option.Option.TheVariants.{None, Some}
@@ -24,7 +24,10 @@ use Rattle.batch_clients.specs.declared.run.Standing.{Standing}
 use Rattle.batch_clients.specs.declared.run.Standing.TheVariants.{Asking, Ended as HasEnded, Lost as IsLost}
 use Rattle.batch_clients.specs.Batches.{Stand, Running, how_many, reply_at, column, ask_by, asks_to, begun, stand_after, stand_heard, after_answers, AreAsksOf}
 use Rattle.batch_clients.specs.Batches.Stand.{Asks as AsksOne, Ended, Lost}
+use Rattle.batch_clients.specs.declared.turn.Turn.{Turn}
+use Rattle.batch_clients.specs.declared.turn.Turn.TheVariants.{Hears, Asks, Over as IsDone}
 use Rattle.batch_clients.specs.Parts.{running, stand_of, stand_in, stand_by, phase_at, rest_of, left_by, HasCome, AskMore, IsAdded, IsAsking, IsRun}
+use Rattle.batch_clients.specs.Turns.{HasMail, IsOver, HasHeard, heard_as, IsTurnOf}
 
 module _ (s : Setting) where
   one_asks : (i : ℕ) (r : Running) → filter_map (λ (x : Running). ask_by s i x.stand) (r ∷ []) ≡ option_to_list (ask_by s i r.stand)
@@ -148,69 +151,6 @@ module _ (c : Numbers) (answers : List (Option (List Reply))) (runs : List Run) 
 
   pub going_ends : (left : List (Option (List Reply))) (heard : List Run) (asks : List (List Ask)) → IsGoing c answers runs left [] heard asks → map running heard ≡ after_answers (setting c) 0 answers (map running runs)
   going_ends left heard asks h = sym (h.comes ∙ append-nil (map running heard))
-
--- where the phase of an operation that asked leaves it
-module _ (c : Numbers) (id : ℕ) (old : ClientView) (own : IsAsking c id old) (replies : List (Option Reply)) where
-  abbrev by_replies : Stand
-  by_replies = stand_by (setting c) id replies (stand_in old.seen.task)
-
-  by_phase : (p : Progress) → after_phase (setting old.config) old.id own.task replies ≡ p → by_replies ≡ stand_after own.task p
-  by_phase p e =
-      ap (λ (o : Option SeenTask). stand_by (setting c) id replies (stand_in o)) own.under_way
-      ∙ ap (stand_after own.task)
-      (ap (λ (x : Numbers). after_phase (setting x) id own.task replies) (sym own.cluster)
-      ∙ ap (λ (k : ℕ). after_phase (setting old.config) k own.task replies) (sym own.own) ∙ e)
-
-  module _ (runs new : List Run) (asks more : List (List Ask)) where
-    abbrev Added : Type 0
-    Added = IsAdded c (record { client = id; stand = by_replies }) (phase_of old.seen.task + 1) runs new asks more
-
-    added : (stand : Stand) (run : Run) → by_replies ≡ stand → running run ≡ record { client = id; stand = stand } → IsRun c (phase_of old.seen.task + 1) run → new ≡ runs ++ run ∷ [] → AskMore (setting c) stand asks more → Added
-    added stand run e is is_run push asked = record {
-      run = run;
-      runs = push;
-      stands = is ∙ (λ j. record { client = id; stand = sym e j });
-      is_run = is_run;
-      asked = subst (λ (x : Stand). AskMore (setting c) x asks more) (sym e) asked;
-    }
-
-    lost_by : (later : ClientView) → HasCome old own.task replies later More → more ≡ asks → (standing : Standing) → standing ≡ IsLost → new ≡ runs ++ record { id = id; standing = standing } ∷ [] → Added
-    lost_by later h same standing is push =
-        let e = h.2 in
-        let phase : eqb h.0.phase own.task.phase ≡ true = grind (arith, nat_tests) in
-        added Lost (record { id = id; standing = IsLost }) (by_phase (UnderWay h.0) h.1 ∙ ap (λ (b : Bool). cond b Lost (AsksOne h.0)) phase) refl (record { standing = tt; early = omega arith }) (push ∙ ap (λ (x : Standing). runs ++ record { id = id; standing = x } ∷ []) is)
-        (subst (λ (l : List (List Ask)). AskMore (setting c) Lost asks l) (sym same) (ended_asks_nothing (setting c) Lost asks refl))
-
-    pub added_lost : (later : ClientView) (heard : Heard) → (heard ≡ More) ⊎ (heard ≡ Unchanged) → HasCome old own.task replies later heard → more ≡ asks → (standing : Standing) → standing ≡ IsLost → new ≡ runs ++ record { id = id; standing = standing } ∷ [] → Added
-    added_lost later heard (inl e) h = lost_by later (subst (HasCome old own.task replies later) e h)
-    added_lost later heard (inr e) h = lost_by later (subst (HasCome old own.task replies later) e h)
-
-    pub added_ended : (later : ClientView) (outcome : Outcome) → HasCome old own.task replies later (EndedWith outcome) → more ≡ asks → (standing : Standing) → standing ≡ HasEnded outcome → new ≡ runs ++ record { id = id; standing = standing } ∷ [] → Added
-    added_ended later outcome h same standing is push =
-        added (Ended outcome) (record { id = id; standing = HasEnded outcome }) (by_phase (Over outcome) h) refl (record { standing = tt; early = omega arith }) (push ∙ ap (λ (x : Standing). runs ++ record { id = id; standing = x } ∷ []) is)
-        (subst (λ (l : List (List Ask)). AskMore (setting c) (Ended outcome) asks l) (sym same) (ended_asks_nothing (setting c) (Ended outcome) asks refl))
-
-    pub added_asking : (later : ClientView) (mail : List Message) (h : HasCome old own.task replies later (Send mail)) → AskMore (setting old.config) (AsksOne h.0) asks more → (standing : Standing) → standing ≡ Asking later → new ≡ runs ++ record { id = id; standing = standing } ∷ [] → Added
-    added_asking later mail h asked standing is push =
-        let next = h.0 in
-        let apart = h.2 in
-        let other : eqb next.phase own.task.phase ≡ false = grind (arith, nat_tests) in
-        let task : later.seen.task ≡ Some next = ap (λ (x : ClientView). x.seen.task) h.4 in
-        let was : phase_of old.seen.task ≡ own.task.phase = ap phase_of own.under_way in
-        added (AsksOne next) (record { id = id; standing = Asking later }) (by_phase (UnderWay next) h.1 ∙ ap (λ (b : Bool). cond b Lost (AsksOne next)) other)
-        (λ j. record { client = id; stand = stand_in (task j) })
-        (record {
-          standing = record {
-            cluster = ap (λ (x : ClientView). x.config) h.4 ∙ own.cluster;
-            own = ap (λ (x : ClientView). x.id) h.4 ∙ own.own;
-            task = next;
-            under_way = task;
-            number = h.3 ∙ own.number ∙ sym (ap (λ (x : ClientView). ops_of x.seen) h.4);
-          };
-          early = (let e = ap (λ (o : Option SeenTask). phase_at (stand_in o)) task in omega (arith, e, apart, was));
-        })
-        (push ∙ ap (λ (x : Standing). runs ++ record { id = id; standing = x } ∷ []) is)
-        (subst (λ (x : Numbers). AskMore (setting x) (AsksOne next) asks more) own.cluster asked)
 
 -- an operation that begins
 abbrev first_stand : Numbers → Op → Stand

@@ -2,4 +2,5 @@ mod Hearing
 mod Dealing
 mod Taking
 mod Adding
+mod Turning
 pub mod Batches

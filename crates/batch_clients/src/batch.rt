@@ -1,22 +1,24 @@
 ghost use Rattle.std.specs.Prelude.{◌≡◌, ℕ, ◌≤◌, ◌<◌, ◌+◌, ◌-◌, ◌^◌, map, sum, length, All, IfOk, OnOk};
 ghost use Rattle.protocol.specs.Instance.{setting};
-ghost use Rattle.protocol.specs.Seen.{block_of, work_of, phase_of, seen_begun};
+ghost use Rattle.protocol.specs.Seen.{block_of, work_of, seen_begun};
 ghost use Rattle.protocol.specs.World.{Fits as FitsCluster};
 ghost use Rattle.wire_forms.specs.Ops.{Fits};
 ghost use Rattle.quorum_rules.specs.Limits.{Numbers};
-ghost use Rattle.batch_clients.specs.Batches.{begun, end_of, how_many, stand_heard, after_answers, AreAsksOf, AreAnswersTo};
+ghost use Rattle.batch_clients.specs.Batches.{Running, begun, end_of, how_many, after_answers, AreAsksOf, AreAnswersTo};
 ghost use Rattle.batch_clients.specs.Batches.Stand.{Asks as AsksOne};
-ghost use Rattle.batch_clients.specs.Parts.{running, stand_of, stand_in, stand_by, phase_at, turned, left_by, IsRun, IsStanding, IsAsking, IsAdded};
+ghost use Rattle.batch_clients.specs.Parts.{running, stand_of, IsRun, IsStanding, IsAdded};
+ghost use Rattle.batch_clients.specs.Turns.{HasHeard};
 
-use crate::answers::{take_next, turn};
 use crate::asking::{deal, no_asks};
-use crate::run::{Run, Standing, hear_phase};
-use client_core::{Client, Heard, Outcome};
+use crate::run::{Run, Standing};
+use crate::turn::{Turn, take_all, take_turns};
+use client_core::{Client, Outcome};
 use lists::{ItemList, NoMemory};
 use quorum_rules::Config;
 use std::alloc::Global;
 use std::marker::Model;
 use std::mem::replace;
+use std::thread::Threads;
 use wire_forms::{Ask, Op, Reply};
 
 /// For each node, what it is asked.
@@ -80,8 +82,14 @@ impl Batch {
         Ok((batch, asks))
     }
 
-    /// Hears the answers to what was asked. Gives what the next phases ask. After want of memory the batch is of no use any more.
-    pub fn hear(&mut self, answers: Answers) -> Result<Asks, NoMemory>
+    /// Hears the answers to what was asked, each operation its own, at once in so many threads at most. Gives what the next phases ask. After
+    /// want of memory the batch is of no use any more.
+    pub fn hear<R: Threads + Sync>(
+        &mut self,
+        rt: &R,
+        threads: usize,
+        answers: Answers,
+    ) -> Result<Asks, NoMemory>
         requires phases { self.old.phases < 2 ^ 64 - 1 }
         requires answers { AreAnswersTo (setting self.old.config) self.old.runs answers.items }
         ensures config { self.new.config ≡ self.old.config }
@@ -90,7 +98,7 @@ impl Batch {
         ensures asks { IfOk result (λ asks. AreAsksOf (setting self.old.config) self.new.runs (map (λ a. a.items) asks.items)) }
     {
         let runs = replace(&mut self.runs, Vec::new(self.alloc));
-        let (runs, asks) = hear_all(self.alloc, &self.config, runs, answers)?;
+        let (runs, asks) = hear_all(rt, threads, self.alloc, &self.config, runs, answers)?;
         self.runs = runs;
         self.phases += 1;
         Ok(asks)
@@ -197,7 +205,9 @@ fn of_bytes(op: &Op)
 }
 
 /// Each operation that asks hears its answers. Gives the operations and what they ask then.
-fn hear_all(
+fn hear_all<R: Threads + Sync>(
+    rt: &R,
+    threads: usize,
     alloc: Global,
     config: &Config,
     runs: Vec<Run>,
@@ -210,69 +220,34 @@ fn hear_all(
     ensures asks { IfOk result (λ r. AreAsksOf (setting config.now) (map running r.0.items) (map (λ a. a.items) r.1.items)) }
     ensures are_runs { IfOk result (λ r. (phases : ℕ) → All (IsRun config.now phases) runs.items → All (IsRun config.now (phases + 1)) r.0.items) }
 {
-    let mut heard = Vec::with_capacity(alloc, runs.len())?;
-    let mut asks = no_asks(alloc, config.n())?;
-    let mut answers = turn(alloc, answers)?;
-    for run in runs {
-        hear_one(alloc, run, &mut answers, &mut heard, &mut asks)?;
+    let nodes = config.n();
+    let given = take_turns(alloc, runs, answers)?;
+    let turns = take_all(rt, threads, given);
+    let mut heard = Vec::with_capacity(alloc, turns.len())?;
+    let mut asks = no_asks(alloc, nodes)?;
+    for turn in turns {
+        put_one(turn, &mut heard, &mut asks)?;
     }
     Ok((heard, asks))
 }
 
-/// An operation hears the next answers, if it asks. It is put at the end of those that have heard theirs, and what it asks then at the end of
-/// what they ask.
-fn hear_one(
-    alloc: Global,
-    run: Run,
-    answers: &mut Answers,
-    heard: &mut Vec<Run>,
-    asks: &mut Asks,
-) -> Result<(), NoMemory>
-    requires run { (c : Numbers) × IsRun c (2 ^ 64 - 2) run × (length asks.old.items ≡ c.n) }
-    requires few { length answers.old.items < 256 }
-    ensures left { OnOk result (map turned answers.new.items ≡ left_by (stand_of run.standing) (map turned answers.old.items)) }
-    ensures added { OnOk result ((c : Numbers) → IsRun c (2 ^ 64 - 2) run → length asks.old.items ≡ c.n
-        → IsAdded c (record { client = run.id; stand = stand_heard (setting c) 0 (map turned answers.old.items) run.id (stand_of run.standing) })
-        (phase_at (stand_of run.standing) + 1)
-        heard.old.items heard.new.items (map (λ a. a.items) asks.old.items) (map (λ a. a.items) asks.new.items)) }
+/// Puts an operation that took its turn at the end of those that did, and what it asks then at the end of what they ask.
+fn put_one(turn: Turn, heard: &mut Vec<Run>, asks: &mut Asks) -> Result<(), NoMemory>
+    requires turn { (c : Numbers) × (r : Running) × (phase : ℕ) × HasHeard c r phase turn × (length asks.old.items ≡ c.n) }
+    ensures { OnOk result ((c : Numbers) (r : Running) (phase : ℕ) → HasHeard c r phase turn → length asks.old.items ≡ c.n
+        → IsAdded c r phase heard.old.items heard.new.items (map (λ a. a.items) asks.old.items) (map (λ a. a.items) asks.new.items)) }
 {
-    let Run { id, standing } = run;
-    match standing {
-        Standing::Asking(client) => {
-            let replies = take_next(alloc, answers)?;
-            hear_asking(id, client, replies, heard, asks)
-        }
-        over => {
-            heard.push(Run { id, standing: over })?;
+    match turn {
+        Turn::Asks { id, client, mail } => {
+            deal(asks, mail)?;
+            let standing = Standing::Asking(client);
+            heard.push(Run { id, standing })?;
             Ok(())
         }
-    }
-}
-
-/// An operation that asks hears the answers of all nodes.
-fn hear_asking(
-    id: u32,
-    mut client: Client,
-    replies: Vec<Option<Reply>>,
-    heard: &mut Vec<Run>,
-    asks: &mut Asks,
-) -> Result<(), NoMemory>
-    requires own { (c : Numbers) × IsAsking c id client × (length asks.old.items ≡ c.n) }
-    requires early { phase_of client.seen.task < 2 ^ 64 - 1 }
-    requires few { length replies.items < 256 }
-    ensures { OnOk result ((c : Numbers) → IsAsking c id client → length asks.old.items ≡ c.n
-        → IsAdded c (record { client = id; stand = stand_by (setting c) id replies.items (stand_in client.seen.task) })
-        (phase_of client.seen.task + 1)
-        heard.old.items heard.new.items (map (λ a. a.items) asks.old.items) (map (λ a. a.items) asks.new.items)) }
-{
-    let standing = match hear_phase(&mut client, id, replies)? {
-        Heard::Send(mail) => {
-            deal(asks, mail)?;
-            Standing::Asking(client)
+        Turn::Over(run) => {
+            heard.push(run)?;
+            Ok(())
         }
-        Heard::Ended(outcome) => Standing::Ended(outcome),
-        Heard::More | Heard::Unchanged => Standing::Lost,
-    };
-    heard.push(Run { id, standing })?;
-    Ok(())
+        Turn::Hears { .. } | Turn::Starved => Err(NoMemory),
+    }
 }

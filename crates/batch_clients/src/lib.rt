@@ -5,5 +5,6 @@ mod answers;
 mod asking;
 pub mod batch;
 mod run;
+mod turn;
 
 pub use batch::{Answers, Asks, Batch};

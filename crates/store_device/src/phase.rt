@@ -101,7 +101,7 @@ fn go_through<D: Disk + Send, R: Threads + Sync>(
     work(rt, threads, seats);
     none_starved(seats)?;
     let answers = gather(alloc, seats)?;
-    batch.hear(answers)
+    batch.hear(rt, threads, answers)
 }
 
 /// Carries out operations, each by a client of its own, in step. Gives how each of them ended.

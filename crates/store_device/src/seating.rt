@@ -17,14 +17,6 @@ use std::thread::{Threads, for_each_mut};
 use version_disk::{OpenRefusal, Prune, StoredNode};
 
 impl<D: Disk> Store<D> {
-    /// From now on the nodes write in so many threads at once at most, and not each in a thread of its own. On disks whose syncs take no time
-    /// one is best.
-    pub fn set_threads(&mut self, threads: usize)
-        ensures { self.new ≡ self.old }
-    {
-        self.threads = threads;
-    }
-
     /// The cluster's numbers.
     pub fn config(&self) -> &Config
         ensures { result.now ≡ self.now.config }

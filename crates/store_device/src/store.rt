@@ -33,7 +33,7 @@ pub struct Store<D: Disk> {
     /// An idle client, from which each operation's own client is made.
     idle: Client,
     pub(crate) seats: Vec<Seat<D>>,
-    /// In how many threads the nodes write at once at most.
+    /// In how many threads at most the nodes write at once, and then the operations hear what they answered.
     pub(crate) threads: usize,
 }
 
@@ -74,7 +74,8 @@ impl<D: Disk> Store<D> {
         })
     }
 
-    /// Reads and writes blocks, each by a client of its own, in step: in each phase the nodes that write do so at once, in threads.
+    /// Reads and writes blocks, each by a client of its own, in step: in each phase the nodes that write do so at once, in threads, and then
+    /// the operations hear what was answered at once, in threads too.
     /// Gives how each operation ended, in order; None where too few nodes answered, or where it had not ended after a million phases:
     /// then a write may have taken place or not. So it may where no memory was found, by the caller or by a node that is up, and then
     /// nothing is told of any of them.

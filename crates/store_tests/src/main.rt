@@ -65,8 +65,8 @@ fn run_file<R: Files + Print + AllocGlobal + Threads + Sync>(rt: &R, path: &str)
 }
 
 // What came of the calls of a batch.
-fn tell_step(rt: &(impl Print + AllocGlobal)) -> io::Result<()> {
-    match step::is_told(rt.alloc()) {
+fn tell_step<R: Print + AllocGlobal + Threads + Sync>(rt: &R) -> io::Result<()> {
+    match step::is_told(rt, rt.alloc()) {
         Ok(true) => println!(rt; "a write in step: ok"),
         Ok(false) => println!(rt; "a write in step: otherwise"),
         Err(Unmade) => println!(rt; "a write in step: not made"),

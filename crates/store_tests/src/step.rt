@@ -12,10 +12,11 @@ use lists::{ItemList, NoMemory};
 use quorum_rules::Config;
 use std::alloc::Global;
 use std::slice;
+use std::thread::Threads;
 use wire_forms::{Ask, Op, Reply, Request};
 
 /// A write is told after two phases, with time 1 and the number of client 1, and asks nothing any more.
-pub fn is_told(alloc: Global) -> Result<bool, Unmade> {
+pub fn is_told<R: Threads + Sync>(rt: &R, alloc: Global) -> Result<bool, Unmade> {
     let config = Config::new(3, 1, 0, 2, 1, 2, 2).map_err(|_| Unmade)?;
     let op = Op::Write {
         block: 1,
@@ -27,9 +28,9 @@ pub fn is_told(alloc: Global) -> Result<bool, Unmade> {
     let idle = Client::new(alloc, &config, 0)?;
     let (mut batch, asks) = Batch::begin(alloc, &config, &idle, slice::from_ref(&op))?;
     let has_begun = batch.asking() == 1 && batch.phases() == 1;
-    let asks = batch.hear(answers_to(alloc, &asks)?)?;
+    let asks = batch.hear(rt, 2, answers_to(alloc, &asks)?)?;
     let asks_on = batch.asking() == 1 && asks.iter().all(|asked| asked.len() == 1);
-    let asks = batch.hear(answers_to(alloc, &asks)?)?;
+    let asks = batch.hear(rt, 2, answers_to(alloc, &asks)?)?;
     let is_over = batch.asking() == 0
         && batch.phases() == 3
         && asks.iter().all(|asked| asked.is_empty());

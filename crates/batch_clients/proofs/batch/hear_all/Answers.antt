@@ -1,56 +1,85 @@
-use Rattle.std.proofs.Common.{length, List, sym, ap, subst, ◌∙◌, arith, map, replicate, []}
+use Rattle.std.proofs.Common.{List, length, refl, sym, ap, subst, ◌∙◌, arith, replicate, []}
 use Rattle.std.specs.Vec.Iter.{into_iter_items}
 use Rattle.std.proofs.lemmas.Grind.{common_steps}
 use Rattle.std.proofs.lemmas.List.{length-map}
+use Rattle.lists.proofs.lemmas.Members.{nil_of_length}
 use Rattle.batch_clients.specs.declared.run.Run.{Run}
-use Rattle.batch_clients.specs.Parts.{lists_of, items_of, turned}
-use Rattle.batch_clients.proofs.Taking.{turned_back}
-use Rattle.batch_clients.proofs.Adding.{IsGoing, going_begins, going_on, next_early}
+use Rattle.batch_clients.specs.declared.turn.Turn.{Turn}
+use Rattle.batch_clients.specs.Parts.{lists_of, items_of}
+use Rattle.batch_clients.proofs.Adding.{IsGoing, going_begins, going_ends}
+use Rattle.batch_clients.proofs.Turning.{ArePut, all_may, all_come, putting_begins, next_put, putting_goes_on, putting_ends}
 use Rattle.batch_clients.proofs.batch.hear_all.Goals as goal
 
-pub loop-run-init : goal.loop-run-init
-loop-run-init c = record {
-  going =
-      subst (λ (l : List Run). IsGoing c.args.config.now c.args.answers.items c.args.runs.items (map turned c.in_ok-answers.answers.items) (into_iter_items c.into_iter-run-iterator.result) l (lists_of c.in_ok-asks.asks.items)) (sym c.in_ok-heard.ensures.items)
-      (going_begins c.args.config.now c.args.answers.items c.args.runs.items (map turned c.in_ok-answers.answers.items) (ap (map turned) c.in_ok-answers.ensures ∙ turned_back c.args.answers.items) c.requires.count c.requires.early
-      (lists_of c.in_ok-asks.asks.items) (c.in_ok-asks.ensures ∙ ap (λ n. replicate n []) c.n.ensures.is) (into_iter_items c.into_iter-run-iterator.result) c.into_iter-run-iterator.ensures.into_iter_gives.0);
-  left = grind (arith, common_steps);
-}
-
-pub hear_one-requires : goal.hear_one-requires
-hear_one-requires c =
+pub take_all-turns-requires-after_bounds : goal.take_all-turns-requires-after_bounds
+take_all-turns-requires-after_bounds g c κs within =
     let config = c.args.config.now in
-    let next = into_iter_items c.next.new.self in
-    let run = c.in-Some.run' in
-    let left = map turned c.loop-run.answers.items in
-    let asks = lists_of c.loop-run.asks.items in
-    let heard = c.loop-run.heard.items in
-    let h = subst (λ (l : List Run). IsGoing config c.args.answers.items c.args.runs.items left l heard asks) c.in-Some.ensures.steps.0 c.loop-run.invariant.going in
-    let count = h.asked.count in
-    let full = h.full in
-    let long = length-map c.loop-run.asks.items items_of in
-    let answers = length-map c.loop-run.answers.items turned in
-    let nodes = c.n.ensures.valid.nodes.1 in
+    let nodes = c.n-nodes.ensures.valid.nodes.1 in
+    let full = c.requires.count in
+    all_may config c.args.answers.items c.args.runs.items c.in_ok-given.given.items (c.in_ok-given.ensures config c.requires.early (omega (arith, nodes, full)))
+
+pub loop-turn-init : goal.loop-turn-init
+loop-turn-init g c =
+    let config = c.args.config.now in
+    let answers = c.args.answers.items in
+    let runs = c.args.runs.items in
+    let turns = c.take_all-turns.result.items in
+    let heard = c.in_ok-heard.heard.items in
+    let asks = lists_of c.in_ok-asks.asks.items in
+    let nodes = c.n-nodes.ensures.valid.nodes.1 in
+    let full = c.requires.count in
+    let taken = c.in_ok-given.ensures config c.requires.early (omega (arith, nodes, full)) in
+    let come = all_come config answers runs c.in_ok-given.given.items turns taken c.take_all-turns.ensures.count c.take_all-turns.ensures.each in
+    let begun = going_begins config answers runs answers refl c.requires.count c.requires.early asks (c.in_ok-asks.ensures ∙ ap (λ n. replicate n []) c.n-nodes.ensures.is) runs refl in
     record {
-      run = (config, next_early config c.args.answers.items c.args.runs.items left run next heard asks h, omega (arith, count, long));
-      few = omega (arith, full, answers, nodes);
+      put =
+          subst (λ (l : List Turn). ArePut config answers runs l heard asks) (sym c.into_iter-turn-iterator.ensures.into_iter_gives.0)
+          (putting_begins config answers runs heard asks turns come (subst (λ (l : List Run). IsGoing config answers runs answers runs l asks) (sym c.in_ok-heard.ensures.items) begun));
+      left = grind (arith, common_steps);
     }
 
-pub loop-run-preserved : goal.loop-run-preserved
-loop-run-preserved c =
+pub put_one-requires : goal.put_one-requires
+put_one-requires g c =
     let config = c.args.config.now in
     let next = into_iter_items c.next.new.self in
-    let run = c.in-Some.run' in
-    let left = map turned c.loop-run.answers.items in
-    let asks = lists_of c.loop-run.asks.items in
-    let heard = c.loop-run.heard.items in
-    let h = subst (λ (l : List Run). IsGoing config c.args.answers.items c.args.runs.items left l heard asks) c.in-Some.ensures.steps.0 c.loop-run.invariant.going in
-    let early = next_early config c.args.answers.items c.args.runs.items left run next heard asks h in
-    let count = h.asked.count in
-    let long = length-map c.loop-run.asks.items items_of in
+    let turn = c.in-Some.turn in
+    let answers = c.args.answers.items in
+    let runs = c.args.runs.items in
+    let heard = c.loop-turn.heard.items in
+    let asks = lists_of c.loop-turn.asks.items in
+    let h = subst (λ (l : List Turn). ArePut config answers runs l heard asks) c.in-Some.ensures.steps.0 c.loop-turn.invariant.put in
+    let put = next_put config answers runs heard asks turn next h in
+    let count = h.going.asked.count in
+    let long = length-map c.loop-turn.asks.items items_of in
+    record { turn = (config, put.0, put.1, put.2, omega (arith, count, long)) }
+
+pub loop-turn-preserved : goal.loop-turn-preserved
+loop-turn-preserved g c =
+    let config = c.args.config.now in
+    let next = into_iter_items c.next.new.self in
+    let turn = c.in-Some.turn in
+    let answers = c.args.answers.items in
+    let runs = c.args.runs.items in
+    let heard = c.loop-turn.heard.items in
+    let asks = lists_of c.loop-turn.asks.items in
+    let h = subst (λ (l : List Turn). ArePut config answers runs l heard asks) c.in-Some.ensures.steps.0 c.loop-turn.invariant.put in
+    let count = h.going.asked.count in
+    let long = length-map c.loop-turn.asks.items items_of in
     record {
-      going =
-          going_on config c.args.answers.items c.args.runs.items left run next heard asks h (map turned c.hear_one.new.answers.items) c.hear_one.new.heard.items (lists_of c.hear_one.new.asks.items) c.in_ok-hear_one.ensures.left
-          (c.in_ok-hear_one.ensures.added config early (omega (arith, count, long)));
-      left = (let e = ap length c.in-Some.ensures.steps.0 in let f = c.in-Some.ensures.steps.1 in let g = c.loop-run.invariant.left in omega (arith, e, f, g));
+      put =
+          putting_goes_on config answers runs heard asks turn next h c.put_one.new.heard.items (lists_of c.put_one.new.asks.items)
+          (λ r phase k. c.in_ok-put_one.ensures config r phase k (omega (arith, count, long)));
+      left = (let e = ap length c.in-Some.ensures.steps.0 in let f = c.in-Some.ensures.steps.1 in let i = c.loop-turn.invariant.left in omega (arith, e, f, i));
     }
+
+pub returns-clause-runs : goal.returns-clause-runs
+returns-clause-runs g c =
+    let rest = into_iter_items c.loop-turn.turn-iterator in
+    let none = nil_of_length rest (sym c.in-None.ensures.steps.0 ∙ c.loop-turn.invariant.left) in
+    let put = c.loop-turn.invariant.put in
+    going_ends c.args.config.now c.args.answers.items c.args.runs.items put.left c.loop-turn.heard.items (lists_of c.loop-turn.asks.items) (putting_ends c.args.config.now c.args.answers.items c.args.runs.items c.loop-turn.heard.items (lists_of c.loop-turn.asks.items) rest none put)
+
+pub returns-clause-asks : goal.returns-clause-asks
+returns-clause-asks g c = c.loop-turn.invariant.put.going.asked
+
+pub returns-clause-are_runs : goal.returns-clause-are_runs
+returns-clause-are_runs g c = λ phases all. (c.loop-turn.invariant.put.going.runs_are phases all).1

@@ -37,7 +37,7 @@ returns-in_err-answers-clause-handed g c =
     )
 
 pub hear-requires-clause-answers : goal.hear-requires-clause-answers
-hear-requires-clause-answers g c =
+hear-requires-clause-answers g c κs within =
     let D = g.D.Disk in
     subst (λ (answers : List (Option (List Reply))). AreAnswersTo (setting c.args.batch.now.config) c.args.batch.now.runs answers)
     (sym c.in_ok-answers.ensures.answers)
