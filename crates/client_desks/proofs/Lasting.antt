@@ -4,7 +4,7 @@ use Rattle.std.proofs.lemmas.List.{map-append}
 use Rattle.journals.specs.declared.desk.DeskEntry.{DeskEntry}
 use Rattle.locked_nodes.specs.Cells.{Rises}
 use Rattle.client_desks.specs.Desks.{DeskView, numbers_of, desk_entry}
-use Rattle.client_desks.specs.Later.{IsLater, GoesOn, OwnIsLater, CallIsLater, KeptIsLater}
+use Rattle.client_desks.specs.Later.{IsLater, GoesOn, OwnIsLater, CallIsLater}
 use Rattle.locked_nodes.proofs.lemmas.Growing.{rises_append}
 
 -- numbers that rise from a higher bound rise from a lower one
@@ -58,16 +58,4 @@ call_later d n a le = record {
   more = desk_entry n a ∷ [];
   entries = refl;
   rises = (le, omega arith);
-}
-
-pub kept_later : KeptIsLater
-kept_later old new kept = record {
-  config = ap (λ (d : DeskView). d.config) kept.same;
-  id = ap (λ (d : DeskView). d.id) kept.same;
-  lying = ap (λ (d : DeskView). d.lying) kept.same;
-  clock = ap (λ p. p.clock) kept.pass;
-  number = ap (λ p. p.number) kept.pass;
-  more = [];
-  entries = ap (λ (d : DeskView). d.entries) kept.same ∙ sym (append-nil old.entries);
-  rises = kept.later;
 }

@@ -1,5 +1,5 @@
--- A client's desk: what it is, and what its calls add to it and to a cell.
-use Rattle.std.specs.Prelude.{◌≡◌, ◌⊎◌, ℕ, ◌+◌, ◌-◌, ◌^◌, ◌<◌, ◌≤◌, Bool, false, List, [], ◌∷◌, ◌++◌, map, Option, IsSome}
+-- A client's desk: what it is, and what its calls add to it.
+use Rattle.std.specs.Prelude.{◌≡◌, ℕ, ◌+◌, ◌-◌, ◌^◌, ◌<◌, Bool, false, List, [], ◌∷◌, ◌++◌, map, Option, IsSome}
 use Rattle.std.specs.declared.option.Option.TheVariants.{None, Some}
 use Rattle.protocol.specs.Messages.{Message}
 use Rattle.protocol.specs.Operations.{Outcome}
@@ -10,16 +10,12 @@ use Rattle.protocol.specs.Seen.Hearing.{Ignored, Counted, Begins, Ended}
 use Rattle.quorum_rules.specs.Limits.{Numbers}
 use Rattle.operation_core.specs.Clients.{ClientView, hears}
 use Rattle.event_clock.specs.Passes.{Holder, drew, met}
-use Rattle.journals.specs.declared.node.NodeAct.{NodeAct}
-use Rattle.journals.specs.declared.desk.Way.{Way}
 use Rattle.journals.specs.declared.desk.DeskAct.{DeskAct}
 use Rattle.journals.specs.declared.desk.DeskEntry.{DeskEntry}
-use Rattle.journals.specs.Acts.{act, answer_of, reply_in}
 use Rattle.journals.specs.Desks.{DeskState, new_desk, by_hearing, DeskKept, desk_after_all}
 use Rattle.journals.specs.Records.{client_records}
 use Rattle.journals.specs.declared.desk.DeskAct.TheVariants.{Start, Crash, Call}
-use Rattle.journals.specs.Steps.{side}
-use Rattle.locked_nodes.specs.Cells.{CellView, Rises, state_of, with_seen, with_entry}
+use Rattle.locked_nodes.specs.Cells.{Rises, with_seen}
 
 -- a desk: its cluster, the number of its client and whether that lies, its journal, and its pass
 pub record DeskView : Type 0 where
@@ -108,41 +104,6 @@ with_own d n a = record d { entries = d.entries ++ desk_entry n a ∷ []; pass =
 -- the desk with a call of this number more, which its pass has seen
 abbrev pub with_call : DeskView → ℕ → DeskAct → DeskView
 with_call d n a = record d { entries = d.entries ++ desk_entry n a ∷ []; pass = with_seen d.pass (n + 1) }
-
--- what a cell's node does with an ask that comes this way, what is replied, and the call that this is for the client
-abbrev pub done_by : CellView → Way → Message → NodeAct
-done_by cell way ask = act (state_of cell) cell.charter.nature way ask
-
-abbrev pub reply_by : CellView → Way → Message → Option Message
-reply_by cell way ask = reply_in (answer_of (done_by cell way ask))
-
-abbrev pub call_by : CellView → Way → Message → DeskAct
-call_by cell way ask = Call way ask (reply_by cell way ask)
-
--- the desk and the cell have one entry more each, of one number not below any that the desk had seen: the cell what its node does
--- with the ask, the desk the call with what is replied; the two are a pair that agrees
-pub record AddPair (old : DeskView) (was : CellView) (way : Way) (ask : Message) (new : DeskView) (now : CellView) : Type 0 where
-  pub number : ℕ
-  pub later : old.pass.seen ≤ number
-  pub cell : now ≡ with_entry was number (done_by was way ask)
-  pub desk : new ≡ with_call old number (call_by was way ask)
-  pub agree : side (done_by was way ask) ≡ Some (old.id, call_by was way ask)
-
--- such a pair was added for what the client asks of the cell's node
-pub record Calls (old : DeskView) (was : CellView) (way : Way) (new : DeskView) (now : CellView) : Type 0 where
-  pub ask : Message
-  pub asked : asks_of old was.charter.number ≡ Some ask
-  pub pair : AddPair old was way ask new now
-
--- but for what its pass has seen, which is no less, the desk is as it was
-pub record KeepsDesk (old new : DeskView) : Type 0 where
-  pub same : new ≡ record old { pass = new.pass }
-  pub pass : new.pass ≡ with_seen old.pass new.pass.seen
-  pub later : old.pass.seen ≤ new.pass.seen
-
--- the cell is as it was, or has one entry more, of which no client has a side
-abbrev pub Delivers : CellView → CellView → Type 0
-Delivers old new = (new ≡ old) ⊎ ((n : ℕ) × (done : NodeAct) × (new ≡ with_entry old n done) × (side done ≡ None))
 
 -- the client after a reply, if there is one
 abbrev pub heard : ClientView → Option Message → ClientView

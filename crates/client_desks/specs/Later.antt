@@ -3,7 +3,7 @@ use Rattle.std.specs.Prelude.{◌≡◌, ℕ, ◌≤◌, List, ◌++◌}
 use Rattle.journals.specs.declared.desk.DeskAct.{DeskAct}
 use Rattle.journals.specs.declared.desk.DeskEntry.{DeskEntry}
 use Rattle.locked_nodes.specs.Cells.{Rises}
-use Rattle.client_desks.specs.Desks.{DeskView, KeepsDesk, numbers_of, with_own, with_call}
+use Rattle.client_desks.specs.Desks.{DeskView, numbers_of, with_own, with_call}
 
 -- the desk went on: its cluster, client, honesty and clock are as they were, and its journal has only entries more, whose numbers ascend
 -- from what its pass had seen
@@ -27,6 +27,3 @@ OwnIsLater = (d : DeskView) (n : ℕ) (a : DeskAct) → d.pass.seen ≤ n → Is
 
 abbrev pub CallIsLater : Type 0
 CallIsLater = (d : DeskView) (n : ℕ) (a : DeskAct) → d.pass.seen ≤ n → IsLater d (with_call d n a)
-
-abbrev pub KeptIsLater : Type 0
-KeptIsLater = (old new : DeskView) → KeepsDesk old new → IsLater old new

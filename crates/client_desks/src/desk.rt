@@ -1,19 +1,17 @@
-ghost use Rattle.std.specs.Prelude.{◌≡◌, ◌↔◌, IsTrue, ℕ, ◌<◌, ◌≤◌, ◌+◌, ◌-◌, ◌^◌, [], None, Some, Ok, Err, true, false, IfOk, OnOk, IfErr, OnErr, IfSome, IsSome, Option, map};
-ghost use Rattle.protocol.specs.Messages.{IsFormedBody, Message as AnyMessage};
+ghost use Rattle.std.specs.Prelude.{◌≡◌, ◌↔◌, IsTrue, ℕ, ◌<◌, ◌≤◌, ◌+◌, ◌-◌, ◌^◌, [], None, Some, Err, true, false, IfOk, OnOk, OnErr, IfSome, IsSome, map};
+ghost use Rattle.protocol.specs.Messages.{IsFormedBody};
 ghost use Rattle.protocol.specs.Seen.{ops_of, phase_of, record_of};
 ghost use Rattle.event_clock.specs.Passes.{left_of, met, sight_of};
-ghost use Rattle.receipt_lock.specs.Tickets.{Begins};
 ghost use Rattle.journals.specs.Desks.{FitsOp, ActsAs};
-ghost use Rattle.locked_nodes.specs.Cells.{Serves, HoldsWhole, HasNoLateMail, items, number_of};
-ghost use Rattle.client_desks.specs.Desks.{DeskView, first_desk, met_desk, state_at, task_at, records_at, asks_of, IsUp, CanStart, CanCall, with_own, desk_entry, KeptDesk, AddPair, Calls, KeepsDesk, Delivers, with_call, reply_by, ending};
-ghost use Rattle.locked_nodes.specs.Cells.{reply_told};
+ghost use Rattle.locked_nodes.specs.Cells.{number_of, reply_told};
+ghost use Rattle.client_desks.specs.Desks.{DeskView, first_desk, met_desk, state_at, task_at, records_at, asks_of, IsUp, CanStart, CanCall, with_own, desk_entry, KeptDesk, with_call, ending};
 
 use crate::recording::{Foreseen, foresee, opened, take};
 use client_core::Client;
 use event_clock::{Clock, Note, Pass};
 use journals::{DeskAct, DeskEntry, DeskJournal, Way};
 use lists::{Copied, ItemList, NoMemory};
-use locked_nodes::{CellRefusal, Late, NodeCell, Told};
+use locked_nodes::{CellRefusal, Told};
 use quorum_rules::Config;
 use run_words::{Outcome, Record};
 use std::alloc::Global;
@@ -290,70 +288,6 @@ impl Desk {
         Ok(())
     }
 
-    /// Asks the cell's node what the client's phase asks of it, and hears the reply, if there is one. It answers the outcome
-    /// exactly where the reply ends the operation. `ClockFull` comes exactly where the cell's pass can't draw. After
-    /// `NoMemory` the cell may have the entry of the ask, whose reply wasn't heard.
-    pub fn call(
-        &mut self,
-        clock: &Clock,
-        cell: &mut NodeCell,
-        way: Way,
-    ) -> Result<Option<Outcome>, CellRefusal>
-        requires clock { (self.old.pass.clock ≡ clock.now)
-            × (cell.old.charter.pass.clock ≡ clock.now) }
-        requires can { CanCall self.old cell.old.charter.number }
-        requires serves { (ask : AnyMessage) →
-            asks_of self.old cell.old.charter.number ≡ Some ask → Serves cell.old.charter ask }
-        requires whole { HoldsWhole cell.old.charter way }
-        ensures calls { OnOk result (Calls self.old cell.old way self.new cell.new) }
-        ensures ended { IfOk result (λ outcome.
-            (ask : AnyMessage) → asks_of self.old cell.old.charter.number ≡ Some ask →
-            outcome ≡ ending (state_at self.old).client (reply_by cell.old way ask)) }
-        ensures full { (result ≡ Err CellRefusal.ClockFull) ↔ (left_of cell.old.pass ≡ 0) }
-        ensures same { result ≡ Err CellRefusal.ClockFull →
-            (self.new ≡ self.old) × (cell.new ≡ cell.old) }
-        ensures kept { OnErr result (KeepsDesk self.old self.new) }
-        ensures grew { Begins (items cell.old) (items cell.new) }
-    {
-        if cell.left() == 0 {
-            return Err(CellRefusal::ClockFull);
-        }
-        let node = cell.number();
-        let asked = self.asks(node)?;
-        let Some(ask) = asked else { unreachable!() };
-        self.ask(clock, cell, way, ask)
-    }
-
-    /// Sends a lying client's ask to the cell's node. `ClockFull` comes exactly where the cell's pass can't draw. After
-    /// `NoMemory` the cell may have the entry of the ask.
-    pub fn send(
-        &mut self,
-        clock: &Clock,
-        cell: &mut NodeCell,
-        ask: &Message,
-    ) -> Result<(), CellRefusal>
-        requires clock { (self.old.pass.clock ≡ clock.now)
-            × (cell.old.charter.pass.clock ≡ clock.now) }
-        requires lying { self.old.lying ≡ true }
-        requires own { ask.now.client ≡ self.old.id }
-        requires formed { IsFormedBody ask.now.body }
-        requires serves { Serves cell.old.charter ask.now }
-        ensures pair { OnOk result (AddPair self.old cell.old Way.Call ask.now self.new cell.new) }
-        ensures full { (result ≡ Err CellRefusal.ClockFull) ↔ (left_of cell.old.pass ≡ 0) }
-        ensures same { result ≡ Err CellRefusal.ClockFull →
-            (self.new ≡ self.old) × (cell.new ≡ cell.old) }
-        ensures kept { OnErr result (KeepsDesk self.old self.new) }
-        ensures grew { Begins (items cell.old) (items cell.new) }
-    {
-        if cell.left() == 0 {
-            return Err(CellRefusal::ClockFull);
-        }
-        let _idle = &self.client;
-        let ask = ask.copy()?;
-        let _outcome = self.ask(clock, cell, Way::Call, ask)?;
-        Ok(())
-    }
-
     /// Hears what the thread of a node told of the ask that the client's phase makes of that node: the entry of the call, whose
     /// number the note has seen. It answers the outcome exactly where the reply ends the operation.
     pub fn hear(
@@ -401,59 +335,6 @@ impl Desk {
         let _idle = &self.client;
         let _outcome = self.add(clock, Way::Call, ask, told, note)?;
         Ok(())
-    }
-
-    /// Lets the oldest ask that the cell holds back come late. The desk has no entry of it; its pass has seen the number.
-    /// `ClockFull` comes exactly where an ask is held back and the cell's pass can't draw.
-    pub fn deliver(&mut self, clock: &Clock, cell: &mut NodeCell) -> Result<Late, CellRefusal>
-        requires clock { (self.old.pass.clock ≡ clock.now)
-            × (cell.old.charter.pass.clock ≡ clock.now) }
-        ensures kept { KeepsDesk self.old self.new }
-        ensures cell { Delivers cell.old cell.new }
-        ensures none { (result ≡ Ok Late.NoMail) ↔ HasNoLateMail cell.old }
-        ensures full { (result ≡ Err CellRefusal.ClockFull)
-            ↔ ((HasNoLateMail cell.old → ⊥) × (left_of cell.old.pass ≡ 0)) }
-        ensures err { OnErr result ((self.new ≡ self.old) × (cell.new ≡ cell.old)) }
-    {
-        cell.late(clock, &mut self.pass)
-    }
-
-    // Lets the cell's node meet an ask that the client may make, and hears the reply, if there is one.
-    fn ask(
-        &mut self,
-        clock: &Clock,
-        cell: &mut NodeCell,
-        way: Way,
-        ask: Message,
-    ) -> Result<Option<Outcome>, CellRefusal>
-        requires clock { (self.old.pass.clock ≡ clock.now)
-            × (cell.old.charter.pass.clock ≡ clock.now) }
-        requires may { (reply : Option AnyMessage) →
-            ActsAs self.old.lying (state_at self.old) (DeskAct.Call way ask reply) }
-        requires own { ask.client ≡ self.old.id }
-        requires serves { Serves cell.old.charter ask }
-        requires whole { HoldsWhole cell.old.charter way }
-        requires phase { phase_of (task_at self.old) < 2 ^ 64 - 1 }
-        requires left { 0 < left_of cell.old.pass }
-        ensures pair { OnOk result (AddPair self.old cell.old way ask self.new cell.new) }
-        ensures ended { IfOk result (λ outcome.
-            outcome ≡ ending (state_at self.old).client (reply_by cell.old way ask)) }
-        ensures memory { IfErr result (λ e. e ≡ CellRefusal.NoMemory) }
-        ensures kept { OnErr result (KeepsDesk self.old self.new) }
-        ensures grew { Begins (items cell.old) (items cell.new) }
-    {
-        // Before the cell changes, so that want of it leaves no entry there.
-        self.make_room()?;
-        let mut note = self.note(clock);
-        let told = cell.answer(clock, &mut note, way, &ask)?;
-        Ok(self.add(clock, way, ask, told, note)?)
-    }
-
-    // Makes room for an entry more.
-    fn make_room(&mut self) -> Result<(), NoMemory>
-        ensures { self.new ≡ self.old }
-    {
-        Ok(self.entries.reserve(1)?)
     }
 
     // Adds the entry of a call that the client may make and that was told this, and hears the reply, if there is one.

@@ -25,7 +25,7 @@ use Rattle.client_duties.specs.Phases.{all_steps}
 use Rattle.client_duties.specs.Tasks.{IsSendable}
 use Rattle.client_duties.specs.declared.reads.GivenRead.{GivenRead}
 use Rattle.client_duties.specs.declared.work.ClientDuty.{ClientDuty}
-use Rattle.client_duties.specs.declared.work.ClientDuty.TheVariants.{Client, Lying, Courier}
+use Rattle.client_duties.specs.declared.work.ClientDuty.TheVariants.{Client, Lying}
 use Rattle.client_duties.specs.declared.correct_client.CorrectClient.{CorrectClient}
 use Rattle.client_duties.specs.declared.liar.Liar.{Liar}
 
@@ -226,19 +226,17 @@ pub record HasSentAll (old : Liar) (before : DeskView) (new : Liar) (d : DeskVie
   pub all : new.mail.items ≡ []
   pub none : old.mail.items ≡ [] → d.entries ≡ before.entries
 
--- ---- all threads
+-- ---- all clients' threads
 
 -- the thread may do its part of a phase
 abbrev pub Ready : ClientDuty → List CellShard → DeskView → Type 0
 Ready (Client w) cell_shards d = IsReady w d × HoldsWhole w cell_shards
 Ready (Lying w) cell_shards d = HasMail w d
-Ready Courier cell_shards d = d.entries ≡ []
 
 -- it did its part
 abbrev pub Done : ClientDuty → DeskView → ClientDuty → DeskView → Type 0
 Done (Client old) before (Client new) d = HasWorked old new d
 Done (Lying old) before (Lying new) d = HasSentAll old before new d
-Done Courier before Courier d = d.entries ≡ []
 Done _ before _ d = ⊥
 
 -- the operation and the phase that are under way at the desk

@@ -1,12 +1,17 @@
-//! What a lying client has still to send.
-ghost use Rattle.std.specs.Prelude.{◌≡◌, [], true};
+//! What a lying client has still to send, and how it sends that.
+ghost use Rattle.std.specs.Prelude.{◌≡◌, [], None, true};
 ghost use Rattle.client_duties.specs.Tasks.{IsLiarTask};
 ghost use Rattle.client_desks.specs.Desks.{DeskView};
-ghost use Rattle.client_duties.specs.ClientDuty.{HasMail};
+ghost use Rattle.client_desks.specs.Later.{IsLater};
+ghost use Rattle.client_endpoints.specs.Endpoint.{Fit, fixed};
+ghost use Rattle.client_duties.specs.ClientDuty.{HasMail, HasSentAll};
 
+use client_desks::laws::desks_go_on;
+use client_endpoints::{Endpoint, SharedCells};
 use plan_words::Plan;
 use std::collections::VecDeque;
 use std::snapshot::Snapshot;
+use std::sync::Wait;
 use wire_forms::{Mail, Message};
 
 /// A lying client at work, by its plan: the messages that are left.
@@ -40,6 +45,25 @@ impl Liar {
             plan: Snapshot::of(plan),
             client,
             mail: VecDeque::from_vec(mail.into_vec()),
+        }
+    }
+
+    /// Sends the messages that are left, in order, until all are sent or the endpoint notes a refusal.
+    pub fn work<R: Wait>(&mut self, rt: &R, shared_cells: &SharedCells, endpoint: &mut Endpoint)
+        requires fit { Fit endpoint.old shared_cells.now }
+        requires sound { endpoint.old.refused ≡ None }
+        requires mail { HasMail self.old endpoint.old.desk }
+        ensures stays { fixed endpoint.new ≡ fixed endpoint.old }
+        ensures fit { Fit endpoint.new shared_cells.now }
+        ensures later { IsLater endpoint.old.desk endpoint.new.desk }
+        ensures done { endpoint.new.refused ≡ None →
+            HasSentAll self.old endpoint.old.desk self.new endpoint.new.desk }
+    {
+        desks_go_on();
+        while let Some(ask) = self.mail.pop_front() {
+            if endpoint.send(rt, shared_cells, &ask).is_err() {
+                return;
+            }
         }
     }
 }

@@ -2,7 +2,7 @@
 //!
 //! A correct client gets its steps, phase by phase, how many of its asks to each node are lost or held back, and when it
 //! crashes. A lying client gets the messages that it sends. `tasks_of` makes all of them, by ascending client. Then a correct
-//! client does its steps, a lying one sends its messages, and a courier brings what nodes hold back.
+//! client does its steps, and a lying one sends its messages.
 #![tactic(auto)]
 
 pub mod conduct;
@@ -12,7 +12,6 @@ mod mail;
 mod named;
 mod phases;
 pub mod reads;
-mod sends;
 mod steps;
 pub mod task;
 mod turns;

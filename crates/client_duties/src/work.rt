@@ -1,22 +1,19 @@
-//! The work of each thread.
+//! The work of each client's thread.
 ghost use Rattle.client_duties.specs.ClientDuty.{Ready, Done};
 
 use crate::correct_client::CorrectClient;
 use crate::liar::Liar;
-use crate::sends::carry;
 use client_endpoints::{Endpoint, SharedCells};
 use phase_threads::Duty;
 use std::sync::Wait;
 use thread_work::Gate;
 
-/// What a thread does.
+/// What a client's thread does.
 pub enum ClientDuty {
     /// The steps of a correct client.
     Client(CorrectClient),
     /// The messages of a lying client.
     Lying(Liar),
-    /// It brings what nodes hold back.
-    Courier,
 }
 
 // By hand, since a derived drop is proved anew wherever one is let go.
@@ -25,7 +22,6 @@ impl Drop for ClientDuty {
         match self {
             ClientDuty::Client(_correct_client) => {}
             ClientDuty::Lying(_liar) => {}
-            ClientDuty::Courier => {}
         }
     }
 }
@@ -35,8 +31,8 @@ impl Duty for ClientDuty {
 
     ghost done = { Done };
 
-    /// Does the thread's part of a phase: the steps of a correct client's next phase, the messages that a lying client has left, or
-    /// the rounds of the courier. A refusal ends it, and is left in the endpoint.
+    /// Does the thread's part of a phase: the steps of a correct client's next phase, or the messages that a lying client has left. A
+    /// refusal ends it, and is left in the endpoint.
     fn work<R: Wait, G: Gate>(
         &mut self,
         rt: &R,
@@ -52,7 +48,6 @@ impl Duty for ClientDuty {
                 endpoint,
             ),
             ClientDuty::Lying(liar) => liar.work(rt, shared_cells, endpoint),
-            ClientDuty::Courier => carry(rt, shared_cells, endpoint),
         }
     }
 }

@@ -26,7 +26,7 @@ use Rattle.locked_nodes.specs.declared.charter.Item.TheVariants.{Entry}
 use Rattle.locked_nodes.specs.declared.cell_shard.CellShard.{CellShard}
 use Rattle.locked_nodes.specs.CellShards.{IsPlace}
 use Rattle.quorum_rules.specs.Limits.{Numbers}
-use Rattle.client_desks.specs.Desks.{DeskView, desk_entry, with_own, with_call, KeepsDesk}
+use Rattle.client_desks.specs.Desks.{DeskView, desk_entry, with_own, with_call}
 use Rattle.client_endpoints.specs.declared.asked.Asked.{Asked}
 use Rattle.client_endpoints.specs.declared.asked.NodePlace.{NodePlace}
 use Rattle.client_endpoints.specs.declared.answered.Answered.{Answered}
@@ -34,7 +34,7 @@ use Rattle.client_endpoints.specs.declared.mail.ByMail.{ByMail}
 use Rattle.client_endpoints.specs.declared.transport.Transport.{Transport}
 use Rattle.client_endpoints.specs.declared.transport.Transport.TheVariants.{Locks, Mail}
 use Rattle.client_endpoints.specs.Asking.{HasTaken}
-use Rattle.client_endpoints.specs.Transports.{call_of, IsTold, HasTold, HasToldNothing, HasReceipt, HasAnswer, LeavesSide, Route, route, inboxes_of, AtRest, IsNew}
+use Rattle.client_endpoints.specs.Transports.{call_of, IsTold, HasTold, HasReceipt, HasAnswer, LeavesSide, Route, route, inboxes_of, AtRest, IsNew}
 use Rattle.client_endpoints.specs.Endpoint.{SharedCellsView, vaults_of, IsHead, IsShared, EndpointView, Agree, IsEndpoint, AreItsVaults, AreItsInboxes, Reaches, Fit, refusal_in, HasAsked, HasCalled, HasSent, AddBoth}
 use Rattle.client_endpoints.proofs.Telling.{chits_told}
 use Rattle.client_endpoints.proofs.lemmas.Mailing.{mail_told}
@@ -63,25 +63,6 @@ module _ (began old new : DeskView) (was now : Transport) (agree : Agree began o
     asked = λ e has.
         subst (λ (i : ℕ). IsOwn e.act ⊎ (Contains began.entries e ⊎ IsTold now i e)) (sym add.id)
         (asked_on e (Contains-append_cases old.entries (add.call ∷ []) e (subst (λ l. Contains l e) add.entries has)));
-  }
-
--- and with nothing more
-module _ (began old new : DeskView) (was now : Transport) (agree : Agree began old was) (kept : KeepsDesk old new) (same : HasToldNothing was now) where
-  entries : new.entries ≡ old.entries
-  entries = ap (λ (d : DeskView). d.entries) kept.same
-
-  id : new.id ≡ old.id
-  id = ap (λ (d : DeskView). d.id) kept.same
-
-  still : (e : DeskEntry) → IsOwn e.act ⊎ (Contains began.entries e ⊎ IsTold was old.id e) → IsOwn e.act ⊎ (Contains began.entries e ⊎ IsTold now old.id e)
-  still e (inl own) = inl own
-  still e (inr (inl first)) = inr (inl first)
-  still e (inr (inr told)) = inr (inr (same.kept old.id e told))
-
-  agree_nothing : Agree began new now
-  agree_nothing = record {
-    told = λ c e h. let a = agree.told c e (same.only c e h) in (a.0 ∙ sym id, subst (λ l. Contains l e) (sym entries) a.1);
-    asked = λ e has. subst (λ (i : ℕ). IsOwn e.act ⊎ (Contains began.entries e ⊎ IsTold now i e)) (sym id) (still e (agree.asked e (subst (λ l. Contains l e) entries has)));
   }
 
 -- a start or a crash
@@ -119,9 +100,6 @@ pub endpoint_both : {A : Type 0} (answer : Result A CellRefusal) (began old new 
 endpoint_both (Ok x) began old new was now endpoint add rest = record { rest = rest; agree = λ sound. agree_both began old new was now (endpoint.agree refl) add }
 endpoint_both (Err e) began old new was now endpoint add rest = record { rest = rest; agree = λ sound. absurd cc }
 
-pub endpoint_nothing : {A : Type 0} (answer : Result A CellRefusal) (began old new : DeskView) (was now : Transport) → IsEndpoint began old was None → KeepsDesk old new → HasToldNothing was now → AtRest now → IsEndpoint began new now (refusal_in answer)
-endpoint_nothing answer began old new was now endpoint kept same rest = record { rest = rest; agree = λ sound. agree_nothing began old new was now (endpoint.agree refl) kept same }
-
 pub endpoint_own : {A : Type 0} (answer : Result A CellRefusal) (a : DeskAct) (began old new : DeskView) (t : Transport) → IsEndpoint began old t None → IsOwn a → OnOk answer ((n : ℕ) × (old.pass.seen ≤ n) × (new ≡ with_own old n a)) → IsEndpoint began new t (refusal_in answer)
 endpoint_own (Ok x) a began old new t endpoint own add = record { rest = endpoint.rest; agree = λ sound. agree_own began old new t add.0 a (endpoint.agree refl) own add.2 }
 endpoint_own (Err e) a began old new t endpoint own add = record { rest = endpoint.rest; agree = λ sound. absurd cc }
@@ -157,12 +135,6 @@ module _ (chits : List (Chit Item)) (shared_cells : SharedCellsView) (own : AreI
   pub chit_in : (place : ℕ) → place < length (vaults_of shared_cells) → place < length chits
   chit_in place within =
       let same = same_length (λ (c : Chit Item). c.vault) (λ (v : Deposit Item). v.id) chits (vaults_of shared_cells) own.own in omega (arith, within, same)
-
-  -- the cell at a place is of a shard
-  pub head_at : (config : Numbers) (place : ℕ) (v : Deposit Item) → IsShared config shared_cells → slice_get (vaults_of shared_cells) place ≡ Some v → (s : CellShard) × IsHead config shared_cells.clock s v.id.begun
-  head_at config place v h there =
-      let s = at_place shared_cells.cell_shards place (let within = slice_get_within (vaults_of shared_cells) place v there in let count = own.count in omega (arith, within, count)) in
-      (s.0, h.each place s.0 v s.1 there)
 
   pub chit_at : (i : ℕ) (c : Chit Item) (v : Deposit Item) → slice_get (vaults_of shared_cells) i ≡ Some v → c ≡ get_or chits i c → slice_get chits i ≡ Some c
   chit_at i c v there at = slice_get_read chits (length chits) i c refl (chit_in i (slice_get_within (vaults_of shared_cells) i v there)) at

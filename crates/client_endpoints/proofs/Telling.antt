@@ -18,7 +18,7 @@ use Rattle.locked_nodes.specs.declared.charter.Item.{Item}
 use Rattle.locked_nodes.specs.declared.charter.Item.TheVariants.{Entry}
 use Rattle.locked_nodes.specs.Cells.{entry}
 use Rattle.client_endpoints.specs.declared.transport.Transport.TheVariants.{Locks}
-use Rattle.client_endpoints.specs.Transports.{HasReceipt, HasTold, HasToldNothing, HasLeft, LeavesSide, LeavesNoSide, route}
+use Rattle.client_endpoints.specs.Transports.{HasReceipt, HasTold, HasLeft, LeavesSide, route}
 use Rattle.client_endpoints.specs.Transports.Route.{ToVaults}
 use Rattle.thread_work.proofs.lemmas.Places.{slice_get-set_cases}
 use Rattle.client_endpoints.proofs.Lists.{still_there}
@@ -79,9 +79,6 @@ same_pair id c a act o one other =
     let e = ap (pair_or (id, a)) (sym other ∙ one) in
     (ap (λ (p : ℕ × DeskAct). p.0) e, ap (λ (p : ℕ × DeskAct). p.1) e)
 
-none_some : {A : Type 0} (o : Option A) (x : A) → o ≡ None → o ≡ Some x → ⊥
-none_some o x a b = let h : None ≡ Some x = sym a ∙ b in absurd cc
-
 -- a receipt of one entry tells one call
 among_one : (place n c id : ℕ) (act : NodeAct) (e call : DeskEntry) → n ≡ call.number → side act ≡ Some (id, call.act) → IsAmong ((place, Entry (entry n act)) ∷ []) c e → (c ≡ id) × (e ≡ call)
 among_one place n c id act e call number agree h =
@@ -109,18 +106,6 @@ module _ (old : Vec (Chit Item)) (k : ℕ) (was now : Chit Item) (here : slice_g
       | inr after ↦ inr (among_one left.left.place e.number d c left.act f e refl left.agree after)
     ];
   }
-
-  nothing_of : (more : List (ℕ × Item)) → now.mine ≡ was.mine ++ more → ((c : ℕ) (e : DeskEntry) → IsAmong more c e → ⊥) → HasToldNothing (Locks old) (Locks (with_item old k now))
-  nothing_of more mine none = record {
-    kept = stays old.items k was now more here mine;
-    only = λ c e h. elim (cases old.items k was now more here mine c e h) [ inl before ↦ before | inr after ↦ absurd (none c e after) ];
-  }
-
-  pub chits_told_nothing : LeavesNoSide was now → HasToldNothing (Locks old) (Locks (with_item old k now))
-  chits_told_nothing (inl same) = nothing_of [] (same ∙ sym (append-nil was.mine)) (λ c e h. absurd (Contains-none {X = ℕ × Item} (h.at, Entry h.of) h.there))
-  chits_told_nothing (inr h) =
-      nothing_of ((h.2.place, Entry (entry h.0 h.1)) ∷ []) h.2.mine (λ c e a.
-      none_some (side a.of.act) (c, e.act) (ap (λ (m : NodeEntry). side m.act) (one_entry h.2.place a.at a.of (entry h.0 h.1) a.there) ∙ h.3) a.agree)
 
   pub chits_route : now.vault ≡ was.vault → route (Locks (with_item old k now)) ≡ route (Locks old)
   chits_route own = ap (λ l. ToVaults l) (map-set_same (λ (c : Chit Item). c.vault) old.items k now was (own ∙ ap (λ (c : Chit Item). c.vault) (sym (get_or_from_slice_get old.items k was was here))))

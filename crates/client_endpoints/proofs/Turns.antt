@@ -12,7 +12,7 @@ use Rattle.journals.specs.declared.desk.Way.{Way}
 use Rattle.journals.specs.declared.desk.Way.TheVariants.{Call as ByCall, Lose, Hold}
 use Rattle.journals.specs.declared.desk.DeskAct.TheVariants.{Call}
 use Rattle.journals.specs.declared.node.NodeAct.{NodeAct}
-use Rattle.journals.specs.Acts.{answer_of}
+use Rattle.journals.specs.Acts.{act, answer_of, reply_in}
 use Rattle.locked_nodes.specs.declared.answers.CellRefusal.{CellRefusal}
 use Rattle.locked_nodes.specs.declared.answers.Told.{Told}
 use Rattle.locked_nodes.specs.declared.charter.Charter.{Charter}
@@ -21,10 +21,14 @@ use Rattle.locked_nodes.specs.declared.charter.Item.TheVariants.{Head, Entry}
 use Rattle.locked_nodes.specs.Cells.{CellView, IsShare, IsWhole, Serves, HoldsWhole, entry, items, with_entry, state_of, number_of, told_as, reply_told}
 use Rattle.locked_nodes.specs.declared.cell_shard.CellShard.{CellShard}
 use Rattle.locked_nodes.specs.CellShards.{cell_shard_of, IsFor}
-use Rattle.client_desks.proofs.lemmas.Desking.{items_snoc, items_grew, items_same, told_reply, act_side}
-use Rattle.client_desks.specs.Desks.{done_by, reply_by, Delivers}
-use Rattle.client_endpoints.specs.Transports.{call_of, HasLeft, LeavesSide, LeavesNoSide}
+use Rattle.locked_nodes.proofs.lemmas.Sides.{items_snoc, items_grew, items_same, told_reply, act_side}
+use Rattle.client_endpoints.specs.Transports.{call_of, HasLeft, LeavesSide}
 use Rattle.client_endpoints.specs.Endpoint.{IsHead, IsAskOn}
+use Rattle.client_endpoints.proofs.lemmas.Heads.{shard_is}
+
+-- what a cell's node does with an ask that comes this way
+abbrev done_by : CellView → Way → Message → NodeAct
+done_by cell way ask = act (state_of cell) cell.charter.nature way ask
 
 -- an ask on the block is of the shard of the shard for it
 pub on_shard : (cell_shard : CellShard) (node block : ℕ) → IsFor cell_shard node block → (body : Body) → IsAskOn block body → IsShare cell_shard.shard cell_shard.shards body
@@ -36,29 +40,18 @@ is_whole cell_shard ByCall may = tt
 is_whole cell_shard Lose may = tt
 is_whole cell_shard Hold may = may refl
 
--- whoever takes a cell knows its charter
+-- whoever takes a cell knows which asks it serves
 module _ (config : Numbers) (clock : ClockId) (cell_shard : CellShard) (begun : List Item) (cell : CellView) (head : IsHead config clock cell_shard begun) (begins : Begins begun (items cell)) where
-  charter_of : cell.charter ≡ head.charter
-  charter_of =
-      let same : Head cell.charter ∷ map (λ e. Entry e) cell.journal ≡ Head head.charter ∷ (head.rest ++ begins.0) = begins.1 ∙ ap (λ l. l ++ begins.0) head.begins in
-      cc
-
-  pub clock_is : cell.charter.pass.clock ≡ clock
-  clock_is = ap (λ (c : Charter). c.pass.clock) charter_of ∙ head.ticks
-
-  shard_is : cell_shard_of cell.charter ≡ cell_shard
-  shard_is = ap cell_shard_of charter_of ∙ head.serves
-
   module _ (node block : ℕ) (is : IsFor cell_shard node block) where
     pub number_is : cell.charter.number ≡ node
-    number_is = ap (λ (s : CellShard). s.node) shard_is ∙ is.of
+    number_is = ap (λ (s : CellShard). s.node) (shard_is config clock cell_shard begun cell head begins) ∙ is.of
 
     -- so the cell serves an ask to the node, on the block
     pub serves : (m : Message) → m.node ≡ node → IsAskOn block m.body → Serves cell.charter m
-    serves m to on = (to ∙ sym number_is, subst (λ (s : CellShard). IsShare s.shard s.shards m.body) (sym shard_is) (on_shard cell_shard node block is m.body on))
+    serves m to on = (to ∙ sym number_is, subst (λ (s : CellShard). IsShare s.shard s.shards m.body) (sym (shard_is config clock cell_shard begun cell head begins)) (on_shard cell_shard node block is m.body on))
 
   pub whole_way : (way : Way) → (way ≡ Hold → cell_shard.shards ≡ 1) → HoldsWhole cell.charter way
-  whole_way way may = subst (λ (s : CellShard). IsWhole s.shards way) (sym shard_is) (is_whole cell_shard way may)
+  whole_way way may = subst (λ (s : CellShard). IsWhole s.shards way) (sym (shard_is config clock cell_shard begun cell head begins)) (is_whole cell_shard way may)
 
 drop_front : {X : Type 0} (xs ys : List X) → drop (length xs) (xs ++ ys) ≡ ys
 drop_front [] ys = refl
@@ -73,12 +66,6 @@ one_left cell now n a was held after take give grew =
       place = length (items cell);
       mine = ap (λ (h : Chit Item). h.mine) give ∙ ap (λ (h : Chit Item). h.mine ++ new_entries (found_list h.holds) (items now)) take ∙ ap (λ l. was.mine ++ l) more;
     }
-
-none_left : (cell now : CellView) (was held after : Chit Item) → held ≡ took was (items cell) → after ≡ gave held (items now) → now ≡ cell → after.mine ≡ was.mine
-none_left cell now was held after take give same =
-    let list : items now ≡ items cell ++ [] = ap items same ∙ sym (append-nil (items cell)) in
-    let more : new_entries (items cell) (items now) ≡ [] = ap (new_entries (items cell)) list ∙ ap (placed_from (length (items cell))) (drop_front (items cell) []) in
-    ap (λ (h : Chit Item). h.mine) give ∙ ap (λ (h : Chit Item). h.mine ++ new_entries (found_list h.holds) (items now)) take ∙ ap (λ l. was.mine ++ l) more ∙ append-nil was.mine
 
 -- what was found begins what is given back
 pub gives_back : (cell now : CellView) (was held : Chit Item) → held ≡ took was (items cell) → Begins (items cell) (items now) → Begins (found_list held.holds) (items now)
@@ -97,20 +84,9 @@ module _ (answer : Result Told CellRefusal) (cell now : CellView) (way : Way) (a
 pub leaves_side : (cell now : CellView) (way : Way) (ask : Message) (told : Told) (was held last : Chit Item) → held ≡ took was (items cell) → last ≡ gave held (items now) → now ≡ with_entry cell (number_of told) (done_by cell way ask)
     → told ≡ told_as (number_of told) (answer_of (done_by cell way ask)) → LeavesSide was ask.client (call_of way ask told) last
 leaves_side cell now way ask told was held last take give grew tells =
-    let replied : reply_told told ≡ reply_by cell way ask = ap reply_told tells ∙ told_reply (number_of told) (answer_of (done_by cell way ask)) in
+    let replied : reply_told told ≡ reply_in (answer_of (done_by cell way ask)) = ap reply_told tells ∙ told_reply (number_of told) (answer_of (done_by cell way ask)) in
     record {
       act = done_by cell way ask;
       left = one_left cell now (number_of told) (done_by cell way ask) was held last take give grew;
       agree = act_side (state_of cell) cell.charter.nature way ask ∙ ap (λ r. Some (ask.client, Call way ask r)) (sym replied);
     }
-
-pub leaves_no_side : (cell now : CellView) (was held after : Chit Item) → held ≡ took was (items cell) → after ≡ gave held (items now) → Delivers cell now → LeavesNoSide was after
-leaves_no_side cell now was held after take give (inl same) = inl (none_left cell now was held after take give same)
-leaves_no_side cell now was held after take give (inr d) = inr (d.0, d.1, one_left cell now d.0 d.1 was held after take give d.2, d.3)
-
-grown : (cell now : CellView) → Delivers cell now → Begins (items cell) (items now)
-grown cell now (inl same) = ([], ap items same ∙ sym (append-nil (items cell)))
-grown cell now (inr d) = (Entry (entry d.0 d.1) ∷ [], ap items d.2 ∙ items_snoc cell d.0 d.1)
-
-pub delivered_back : (cell now : CellView) (was held : Chit Item) → held ≡ took was (items cell) → Delivers cell now → Begins (found_list held.holds) (items now)
-delivered_back cell now was held take delivers = gives_back cell now was held take (grown cell now delivers)

@@ -1,3 +1,4 @@
 -- What proofs of other crates may cite.
 pub mod Mailing
 pub mod Sending
+pub mod Heads

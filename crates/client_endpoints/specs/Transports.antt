@@ -64,11 +64,6 @@ pub record HasTold (old : Transport) (id : ℕ) (call : DeskEntry) (new : Transp
   pub one : IsTold new id call
   pub only : (c : ℕ) (e : DeskEntry) → IsTold new c e → IsTold old c e ⊎ ((c ≡ id) × (e ≡ call))
 
--- just what had been
-pub record HasToldNothing (old new : Transport) : Type 0 where
-  pub kept : (c : ℕ) (e : DeskEntry) → IsTold old c e → IsTold new c e
-  pub only : (c : ℕ) (e : DeskEntry) → IsTold new c e → IsTold old c e
-
 -- a chit has one receipt more, for this entry
 pub record HasLeft (was : Chit Item) (number : ℕ) (act : NodeAct) (now : Chit Item) : Type 0 where
   pub place : ℕ
@@ -79,10 +74,6 @@ pub record LeavesSide (was : Chit Item) (c : ℕ) (e : DeskEntry) (now : Chit It
   pub act : NodeAct
   pub left : HasLeft was e.number act now
   pub agree : side act ≡ Some (c, e.act)
-
--- a chit has left nothing, or an entry of which no client has a side
-abbrev pub LeavesNoSide : Chit Item → Chit Item → Type 0
-LeavesNoSide was now = (now.mine ≡ was.mine) ⊎ ((n : ℕ) × (act : NodeAct) × HasLeft was n act now × (side act ≡ None))
 
 -- ---- what stays
 

@@ -1,13 +1,13 @@
 //! A client's desk, with its way to the nodes.
-ghost use Rattle.std.specs.Prelude.{◌≡◌, ◌↔◌, ℕ, ◌<◌, ◌≤◌, None, Some, Err, true, IfOk, OnOk, OnErr, length};
+ghost use Rattle.std.specs.Prelude.{◌≡◌, ◌↔◌, ℕ, ◌<◌, ◌≤◌, None, Some, Err, true, IfOk, OnOk, OnErr};
 ghost use Rattle.protocol.specs.Messages.{IsFormedBody, IsAsk};
 ghost use Rattle.event_clock.specs.Passes.{left_of};
 ghost use Rattle.journals.specs.Desks.{FitsOp};
-ghost use Rattle.client_desks.specs.Desks.{IsUp, CanStart, CanCall, with_own, KeepsDesk};
+ghost use Rattle.client_desks.specs.Desks.{IsUp, CanStart, CanCall, with_own};
 ghost use Rattle.client_desks.specs.Later.{IsLater};
 ghost use Rattle.locked_nodes.specs.CellShards.{IsWholeAt};
 ghost use Rattle.client_endpoints.specs.Transports.{route, AtRest, IsNew, HaveEnded};
-ghost use Rattle.client_endpoints.specs.Endpoint.{EndpointView, Agree, Fit, Reaches, IsShared, fixed, vaults_of, refusal_in, IsAskOn, AsksOn, HasCalled, HasSent, AddBoth};
+ghost use Rattle.client_endpoints.specs.Endpoint.{EndpointView, Agree, Fit, Reaches, IsShared, fixed, refusal_in, IsAskOn, AsksOn, HasCalled, HasSent, AddBoth};
 
 use crate::shared_cells::SharedCells;
 use crate::transport::Transport;
@@ -15,7 +15,7 @@ use client_desks::Desk;
 use client_desks::laws::desks_go_on;
 use journals::{DeskAct, Way};
 use lists::Copied;
-use locked_nodes::{CellRefusal, Late};
+use locked_nodes::CellRefusal;
 use run_words::Outcome;
 use std::marker::Model;
 use std::snapshot::Snapshot;
@@ -165,7 +165,7 @@ impl Endpoint {
         requires whole { way ≡ Way.Hold → IsWholeAt shared_cells.now.cell_shards node }
         ensures called { IfOk result (λ outcome.
             HasCalled self.old.desk node way outcome self.new.desk) }
-        ensures err { OnErr result (KeepsDesk self.old.desk self.new.desk) }
+        ensures err { OnErr result (self.new.desk ≡ self.old.desk) }
         ensures refused { self.new.refused ≡ refusal_in result }
         ensures later { IsLater self.old.desk self.new.desk }
         ensures stays { fixed self.new ≡ fixed self.old }
@@ -203,7 +203,7 @@ impl Endpoint {
         requires asks { IsAsk ask.now.body }
         requires node { ask.now.node < self.old.desk.config.n }
         ensures sent { OnOk result (HasSent self.old.desk ask.now self.new.desk) }
-        ensures err { OnErr result (KeepsDesk self.old.desk self.new.desk) }
+        ensures err { OnErr result (self.new.desk ≡ self.old.desk) }
         ensures refused { self.new.refused ≡ refusal_in result }
         ensures later { IsLater self.old.desk self.new.desk }
         ensures stays { fixed self.new ≡ fixed self.old }
@@ -211,32 +211,6 @@ impl Endpoint {
     {
         desks_go_on();
         let answer = send_by(rt, shared_cells, &mut self.desk, &mut self.transport, ask);
-        self.refused = refusal_of(&answer);
-        answer
-    }
-
-    /// Waits for the cell at a place, lets the oldest ask that it holds back come late, and gives the cell back. The desk gets no
-    /// entry. By mail there is no such place. `ClockFull` comes where the cell's pass or the chit is used up, each after more than
-    /// 10^12 calls; no clause says when.
-    pub fn deliver<R: Wait>(
-        &mut self,
-        rt: &R,
-        shared_cells: &SharedCells,
-        place: usize,
-    ) -> Result<Late, CellRefusal>
-        requires fit { Fit self.old shared_cells.now }
-        requires sound { self.old.refused ≡ None }
-        requires place { place < length (vaults_of shared_cells.now) }
-        ensures kept { KeepsDesk self.old.desk self.new.desk }
-        ensures refused { self.new.refused ≡ refusal_in result }
-        ensures later { IsLater self.old.desk self.new.desk }
-        ensures stays { fixed self.new ≡ fixed self.old }
-        ensures fit { Fit self.new shared_cells.now }
-    {
-        desks_go_on();
-        let answer = self
-            .transport
-            .deliver(rt, shared_cells, place, &mut self.desk);
         self.refused = refusal_of(&answer);
         answer
     }
@@ -314,7 +288,7 @@ fn call_by<R: Wait, G: Gate>(
     requires whole { way ≡ Way.Hold → IsWholeAt shared_cells.now.cell_shards node }
     ensures called { IfOk result (λ outcome. HasCalled desk.old node way outcome desk.new) }
     ensures both { OnOk result (AddBoth desk.old transport.old desk.new transport.new) }
-    ensures kept { OnErr result (KeepsDesk desk.old desk.new) }
+    ensures err { OnErr result (desk.new ≡ desk.old) }
     ensures route { route transport.new ≡ route transport.old }
     ensures rest { AtRest transport.new }
 {
@@ -344,7 +318,7 @@ fn send_by<R: Wait>(
     requires node { ask.now.node < desk.old.config.n }
     ensures sent { OnOk result (HasSent desk.old ask.now desk.new) }
     ensures both { OnOk result (AddBoth desk.old transport.old desk.new transport.new) }
-    ensures kept { OnErr result (KeepsDesk desk.old desk.new) }
+    ensures err { OnErr result (desk.new ≡ desk.old) }
     ensures route { route transport.new ≡ route transport.old }
     ensures rest { AtRest transport.new }
 {

@@ -1,15 +1,13 @@
 //! A client's turn at a cell under a lock.
 ghost use Rattle.std.specs.Prelude.{◌≡◌, ◌≤◌, ◌+◌, None, IfOk};
-ghost use Rattle.locked_nodes.specs.declared.cell_shard.CellShard.{CellShard};
 ghost use Rattle.locked_nodes.specs.Cells.{number_of};
-ghost use Rattle.client_desks.specs.Desks.{KeepsDesk};
-ghost use Rattle.client_endpoints.specs.Transports.{call_of, LeavesSide, LeavesNoSide};
-ghost use Rattle.client_endpoints.specs.Endpoint.{IsHead, CanMeet};
+ghost use Rattle.client_endpoints.specs.Transports.{call_of, LeavesSide};
+ghost use Rattle.client_endpoints.specs.Endpoint.{CanMeet};
 
 use client_desks::Desk;
 use event_clock::{Clock, Note};
 use journals::Way;
-use locked_nodes::{CellRefusal, Late, NodeCell, Told};
+use locked_nodes::{CellRefusal, NodeCell, Told};
 use receipt_lock::{Chit, Vault};
 use std::sync::Wait;
 use thread_work::{Edge, Gate};
@@ -49,30 +47,4 @@ pub(crate) fn ask_cell<R: Wait, G: Gate>(
     vault.give(chit, cell);
     let told = answer?;
     Ok((told, note))
-}
-
-// Lets a held ask come late in its cell.
-pub(crate) fn deliver_in<R: Wait>(
-    rt: &R,
-    vault: &Vault<NodeCell>,
-    clock: &Clock,
-    chit: &mut Chit<NodeCell>,
-    desk: &mut Desk,
-) -> Result<Late, CellRefusal>
-    requires own { chit.old.vault ≡ vault.now.id }
-    requires rests { chit.old.holds ≡ None }
-    requires head { (cell_shard : CellShard) × IsHead desk.old.config clock.now cell_shard vault.now.id.begun }
-    requires clock { desk.old.pass.clock ≡ clock.now }
-    ensures own { chit.new.vault ≡ chit.old.vault }
-    ensures rests { chit.new.holds ≡ None }
-    ensures none { LeavesNoSide chit.old chit.new }
-    ensures kept { KeepsDesk desk.old desk.new }
-{
-    if chit.left() == 0 {
-        return Err(CellRefusal::ClockFull);
-    }
-    let mut cell = vault.take(rt, chit);
-    let answer = desk.deliver(clock, &mut cell);
-    vault.give(chit, cell);
-    answer
 }

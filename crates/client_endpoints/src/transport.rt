@@ -1,18 +1,17 @@
 //! A client's way to nodes.
-ghost use Rattle.std.specs.Prelude.{◌≡◌, ◌≤◌, ◌<◌, ◌+◌, IfOk, length};
+ghost use Rattle.std.specs.Prelude.{◌≡◌, ◌≤◌, ◌<◌, ◌+◌, IfOk};
 ghost use Rattle.locked_nodes.specs.Cells.{number_of};
 ghost use Rattle.locked_nodes.specs.CellShards.{IsWholeAt};
-ghost use Rattle.client_desks.specs.Desks.{KeepsDesk};
-ghost use Rattle.client_endpoints.specs.Transports.{route, AtRest, call_of, HasTold, HasToldNothing, IsByLocks, IsByMail};
-ghost use Rattle.client_endpoints.specs.Endpoint.{IsShared, Reaches, IsAskOn, vaults_of};
+ghost use Rattle.client_endpoints.specs.Transports.{route, AtRest, call_of, HasTold, IsByLocks, IsByMail};
+ghost use Rattle.client_endpoints.specs.Endpoint.{IsShared, Reaches, IsAskOn};
 
-use crate::locks::{ask_cell, deliver_in};
+use crate::locks::ask_cell;
 use crate::mail::ByMail;
 use crate::shared_cells::SharedCells;
 use client_desks::Desk;
 use event_clock::Note;
 use journals::Way;
-use locked_nodes::{CellRefusal, Late, NodeCell, Told};
+use locked_nodes::{CellRefusal, NodeCell, Told};
 use receipt_lock::Chit;
 use std::sync::Wait;
 use thread_work::Gate;
@@ -79,36 +78,6 @@ impl Transport {
                 ask,
             ),
             Transport::Mail(mail) => mail.ask(rt, shared_cells.clock(), place, desk, way, ask),
-        }
-    }
-
-    // Lets the oldest ask that the cell at a place holds back come late. By mail there is no such place.
-    pub(crate) fn deliver<R: Wait>(
-        &mut self,
-        rt: &R,
-        shared_cells: &SharedCells,
-        place: usize,
-        desk: &mut Desk,
-    ) -> Result<Late, CellRefusal>
-        requires shared_cells { IsShared desk.old.config shared_cells.now }
-        requires reach { Reaches desk.old.id (route self.old) shared_cells.now }
-        requires clock { desk.old.pass.clock ≡ shared_cells.now.clock }
-        requires rest { AtRest self.old }
-        requires place { place < length (vaults_of shared_cells.now) }
-        ensures nothing { HasToldNothing self.old self.new }
-        ensures kept { KeepsDesk desk.old desk.new }
-        ensures route { route self.new ≡ route self.old }
-        ensures rest { AtRest self.new }
-    {
-        match self {
-            Transport::Locks(chits) => deliver_in(
-                rt,
-                shared_cells.vault(place),
-                shared_cells.clock(),
-                &mut chits[place],
-                desk,
-            ),
-            Transport::Mail(_) => Ok(Late::NoMail),
         }
     }
 

@@ -23,7 +23,7 @@ use Rattle.phase_threads.proofs.lemmas.Cells.{journal_is, desk_at}
 use Rattle.phase_threads.specs.declared.duty.Seat.{Seat}
 use Rattle.thread_work.proofs.lemmas.Places.{all_from_places, get_map}
 use Rattle.client_duties.specs.declared.work.ClientDuty.{ClientDuty}
-use Rattle.client_duties.specs.declared.work.ClientDuty.TheVariants.{Client, Lying, Courier}
+use Rattle.client_duties.specs.declared.work.ClientDuty.TheVariants.{Client, Lying}
 use Rattle.client_threads.specs.Opened.{IsNewCell, AreNewCells, IsNewSeat, shards_of}
 use Rattle.client_threads.specs.Reads.{IsPartedAs, IsParted}
 use Rattle.client_threads.specs.Running.{desks_of, clients_of, plan_of, journals_in, StandsAt, LiarsNamed, IsOpen, IsBetween}
@@ -131,7 +131,6 @@ nothing_below bound plan j h = record {
 part_new : (w : ClientDuty) (d : DeskView) → IsPartedAs 0 w d 0
 part_new (Client w) d = record { before = []; after = (state_at d).ended; ended = refl; count = refl; low = λ x there. absurd (Contains-none x there); high = λ x there. omega arith }
 part_new (Lying w) d = refl
-part_new Courier d = refl
 
 pub parts_new : (seats : List (Seat ClientDuty)) → AllZip (IsParted 0) seats (replicate (length seats) 0)
 parts_new [] = tt
@@ -143,8 +142,8 @@ seen_all seen (x ∷ xs) = All-cons (λ x. 0 ≤ seen x) x xs (omega arith) (see
 
 -- so the run stands before its first phase
 pub is_first : (begins : Begins) (run : Run) (shards : ℕ) → 1 ≤ shards → IsOpen run → AreNewCells (plan_of run) shards run.clock (plan_of run).config.n 0 run.cells.items → All (IsNewSeat (plan_of run) run.clock) run.clients.items
-    → AreClients (plan_of run) (clients_of run) → run.counted.items ≡ replicate (length run.clients.items) 0 → run.courier.entries ≡ [] → LiarsNamed (plan_of run) → IsBetween 0 run
-is_first begins run shards some is_open c s are counted quiet named =
+    → AreClients (plan_of run) (clients_of run) → run.counted.items ≡ replicate (length run.clients.items) 0 → LiarsNamed (plan_of run) → IsBetween 0 run
+is_first begins run shards some is_open c s are counted named =
     let empty = journals_empty (plan_of run) shards some run.clock run.cells.items run.clients.items c s in
     record {
       standing = record {
@@ -153,7 +152,6 @@ is_first begins run shards some is_open c s are counted quiet named =
         clients = are;
         works = parts run.clients.items s;
         pairs = no_pairs (plan_of run) shards run.clock run.cells.items run.clients.items c s;
-        quiet = quiet;
         named = named;
       };
       phases = [];

@@ -28,7 +28,7 @@ use Rattle.plan_followed.specs.Prunings.{blocks_of, ArePrunings}
 use Rattle.phase_threads.specs.declared.duty.Seat.{Seat}
 use Rattle.client_duties.specs.declared.reads.GivenRead.{GivenRead}
 use Rattle.client_duties.specs.declared.work.ClientDuty.{ClientDuty}
-use Rattle.client_duties.specs.declared.work.ClientDuty.TheVariants.{Client, Lying, Courier}
+use Rattle.client_duties.specs.declared.work.ClientDuty.TheVariants.{Client, Lying}
 use Rattle.client_duties.specs.declared.worker.CorrectClient.{CorrectClient}
 use Rattle.client_duties.specs.ClientDuty.{given_by, all_given, Stands}
 use Rattle.client_threads.specs.Pruned.{pruning_of}
@@ -198,7 +198,6 @@ module _ (plan : Plan) (k from : ℕ) (seats : List (Seat ClientDuty)) (counted 
         p.high q.operation q.there,
       )
   late_of s among (Lying w) n r is at p there = absurd (Contains-none r (subst (λ (m : ℕ). Contains (drop m []) r) p there))
-  late_of s among Courier n r is at p there = absurd at
 
   early_of : (s : Seat ClientDuty) → Contains seats s → (w : ClientDuty) (n : ℕ) (r : GivenRead) → s.duty ≡ w → StandsAt plan k w s.desk → IsPartedAs from w s.desk n → Contains (take n (reads_in w)) r → IsGiven seats (block_stamp r)
   early_of s among (Client w) n r is at p there =
@@ -212,7 +211,6 @@ module _ (plan : Plan) (k from : ℕ) (seats : List (Seat ClientDuty)) (counted 
         gives = q.gives;
       }
   early_of s among (Lying w) n r is at p there = absurd (Contains-none r (subst (λ (m : ℕ). Contains (take m []) r) p there))
-  early_of s among Courier n r is at p there = absurd at
 
   stands_at : (s : Seat ClientDuty) → Contains seats s → StandsAt plan k s.duty s.desk
   stands_at s among = All-contains (λ s. StandsAt plan k s.duty s.desk) seats s works among
@@ -270,7 +268,6 @@ module _ (plan : Plan) (k from : ℕ) (seats : List (Seat ClientDuty)) (counted 
             )
       ]
   listed_in s among (Lying w) is at correct x block stamp there g = absurd (let l = at.1.lying in cc (l, correct))
-  listed_in s among Courier is at correct x block stamp there g = absurd at
 
 -- ---- the prunes of a phase
 

@@ -15,7 +15,7 @@ use Rattle.phase_threads.specs.Standing.{AreCells, AreInside, ArePlanned, IsDesk
 use Rattle.phase_threads.specs.declared.duty.Seat.{Seat}
 use Rattle.client_duties.specs.declared.reads.GivenRead.{GivenRead}
 use Rattle.client_duties.specs.declared.work.ClientDuty.{ClientDuty}
-use Rattle.client_duties.specs.declared.work.ClientDuty.TheVariants.{Client, Lying, Courier}
+use Rattle.client_duties.specs.declared.work.ClientDuty.TheVariants.{Client, Lying}
 use Rattle.client_duties.specs.ClientDuty.{given_by, all_given}
 use Rattle.client_threads.specs.Met.{IsKeeper, HasMetCell}
 use Rattle.client_threads.specs.Meeting.{HasMetAll}
@@ -37,7 +37,6 @@ fewer_as plan k from n (Client w) d h p =
     let many = ap length all ∙ length-append (all_given p.before) (all_given p.after) in
     omega (arith, count, many)
 fewer_as plan k from n (Lying w) d h p = omega (arith, p)
-fewer_as plan k from n Courier d h p = absurd h
 
 -- so many reads of each client were counted as it made
 pub fewer : (plan : Plan) (k from : ℕ) (seats : List (Seat ClientDuty)) (counted : List ℕ) → All (λ s. StandsAt plan k s.duty s.desk) seats → AllZip (IsParted from) seats counted → AllZip (λ s n. n ≤ length (reads_of s)) seats counted
@@ -46,7 +45,6 @@ fewer plan k from seats counted works parted = zip_left (IsParted from) (λ s n.
 inside_as : (plan : Plan) (k : ℕ) (w : ClientDuty) (d : DeskView) → StandsAt plan k w d → All (λ r. r.block < plan.config.blocks) (reads_in w)
 inside_as plan k (Client w) d h = subst (λ (p : Plan). All (λ (r : GivenRead). r.block < p.config.blocks) w.reads) h.0 h.1.goes.reads.inside
 inside_as plan k (Lying w) d h = All-nil (λ (r : GivenRead). r.block < plan.config.blocks)
-inside_as plan k Courier d h = absurd h
 
 all_where : {X : Type 0} (P : X → Type 0) (xs : List X) → ((x : X) → Contains xs x → P x) → All P xs
 all_where P [] h = All-nil P
@@ -115,16 +113,14 @@ planned_met k run0 run1 b m =
     (planned_fixed (plan_of run0) run0.clock run0.cells.items run1.cells.items (zip_map HasMetCell IsFixedAs run0.cells.items run1.cells.items (λ x y q. fixed_same x y q.charter) m.cells) b.standing.planned)
 
 -- a run whose nodes pruned is open as before
-pub open_pruned : (old new : Run) → plan_of new ≡ plan_of old → new.clock ≡ old.clock → new.clients.items ≡ old.clients.items → new.courier ≡ old.courier → IsKeeper old.keeper new.keeper
+pub open_pruned : (old new : Run) → plan_of new ≡ plan_of old → new.clock ≡ old.clock → new.clients.items ≡ old.clients.items → IsKeeper old.keeper new.keeper
     → AllZip HasMorePrunes (reopened old.cells.items) new.cells.items → All KeptCell old.cells.items → IsOpen old → IsOpen new
-open_pruned old new plan clock clients courier keeper some kept o = record {
+open_pruned old new plan clock clients keeper some kept o = record {
   cells = subst (λ (p : Plan). AreCells p.config new.clock new.cells.items) (sym plan) (subst (λ (c : ClockId). AreCells (plan_of old).config c new.cells.items) (sym clock)
       (cells_fixed (plan_of old).config old.clock old.cells.items new.cells.items fixed o.cells));
   inside = subst (λ (p : Plan). AreInside p.config new.cells.items) (sym plan) (inside_fixed (plan_of old).config old.cells.items new.cells.items fixed o.inside);
   desks = subst (λ (p : Plan). All (IsDeskAt p.config new.clock) (clients_of new)) (sym plan) (subst (λ (c : ClockId). All (IsDeskAt (plan_of old).config c) (clients_of new)) (sym clock)
       (subst (λ (l : List (Seat ClientDuty)). All (IsDeskAt (plan_of old).config old.clock) (map (λ s. s.desk) l)) (sym clients) o.desks));
-  courier = subst (λ (p : Plan). IsDeskAt p.config new.clock new.courier) (sym plan) (subst (λ (c : ClockId). IsDeskAt (plan_of old).config c new.courier) (sym clock)
-      (subst (IsDeskAt (plan_of old).config old.clock) (sym courier) o.courier));
   keeper = (keeper.clock ∙ o.keeper.0 ∙ sym clock, keeper.drawn ∙ o.keeper.1);
   passes =
       let a = ap (λ (c : ClockId). c.passes) clock in

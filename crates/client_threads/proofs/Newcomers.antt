@@ -331,11 +331,8 @@ pub record IsNewRun (run : Run) (plan : Plan) : Type 0 where
   pub cells : AreNewCells plan shards run.clock plan.config.n 0 run.cells.items
   pub seats : All (IsNewSeat plan run.clock) run.clients.items
   pub ids : map (λ s. s.desk.id) run.clients.items ≡ ascending (clients plan.rules plan.work)
-  pub pass : Holder
-  pub unused : IsUnusedPass run.clock pass
-  pub courier : run.courier ≡ first_desk plan.config 0 true pass
   pub keeper : IsUnusedPass run.clock run.keeper
-  pub passes : run.clock.passes ≡ cell_count plan shards plan.config.n + length run.clients.items + 2
+  pub passes : run.clock.passes ≡ cell_count plan shards plan.config.n + length run.clients.items + 1
   pub counted : run.counted.items ≡ replicate (length run.clients.items) 0
   pub named : LiarsNamed plan
 
@@ -346,11 +343,10 @@ first_of begins run h =
       cells = (cells_planned (plan_of run) h.shards h.some run.clock run.cells.items h.cells).cells;
       inside = (cells_planned (plan_of run) h.shards h.some run.clock run.cells.items h.cells).inside;
       desks = desks_at (plan_of run) run.clock run.clients.items h.seats;
-      courier = record { cluster = ap (λ (d : DeskView). d.config) h.courier; ticks = ap (λ (d : DeskView). d.pass.clock) h.courier ∙ h.unused.ticks };
       keeper = (h.keeper.ticks, h.keeper.drawn);
       passes = omega (arith, h.passes, h.cells.count);
     })
-    h.cells h.seats (clients_are (plan_of run) run.clock run.clients.items h.seats h.ids) h.counted (ap (λ (d : DeskView). d.entries) h.courier) h.named
+    h.cells h.seats (clients_are (plan_of run) run.clock run.clients.items h.seats h.ids) h.counted h.named
 
 pub stands_first : (begins : Begins) (run : Run) (plan : Plan) → plan_of run ≡ plan → IsNewRun run plan → IsBetween 0 run
 stands_first begins run plan same h = first_of begins run (subst (IsNewRun run) (sym same) h)

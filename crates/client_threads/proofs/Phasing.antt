@@ -30,7 +30,7 @@ use Rattle.phase_threads.specs.declared.duty.Seat.{Seat}
 use Rattle.plan_followed.specs.declared.prunes.BlockStamp.{BlockStamp}
 use Rattle.plan_followed.specs.Prunings.{ArePrunings}
 use Rattle.client_duties.specs.declared.work.ClientDuty.{ClientDuty}
-use Rattle.client_duties.specs.declared.work.ClientDuty.TheVariants.{Client, Lying, Courier}
+use Rattle.client_duties.specs.declared.work.ClientDuty.TheVariants.{Client, Lying}
 use Rattle.client_threads.specs.Met.{IsKeeper, HasMetCell, HasMetDesk, HasMetSeat}
 use Rattle.client_threads.specs.Meeting.{HasMetAll}
 use Rattle.client_threads.specs.Pruned.{HasMorePrunes, AllPruned, reopened, prunings_of}
@@ -69,7 +69,6 @@ stands_met plan k w d e h s = subst (StandsAt plan k w) (sym (met_is d e h)) (ki
       s.2,
     )
     kinds (Lying v) s = (s.0, record { config = s.1.config; id = s.1.id; lying = s.1.lying; sent = s.1.sent; each = s.1.each }, s.2)
-    kinds Courier s = absurd s
 
 seats_met : (plan : Plan) (k : ℕ) (xs ys : List (Seat ClientDuty)) → AllZip HasMetSeat xs ys → All (λ s. StandsAt plan k s.duty s.desk) xs → All (λ s. StandsAt plan k s.duty s.desk) ys
 seats_met plan k xs ys z a = zip_all HasMetSeat (λ s. StandsAt plan k s.duty s.desk) (λ s. StandsAt plan k s.duty s.desk) xs ys
@@ -165,7 +164,6 @@ met_alone a b h = record { more = []; grew = h.journal ∙ append_nil a.journal;
 kind_met : (from n : ℕ) (w : ClientDuty) (d e : DeskView) → HasMetDesk d e → IsPartedAs from w d n → IsPartedAs from w e n
 kind_met from n (Client v) d e h p = subst (λ (x : DeskView). AreParted from x n) (sym (met_is d e h)) (record { before = p.before; after = p.after; ended = p.ended; count = p.count; low = p.low; high = p.high })
 kind_met from n (Lying v) d e h p = p
-kind_met from n Courier d e h p = p
 
 parted_met : (from : ℕ) (xs ys : List (Seat ClientDuty)) (counted : List ℕ) → AllZip HasMetSeat xs ys → AllZip (IsParted from) xs counted → AllZip (IsParted from) ys counted
 parted_met from [] [] counted z p = p
@@ -178,7 +176,6 @@ parted_met from (x ∷ xs) (y ∷ ys) (n ∷ ns) z p = (subst (λ (w : ClientDut
 all_of : (plan : Plan) (k end : ℕ) (w : ClientDuty) (d : DeskView) → StandsAt plan k w d → ((e : DeskEntry) → Contains d.entries e → e.number < end) → IsPartedAs end w d (length (reads_in w))
 all_of plan k end (Client w) d h low = subst (AreParted end d) (ap length (sym (reads_are w d h.1))) (parted_all end d low)
 all_of plan k end (Lying w) d h low = refl
-all_of plan k end Courier d h low = refl
 
 all_parted : (plan : Plan) (k end : ℕ) (xs ys : List (Seat ClientDuty)) → AllZip HasMetSeat xs ys → All (λ s. StandsAt plan k s.duty s.desk) xs
     → All (λ d. (e : DeskEntry) → Contains d.entries e → e.number < end) (desks_of xs) → AllZip (IsParted end) ys (map (λ s. length (reads_of s)) xs)
@@ -208,7 +205,6 @@ pub record HasPruned (ps : List BlockStamp) (old new : Run) : Type 0 where
   pub plan : plan_of new ≡ plan_of old
   pub clock : new.clock ≡ old.clock
   pub clients : new.clients.items ≡ old.clients.items
-  pub courier : new.courier ≡ old.courier
   pub keeper : IsKeeper old.keeper new.keeper
   pub counted : new.counted.items ≡ map (λ s. length (reads_of s)) old.clients.items
   pub some : AllZip HasMorePrunes (reopened old.cells.items) new.cells.items
@@ -374,7 +370,6 @@ module _ (below : JournalsBelow) (prune : CellsPrune) (close : Closes) (k : ℕ)
       clients = subst (λ (q : Plan). AreClients q (clients_of run3)) (sym same3) (clients_met P (clients_of run1) (clients_of run3) desks3 clients1);
       works = subst (λ (q : Plan). All (λ s. StandsAt q (k + 1) s.duty s.desk) run3.clients.items) (sym same3) (seats_met P (k + 1) run1.clients.items run3.clients.items seats3 works1);
       pairs = pairs_on run0.cells.items run3.cells.items (clients_of run0) (clients_of run3) alone entries b.standing.pairs;
-      quiet = n.courier ∙ ap (λ (d : DeskView). d.entries) did.courier ∙ m.courier ∙ b.standing.quiet;
       named = subst LiarsNamed (sym same3) b.standing.named;
     };
     phases = phases3;

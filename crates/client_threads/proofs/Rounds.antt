@@ -3,9 +3,9 @@ use Rattle.std.proofs.Common.{◌≡◌, ℕ, ◌≤◌, List, [], ◌∷◌, �
 use Rattle.std.specs.List.{AllZip, All}
 use Rattle.std.proofs.lemmas.List.Elements.{All-nil, All-cons, All-head, All-tail}
 use Rattle.quorum_rules.specs.Limits.{Numbers}
-use Rattle.event_clock.specs.Passes.{ClockId, Holder}
+use Rattle.event_clock.specs.Passes.{ClockId}
 use Rattle.locked_nodes.specs.Cells.{CellView}
-use Rattle.client_desks.specs.Desks.{DeskView, met_desk}
+use Rattle.client_desks.specs.Desks.{DeskView}
 use Rattle.phase_threads.specs.Standing.{AreCells, AreInside, IsDeskAt}
 use Rattle.phase_threads.specs.declared.duty.Seat.{Seat}
 use Rattle.client_duties.specs.declared.work.ClientDuty.{ClientDuty}
@@ -45,6 +45,3 @@ desks_within first low high next (s ∷ ss) le more h =
     let w = All-head (λ (s : Seat ClientDuty). (low ≤ s.desk.pass.seen) × (s.desk.pass.seen ≤ high)) s ss h in
     All-cons (λ (d : DeskView). (first ≤ d.pass.seen) × (d.pass.seen ≤ next)) s.desk (desks_of ss) (omega (arith, w.0, le), omega (arith, w.1, more))
     (desks_within first low high next ss le more (All-tail (λ (s : Seat ClientDuty). (low ≤ s.desk.pass.seen) × (s.desk.pass.seen ≤ high)) s ss h))
-
-pub courier_at : (config : Numbers) (clock : ClockId) (d e : DeskView) (other : Holder) → e ≡ met_desk d other → IsDeskAt config clock d → IsDeskAt config clock e
-courier_at config clock d e other is h = record { cluster = ap (λ x. x.config) is ∙ h.cluster; ticks = ap (λ x. x.pass.clock) is ∙ h.ticks }

@@ -24,7 +24,7 @@ use Rattle.phase_threads.specs.declared.duty.Seat.{Seat}
 use Rattle.phase_threads.specs.Phases.{MayPhase}
 use Rattle.thread_work.proofs.lemmas.Places.{map_get}
 use Rattle.client_duties.specs.declared.work.ClientDuty.{ClientDuty}
-use Rattle.client_duties.specs.declared.work.ClientDuty.TheVariants.{Client, Lying, Courier}
+use Rattle.client_duties.specs.declared.work.ClientDuty.TheVariants.{Client, Lying}
 use Rattle.client_duties.specs.ClientDuty.{Ready, Done}
 use Rattle.client_threads.specs.Running.{desks_of, clients_of, plan_of, StandsAt, cuts, LiarsNamed, IsOpen, IsStanding, HasDonePhase}
 use Rattle.client_threads.specs.declared.state.Run.{Run}
@@ -57,51 +57,18 @@ ready_of plan k few cell_shards whole (Client w) d h = (
   λ node some. whole w.client node (subst (λ (p : Plan). 0 < holds p.rules w.client node) h.0 some),
 )
 ready_of plan k few cell_shards whole (Lying w) d h = h.1
-ready_of plan k few cell_shards whole Courier d h = absurd h
 
-pub all_ready : (plan : Plan) (k : ℕ) → k ≤ cuts plan → (cell_shards : List CellShard) → AreWhole plan cell_shards → (seats : List (Seat ClientDuty)) (courier : DeskView) → All (λ s. StandsAt plan k s.duty s.desk) seats → courier.entries ≡ []
-    → All (λ s. Ready s.duty cell_shards s.desk) (seats ++ record { desk = courier; duty = Courier } ∷ [])
-all_ready plan k few cell_shards whole [] courier works quiet = All-cons (λ s. Ready s.duty cell_shards s.desk) (record { desk = courier; duty = Courier }) [] quiet (All-nil (λ s. Ready s.duty cell_shards s.desk))
-all_ready plan k few cell_shards whole (s ∷ seats) courier works quiet =
-    All-cons (λ s. Ready s.duty cell_shards s.desk) s (seats ++ record { desk = courier; duty = Courier } ∷ []) (ready_of plan k few cell_shards whole s.duty s.desk (All-head (λ s. StandsAt plan k s.duty s.desk) s seats works))
-    (all_ready plan k few cell_shards whole seats courier (All-tail (λ s. StandsAt plan k s.duty s.desk) s seats works) quiet)
+pub all_ready : (plan : Plan) (k : ℕ) → k ≤ cuts plan → (cell_shards : List CellShard) → AreWhole plan cell_shards → (seats : List (Seat ClientDuty)) → All (λ s. StandsAt plan k s.duty s.desk) seats → All (λ s. Ready s.duty cell_shards s.desk) seats
+all_ready plan k few cell_shards whole [] works = All-nil (λ s. Ready s.duty cell_shards s.desk)
+all_ready plan k few cell_shards whole (s ∷ seats) works =
+    All-cons (λ s. Ready s.duty cell_shards s.desk) s seats (ready_of plan k few cell_shards whole s.duty s.desk (All-head (λ s. StandsAt plan k s.duty s.desk) s seats works))
+    (all_ready plan k few cell_shards whole seats (All-tail (λ s. StandsAt plan k s.duty s.desk) s seats works))
 
 pub desks_pushed : (seats : List (Seat ClientDuty)) (s : Seat ClientDuty) → desks_of (seats ++ s ∷ []) ≡ desks_of seats ++ s.desk ∷ []
 desks_pushed [] s = refl
 desks_pushed (x ∷ seats) s = ap (λ (l : List DeskView). x.desk ∷ l) (desks_pushed seats s)
 
--- a desk with no entries changes nothing of the pairs
-pub pairs_more : (cells : List CellView) (desks : List DeskView) (d : DeskView) → d.entries ≡ [] → PairsStand cells desks → PairsStand cells (desks ++ d ∷ [])
-pairs_more cells desks d quiet h = record {
-  called = λ cell n c act among there is. (let q = h.called cell n c act among there is in record { desk = q.desk; there = Contains-append_left desks (d ∷ []) q.desk q.there; client = q.client; stands = q.stands });
-  answered = λ e x among there. elim (Contains-append_cases desks (d ∷ []) e among) [
-    | inl was ↦ h.answered e x was there
-    | inr is ↦ (let same : e ≡ d = Contains-one e d is in absurd (Contains-none x (subst (λ (es : List DeskEntry). Contains es x) (ap (λ (y : DeskView). y.entries) same ∙ quiet) there)))
-  ];
-}
-
-pub pairs_less : (cells : List CellView) (desks : List DeskView) (d : DeskView) → d.entries ≡ [] → PairsStand cells (desks ++ d ∷ []) → PairsStand cells desks
-pairs_less cells desks d quiet h = record {
-  called = λ cell n c act among there is. at c n act (h.called cell n c act among there is);
-  answered = λ e x among there. h.answered e x (Contains-append_left desks (d ∷ []) e among) there;
-}
-  where
-    at : (c : ℕ) (n : NodeEntry) (act : DeskAct) → HasSideOn (desks ++ d ∷ []) c n.number act → HasSideOn desks c n.number act
-    at c n act q = elim (Contains-append_cases desks (d ∷ []) q.desk q.there) [
-      | inl was ↦ record { desk = q.desk; there = was; client = q.client; stands = q.stands }
-      | inr is ↦ (let same : q.desk ≡ d = Contains-one q.desk d is in absurd (Contains-none (desk_entry n.number act) (subst (λ (es : List DeskEntry). Contains es (desk_entry n.number act)) (ap (λ (y : DeskView). y.entries) same ∙ quiet) q.stands)))
-    ]
-
 -- ---- after it
-
--- the last of two lists side by side
-pub zip_pushed : {X Y : Type 0} (R : X → Y → Type 0) (xs : List X) (x : X) (ys : List Y) (y : Y) → AllZip R (xs ++ x ∷ []) (ys ++ y ∷ []) → AllZip R xs ys × R x y
-zip_pushed R [] x [] y z = (tt, z.0)
-zip_pushed R [] x (b ∷ []) y z = absurd z.1
-zip_pushed R [] x (b ∷ c ∷ ys) y z = absurd z.1
-zip_pushed R (a ∷ []) x [] y z = absurd z.1
-zip_pushed R (a ∷ c ∷ xs) x [] y z = absurd z.1
-zip_pushed R (a ∷ xs) x (b ∷ ys) y z = (let q = zip_pushed R xs x ys y z.1 in ((z.0, q.0), q.1))
 
 done_of : (plan : Plan) (k : ℕ) (v w : ClientDuty) (d e : DeskView) → StandsAt plan k v d → Done v d w e → StandsAt plan (k + 1) w e
 done_of plan k (Client v) (Client w) d e h done =
@@ -114,10 +81,7 @@ done_of plan k (Client v) (Client w) d e h done =
     (same, done.stands, omega (arith, a, b, at, one, fewer))
 done_of plan k (Lying v) (Lying w) d e h done = (done.plan ∙ h.0, done.mail, λ l. done.all)
 done_of plan k (Client v) (Lying w) d e h done = absurd done
-done_of plan k (Client v) Courier d e h done = absurd done
 done_of plan k (Lying v) (Client w) d e h done = absurd done
-done_of plan k (Lying v) Courier d e h done = absurd done
-done_of plan k Courier w d e h done = absurd h
 
 pub all_done : (plan : Plan) (k : ℕ) (xs ys : List (Seat ClientDuty)) → All (λ s. StandsAt plan k s.duty s.desk) xs → AllZip (λ s t. Done s.duty s.desk t.duty t.desk) xs ys → All (λ s. StandsAt plan (k + 1) s.duty s.desk) ys
 all_done plan k [] [] works z = All-nil (λ s. StandsAt plan (k + 1) s.duty s.desk)
@@ -132,8 +96,6 @@ quiet_of plan zero (Lying v) (Lying w) d e h done honest lies = inl refl
 quiet_of plan (suc k) (Lying v) (Lying w) d e h done honest lies = inr (done.none (h.2 (omega arith)))
 quiet_of plan k (Client v) w d e h done honest lies = absurd (let c = h.1.goes.its.correct in cc (c, honest, lies))
 quiet_of plan k (Lying v) (Client w) d e h done honest lies = absurd done
-quiet_of plan k (Lying v) Courier d e h done honest lies = absurd done
-quiet_of plan k Courier w d e h done honest lies = absurd h
 
 pub all_quiet : (plan : Plan) (k : ℕ) (xs ys : List (Seat ClientDuty)) → All (λ s. StandsAt plan k s.duty s.desk) xs → AllZip (λ s t. Done s.duty s.desk t.duty t.desk) xs ys
     → All (λ d. d.lying ≡ has_number plan.liars.clients d.id) (desks_of xs) → AllZip (λ d e. has_number plan.liars.clients d.id ≡ true → (k ≡ 0) ⊎ (e.entries ≡ d.entries)) (desks_of xs) (desks_of ys)
@@ -184,70 +146,34 @@ worked_fixed a b w k = record {
 
 -- ---- the run
 
-all_pushed : {X : Type 0} (P : X → Type 0) (xs : List X) (x : X) → All P xs → P x → All P (xs ++ x ∷ [])
-all_pushed P [] x a p = All-cons P x [] p (All-nil P)
-all_pushed P (y ∷ xs) x a p = All-cons P y (xs ++ x ∷ []) (All-head P y xs a) (all_pushed P xs x (All-tail P y xs a) p)
-
 pub all_desks : (P : DeskView → Type 0) (seats : List (Seat ClientDuty)) → All P (desks_of seats) → All (λ s. P s.desk) seats
 all_desks P [] a = All-nil (λ s. P s.desk)
 all_desks P (s ∷ seats) a = All-cons (λ s. P s.desk) s seats (All-head P s.desk (desks_of seats) a) (all_desks P seats (All-tail P s.desk (desks_of seats) a))
 
-abbrev pub courier_seat : DeskView → Seat ClientDuty
-courier_seat d = record { desk = d; duty = Courier }
-
--- with the courier's seat
-pub desks_with : (P : DeskView → Type 0) (seats : List (Seat ClientDuty)) (courier : DeskView) → All P (desks_of seats) → P courier → All (λ s. P s.desk) (seats ++ courier_seat courier ∷ [])
-desks_with P seats courier a p = all_pushed (λ s. P s.desk) seats (courier_seat courier) (all_desks P seats a) p
-
-pub pairs_with : (cells : List CellView) (seats : List (Seat ClientDuty)) (courier : DeskView) → courier.entries ≡ [] → PairsStand cells (desks_of seats) → PairsStand cells (desks_of (seats ++ courier_seat courier ∷ []))
-pairs_with cells seats courier quiet h = subst (PairsStand cells) (sym (desks_pushed seats (courier_seat courier))) (pairs_more cells (desks_of seats) courier quiet h)
-
 -- so a run that stands may do its next phase
-pub may_phase : (run : Run) (k : ℕ) (seats : List (Seat ClientDuty)) → seats ≡ run.clients.items ++ courier_seat run.courier ∷ [] → length seats ≤ 65536 → IsStanding k run → k ≤ cuts (plan_of run) → MayPhase Ready run.clock run.cells.items seats
-may_phase run k seats is most h few =
+pub may_phase : (run : Run) (k : ℕ) → length run.clients.items ≤ 65535 → IsStanding k run → k ≤ cuts (plan_of run) → MayPhase Ready run.clock run.cells.items run.clients.items
+may_phase run k most h few =
     let config = (plan_of run).config in
     let cell_shards = cell_shards_of run.cells.items in
     record {
-      cluster = (
-        config,
-        h.opened.cells,
-        subst (All (λ (s : Seat ClientDuty). IsDeskAt config run.clock s.desk)) (sym is) (desks_with (IsDeskAt config run.clock) run.clients.items run.courier h.opened.desks h.opened.courier),
-      );
-      pairs = subst (λ (l : List (Seat ClientDuty)). PairsStand run.cells.items (desks_of l)) (sym is) (pairs_with run.cells.items run.clients.items run.courier h.quiet h.pairs);
-      ready = subst (All (λ (s : Seat ClientDuty). Ready s.duty cell_shards s.desk)) (sym is)
-          (all_ready (plan_of run) k few cell_shards (whole_where (plan_of run) run.clock run.cells.items h.planned) run.clients.items run.courier h.works h.quiet);
-      count = (
-        (let long = ap (λ (l : List (Seat ClientDuty)). length l) is in let one = length-append run.clients.items (courier_seat run.courier ∷ []) in omega (arith, long, one)),
-        most,
-      );
+      cluster = (config, h.opened.cells, all_desks (IsDeskAt config run.clock) run.clients.items h.opened.desks);
+      pairs = h.pairs;
+      ready = all_ready (plan_of run) k few cell_shards (whole_where (plan_of run) run.clock run.cells.items h.planned) run.clients.items h.works;
+      count = most;
     }
 
-none_long : {X Y : Type 0} (R : X → Y → Type 0) (xs : List X) (x : X) (ys : List Y) → AllZip R (xs ++ x ∷ []) ys → 0 < length ys
-none_long R [] x [] z = absurd z
-none_long R (a ∷ xs) x [] z = absurd z
-none_long R [] x (y ∷ ys) z = omega arith
-none_long R (a ∷ xs) x (y ∷ ys) z = omega arith
-
-pub some_left : {X Y : Type 0} (R : X → Y → Type 0) (xs zs : List X) (x : X) (ys : List Y) → zs ≡ xs ++ x ∷ [] → AllZip R zs ys → 0 < length ys
-some_left R xs zs x ys is z = none_long R xs x ys (subst (λ l. AllZip R l ys) is z)
-
 -- the parts of a run whose threads have ended
-pub record HasEndedThreads (old new : Run) (seats : List (Seat ClientDuty)) (last : Seat ClientDuty) : Type 0 where
+pub record HasEndedThreads (old new : Run) : Type 0 where
   pub plan : plan_of new ≡ plan_of old
   pub clock : new.clock ≡ old.clock
   pub keeper : new.keeper ≡ old.keeper
   pub counted : new.counted.items ≡ old.counted.items
   pub cells : AllZip HasWorked old.cells.items new.cells.items
-  pub all : seats ≡ new.clients.items ++ last ∷ []
-  pub courier : new.courier ≡ last.desk
-  pub desks : AllZip (λ s t. IsLater s.desk t.desk) (old.clients.items ++ courier_seat old.courier ∷ []) seats
+  pub desks : AllZip (λ s t. IsLater s.desk t.desk) old.clients.items new.clients.items
 
-module _ (old new : Run) (seats : List (Seat ClientDuty)) (last : Seat ClientDuty) (e : HasEndedThreads old new seats last) (kept : All KeptCell old.cells.items) where
-  split : AllZip (λ s t. IsLater s.desk t.desk) old.clients.items new.clients.items × IsLater old.courier last.desk
-  split = zip_pushed (λ s t. IsLater s.desk t.desk) old.clients.items (courier_seat old.courier) new.clients.items last (subst (λ (l : List (Seat ClientDuty)). AllZip (λ s t. IsLater s.desk t.desk) (old.clients.items ++ courier_seat old.courier ∷ []) l) e.all e.desks)
-
+module _ (old new : Run) (e : HasEndedThreads old new) (kept : All KeptCell old.cells.items) where
   later : AllZip IsLater (clients_of old) (clients_of new)
-  later = desks_beside IsLater old.clients.items new.clients.items split.0
+  later = desks_beside IsLater old.clients.items new.clients.items e.desks
 
   fixed : AllZip IsFixedAs old.cells.items new.cells.items
   fixed = zip_kept old.cells.items new.cells.items e.cells kept
@@ -263,31 +189,16 @@ module _ (old new : Run) (seats : List (Seat ClientDuty)) (last : Seat ClientDut
     cells = subst (λ (p : Plan). AreCells p.config new.clock new.cells.items) (sym e.plan) (subst (λ (c : ClockId). AreCells (plan_of old).config c new.cells.items) (sym e.clock) (cells_fixed (plan_of old).config old.clock old.cells.items new.cells.items fixed h.cells));
     inside = subst (λ (p : Plan). AreInside p.config new.cells.items) (sym e.plan) (inside_fixed (plan_of old).config old.cells.items new.cells.items fixed h.inside);
     desks = subst (λ (p : Plan). All (IsDeskAt p.config new.clock) (clients_of new)) (sym e.plan) (subst (λ (c : ClockId). All (IsDeskAt (plan_of old).config c) (clients_of new)) (sym e.clock) (desks_tick (plan_of old).config old.clock (clients_of old) (clients_of new) later h.desks));
-    courier = record {
-      cluster = ap (λ (d : DeskView). d.config) e.courier ∙ split.1.config ∙ h.courier.cluster ∙ ap (λ (p : Plan). p.config) (sym e.plan);
-      ticks = ap (λ (d : DeskView). d.pass.clock) e.courier ∙ split.1.clock ∙ h.courier.ticks ∙ sym e.clock;
-    };
     keeper = (ap (λ p. p.clock) e.keeper ∙ h.keeper.0 ∙ sym e.clock, ap (λ p. p.drawn) e.keeper ∙ h.keeper.1);
     passes =
         let a : new.clock.passes ≡ old.clock.passes = ap (λ c. c.passes) e.clock in
         let b : length new.cells.items ≡ length old.cells.items = zip_long HasWorked old.cells.items new.cells.items e.cells in
-        let c : length new.clients.items ≡ length old.clients.items = zip_long (λ s t. IsLater s.desk t.desk) old.clients.items new.clients.items split.0 in
+        let c : length new.clients.items ≡ length old.clients.items = zip_long (λ s t. IsLater s.desk t.desk) old.clients.items new.clients.items e.desks in
         let d = h.passes in
         omega (arith, a, b, c, d);
   }
 
-  module _ (done : AllZip (λ s t. Done s.duty s.desk t.duty t.desk) (old.clients.items ++ courier_seat old.courier ∷ []) seats) (pairs : PairsStand new.cells.items (desks_of seats)) where
-    parts : AllZip (λ s t. Done s.duty s.desk t.duty t.desk) old.clients.items new.clients.items × Done Courier old.courier last.duty last.desk
-    parts = zip_pushed (λ s t. Done s.duty s.desk t.duty t.desk) old.clients.items (courier_seat old.courier) new.clients.items last (subst (λ (l : List (Seat ClientDuty)). AllZip (λ s t. Done s.duty s.desk t.duty t.desk) (old.clients.items ++ courier_seat old.courier ∷ []) l) e.all done)
-
-    courier_quiet : (w : ClientDuty) → Done Courier old.courier w last.desk → last.desk.entries ≡ []
-    courier_quiet (Client v) d = absurd d
-    courier_quiet (Lying v) d = absurd d
-    courier_quiet Courier d = d
-
-    quiet : new.courier.entries ≡ []
-    quiet = ap (λ (d : DeskView). d.entries) e.courier ∙ courier_quiet last.duty parts.1
-
+  module _ (done : AllZip (λ s t. Done s.duty s.desk t.duty t.desk) old.clients.items new.clients.items) (pairs : PairsStand new.cells.items (clients_of new)) where
     pub phase_done : (k : ℕ) → IsStanding k old → HasDonePhase k old new
     phase_done k h = record {
       same = record { plan = e.plan; clock = e.clock; keeper = e.keeper; counted = e.counted };
@@ -295,13 +206,11 @@ module _ (old new : Run) (seats : List (Seat ClientDuty)) (last : Seat ClientDut
         opened = open_after h.opened;
         planned = subst (λ (p : Plan). ArePlanned p new.clock new.cells.items) (sym e.plan) (subst (λ (c : ClockId). ArePlanned (plan_of old) c new.cells.items) (sym e.clock) (planned_fixed (plan_of old) old.clock old.cells.items new.cells.items fixed h.planned));
         clients = subst (λ (p : Plan). AreClients p (clients_of new)) (sym e.plan) (clients_later (plan_of old) (clients_of old) (clients_of new) later h.clients);
-        works = subst (λ (p : Plan). All (λ s. StandsAt p (k + 1) s.duty s.desk) new.clients.items) (sym e.plan) (all_done (plan_of old) k old.clients.items new.clients.items h.works parts.0);
-        pairs = pairs_less new.cells.items (clients_of new) last.desk (courier_quiet last.duty parts.1)
-            (subst (PairsStand new.cells.items) (ap desks_of e.all ∙ desks_pushed new.clients.items last) pairs);
-        quiet = quiet;
+        works = subst (λ (p : Plan). All (λ s. StandsAt p (k + 1) s.duty s.desk) new.clients.items) (sym e.plan) (all_done (plan_of old) k old.clients.items new.clients.items h.works done);
+        pairs = pairs;
         named = subst LiarsNamed (sym e.plan) h.named;
       };
       cells = e.cells;
       desks = later;
-      quiet = all_quiet (plan_of old) k old.clients.items new.clients.items h.works parts.0 h.clients.honesty;
+      quiet = all_quiet (plan_of old) k old.clients.items new.clients.items h.works done h.clients.honesty;
     }

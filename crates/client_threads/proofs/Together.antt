@@ -10,7 +10,7 @@ use Rattle.event_clock.specs.Passes.{ClockId, Holder, HasFullPass, IsOneFull, Ta
 use Rattle.event_clock.specs.Views.{times, times_drawn, IsDrawnOnce}
 use Rattle.locked_nodes.specs.Cells.{CellView, KeptCell}
 use Rattle.protocol.specs.World.{Record}
-use Rattle.client_desks.specs.Desks.{DeskView, KeptDesk, own_numbers, records_at}
+use Rattle.client_desks.specs.Desks.{DeskView, KeptDesk, records_at}
 use Rattle.phase_threads.specs.Standing.{IsDeskAt, AreCells, journal_at}
 use Rattle.journals.specs.declared.desk.DeskJournal.{DeskJournal}
 use Rattle.journals.specs.Desks.{new_desk, desk_after_all}
@@ -25,16 +25,15 @@ use Rattle.client_threads.proofs.Walking.{made_more}
 use Rattle.lists.proofs.lemmas.Members.{Contains-head, Contains-rest, Contains-map_cases, Contains-map}
 
 -- all passes, in the order in which they are put together
-abbrev pub passes_of : List CellView → List DeskView → Holder → Holder → List Holder
-passes_of cells desks courier keeper = ((map (λ c. c.pass) cells ++ map (λ d. d.pass) desks) ++ courier ∷ []) ++ keeper ∷ []
+abbrev pub passes_of : List CellView → List DeskView → Holder → List Holder
+passes_of cells desks keeper = (map (λ c. c.pass) cells ++ map (λ d. d.pass) desks) ++ keeper ∷ []
 
-pub together : (cells : List CellView) (desks : List DeskView) (courier pass keeper : Holder) (a b c d e : List Holder) → a ≡ [] → b ≡ a ++ map (λ (x : CellView). x.pass) cells → c ≡ b ++ map (λ (x : DeskView). x.pass) desks
-    → d ≡ c ++ pass ∷ [] → pass ≡ courier → e ≡ d ++ keeper ∷ [] → e ≡ passes_of cells desks courier keeper
-together cells desks courier pass keeper a b c d e none row table more is last =
+pub together : (cells : List CellView) (desks : List DeskView) (keeper : Holder) (a b c d : List Holder) → a ≡ [] → b ≡ a ++ map (λ (x : CellView). x.pass) cells → c ≡ b ++ map (λ (x : DeskView). x.pass) desks
+    → d ≡ c ++ keeper ∷ [] → d ≡ passes_of cells desks keeper
+together cells desks keeper a b c d none row table last =
     let row' = map (λ (x : CellView). x.pass) cells in
     let table' = map (λ (x : DeskView). x.pass) desks in
-    let first : c ≡ row' ++ table' = table ∙ ap (λ (l : List Holder). l ++ table') (row ∙ ap (λ (l : List Holder). l ++ row') none) in
-    last ∙ ap (λ (l : List Holder). l ++ keeper ∷ []) (more ∙ ap (λ (l : List Holder). l ++ pass ∷ []) first ∙ ap (λ (p : Holder). (row' ++ table') ++ p ∷ []) is)
+    last ∙ ap (λ (l : List Holder). l ++ keeper ∷ []) (table ∙ ap (λ (l : List Holder). l ++ table') (row ∙ ap (λ (l : List Holder). l ++ row') none))
 
 all_by : {X : Type 0} (P : X → Type 0) (xs : List X) → ((x : X) → Contains xs x → P x) → All P xs
 all_by P xs f k d lt = f _ (Contains-get_or xs k d lt)
@@ -50,13 +49,13 @@ desks_tick config clock desks are = all_by (λ (p : Holder). p.clock ≡ clock) 
     ap (λ (h : Holder). h.clock) q.2 ∙ (All-contains (IsDeskAt config clock) desks q.0 are q.1).ticks)
 
 -- they are all of the clock
-pub all_tick : (config : Numbers) (clock : ClockId) (cells : List CellView) (desks : List DeskView) (courier keeper : Holder) → AreCells config clock cells → All KeptCell cells → All (IsDeskAt config clock) desks
-    → courier.clock ≡ clock → keeper.clock ≡ clock → All (λ p. p.clock ≡ clock) (passes_of cells desks courier keeper)
-all_tick config clock cells desks courier keeper are kept at c k =
+pub all_tick : (config : Numbers) (clock : ClockId) (cells : List CellView) (desks : List DeskView) (keeper : Holder) → AreCells config clock cells → All KeptCell cells → All (IsDeskAt config clock) desks → keeper.clock ≡ clock
+    → All (λ p. p.clock ≡ clock) (passes_of cells desks keeper)
+all_tick config clock cells desks keeper are kept at k =
     let P = λ (p : Holder). p.clock ≡ clock in
     let row = map (λ (x : CellView). x.pass) cells in
     let table = map (λ (x : DeskView). x.pass) desks in
-    All-push P ((row ++ table) ++ courier ∷ []) keeper (All-push P (row ++ table) courier (All-append P row table (row_ticks config clock cells are kept) (desks_tick config clock desks at)) c) k
+    All-push P (row ++ table) keeper (All-append P row table (row_ticks config clock cells are kept) (desks_tick config clock desks at)) k
 
 -- a pass that drew nothing changes nothing
 undrawn : (x : ℕ) (ps : List Holder) (p : Holder) → p.drawn ≡ [] → times_drawn x (map share_of (ps ++ p ∷ [])) ≡ times_drawn x (map share_of ps)
@@ -74,18 +73,14 @@ both [] qs = refl
 both (p ∷ ps) qs = ap (λ (l : List Share). share_of p ∷ l) (both ps qs)
 
 -- what they drew is what cells and clients drew
-pub drawn_once : (n : ℕ) (cells : List CellView) (desks : List DeskView) (courier keeper : Holder) → courier.drawn ≡ [] → keeper.drawn ≡ []
-    → IsDrawnOnce n (map share_of (passes_of cells desks courier keeper)) → IsDrawnOnce n (map (λ (c : CellView). share_of c.pass) cells ++ map (λ (d : DeskView). share_of d.pass) desks)
-drawn_once n cells desks courier keeper c k once x =
+pub drawn_once : (n : ℕ) (cells : List CellView) (desks : List DeskView) (keeper : Holder) → keeper.drawn ≡ []
+    → IsDrawnOnce n (map share_of (passes_of cells desks keeper)) → IsDrawnOnce n (map (λ (c : CellView). share_of c.pass) cells ++ map (λ (d : DeskView). share_of d.pass) desks)
+drawn_once n cells desks keeper k once x =
     let row = map (λ (y : CellView). y.pass) cells in
     let table = map (λ (y : DeskView). y.pass) desks in
     let same : map share_of (row ++ table) ≡ map (λ (y : CellView). share_of y.pass) cells ++ map (λ (y : DeskView). share_of y.pass) desks =
     both row table ∙ ap (λ (l : List Share). l ++ map share_of table) (shared (λ (y : CellView). y.pass) cells) ∙ ap (λ (l : List Share). map (λ (y : CellView). share_of y.pass) cells ++ l) (shared (λ (y : DeskView). y.pass) desks) in
-    sym (ap (times_drawn x) same) ∙ sym (undrawn x (row ++ table) courier c) ∙ sym (undrawn x ((row ++ table) ++ courier ∷ []) keeper k) ∙ once x
-
--- a desk without entries drew nothing
-pub quiet_drawn : (d : DeskView) → KeptDesk d → d.entries ≡ [] → d.pass.drawn ≡ []
-quiet_drawn d kept quiet = kept.drawn ∙ ap own_numbers quiet
+    sym (ap (times_drawn x) same) ∙ sym (undrawn x (row ++ table) keeper k) ∙ once x
 
 -- a full pass has a full share
 pub full_share : (t : Tally) (passes : List Holder) → t.shares ≡ map share_of passes → IsOneFull passes → HasFullPass t

@@ -14,7 +14,7 @@ use Rattle.journals.specs.declared.desk.DeskEntry.{DeskEntry}
 use Rattle.journals.specs.declared.node.NodeEntry.{NodeEntry}
 use Rattle.journals.specs.Phases.{Phase}
 use Rattle.locked_nodes.specs.Cells.{CellView, KeptCell, HasNoLateMail, numbers, HasMoreAside}
-use Rattle.client_desks.specs.Desks.{DeskView, KeepsDesk, numbers_of}
+use Rattle.client_desks.specs.Desks.{DeskView, numbers_of}
 use Rattle.client_desks.specs.Later.{IsLater}
 use Rattle.plan_words.specs.declared.plan.Plan.{Plan}
 use Rattle.plan_words.specs.declared.job.Job.{Job}
@@ -30,7 +30,7 @@ use Rattle.phase_threads.specs.Ended.{AreClients}
 use Rattle.phase_threads.proofs.lemmas.Cells.{journal_of, journal_is, entries_at, desk_at, rises_from}
 use Rattle.phase_threads.specs.declared.duty.Seat.{Seat}
 use Rattle.client_duties.specs.declared.work.ClientDuty.{ClientDuty}
-use Rattle.client_duties.specs.declared.work.ClientDuty.TheVariants.{Client, Lying, Courier}
+use Rattle.client_duties.specs.declared.work.ClientDuty.TheVariants.{Client, Lying}
 use Rattle.client_duties.specs.ClientDuty.{phase_at}
 use Rattle.client_threads.specs.Reads.{IsPartedAs, IsParted}
 use Rattle.client_threads.specs.Running.{desks_of, clients_of, plan_of, journals_in, StandsAt, LiarsNamed, IsOpen, IsStanding, HasDonePhase, IsBetween, IsWorked}
@@ -133,7 +133,6 @@ finished plan k (Lying w) d h honest =
     let sent2 : all_asked d.entries ≡ messages plan.config plan.rules w.client = sent1 ∙ ap (λ (p : Plan). messages p.config p.rules w.client) h.0 in
     let sent3 : all_asked d.entries ≡ messages plan.config plan.rules d.id = sent2 ∙ ap (messages plan.config plan.rules) (sym mail.id) in
     subst (λ (b : Bool). FinishedAs b plan (suc k) d.id d.entries) (sym bool) sent3
-finished plan k Courier d h honest = absurd h
 
 -- every client is done with the phase
 pub all_finished : (plan : Plan) (k : ℕ) (seats : List (Seat ClientDuty)) → AreClients plan (desks_of seats) → ((c : ℕ) → has_number plan.liars.clients c ≡ true → Contains (clients plan.rules plan.work) c)
@@ -254,9 +253,6 @@ same_kind plan k m from n (Client v) (Client w) d e a b honest later l p = parte
 same_kind plan k m from n (Lying v) (Lying w) d e a b honest later l p = p
 same_kind plan k m from n (Client v) (Lying w) d e a b honest later l p = absurd (let x = a.1.goes.its.correct in let y = b.1.lying in cc (x, y, honest))
 same_kind plan k m from n (Lying v) (Client w) d e a b honest later l p = absurd (let x = b.1.goes.its.correct in let y = a.1.lying in cc (x, y, honest))
-same_kind plan k m from n Courier w d e a b honest later l p = absurd a
-same_kind plan k m from n (Client v) Courier d e a b honest later l p = absurd b
-same_kind plan k m from n (Lying v) Courier d e a b honest later l p = absurd b
 
 pub counted_on : (plan : Plan) (k m from : ℕ) (old new : List (Seat ClientDuty)) (counted : List ℕ) → All (λ s. StandsAt plan k s.duty s.desk) old → All (λ s. StandsAt plan m s.duty s.desk) new
     → AllZip IsLater (desks_of old) (desks_of new) → All (λ d. from ≤ d.pass.seen) (desks_of old) → AllZip (IsParted from) old counted → AllZip (IsParted from) new counted
@@ -275,14 +271,13 @@ no_phases (p ∷ ps) k e z = absurd (omega (arith, e, z))
 
 -- ---- the phase
 
--- mail came late to the cells of a run, by its courier
+-- mail came late to the cells of a run
 pub record IsMailed (old new : Run) : Type 0 where
   pub plan : plan_of new ≡ plan_of old
   pub clock : new.clock ≡ old.clock
   pub clients : new.clients.items ≡ old.clients.items
   pub keeper : new.keeper ≡ old.keeper
   pub counted : new.counted.items ≡ old.counted.items
-  pub courier : KeepsDesk old.courier new.courier
   pub cells : AllZip HasMoreAside old.cells.items new.cells.items
 
 pub open_mailed : (old new : Run) → IsMailed old new → IsOpen old → IsOpen new
@@ -292,10 +287,6 @@ open_mailed old new m h = record {
   inside = subst (λ (p : Plan). AreInside p.config new.cells.items) (sym m.plan) (inside_fixed (plan_of old).config old.cells.items new.cells.items fixed h.inside);
   desks = subst (λ (l : List (Seat ClientDuty)). All (IsDeskAt (plan_of new).config new.clock) (desks_of l)) (sym m.clients)
       (subst (λ (p : Plan). All (IsDeskAt p.config new.clock) (clients_of old)) (sym m.plan) (subst (λ (c : ClockId). All (IsDeskAt (plan_of old).config c) (clients_of old)) (sym m.clock) h.desks));
-  courier = record {
-    cluster = ap (λ d. d.config) m.courier.same ∙ h.courier.cluster ∙ ap (λ (p : Plan). p.config) (sym m.plan);
-    ticks = ap (λ p. p.clock) m.courier.pass ∙ h.courier.ticks ∙ sym m.clock;
-  };
   keeper = (ap (λ p. p.clock) m.keeper ∙ h.keeper.0 ∙ sym m.clock, ap (λ p. p.drawn) m.keeper ∙ h.keeper.1);
   passes =
       let a : new.clock.passes ≡ old.clock.passes = ap (λ c. c.passes) m.clock in
@@ -319,7 +310,6 @@ standing_mailed k old new m h = record {
       (pairs_on old.cells.items new.cells.items (clients_of old) (clients_of old)
       (zip_map HasMoreAside HasMoreAlone old.cells.items new.cells.items (λ x y b. record { more = b.more; grew = b.grew; alone = b.aside }) m.cells)
       (zip_same HasSameEntries (clients_of old) (λ d. record { id = refl; entries = refl })) h.pairs);
-  quiet = ap (λ d. d.entries) m.courier.same ∙ h.quiet;
   named = subst LiarsNamed (sym m.plan) h.named;
 }
 

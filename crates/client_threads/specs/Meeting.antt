@@ -11,7 +11,6 @@ pub record HasMetAll (old new : Run) : Type 0 where
   pub clock : new.clock ≡ old.clock
   pub counted : new.counted.items ≡ old.counted.items
   pub keeper : IsKeeper old.keeper new.keeper
-  pub courier : new.courier.entries ≡ old.courier.entries
   pub cells : AllZip HasMetCell old.cells.items new.cells.items
   pub seats : AllZip HasMetSeat old.clients.items new.clients.items
   pub cells_seen : All (λ c. (old.keeper.seen ≤ c.pass.seen) × (c.pass.seen ≤ new.keeper.seen)) new.cells.items

@@ -7,14 +7,13 @@ use Rattle.phase_threads.specs.declared.duty.Seat.{Seat}
 use Rattle.plan_followed.specs.declared.prunes.BlockStamp.{BlockStamp}
 use Rattle.client_duties.specs.declared.reads.GivenRead.{GivenRead}
 use Rattle.client_duties.specs.declared.work.ClientDuty.{ClientDuty}
-use Rattle.client_duties.specs.declared.work.ClientDuty.TheVariants.{Client, Lying, Courier}
+use Rattle.client_duties.specs.declared.work.ClientDuty.TheVariants.{Client, Lying}
 use Rattle.client_duties.specs.ClientDuty.{all_given}
 
 -- the reads that a thread's client made
 abbrev pub reads_in : ClientDuty → List GivenRead
 reads_in (Client w) = w.reads
 reads_in (Lying w) = []
-reads_in Courier = []
 
 abbrev pub reads_of : Seat ClientDuty → List GivenRead
 reads_of s = reads_in s.duty
@@ -47,7 +46,6 @@ pub record AreParted (from : ℕ) (d : DeskView) (n : ℕ) : Type 0 where
 abbrev pub IsPartedAs : ℕ → ClientDuty → DeskView → ℕ → Type 0
 IsPartedAs from (Client w) d n = AreParted from d n
 IsPartedAs from (Lying w) d n = n ≡ 0
-IsPartedAs from Courier d n = n ≡ 0
 
 abbrev pub IsParted : ℕ → Seat ClientDuty → ℕ → Type 0
 IsParted from s n = IsPartedAs from s.duty s.desk n

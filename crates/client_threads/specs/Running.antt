@@ -19,7 +19,7 @@ use Rattle.phase_threads.specs.Standing.{AreCells, AreInside, IsDeskAt, PairsSta
 use Rattle.phase_threads.specs.Ended.{AreClients}
 use Rattle.phase_threads.specs.declared.duty.Seat.{Seat}
 use Rattle.client_duties.specs.declared.work.ClientDuty.{ClientDuty}
-use Rattle.client_duties.specs.declared.work.ClientDuty.TheVariants.{Client, Lying, Courier}
+use Rattle.client_duties.specs.declared.work.ClientDuty.TheVariants.{Client, Lying}
 use Rattle.client_duties.specs.ClientDuty.{Stands, HasMail, phase_at}
 use Rattle.client_threads.specs.declared.state.Run.{Run}
 use Rattle.client_threads.specs.Reads.{IsParted}
@@ -61,7 +61,6 @@ cuts plan = count_by is_phase plan.work
 abbrev pub StandsAt : Plan → ℕ → ClientDuty → DeskView → Type 0
 StandsAt plan k (Client w) d = (w.plan.value ≡ plan) × Stands w d × (phase_at w ≡ k)
 StandsAt plan k (Lying w) d = (w.plan.value ≡ plan) × HasMail w d × (0 < k → w.mail.items ≡ [])
-StandsAt plan k Courier d = ⊥
 
 -- who lies is named
 abbrev pub LiarsNamed : Plan → Type 0
@@ -72,21 +71,19 @@ pub record IsOpen (run : Run) : Type 0 where
   pub cells : AreCells (plan_of run).config run.clock run.cells.items
   pub inside : AreInside (plan_of run).config run.cells.items
   pub desks : All (IsDeskAt (plan_of run).config run.clock) (clients_of run)
-  pub courier : IsDeskAt (plan_of run).config run.clock run.courier
   pub keeper : (run.keeper.clock ≡ run.clock) × (run.keeper.drawn ≡ [])
-  pub passes : run.clock.passes ≡ length run.cells.items + length run.clients.items + 2
+  pub passes : run.clock.passes ≡ length run.cells.items + length run.clients.items + 1
 
--- so many phases are done, cells and desks agree in pairs, and the courier has no journal
+-- so many phases are done, and cells and desks agree in pairs
 pub record IsStanding (k : ℕ) (run : Run) : Type 0 where
   pub opened : IsOpen run
   pub planned : ArePlanned (plan_of run) run.clock run.cells.items
   pub clients : AreClients (plan_of run) (clients_of run)
   pub works : All (λ s. StandsAt (plan_of run) k s.duty s.desk) run.clients.items
   pub pairs : PairsStand run.cells.items (clients_of run)
-  pub quiet : run.courier.entries ≡ []
   pub named : LiarsNamed (plan_of run)
 
--- but for cells, clients and courier it is as it was
+-- but for cells and clients it is as it was
 pub record IsSameRun (old new : Run) : Type 0 where
   pub plan : plan_of new ≡ plan_of old
   pub clock : new.clock ≡ old.clock

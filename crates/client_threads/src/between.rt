@@ -42,7 +42,6 @@ pub(crate) fn close_phase(
         clock,
         cells,
         clients,
-        courier,
         mut keeper,
         mut counted,
     } = run;
@@ -53,7 +52,6 @@ pub(crate) fn close_phase(
         clock,
         cells,
         clients,
-        courier,
         keeper,
         counted,
     };
@@ -70,5 +68,4 @@ fn meet_all(run: &mut Run)
 {
     meet_cells(&run.clock, &mut run.keeper, run.cells.as_mut_slice());
     meet_desks(&run.clock, &mut run.keeper, run.clients.as_mut_slice());
-    run.courier.meet(&run.clock, &mut run.keeper);
 }

@@ -10,7 +10,6 @@ ghost use Rattle.phase_threads.specs.Standing.{journal_at};
 ghost use Rattle.locked_nodes.specs.Joined as joined;
 
 use crate::state::Run;
-use client_desks::Finished;
 use client_duties::ClientDuty;
 use event_clock::{Drawn, Passes, RunRefusal};
 use journals::{DeskJournals, NodeJournal, NodeJournals};
@@ -48,8 +47,7 @@ pub(crate) fn close(alloc: Global, plan: &Plan, run: Run) -> Result<Closed, NoMe
     ensures desks { IfOk result (λ r. r.desks ≡ map journal_at (desks_of run.clients.items)) }
     ensures records { IfOk result (λ r.
         map record_of r.records ≡ kept_records (desks_of run.clients.items)) }
-    ensures drawn { IfOk result (λ r.
-        run.courier.entries ≡ [] → IsDrawnOnce r.drawn.count (shares_of run)) }
+    ensures drawn { IfOk result (λ r. IsDrawnOnce r.drawn.count (shares_of run)) }
     ensures full { IfOk result (λ r. r.full ≡ true → HasFullPass r.drawn) }
     ensures cells { OnOk result (All KeptCell run.cells.items) }
     ensures kept { OnOk result (All KeptDesk (desks_of run.clients.items)) }
@@ -59,19 +57,12 @@ pub(crate) fn close(alloc: Global, plan: &Plan, run: Run) -> Result<Closed, NoMe
         clock,
         cells,
         clients,
-        courier,
         keeper,
         counted: _counted,
     } = run;
     let mut passes = ItemList::new(alloc);
     let nodes = finish_cells(alloc, plan.config.n(), cells, &mut passes)?;
     let desks = finish_desks(alloc, clients, &mut passes)?;
-    let Finished {
-        journal: _empty,
-        records: _none,
-        pass,
-    } = courier.finish();
-    passes.push(pass)?;
     passes.push(keeper)?;
     let full = is_one_full(&passes);
     let drawn = clock.close(passes);

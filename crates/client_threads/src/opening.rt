@@ -18,9 +18,6 @@ use plan_words::{Fault, Plan};
 use std::alloc::Global;
 use std::snapshot::Snapshot;
 
-// The number of the courier's desk, which is no client's.
-const COURIER: u32 = 0;
-
 /// A run of a plan that fits, on so many cells of each node that needn't be whole, in which nobody has done anything.
 pub(crate) fn open(alloc: Global, plan: &Plan, shards: u32) -> Result<Run, NoMemory>
     requires fits { Fits plan.now }
@@ -31,13 +28,9 @@ pub(crate) fn open(alloc: Global, plan: &Plan, shards: u32) -> Result<Run, NoMem
     phases_close();
     let tasks = tasks_of(alloc, plan)?;
     let clients = tasks.len() as u32;
-    let (clock, mut passes) = Clock::start(alloc, count_cells(plan, shards) + clients + 2)?;
+    let (clock, mut passes) = Clock::start(alloc, count_cells(plan, shards) + clients + 1)?;
     let cells = open_cells(alloc, plan, shards, &clock, &mut passes)?;
     let clients = open_seats(alloc, plan, &clock, tasks, &mut passes)?;
-    let Some(pass) = passes.pop() else {
-        unreachable!()
-    };
-    let courier = Desk::lying(alloc, &plan.config, COURIER, pass)?;
     let Some(keeper) = passes.pop() else {
         unreachable!()
     };
@@ -47,7 +40,6 @@ pub(crate) fn open(alloc: Global, plan: &Plan, shards: u32) -> Result<Run, NoMem
         clock,
         cells,
         clients,
-        courier,
         keeper,
         counted,
     })

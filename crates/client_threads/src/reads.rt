@@ -58,7 +58,7 @@ fn reads_at(seat: &Seat<ClientDuty>) -> &[GivenRead]
 {
     match &seat.duty {
         ClientDuty::Client(worker) => worker.reads(),
-        ClientDuty::Lying(_) | ClientDuty::Courier => &[],
+        ClientDuty::Lying(_) => &[],
     }
 }
 

@@ -119,7 +119,7 @@ fn work_off<R: Wait, F: Fn(Clock, Vec<NodeCell>, Vec<Seat<ClientDuty>>) -> Phase
     if let Some(refusal) = refused {
         return Err(stop(alloc, plan, run, refusal));
     }
-    let brought = bring_all(rt, &run.clock, &mut run.courier, run.cells.as_mut_slice());
+    let brought = bring_all(rt, &run.clock, run.cells.as_mut_slice());
     match brought {
         Ok(()) => Ok(run),
         Err(refusal) => Err(stop(alloc, plan, run, refusal)),

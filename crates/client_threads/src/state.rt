@@ -2,7 +2,6 @@
 ghost use Rattle.std.specs.Prelude.{All};
 ghost use Rattle.locked_nodes.specs.Cells.{KeptCell};
 
-use client_desks::Desk;
 use client_duties::ClientDuty;
 use event_clock::{Clock, Pass};
 use locked_nodes::NodeCell;
@@ -10,7 +9,7 @@ use phase_threads::Seat;
 use plan_words::Plan;
 use std::snapshot::Snapshot;
 
-/// The cells, desks and passes of a run, and what its reads gave.
+/// The cells, desks and passes of a run, and how many reads are counted.
 #[derive(Drop)]
 pub(crate) struct Run {
     /// The plan, in proofs alone.
@@ -20,8 +19,6 @@ pub(crate) struct Run {
     pub(crate) cells: Vec<NodeCell>,
     /// By ascending client.
     pub(crate) clients: Vec<Seat<ClientDuty>>,
-    /// Its journal stays empty.
-    pub(crate) courier: Desk,
     /// The pass that meets all others between phases. It draws nothing.
     pub(crate) keeper: Pass,
     /// How many reads of each client ended before the phase that comes next or is under way.

@@ -13,7 +13,7 @@ use phase_threads::{Left, Seat};
 /// What a phase leaves: the clock, and the cells and seats with the refusal that came, if one did.
 pub type Phased = Result<(Clock, Left<ClientDuty>), NoMemory>;
 
-/// Lets each client and the courier do their parts of the next phase. It hands the run back with the refusal that came, if one did.
+/// Lets each client do its part of the next phase. It hands the run back with the refusal that came, if one did.
 pub(crate) fn work<F: Fn(Clock, Vec<NodeCell>, Vec<Seat<ClientDuty>>) -> Phased>(
     phase: &F,
     run: Run,
@@ -29,35 +29,22 @@ pub(crate) fn work<F: Fn(Clock, Vec<NodeCell>, Vec<Seat<ClientDuty>>) -> Phased>
         plan,
         clock,
         cells,
-        mut clients,
-        courier,
+        clients,
         keeper,
         counted,
     } = run;
     know_cells(cells.as_slice());
-    clients.push(Seat {
-        desk: courier,
-        duty: ClientDuty::Courier,
-    })?;
     let (clock, left) = phase(clock, cells, clients)?;
     let Left {
         cells,
-        seats: mut clients,
+        seats: clients,
         refused,
     } = left;
-    let Some(seat) = clients.pop() else {
-        unreachable!()
-    };
-    let Seat {
-        desk: courier,
-        duty: _,
-    } = seat;
     let run = Run {
         plan,
         clock,
         cells,
         clients,
-        courier,
         keeper,
         counted,
     };

@@ -3,3 +3,4 @@ pub mod Growing
 pub mod Joining
 pub mod Joins
 pub mod Aside
+pub mod Sides

@@ -4,7 +4,7 @@ use Rattle.std.specs.List.{Contains}
 use Rattle.quorum_rules.specs.Limits.{Numbers}
 use Rattle.protocol.specs.Messages.{Message, Body}
 use Rattle.wire_forms.specs.declared.message.Body.TheVariants.{Ask as Asks, Answer as Answers}
-use Rattle.event_clock.specs.Passes.{Holder, Sight, drew, met, with_sight}
+use Rattle.event_clock.specs.Passes.{Holder, drew, met}
 use Rattle.journals.specs.declared.desk.Way.{Way}
 use Rattle.journals.specs.declared.desk.Way.TheVariants.{Call, Lose, Hold}
 use Rattle.journals.specs.declared.node.Nature.{Nature}
@@ -149,19 +149,6 @@ pub record HasMoreAside (old new : CellView) : Type 0 where
   pub more : List NodeEntry
   pub grew : new.journal ≡ old.journal ++ more
   pub aside : (e : NodeEntry) → Contains more e → side e.act ≡ None
-
--- the note saw a number that it hadn't seen
-pub record SawLate (before : Sight) (n : ℕ) (after : Sight) : Type 0 where
-  pub later : before.seen ≤ n
-  pub note : after ≡ with_sight before (n + 1)
-
--- the oldest ask that was held back came again: the cell has one entry more, of what the node does with it, with a number that the caller hadn't seen
-pub record CameLate (old : CellView) (before : Holder) (n : ℕ) (new : CellView) (after : Holder) : Type 0 where
-  pub ask : Message
-  pub oldest : IsOldest (state_of old).late ask
-  pub later : before.seen ≤ n
-  pub cell : new ≡ with_entry old n (late_act (state_of old) old.charter.nature ask)
-  pub caller : after ≡ with_seen before (n + 1)
 
 -- a new cell's charter
 abbrev pub new_charter : Numbers → ℕ → ℕ → ℕ → Nature → Option ℕ → Holder → Charter

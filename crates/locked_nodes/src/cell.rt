@@ -3,7 +3,7 @@ ghost use Rattle.std.specs.Prelude.{◌≡◌, ◌↔◌, ◌+◌, ◌<◌, ◌�
 ghost use Rattle.event_clock.specs.Passes.{left_of, drew, met, with_sight};
 ghost use Rattle.journals.specs.Acts.{act, answer_of, can_prune};
 ghost use Rattle.locked_nodes.specs.CellShards.{cell_shard_of, cell_shards_of};
-ghost use Rattle.locked_nodes.specs.Cells.{Serves, HoldsWhole, KeptCell, HasNoLateMail, BroughtLate, SawLate, CameLate, state_of, loses, told_as, number_of, entry, with_entry, with_seen, rechartered, new_cell, met_cell, items};
+ghost use Rattle.locked_nodes.specs.Cells.{Serves, HoldsWhole, KeptCell, HasNoLateMail, HasMoreAside, BroughtLate, state_of, loses, told_as, number_of, entry, with_entry, with_seen, rechartered, new_cell, met_cell, items};
 
 use crate::answers::{CellRefusal, Late, Pruning, Told};
 use crate::cell_shard::CellShard;
@@ -140,43 +140,11 @@ impl NodeCell {
         let _pass = &self.pass;
     }
 
-    /// Lets the node meet an ask, which comes this way, and adds what it does to the journal, under a number that is not below
-    /// any that the caller has seen.
+    /// Lets the node meet an ask, which comes this way, and adds what it does to the journal. The caller's note comes with the ask:
+    /// the entry's number is not below any that the note has seen, and the note then has seen it.
     ///
     /// The ask is one that the cell serves, and is held back only where the node has one cell. `ClockFull` comes exactly where
     /// the cell's pass has no number left.
-    pub fn step(
-        &mut self,
-        clock: &Clock,
-        caller: &mut Pass,
-        way: Way,
-        ask: &Message,
-    ) -> Result<Told, CellRefusal>
-        requires ask { Serves self.old.charter ask.now }
-        requires whole { HoldsWhole self.old.charter way }
-        requires clock { self.old.charter.pass.clock ≡ clock.now }
-        requires caller { caller.old.clock ≡ clock.now }
-        ensures cell { IfOk result (λ told.
-            self.new
-            ≡ with_entry self.old (number_of told)
-            (act (state_of self.old) self.old.charter.nature way ask.now)) }
-        ensures told { IfOk result (λ told.
-            told ≡ told_as (number_of told)
-            (answer_of (act (state_of self.old) self.old.charter.nature way ask.now))) }
-        ensures later { IfOk result (λ told. caller.old.seen ≤ number_of told) }
-        ensures caller { IfOk result (λ told.
-            caller.new ≡ with_seen caller.old (number_of told + 1)) }
-        ensures full { (result ≡ Err CellRefusal.ClockFull) ↔ (left_of self.old.pass ≡ 0) }
-        ensures err { OnErr result ((self.new ≡ self.old) × (caller.new ≡ caller.old)) }
-    {
-        let mut note = clock.note(caller);
-        let told = self.answer(clock, &mut note, way, ask);
-        clock.heed(caller, note);
-        told
-    }
-
-    /// Lets the node meet an ask, as `step` does, of a caller in another thread, whose note came with the ask: the entry's number
-    /// is not below any that the note has seen, and the note then has seen it.
     pub fn answer(
         &mut self,
         clock: &Clock,
@@ -211,33 +179,10 @@ impl NodeCell {
         Ok(told(number, answer))
     }
 
-    /// Lets the node meet the oldest ask that is held back, whose answer nobody hears, and adds what it does to the journal,
-    /// under a number that is not below any that the caller has seen.
+    /// Lets the node meet the oldest ask that is held back, whose answer nobody hears, and adds what it does to the journal.
     ///
     /// `NoMail` comes exactly where no ask is held back, and `ClockFull` exactly where one is and the cell's pass has no number
-    /// left. A held ask is lost exactly where the node lies, has crashed, or crashes now.
-    pub fn late(&mut self, clock: &Clock, caller: &mut Pass) -> Result<Late, CellRefusal>
-        requires clock { self.old.charter.pass.clock ≡ clock.now }
-        requires caller { caller.old.clock ≡ clock.now }
-        ensures delivered { (n : ℕ) → result ≡ Ok (Late.Delivered n) →
-            CameLate self.old caller.old n self.new caller.new
-            × (loses (state_of self.old) self.old.charter.nature ≡ false) }
-        ensures lost { (n : ℕ) → result ≡ Ok (Late.Lost n) →
-            CameLate self.old caller.old n self.new caller.new
-            × (loses (state_of self.old) self.old.charter.nature ≡ true) }
-        ensures none { (result ≡ Ok Late.NoMail) ↔ HasNoLateMail self.old }
-        ensures full { (result ≡ Err CellRefusal.ClockFull)
-            ↔ ((HasNoLateMail self.old → ⊥) × (left_of self.old.pass ≡ 0)) }
-        ensures same { result ≡ Ok Late.NoMail → (self.new ≡ self.old) × (caller.new ≡ caller.old) }
-        ensures err { OnErr result ((self.new ≡ self.old) × (caller.new ≡ caller.old)) }
-    {
-        let mut note = clock.note(caller);
-        let late = self.meet_late(clock, &mut note);
-        clock.heed(caller, note);
-        late
-    }
-
-    /// Lets the node meet the oldest ask that is held back, as `late` does, with no caller.
+    /// left. A held ask is lost exactly where the node lies, has crashed, or crashes now. No client has a side of what is added.
     pub fn bring_late(&mut self, clock: &Clock) -> Result<Late, CellRefusal>
         requires clock { self.old.charter.pass.clock ≡ clock.now }
         ensures delivered { (n : ℕ) → result ≡ Ok (Late.Delivered n) →
@@ -251,27 +196,7 @@ impl NodeCell {
             ↔ ((HasNoLateMail self.old → ⊥) × (left_of self.old.pass ≡ 0)) }
         ensures same { result ≡ Ok Late.NoMail → self.new ≡ self.old }
         ensures err { OnErr result (self.new ≡ self.old) }
-    {
-        let mut note = clock.note(&mut self.pass);
-        self.meet_late(clock, &mut note)
-    }
-
-    // Lets the node meet the oldest ask that is held back, under a number that is not below any that the note has seen.
-    fn meet_late(&mut self, clock: &Clock, caller: &mut Note) -> Result<Late, CellRefusal>
-        requires clock { self.old.charter.pass.clock ≡ clock.now }
-        requires caller { caller.old.clock ≡ clock.now }
-        ensures delivered { (n : ℕ) → result ≡ Ok (Late.Delivered n) →
-            BroughtLate self.old n self.new × SawLate caller.old n caller.new
-            × (loses (state_of self.old) self.old.charter.nature ≡ false) }
-        ensures lost { (n : ℕ) → result ≡ Ok (Late.Lost n) →
-            BroughtLate self.old n self.new × SawLate caller.old n caller.new
-            × (loses (state_of self.old) self.old.charter.nature ≡ true) }
-        ensures none { (result ≡ Ok Late.NoMail) ↔ HasNoLateMail self.old }
-        ensures full { (result ≡ Err CellRefusal.ClockFull)
-            ↔ ((HasNoLateMail self.old → ⊥) × (left_of self.old.pass ≡ 0)) }
-        ensures clock { caller.new.clock ≡ caller.old.clock }
-        ensures same { result ≡ Ok Late.NoMail → (self.new ≡ self.old) × (caller.new ≡ caller.old) }
-        ensures err { OnErr result ((self.new ≡ self.old) × (caller.new ≡ caller.old)) }
+        ensures aside { HasMoreAside self.old self.new }
     {
         if self.state.has_no_mail() {
             return Ok(Late::NoMail);
@@ -284,7 +209,8 @@ impl NodeCell {
         let lost = self.state.loses(nature);
         let act = self.state.act_late(nature)?;
         acts();
-        let number = add_entry(&mut self.journal, &mut self.pass, clock, caller, act);
+        let mut note = clock.note(&mut self.pass);
+        let number = add_entry(&mut self.journal, &mut self.pass, clock, &mut note, act);
         Ok(late_told(lost, number))
     }
 

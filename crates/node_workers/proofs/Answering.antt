@@ -16,18 +16,15 @@ use Rattle.journals.specs.declared.desk.DeskAct.{DeskAct}
 use Rattle.journals.specs.declared.node.NodeEntry.{NodeEntry}
 use Rattle.journals.specs.Steps.{side}
 use Rattle.locked_nodes.specs.declared.answers.Told.{Told}
-use Rattle.locked_nodes.specs.Cells.{CellView, BroughtLate, HasMoreAside, state_of, loses, told_as, number_of, entry, with_entry}
-use Rattle.locked_nodes.proofs.lemmas.Aside.{aside_none, aside_one}
+use Rattle.locked_nodes.specs.Cells.{CellView, HasMoreAside, state_of, told_as, number_of, entry, with_entry}
 use Rattle.locked_nodes.specs.declared.answers.CellRefusal.{CellRefusal}
-use Rattle.locked_nodes.specs.declared.answers.Late.{Late}
-use Rattle.locked_nodes.specs.declared.answers.Late.TheVariants.{NoMail, Delivered as CameIn, Lost}
 use Rattle.protocol.specs.Messages.{Message}
 use Rattle.event_clock.specs.Passes.{ClockId, Sight}
 use Rattle.journals.specs.declared.desk.Way.{Way}
 use Rattle.journals.specs.declared.desk.DeskAct.TheVariants.{Call}
-use Rattle.journals.specs.Acts.{act, late_act, answer_of}
+use Rattle.journals.specs.Acts.{act, answer_of}
 use Rattle.locked_nodes.specs.Cells.{reply_told}
-use Rattle.client_desks.proofs.lemmas.Desking.{act_side, late_side, told_reply}
+use Rattle.locked_nodes.proofs.lemmas.Sides.{act_side, told_reply}
 use Rattle.client_endpoints.specs.declared.asked.Asked.{Asked}
 use Rattle.client_endpoints.specs.declared.answered.Answered.{Answered}
 use Rattle.node_workers.specs.Workers.{AnswerPutter, WorkerView, clients_of, CanServe, IsPutterTo, Tells, WasTold, TellsOf, IsSamePutter, HasAnswered, HasMet, asks_from, asks_told, AreAnswered}
@@ -243,21 +240,6 @@ has_met (Err e) old new way ask note before cell tell err = record {
   told = λ n has. absurd (none_in [] n refl has);
   done = λ u is. absurd cc;
 }
-
--- what a cell did with a held ask that came late, or did not come
-aside_same : (old new : CellView) → new ≡ old → HasMoreAside old new
-aside_same old new same = subst (HasMoreAside old) (sym same) (aside_none old)
-
-aside_late : (old new : CellView) (n : ℕ) → BroughtLate old n new → HasMoreAside old new
-aside_late old new n late =
-    subst (HasMoreAside old) (sym late.cell) (aside_one old n (late_act (state_of old) old.charter.nature late.ask) (late_side (state_of old) old.charter.nature late.ask))
-
-pub came_aside : (result : Result Late CellRefusal) (old new : CellView) → ((n : ℕ) → result ≡ Ok (CameIn n) → BroughtLate old n new × (loses (state_of old) old.charter.nature ≡ false)) → ((n : ℕ) → result ≡ Ok (Lost n) → BroughtLate old n new × (loses (state_of old) old.charter.nature ≡ true))
-    → (result ≡ Ok NoMail → new ≡ old) → OnErr result (new ≡ old) → HasMoreAside old new
-came_aside (Ok NoMail) old new came lost none err = aside_same old new (none refl)
-came_aside (Ok (CameIn n)) old new came lost none err = aside_late old new n (came n refl).0
-came_aside (Ok (Lost n)) old new came lost none err = aside_late old new n (lost n refl).0
-came_aside (Err e) old new came lost none err = aside_same old new err
 
 -- a worker that has answered what it was asked so far
 pub record IsServing (old new : WorkerView) : Type 0 where

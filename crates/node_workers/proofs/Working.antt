@@ -6,6 +6,7 @@ use Rattle.std.specs.List.{AllZip}
 use Rattle.std.proofs.lemmas.List.Elements.{All-nil, All-cons, All-head, All-tail}
 use Rattle.thread_work.specs.Pairwise.{Beside}
 use Rattle.thread_work.proofs.lemmas.Places.{all_zip, all_from_places, beside_left}
+use Rattle.phase_threads.proofs.lemmas.Zipping.{zip_beside}
 use Rattle.lists.proofs.lemmas.Members.{all_at_place}
 use Rattle.locked_nodes.specs.declared.cell_shard.CellShard.{CellShard}
 use Rattle.client_desks.specs.Desks.{DeskView}
@@ -20,21 +21,6 @@ use Rattle.node_workers.specs.Workers.{WorkerView, CanServe, HasServed}
 use Rattle.node_workers.specs.declared.thread_state.ThreadState.{ThreadState}
 use Rattle.node_workers.specs.declared.thread_state.ThreadState.TheVariants.{Client, Node}
 use Rattle.node_workers.specs.ThreadStates.{nodes_in, clients_in, IsReady, HasDone, HasTakenAll, CanWork, DidWork}
-
-pub zip_beside : {X Y : Type 0} (R : X → Y → Type 0) (xs : List X) (ys : List Y) → AllZip R xs ys → Beside (λ i x y. R x y) xs ys
-zip_beside R xs ys z = record { count = count R xs ys z; each = at R xs ys z }
-  where
-    count : {X Y : Type 0} (R : X → Y → Type 0) (xs : List X) (ys : List Y) → AllZip R xs ys → length xs ≡ length ys
-    count R [] [] z = refl
-    count R [] (y ∷ ys) z = absurd z
-    count R (x ∷ xs) [] z = absurd z
-    count R (x ∷ xs) (y ∷ ys) z = ap suc (count R xs ys z.1)
-
-    at : {X Y : Type 0} (R : X → Y → Type 0) (xs : List X) (ys : List Y) → AllZip R xs ys → (i : ℕ) (x : X) (y : Y) → slice_get xs i ≡ Some x → slice_get ys i ≡ Some y → R x y
-    at R [] ys z i x y a b = absurd cc
-    at R (u ∷ xs) [] z i x y a b = absurd cc
-    at R (u ∷ xs) (v ∷ ys) z zero x y a b = let e : u ≡ x = cc in let f : v ≡ y = cc in subst (λ w. R w y) e (subst (R u) f z.0)
-    at R (u ∷ xs) (v ∷ ys) z (suc i) x y a b = at R xs ys z.1 i x y a b
 
 module _ {T : Type 0} where
   -- thread states can work where their nodes and clients can

@@ -21,8 +21,8 @@ use thread_work::{Gate, Started, each_at_once};
 const MOST: usize = 65_536;
 
 /// Lets a thread for each cell answer what is asked of it, and a thread for each seat do its duty: a client puts its asks into the
-/// cells' inboxes, and takes the answers out of its own. There are from 1 to 65,536 seats. Where not all threads can be made, or
-/// there is no cell or more than 65,536, the phase is done by locks, as `run_phase` does it.
+/// cells' inboxes, and takes the answers out of its own. There are at most 65,535 seats. Where not all threads can be made, or there
+/// is no seat, or no cell, or more than 65,536 cells, the phase is done by locks, as `run_phase` does it.
 ///
 /// A refusal ends the work of the client to which it comes, and the others end theirs. If none came, cells and desks agree in pairs
 /// again.
@@ -37,7 +37,7 @@ pub fn run_mail_phase<R: Threads + Wait + Sync, G: Gate + Sync, T: Duty + Send>(
     requires { MayPhase T.ready clock cells.items seats.items }
     ensures { IfOk result (λ r. HasPhased T.done clock cells.items seats.items r.0 r.1) }
 {
-    if cells.is_empty() || cells.len() > MOST {
+    if seats.is_empty() || cells.is_empty() || cells.len() > MOST {
         return run_phase(rt, alloc, gate, clock, cells, seats);
     }
     let (shared_cells, states) = open_states(rt, alloc, clock, cells, seats)?;

@@ -24,7 +24,9 @@ use Rattle.phase_threads.specs.Standing.{AreCells, IsCellOf, IsDeskAt}
 use Rattle.thread_work.specs.Pairwise.{Beside}
 use Rattle.phase_threads.specs.Phased.{IsVaultOf, new_portion}
 use Rattle.thread_work.proofs.lemmas.Places.{all_from_places, get_map, map_get}
-use Rattle.lists.proofs.lemmas.Members.{all_at_place}
+use Rattle.lists.proofs.lemmas.Members.{all_at_place, Contains-none}
+use Rattle.std.specs.List.{Contains}
+use Rattle.phase_threads.specs.Carried.{IsAside}
 
 -- the chits of a new vault are all alike
 pub all_new : {E : Type 0} {X : Type 0} (result : Result (Deposit X × List (Chit X)) E) (clients : ℕ) → IfOk result (λ r. length r.1 ≡ clients) → IfOk result (λ r. AreNew r.0.id r.1 clients) → IfOk result (λ r. All (λ c. c ≡ new_chit r.0.id) r.1)
@@ -51,6 +53,11 @@ portion_vaults (v ∷ vaults) = ap (λ l. v.id ∷ l) (portion_vaults vaults)
 
 pub portion_new : (vaults : List (Deposit Item)) → All (λ (c : Chit Item). c.mine ≡ []) (new_portion vaults)
 portion_new vaults = all_from_places (λ (c : Chit Item). c.mine ≡ []) (new_portion vaults) (λ k c at. let v = chit_is vaults k c at in ap (λ (x : Chit Item). x.mine) (sym v.2))
+
+pub hand_aside : (vaults : List (Deposit Item)) → All IsAside (new_portion vaults)
+hand_aside vaults = all_from_places IsAside (new_portion vaults) (λ k c at. λ p n has.
+    let none = all_at_place (λ (x : Chit Item). x.mine ≡ []) (new_portion vaults) k c (portion_new vaults) at in
+    absurd (Contains-none {X = ℕ × Item} (p, Entry n) (subst (λ (l : List (ℕ × Item)). Contains {X = ℕ × Item} l (p, Entry n)) none has)))
 
 -- the shared cells of new vaults
 module _ (count : ℕ) (cells : List CellView) (vaults : Vec (Deposit Item)) (opened : Beside (IsVaultOf count) cells vaults.items) where

@@ -1,7 +1,7 @@
 -- From the receipts of closed cells to what was told.
 use Rattle.std.proofs.Common.{◌≡◌, ℕ, zero, suc, ◌≤◌, List, [], ◌∷◌, ◌++◌, length, map, refl, sym, ap, subst, ◌∙◌, arith, inl, inr}
 use Rattle.std.specs.declared.option.Option.TheVariants.{Some}
-use Rattle.std.specs.Prelude.{◌⊎◌, false, slice_get, reverse}
+use Rattle.std.specs.Prelude.{◌⊎◌, false, slice_get, reverse, All}
 use Rattle.std.specs.List.{Contains}
 use Rattle.std.proofs.lemmas.Option.{slice_get_within}
 use Rattle.std.specs.Global.{Vec}
@@ -22,9 +22,10 @@ use Rattle.client_endpoints.specs.Transports.{IsTold, HasReceipt}
 use Rattle.phase_threads.specs.Standing.{HasSideIn, HasWorked}
 use Rattle.phase_threads.specs.Told.{IsToldIn, AreJustTold}
 use Rattle.thread_work.specs.Pairwise.{Beside}
+use Rattle.phase_threads.specs.Carried.{IsAside}
 use Rattle.phase_threads.specs.Phased.{IsVaultOf, IsClosed}
 use Rattle.thread_work.proofs.lemmas.Places.{slice_get-unique, get_map, map_get, beside_right, beside_left}
-use Rattle.lists.proofs.lemmas.Members.{place_of, Contains-slice_get}
+use Rattle.lists.proofs.lemmas.Members.{place_of, Contains-slice_get, all_at_place}
 
 -- a cell's entries are those of its list, but for the head
 in_items : (cell : CellView) (p : ℕ) (n : NodeEntry) → slice_get (items cell) p ≡ Some (Entry n) → Contains cell.journal n
@@ -78,10 +79,27 @@ has_worked old new begun is begins =
     record { charter = charter; grew = grew_by old.journal new.journal begins.0 both.1 }
 
 -- the chits of a transport, the last one first
-pub record IsPortion (i : ℕ) (t : Transport) (portion : List (Chit Item)) : Type 0 where
+pub record IsPortion (t : Transport) (portion : List (Chit Item)) : Type 0 where
   pub chits : Vec (Chit Item)
   pub is : t ≡ Locks chits
   pub list : chits.items ≡ reverse portion
+
+-- a portion is that of one of the transports, or has left nothing of which a client has a side
+pub record IsOfSeat (transports : List Transport) (portion : List (Chit Item)) : Type 0 where
+  pub seat : ℕ
+  pub transport : Transport
+  pub there : slice_get transports seat ≡ Some transport
+  pub is : IsPortion transport portion
+
+abbrev pub IsGiven : List Transport → List (Chit Item) → Type 0
+IsGiven transports portion = IsOfSeat transports portion ⊎ All IsAside (reverse portion)
+
+-- the portion of a transport
+pub record HasHand (portions : List (List (Chit Item))) (t : Transport) : Type 0 where
+  pub place : ℕ
+  pub portion : List (Chit Item)
+  pub there : slice_get portions place ≡ Some portion
+  pub is : IsPortion t portion
 
 vault_at : (chits : List (Chit Item)) (vaults : List (Deposit Item)) (i : ℕ) (c : Chit Item) → map (λ (x : Chit Item). x.vault) chits ≡ map (λ (x : Deposit Item). x.id) vaults → slice_get chits i ≡ Some c → (v : Deposit Item) × (slice_get vaults i ≡ Some v)
 vault_at chits vaults i c own at =
@@ -94,13 +112,19 @@ pub record Phase (count : ℕ) (cells now : List CellView) (vaults : List (Depos
   pub opened : Beside (IsVaultOf count) cells vaults
   pub closed : Beside (IsClosed portions) vaults now
   pub own : (i : ℕ) (h : List (Chit Item)) → slice_get portions i ≡ Some h → map (λ c. c.vault) (reverse h) ≡ map (λ v. v.id) vaults
-  pub given : Beside IsPortion transports portions
+  pub given : (i : ℕ) (h : List (Chit Item)) → slice_get portions i ≡ Some h → IsGiven transports h
+  pub back : (i : ℕ) (t : Transport) → slice_get transports i ≡ Some t → HasHand portions t
 
 module _ (count : ℕ) (cells now : List CellView) (vaults : List (Deposit Item)) (portions : List (List (Chit Item))) (transports : List Transport) (all : Phase count cells now vaults portions transports) where
-  receipt_of : (i k p c : ℕ) (n : NodeEntry) (act : DeskAct) (t : Transport) (h : List (Chit Item)) (chit : Chit Item) → IsPortion i t h → slice_get (reverse h) k ≡ Some chit → Contains chit.mine (p, Entry n) → side n.act ≡ Some (c, act) → IsTold t c (desk_entry n.number act)
-  receipt_of i k p c n act t h chit portion at mine is =
+  receipt_of : (k p c : ℕ) (n : NodeEntry) (act : DeskAct) (t : Transport) (h : List (Chit Item)) (chit : Chit Item) → IsPortion t h → slice_get (reverse h) k ≡ Some chit → Contains chit.mine (p, Entry n) → side n.act ≡ Some (c, act) → IsTold t c (desk_entry n.number act)
+  receipt_of k p c n act t h chit portion at mine is =
       subst (λ (x : Transport). IsTold x c (desk_entry n.number act)) (sym portion.is)
       (record { place = k; chit = chit; there = ap (λ (l : List (Chit Item)). slice_get l k) portion.list ∙ at; at = p; of = n; mine = mine; number = refl; agree = is })
+
+  -- an entry of which a client has a side was left by a chit of one of the transports
+  by_hand : (k p c : ℕ) (n : NodeEntry) (act : DeskAct) (h : List (Chit Item)) (chit : Chit Item) → IsGiven transports h → slice_get (reverse h) k ≡ Some chit → Contains chit.mine (p, Entry n) → side n.act ≡ Some (c, act) → IsToldIn transports c (desk_entry n.number act)
+  by_hand k p c n act h chit (inl g) at mine is = record { seat = g.seat; transport = g.transport; there = g.there; told = receipt_of k p c n act g.transport h chit g.is at mine is }
+  by_hand k p c n act h chit (inr g) at mine is = absurd (let none = all_at_place IsAside (reverse h) k chit g at p n mine in let e = sym none ∙ is in cc)
 
   -- an entry that a chit left was told through the chit's transport
   on_chit : (cell : CellView) (k : ℕ) (v : Deposit Item) (n : NodeEntry) (p c : ℕ) (act : DeskAct) (closed : IsClosed portions k v cell) → slice_get (items cell) p ≡ Some (Entry n) → length v.id.begun ≤ p → side n.act ≡ Some (c, act) → IsToldIn transports c (desk_entry n.number act)
@@ -109,9 +133,8 @@ module _ (count : ℕ) (cells now : List CellView) (vaults : List (Deposit Item)
       let same : receipt.entry ≡ Entry n = slice_get-unique (items cell) p receipt.entry (Entry n) receipt.stands at in
       let chit = receipt.there.0 in
       let portion = beside_left (λ i h x. slice_get (reverse h) k ≡ Some x) portions closed.chits receipt.chit chit closed.of receipt.there.1 in
-      let t = beside_left IsPortion transports portions receipt.chit portion.0 all.given portion.1 in
       let left : Contains chit.mine (p, Entry n) = subst (λ x. Contains chit.mine (p, x)) same (Contains-slice_get chit.mine receipt.receipt (p, receipt.entry) receipt.there.2) in
-      record { seat = receipt.chit; transport = t.0; there = t.1; told = receipt_of receipt.chit k p c n act t.0 portion.0 chit t.2 portion.2 left is }
+      by_hand k p c n act portion.0 chit (all.given receipt.chit portion.0 portion.1) portion.2 left is
 
   told_at : (cell old : CellView) (k : ℕ) (v : Deposit Item) (n : NodeEntry) (p c : ℕ) (act : DeskAct) → IsClosed portions k v cell → v.id.begun ≡ items (rechartered old false) → slice_get (items cell) p ≡ Some (Entry n)
       → side n.act ≡ Some (c, act) → Contains v.id.begun (Entry n) ⊎ (length v.id.begun ≤ p) → Contains old.journal n ⊎ IsToldIn transports c (desk_entry n.number act)
@@ -150,8 +173,8 @@ module _ (count : ℕ) (cells now : List CellView) (vaults : List (Deposit Item)
 
   stands : (i : ℕ) (t : Transport) (c : ℕ) (e : DeskEntry) → slice_get transports i ≡ Some t → IsTold t c e → HasSideIn now c e
   stands i t c e at h =
-      let portion = beside_right IsPortion transports portions i t all.given at in
-      side_in i c portion.0 e portion.1 (subst (λ (l : List (Chit Item)). HasReceipt l c e) portion.2.list (subst (λ (x : Transport). IsTold x c e) portion.2.is h))
+      let back = all.back i t at in
+      side_in back.place c back.portion e back.there (subst (λ (l : List (Chit Item)). HasReceipt l c e) back.is.list (subst (λ (x : Transport). IsTold x c e) back.is.is h))
 
   -- what cells have more, of which a client has a side, is just what was told
   pub just_told : AreJustTold cells now transports

@@ -7,3 +7,4 @@ pub mod Sharded
 pub mod Working
 pub mod Ending
 pub mod Pairing
+pub mod Zipping

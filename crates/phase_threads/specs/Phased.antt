@@ -9,6 +9,9 @@ use Rattle.std.specs.Global.{Vec}
 use Rattle.client_endpoints.specs.declared.transport.Transport.TheVariants.{Locks}
 use Rattle.phase_threads.specs.declared.duty.Seat.{Seat}
 use Rattle.phase_threads.specs.declared.thread_state.ThreadState.{ThreadState}
+use Rattle.phase_threads.specs.declared.courier.Courier.{Courier}
+use Rattle.phase_threads.specs.ThreadStates.{clients_in, couriers_in}
+use Rattle.client_endpoints.specs.Endpoint.{EndpointView}
 use Rattle.locked_nodes.specs.Cells.{CellView, items, rechartered}
 
 -- the vault of so many chits into which the cell came
@@ -21,22 +24,20 @@ pub record IsVaultOf (count i : ℕ) (cell : CellView) (v : Deposit Item) : Type
 abbrev pub new_portion : List (Deposit Item) → List (Chit Item)
 new_portion vaults = map (λ v. new_chit v.id) vaults
 
--- the thread state of a seat, with this portion
-pub record IsStateOf {T : Type 0} (portion : List (Chit Item)) (i : ℕ) (seat : Seat T) (state : ThreadState T) : Type 0 where
+-- the endpoint of a seat's desk, with this portion, and the seat's duty
+pub record IsClientOf {T : Type 0} (portion : List (Chit Item)) (i : ℕ) (seat : Seat T) (x : EndpointView × T) : Type 0 where
   pub chits : Vec (Chit Item)
   pub list : chits.items ≡ portion
-  pub endpoint : state.endpoint ≡ record { began = seat.desk; desk = seat.desk; transport = Locks chits; refused = None }
-  pub duty : state.duty ≡ seat.duty
+  pub endpoint : x.0 ≡ record { began = seat.desk; desk = seat.desk; transport = Locks chits; refused = None }
+  pub duty : x.1 ≡ seat.duty
 
--- what a thread state leaves: the desk with its duty, and the chits, the last one first
-pub record IsSeatOf {T : Type 0} (i : ℕ) (state : ThreadState T) (seat : Seat T) : Type 0 where
-  pub desk : seat.desk ≡ state.endpoint.desk
-  pub duty : seat.duty ≡ state.duty
-
-pub record IsPortionOf {T : Type 0} (i : ℕ) (state : ThreadState T) (portion : List (Chit Item)) : Type 0 where
-  pub chits : Vec (Chit Item)
-  pub is : state.endpoint.transport ≡ Locks chits
-  pub list : portion ≡ reverse chits.items
+-- the thread states of seats, and of a courier, each with such a portion
+pub record AreStates {T : Type 0} (portion : List (Chit Item)) (seats : List (Seat T)) (states : List (ThreadState T)) : Type 0 where
+  pub clients : Beside (IsClientOf portion) seats (clients_in states)
+  pub courier : Courier
+  pub one : couriers_in states ≡ courier ∷ []
+  pub list : courier.chits.items ≡ portion
+  pub sound : courier.refused ≡ None
 
 -- from each list the last chit was taken
 pub record AreTaken (old new : List (List (Chit Item))) (taken : List (Chit Item)) : Type 0 where

@@ -13,12 +13,12 @@ use Rattle.phase_threads.specs.Standing.{AreCells, IsDeskAt, PairsStand, HasWork
 use Rattle.phase_threads.specs.declared.duty.Seat.{Seat}
 use Rattle.phase_threads.specs.declared.phase.Left.{Left}
 
--- cells and desks are of one cluster and of this clock, and agree in pairs; each duty is ready; and there is a seat, and not too many
+-- cells and desks are of one cluster and of this clock, and agree in pairs; each duty is ready; and with the courier's chit a vault has not too many
 pub record MayPhase {T : Type 0} (can : T → List CellShard → DeskView → Type 0) (clock : ClockId) (cells : List CellView) (seats : List (Seat T)) : Type 0 where
   pub cluster : (config : Numbers) × AreCells config clock cells × All (λ s. IsDeskAt config clock s.desk) seats
   pub pairs : PairsStand cells (map (λ s. s.desk) seats)
   pub ready : All (λ s. can s.duty (cell_shards_of cells) s.desk) seats
-  pub count : (1 ≤ length seats) × (length seats ≤ 65536)
+  pub count : length seats ≤ 65535
 
 -- each cell has only entries more, and each desk went on; where no refusal came each duty is done, and cells and desks agree in pairs again
 pub record HasPhased {T : Type 0} (did : T → DeskView → T → DeskView → Type 0) (before : ClockId) (old : List CellView) (were : List (Seat T)) (now : ClockId) (left : Left T) : Type 0 where

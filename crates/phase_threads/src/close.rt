@@ -3,8 +3,10 @@ ghost use Rattle.std.specs.Prelude.{◌≡◌, ◌<◌, length, map, reverse, Al
 ghost use Rattle.client_endpoints.specs.Transports.{IsByLocks, AtRest};
 ghost use Rattle.client_endpoints.specs.Endpoint.{Agree};
 ghost use Rattle.thread_work.specs.Pairwise.{Beside};
-ghost use Rattle.phase_threads.specs.Phased.{IsSeatOf, IsPortionOf, AreTaken, IsClosed};
+ghost use Rattle.phase_threads.specs.ThreadStates.{clients_in, seat_of, hand_of};
+ghost use Rattle.phase_threads.specs.Phased.{AreTaken, IsClosed};
 
+use crate::courier::Courier;
 use crate::duty::{Duty, Seat};
 use crate::portions::Portions;
 use crate::refusal::first_refusal;
@@ -15,7 +17,7 @@ use receipt_lock::laws::each_entry_has_one_receipt;
 use receipt_lock::{Chit, Chits, Vault};
 use std::alloc::Global;
 
-/// What thread states leave: the desks with their duties, the desks' chits, the last vault's first, and the refusal that counts.
+/// What thread states leave: the desks with their duties, the chits of each thread state, the last vault's first, and the refusal that counts.
 pub struct Parted<T> {
     pub seats: Vec<Seat<T>>,
     pub portions: Portions<Chit<NodeCell>>,
@@ -24,35 +26,51 @@ pub struct Parted<T> {
 
 /// Takes thread states apart, in their order.
 pub fn part<T: Duty>(alloc: Global, states: Vec<ThreadState<T>>) -> Result<Parted<T>, NoMemory>
-    requires locks { All (λ p. IsByLocks p.endpoint.transport) states.items }
-    ensures seats { IfOk result (λ r. Beside IsSeatOf states.items r.seats.items) }
-    ensures portions { IfOk result (λ r. Beside IsPortionOf states.items r.portions.items) }
+    requires { All (λ x. IsByLocks x.0.transport) (clients_in states.items) }
+    ensures seats { IfOk result (λ r. r.seats.items ≡ map seat_of (clients_in states.items)) }
+    ensures portions { IfOk result (λ r. r.portions.items ≡ map hand_of states.items) }
     ensures refused { IfOk result (λ r.
-        r.refused ≡ None → All (λ p. p.endpoint.refused ≡ None) states.items) }
-    ensures rest { IfOk result (λ r.
-        All (λ p. AtRest p.endpoint.transport) states.items) }
+        r.refused ≡ None → All (λ x. x.0.refused ≡ None) (clients_in states.items)) }
+    ensures rest { IfOk result (λ r. All (λ x. AtRest x.0.transport) (clients_in states.items)) }
     ensures agree { IfOk result (λ r.
-        All (λ p.
-        p.endpoint.refused ≡ None →
-        Agree p.endpoint.began p.endpoint.desk p.endpoint.transport) states.items) }
+        All (λ x.
+        x.0.refused ≡ None →
+        Agree x.0.began x.0.desk x.0.transport) (clients_in states.items)) }
 {
     let mut seats = Vec::new(alloc);
     let mut portions = Vec::new(alloc);
     let mut refused = None;
     for state in states {
-        let ThreadState { endpoint, duty } = state;
-        refused = first_refusal(refused, endpoint.refused());
-        let (desk, transport) = endpoint.into_parts();
-        let mut chits = transport.into_chits();
-        chits.reverse();
-        portions.push(ItemList::from_vec(chits))?;
-        seats.push(Seat { desk, duty })?;
+        match state {
+            ThreadState::Client { endpoint, duty } => {
+                refused = first_refusal(refused, endpoint.refused());
+                let (desk, transport) = endpoint.into_parts();
+                seats.push(Seat { desk, duty })?;
+                portions.push(turned(transport.into_chits()))?;
+            }
+            ThreadState::Courier(courier) => {
+                let Courier {
+                    chits,
+                    refused: other,
+                } = courier;
+                refused = first_refusal(refused, other);
+                portions.push(turned(chits))?;
+            }
+        }
     }
     Ok(Parted {
         seats,
         portions,
         refused,
     })
+}
+
+// A portion with these chits, the last one first.
+fn turned(mut chits: Vec<Chit<NodeCell>>) -> Chits<NodeCell>
+    ensures { result ≡ reverse chits.items }
+{
+    chits.reverse();
+    ItemList::from_vec(chits)
 }
 
 /// Takes the cells out of their vaults, in their order, given all chits, the last vault's first.

@@ -1,5 +1,5 @@
-//! A phase of a run in threads: cells come into vaults, each desk's thread does its duty, and the vaults are closed again; and the
-//! journals that cells and desks make, phase after phase.
+//! A phase of a run in threads: cells come into vaults, each desk's thread does its duty, a courier brings what cells hold back, and
+//! the vaults are closed again; and the journals that cells and desks make, phase after phase.
 //!
 //! A run has a cell for each node and a desk for each client (specs/Standing). Whoever runs them knows what one phase did to each cell
 //! and each desk; the contracts of `laws` tell what that says of their journals: what was closed stays closed, a phase more is closed,
@@ -7,6 +7,7 @@
 #![tactic(auto)]
 
 mod close;
+mod courier;
 pub mod duty;
 pub mod laws;
 mod open;

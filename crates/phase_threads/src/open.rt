@@ -1,10 +1,11 @@
-//! Cells in vaults, and desks with their chits, before the threads start.
-ghost use Rattle.std.specs.Prelude.{◌≡◌, ◌≤◌, [], List, length, All, None, IfOk};
+//! Cells in vaults, and threads with their chits, before they start.
+ghost use Rattle.std.specs.Prelude.{◌≡◌, ◌≤◌, ◌+◌, [], List, length, All, None, IfOk};
 ghost use Rattle.receipt_lock.specs.Chits.{Holder as ChitOf, new_chit};
 ghost use Rattle.locked_nodes.specs.declared.charter.Item.{Item};
 ghost use Rattle.thread_work.specs.Pairwise.{Beside};
-ghost use Rattle.phase_threads.specs.Phased.{IsVaultOf, IsStateOf, new_portion};
+ghost use Rattle.phase_threads.specs.Phased.{IsVaultOf, AreStates, new_portion};
 
+use crate::courier::Courier;
 use crate::duty::{Duty, Seat};
 use crate::portions::{Portions, deal, empty_portions};
 use crate::thread_state::ThreadState;
@@ -50,18 +51,18 @@ fn open_cell(
     Vault::new(alloc, cell.go_on(false), count)
 }
 
-/// Each desk with a portion, and its duty, in their order.
+/// Each desk with a portion, and its duty, in their order, and then the courier with the last portion.
 pub fn open_states<T: Duty>(
     alloc: Global,
     mut portions: Portions<Chit<NodeCell>>,
     seats: Vec<Seat<T>>,
 ) -> Result<Vec<ThreadState<T>>, NoMemory>
-    requires enough { length portions.items ≡ length seats.items }
+    requires enough { length portions.items ≡ length seats.items + 1 }
     requires rest { All (λ h. All (λ c. c.holds ≡ None) h) portions.items }
     requires new { All (λ h. All (λ c. c.mine ≡ []) h) portions.items }
     ensures { IfOk result (λ states.
         (portion : List (ChitOf Item)) → All (λ h. h ≡ portion) portions.items →
-        Beside (IsStateOf portion) seats.items states.items) }
+        AreStates portion seats.items states.items) }
 {
     let mut states = Vec::new(alloc);
     for seat in seats {
@@ -70,7 +71,14 @@ pub fn open_states<T: Duty>(
         };
         let Seat { desk, duty } = seat;
         let endpoint = Endpoint::new(desk, Transport::Locks(portion.into_vec()));
-        states.push(ThreadState { endpoint, duty })?;
+        states.push(ThreadState::Client { endpoint, duty })?;
     }
+    let Some(portion) = portions.pop() else {
+        unreachable!()
+    };
+    states.push(ThreadState::Courier(Courier {
+        chits: portion.into_vec(),
+        refused: None,
+    }))?;
     Ok(states)
 }

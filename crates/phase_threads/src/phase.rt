@@ -24,8 +24,9 @@ pub struct Left<T> {
     pub refused: Option<CellRefusal>,
 }
 
-/// Puts each cell into a vault, lets a thread for each seat do its duty, and takes the cells out again when all have ended. There are
-/// from 1 to 65,536 seats. A thread that can't be made is no error: another one does its work.
+/// Puts each cell into a vault, lets a thread for each seat do its duty and one for a courier bring what cells hold back, and takes
+/// the cells out again when all have ended. There are at most 65,535 seats, and there may be none. A thread that can't be made is no
+/// error: another one does its work.
 ///
 /// A refusal ends the work of the thread to which it comes, and the others end theirs. If none came, cells and desks agree in pairs
 /// again.
@@ -40,7 +41,7 @@ pub fn run_phase<R: Threads + Wait + Sync, G: Gate + Sync, T: Duty + Send>(
     requires { MayPhase T.ready clock cells.items seats.items }
     ensures { IfOk result (λ r. HasPhased T.done clock cells.items seats.items r.0 r.1) }
 {
-    let count = seats.len() as u32;
+    let count = seats.len() as u32 + 1;
     let cell_shards = shards_in(alloc, cells.as_slice())?;
     let (vaults, portions) = open_row(alloc, cells, count)?;
     let states = open_states(alloc, portions, seats)?;

@@ -79,7 +79,10 @@ fn tells(
     ensures caller { caller.new.clock ≡ caller.old.clock }
 {
     let ask = time_ask();
-    match cell.step(clock, caller, way, &ask) {
+    let mut note = clock.note(caller);
+    let answer = cell.answer(clock, &mut note, way, &ask);
+    clock.heed(caller, note);
+    match answer {
         Ok(told) => is_told(&told, entry, silence),
         Err(_) => false,
     }
@@ -109,14 +112,14 @@ fn loses_late(cell: &mut NodeCell, clock: &Clock, caller: &mut Pass) -> bool
     requires caller { caller.old.clock ≡ clock.now }
 {
     let is_told = tells_all(cell, clock, caller);
-    let is_lost = cell.late(clock, caller) == Ok(Late::Lost { number: 4 });
+    let is_lost = cell.bring_late(clock) == Ok(Late::Lost { number: 4 });
     is_told && is_lost && cell.journal().len() == 5
 }
 
 fn crashes_when_used_up(alloc: Global) -> Result<bool, Fail> {
     let (clock, pass, mut caller) = clock_of_two(alloc)?;
     let mut cell = cell_of(alloc, Some(1), pass)?;
-    match cell.late(&clock, &mut caller) {
+    match cell.bring_late(&clock) {
         Ok(Late::NoMail) => Ok(loses_late(&mut cell, &clock, &mut caller)),
         _ => Ok(false),
     }

@@ -32,4 +32,4 @@ liar_field = search (all, message_send) depth 60 fits 50000
 
 -- variant by variant: the whole is too large for one search
 pub work_send : IsSend work.the_row
-work_send = recorded_send _ _ _ (work.the_type.to_one) (enum_send (variants_of work.the_type) ((correct_field, tt), ((liar_field, tt), (tt, tt))))
+work_send = recorded_send _ _ _ (work.the_type.to_one) (enum_send (variants_of work.the_type) ((correct_field, tt), ((liar_field, tt), tt)))

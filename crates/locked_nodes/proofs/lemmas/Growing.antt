@@ -6,7 +6,7 @@ use Rattle.std.proofs.Math.Seq.{drop-length, take-length}
 use Rattle.std.proofs.lemmas.List.Elements.{All-push, All-nil, All-head}
 use Rattle.quorum_rules.specs.Limits.{Numbers}
 use Rattle.protocol.specs.Messages.{Message}
-use Rattle.event_clock.specs.Passes.{Holder, Sight, drew, met, heeded, sight_of}
+use Rattle.event_clock.specs.Passes.{Holder, drew, met}
 use Rattle.journals.specs.declared.desk.Way.{Way}
 use Rattle.journals.specs.declared.node.Nature.{Nature}
 use Rattle.journals.specs.declared.node.NodeAct.{NodeAct}
@@ -17,7 +17,7 @@ use Rattle.locked_nodes.specs.declared.charter.Charter.{Charter}
 use Rattle.locked_nodes.specs.declared.charter.Item.TheVariants.{Entry}
 use Rattle.locked_nodes.specs.declared.answers.Late.{Late}
 use Rattle.locked_nodes.specs.declared.answers.Late.TheVariants.{Delivered, Lost}
-use Rattle.locked_nodes.specs.Cells.{CellView, Serves, HoldsWhole, IsOfShard, IsPrune, Rises, numbers, first_state, state_of, loses, IsCell, BroughtLate, SawLate, CameLate, entry, with_seen, next_charter, items}
+use Rattle.locked_nodes.specs.Cells.{CellView, Serves, HoldsWhole, IsOfShard, IsPrune, Rises, numbers, first_state, state_of, loses, IsCell, BroughtLate, entry, next_charter, items}
 use Rattle.locked_nodes.proofs.Causes.{act_prunes_not, late_act_prunes_not, act_share, late_act_share}
 use Rattle.locked_nodes.proofs.Keeping.{after_all_keeps, served_asks, late_serves}
 
@@ -146,19 +146,6 @@ late_came v c s es p nature ask rest n a fs gs q lost view cell conduct oldest i
     } in
     let loss : loses (state_of u) c.nature ≡ lost = sym (lost_is ∙ ap (λ k. loses s k) conduct ∙ ap (λ x. loses x c.nature) cell.stands) in
     subst (λ x. BroughtLate x n (record { charter = c; journal = gs; pass = q }) × (loses (state_of x) x.charter.nature ≡ lost)) view (came, loss)
-
--- a caller that heeds the note that it gave along, which saw a later number
-heeds_on : (before : Holder) (n : ℕ) → before.seen ≤ n → heeded before (n + 1) ≡ with_seen before (n + 1)
-heeds_on before n le = ap (λ m. with_seen before m) (omega (arith, le))
-
-pub came_to : (old new : CellView) (before : Holder) (n : ℕ) (note : Sight) (after : Holder) → BroughtLate old n new → SawLate (sight_of before) n note → after ≡ heeded before note.seen → CameLate old before n new after
-came_to old new before n note after came saw heeds = record {
-  ask = came.ask;
-  oldest = came.oldest;
-  later = saw.later;
-  cell = came.cell;
-  caller = heeds ∙ ap (λ (k : Sight). heeded before k.seen) saw.note ∙ heeds_on before n saw.later;
-}
 
 -- which of the two was told
 pub told_delivered : (lost : Bool) (number n : ℕ) (late : Late) → late ≡ (if lost then Lost number else Delivered number) → late ≡ Delivered n → (lost ≡ false) × (number ≡ n)

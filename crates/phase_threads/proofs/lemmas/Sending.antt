@@ -32,6 +32,7 @@ use Rattle.client_endpoints.specs.contracts.endpoint.Endpoint as endpoint
 use Rattle.client_endpoints.specs.contracts.endpoint.Endpoint.TheInside as endpoint_inside
 use Rattle.client_endpoints.specs.contracts.shared_cells.SharedCells as shared_cells
 use Rattle.client_endpoints.specs.contracts.shared_cells.SharedCells.TheInside as inside
+use Rattle.phase_threads.specs.contracts.courier.Courier as courier
 use Rattle.phase_threads.specs.contracts.thread_state.ThreadState as state
 
 pub clock_sync : IsSync clock.the_row
@@ -127,8 +128,11 @@ endpoint_inside_send =
 pub endpoint_send : IsSend endpoint.the_row
 endpoint_send = search (sendable, endpoint_inside_send) depth 20
 
+courier_field : IsSend courier.the_field.row
+courier_field = search (crossing_rules, cell_send) depth 40
+
 pub state_send : (T : RattleType) → IsSend T → IsSend (state.the_row T)
-state_send T s = search (crossing_rules, endpoint_send) depth 40
+state_send T s = search (crossing_rules, endpoint_send, courier_field) depth 40 fits 50000
 
 pub vault_sync : (T E : RattleType) (g : kept.Ghosts T.Denot E.Denot) → IsSend T → IsSync (vault.the_row T E g)
 vault_sync T E g s = search crossing_rules depth 60 fits 50000

@@ -46,15 +46,15 @@ count-requires c = as_many c.requires.worked.0 c.args.run c.meet_all.new.run c.r
 pub meet_all-requires-2 : goal.meet_all-requires-2
 meet_all-requires-2 c =
     let run = c.meet_all.new.run in
-    let new : Run = record { plan = run.plan; clock = run.clock; cells = c.in_ok-cells.cells; clients = run.clients; courier = run.courier; keeper = c.prune_all.new.keeper; counted = with_items run.counted c.count.new.counted } in
-    open_pruned run new refl refl refl refl c.in_ok-cells.ensures.keeper c.in_ok-cells.ensures.some c.meet_all.ensures.kept.cells c.meet_all.ensures.«open»
+    let new : Run = record { plan = run.plan; clock = run.clock; cells = c.in_ok-cells.cells; clients = run.clients; keeper = c.prune_all.new.keeper; counted = with_items run.counted c.count.new.counted } in
+    open_pruned run new refl refl refl c.in_ok-cells.ensures.keeper c.in_ok-cells.ensures.some c.meet_all.ensures.kept.cells c.meet_all.ensures.«open»
 
 pub returns-clause-closed : goal.returns-clause-closed
 returns-clause-closed c none k worked =
     let run = c.meet_all.new.run in
     let met = c.meet_all.ensures.met in
     let ps = c.as_slice-4.result.now in
-    let new : Run = record { plan = run.plan; clock = run.clock; cells = c.in_ok-cells.cells; clients = run.clients; courier = run.courier; keeper = c.prune_all.new.keeper; counted = with_items run.counted c.count.new.counted } in
+    let new : Run = record { plan = run.plan; clock = run.clock; cells = c.in_ok-cells.cells; clients = run.clients; keeper = c.prune_all.new.keeper; counted = with_items run.counted c.count.new.counted } in
     let reads : Seat ClientDuty → ℕ = λ s. length (reads_of s) in
     let many = as_many k c.args.run run worked met c.as_slice-5.result.now c.as_mut_slice.result.now c.as_slice-5.ensures.value c.as_mut_slice.ensures.value in
     let size = ap length c.count.ensures ∙ length-map c.as_slice-5.result.now reads ∙ sym many ∙ c.as_mut_slice.ensures.len in
@@ -62,7 +62,6 @@ returns-clause-closed c none k worked =
       plan = refl;
       clock = refl;
       clients = refl;
-      courier = refl;
       keeper = c.in_ok-cells.ensures.keeper;
       counted = with_items_is run.counted c.count.new.counted size ∙ c.count.ensures ∙ ap (map reads) c.as_slice-5.ensures.value;
       some = c.in_ok-cells.ensures.some;

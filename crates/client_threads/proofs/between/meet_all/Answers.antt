@@ -9,9 +9,9 @@ use Rattle.phase_threads.specs.declared.duty.Seat.{Seat}
 use Rattle.client_duties.specs.declared.work.ClientDuty.{ClientDuty}
 use Rattle.client_threads.specs.Met.{HasMetCell, HasMetSeat}
 use Rattle.client_threads.specs.Running.{desks_of, plan_of}
-use Rattle.client_threads.proofs.Keepers.{keeper_then, keeper_on}
+use Rattle.client_threads.proofs.Keepers.{keeper_then}
 use Rattle.client_threads.proofs.Working.{zip_long}
-use Rattle.client_threads.proofs.Rounds.{seats_tick, cells_met, inside_met, seats_met, cells_within, desks_within, courier_at}
+use Rattle.client_threads.proofs.Rounds.{seats_tick, cells_met, inside_met, seats_met, cells_within, desks_within}
 use Rattle.client_threads.proofs.between.meet_all.Goals as goal
 
 pub meet_desks-requires-clause-desks : goal.meet_desks-requires-clause-desks
@@ -32,15 +32,13 @@ returns-clause-open c =
     let bc : (with_items run.cells cells).items ≡ cells = with_items_is run.cells cells (zip_long HasMetCell c.as_mut_slice.result.now cells c.meet_cells.ensures.cells ∙ c.as_mut_slice.ensures.len) in
     let bs : (with_items run.clients seats).items ≡ seats = with_items_is run.clients seats (zip_long HasMetSeat c.as_mut_slice-2.result.now seats c.meet_desks.ensures.seats ∙ c.as_mut_slice-2.ensures.len) in
     let two = keeper_then run.keeper c.meet_cells.new.keeper c.meet_desks.new.keeper c.meet_cells.ensures.keeper c.meet_desks.ensures.keeper in
-    let three = keeper_on run.keeper c.meet_desks.new.keeper run.courier.pass c.meet.new.other two c.meet.ensures.other in
     let mc = ap length bc in
     let ms = ap length bs in
     record {
       cells = subst (AreCells config run.clock) (sym bc) (cells_met config run.clock run.cells.items cells zc c.requires.cells);
       inside = subst (AreInside config) (sym bc) (inside_met config run.cells.items cells zc c.requires.inside);
       desks = subst (λ (l : List (Seat ClientDuty)). All (IsDeskAt config run.clock) (desks_of l)) (sym bs) (seats_met config run.clock run.clients.items seats zs c.requires.desks);
-      courier = courier_at config run.clock run.courier c.meet.new.self c.meet_desks.new.keeper c.meet.ensures.desk c.requires.courier;
-      keeper = (three.clock ∙ c.requires.keeper.0, three.drawn ∙ c.requires.keeper.1);
+      keeper = (two.clock ∙ c.requires.keeper.0, two.drawn ∙ c.requires.keeper.1);
       passes = omega (arith, c.requires.passes, lc, ls, mc, ms);
     }
 
@@ -52,11 +50,8 @@ returns-clause-met c =
     let k0 = run.keeper in
     let k1 = c.meet_cells.new.keeper in
     let k2 = c.meet_desks.new.keeper in
-    let k3 = c.meet.new.other in
     let one = c.meet_cells.ensures.keeper in
     let two = c.meet_desks.ensures.keeper in
-    let last = keeper_on k1 k2 run.courier.pass k3 two c.meet.ensures.other in
-    let three = keeper_on k2 k2 run.courier.pass k3 (record { clock = refl; number = refl; drawn = refl; seen = omega arith }) c.meet.ensures.other in
     let zc = subst (λ (l : List CellView). AllZip HasMetCell l cells) c.as_mut_slice.ensures.value c.meet_cells.ensures.cells in
     let zs = subst (λ (l : List (Seat ClientDuty)). AllZip HasMetSeat l seats) c.as_mut_slice-2.ensures.value c.meet_desks.ensures.seats in
     let bc : (with_items run.cells cells).items ≡ cells = with_items_is run.cells cells (zip_long HasMetCell c.as_mut_slice.result.now cells c.meet_cells.ensures.cells ∙ c.as_mut_slice.ensures.len) in
@@ -65,10 +60,9 @@ returns-clause-met c =
       plan = refl;
       clock = refl;
       counted = refl;
-      keeper = keeper_then k0 k1 k3 one last;
-      courier = ap (λ (d : DeskView). d.entries) c.meet.ensures.desk;
+      keeper = keeper_then k0 k1 k2 one two;
       cells = subst (AllZip HasMetCell run.cells.items) (sym bc) zc;
       seats = subst (AllZip HasMetSeat run.clients.items) (sym bs) zs;
-      cells_seen = subst (All (λ (x : CellView). (k0.seen ≤ x.pass.seen) × (x.pass.seen ≤ k3.seen))) (sym bc) (cells_within k0.seen k1.seen k3.seen cells last.seen c.meet_cells.ensures.seen);
-      desks_seen = subst (λ (l : List (Seat ClientDuty)). All (λ (d : DeskView). (k0.seen ≤ d.pass.seen) × (d.pass.seen ≤ k3.seen)) (desks_of l)) (sym bs) (desks_within k0.seen k1.seen k2.seen k3.seen seats one.seen three.seen c.meet_desks.ensures.seen);
+      cells_seen = subst (All (λ (x : CellView). (k0.seen ≤ x.pass.seen) × (x.pass.seen ≤ k2.seen))) (sym bc) (cells_within k0.seen k1.seen k2.seen cells two.seen c.meet_cells.ensures.seen);
+      desks_seen = subst (λ (l : List (Seat ClientDuty)). All (λ (d : DeskView). (k0.seen ≤ d.pass.seen) × (d.pass.seen ≤ k2.seen)) (desks_of l)) (sym bs) (desks_within k0.seen k1.seen k2.seen k2.seen seats one.seen (omega arith) c.meet_desks.ensures.seen);
     }

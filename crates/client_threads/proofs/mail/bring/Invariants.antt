@@ -1,7 +1,6 @@
-use Rattle.client_desks.specs.Desks.{KeepsDesk}
 use Rattle.locked_nodes.specs.Cells.{HasMoreAside}
 use Rattle.client_threads.proofs.mail.bring.Given as goal
 
 -- the cell has what came so far
 abbrev pub invariant-loop : goal.invariant-loop
-invariant-loop g l = KeepsDesk l.initial.courier l.courier × HasMoreAside l.initial.cell l.cell
+invariant-loop g l = HasMoreAside l.initial.cell l.cell

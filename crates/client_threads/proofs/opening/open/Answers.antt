@@ -38,16 +38,12 @@ start-requires c =
     (omega arith, omega (arith, few, most, cells, c.len-clients.ensures, c.count_cells.ensures))
 
 pub open_cells-requires-clause-unused : goal.open_cells-requires-clause-unused
-open_cells-requires-clause-unused c = all_unused c.in_ok-clock.clock c.in_ok-clock.passes (c.count_cells.result + c.len-clients.result + 2) c.in_ok-clock.ensures.all c.in_ok-clock.ensures.each
-
-pub lying-requires : goal.lying-requires
-lying-requires c = record { unused = (All-pop (IsUnusedPass c.in_ok-clock.clock) c.open_seats.new.passes c.pop.new.self (Some c.in-Some.pass) c.in-Some.ensures.items c.in_ok-clients.ensures.unused).1.drawn }
+open_cells-requires-clause-unused c = all_unused c.in_ok-clock.clock c.in_ok-clock.passes (c.count_cells.result + c.len-clients.result + 1) c.in_ok-clock.ensures.all c.in_ok-clock.ensures.each
 
 pub returns-clause-stands : goal.returns-clause-stands
 returns-clause-stands c =
     let clock = c.in_ok-clock.clock in
-    let one = All-pop (IsUnusedPass clock) c.open_seats.new.passes c.pop.new.self (Some c.in-Some.pass) c.in-Some.ensures.items c.in_ok-clients.ensures.unused in
-    let other = All-pop (IsUnusedPass clock) c.pop.new.self c.pop-2.new.self (Some c.in-Some-pop.keeper) c.in-Some-pop.ensures.items one.0 in
+    let one = All-pop (IsUnusedPass clock) c.open_seats.new.passes c.pop.new.self (Some c.in-Some.keeper) c.in-Some.ensures.items c.in_ok-clients.ensures.unused in
     let long = same_long (λ (s : Seat ClientDuty). s.desk.id) client_of c.in_ok-clients.clients.items c.in_ok-tasks.tasks c.in_ok-clients.ensures.ids in
     let count : c.len.result ≡ length c.in_ok-clients.clients.items = search rules in
     stands_first c.phases_close.ensures.begins _ c.args.plan.now c.of.ensures (record {
@@ -56,10 +52,7 @@ returns-clause-stands c =
       cells = c.in_ok-cells.ensures.cells;
       seats = c.in_ok-clients.ensures.seats;
       ids = c.in_ok-clients.ensures.ids ∙ c.in_ok-tasks.ensures.clients;
-      pass = c.in-Some.pass;
-      unused = one.1;
-      courier = c.in_ok-courier.ensures;
-      keeper = other.1;
+      keeper = one.1;
       passes = omega (arith, long, c.in_ok-clock.ensures.clock, c.len-clients.ensures, c.count_cells.ensures);
       counted = c.in_ok-counted.ensures.items_if_clones_equal (λ y e. e) ∙ ap (λ (k : ℕ). replicate k 0) count;
       named = liars_named c.args.plan.now c.requires.fits;

@@ -24,7 +24,7 @@ returns-clause-followed c =
       clients = h.standing.clients;
       kept = record { cells = told.cells; desks = told.kept };
       pairs = h.standing.pairs;
-      numbers = told.drawn h.standing.quiet;
+      numbers = told.drawn;
       closed = h.closed;
       count = h.count ∙ ap cuts (sym c.requires.plan);
       done = h.off;

@@ -11,8 +11,8 @@ use Rattle.client_threads.proofs.Working.{IsMailed, open_mailed, is_worked, zip_
 use Rattle.client_threads.proofs.Rounds.{cells_tick}
 use Rattle.client_threads.proofs.run.work_off.Goals as goal
 
-pub bring_all-brought-requires-clause-cells : goal.bring_all-brought-requires-clause-cells
-bring_all-brought-requires-clause-cells g c =
+pub bring_all-brought-requires : goal.bring_all-brought-requires
+bring_all-brought-requires g c =
     let run = c.in_ok-run.run' in
     subst (All (λ (x : CellView). x.charter.pass.clock ≡ run.clock)) (sym c.as_mut_slice.ensures.value) (cells_tick (plan_of run).config run.clock run.cells.items c.in_ok-run.ensures.«open».cells)
 
@@ -20,10 +20,10 @@ pub stop-requires-in-Err-clause-opened : goal.stop-requires-in-Err-clause-opened
 stop-requires-in-Err-clause-opened g c =
     let mid = c.in_ok-run.run' in
     let cells = c.bring_all-brought.new.cells in
-    let new : Run = record { plan = mid.plan; clock = mid.clock; cells = with_items mid.cells cells; clients = mid.clients; courier = c.bring_all-brought.new.courier; keeper = mid.keeper; counted = mid.counted } in
+    let new : Run = record { plan = mid.plan; clock = mid.clock; cells = with_items mid.cells cells; clients = mid.clients; keeper = mid.keeper; counted = mid.counted } in
     let zip = subst (λ (l : List CellView). AllZip HasMoreAside l cells) c.as_mut_slice.ensures.value c.bring_all-brought.ensures.cells in
     let is : (with_items mid.cells cells).items ≡ cells = with_items_is mid.cells cells (zip_long HasMoreAside c.as_mut_slice.result.now cells c.bring_all-brought.ensures.cells ∙ c.as_mut_slice.ensures.len) in
-    let mailed : IsMailed mid new = record { plan = refl; clock = refl; clients = refl; keeper = refl; counted = refl; courier = c.bring_all-brought.ensures.kept; cells = subst (AllZip HasMoreAside mid.cells.items) (sym is) zip } in
+    let mailed : IsMailed mid new = record { plan = refl; clock = refl; clients = refl; keeper = refl; counted = refl; cells = subst (AllZip HasMoreAside mid.cells.items) (sym is) zip } in
     open_mailed mid new mailed c.in_ok-run.ensures.«open»
 
 pub returns-in-Ok-clause-plan : goal.returns-in-Ok-clause-plan
@@ -33,9 +33,9 @@ pub returns-in-Ok-clause-worked : goal.returns-in-Ok-clause-worked
 returns-in-Ok-clause-worked g c k between =
     let mid = c.in_ok-run.run' in
     let cells = c.bring_all-brought.new.cells in
-    let new : Run = record { plan = mid.plan; clock = mid.clock; cells = with_items mid.cells cells; clients = mid.clients; courier = c.bring_all-brought.new.courier; keeper = mid.keeper; counted = mid.counted } in
+    let new : Run = record { plan = mid.plan; clock = mid.clock; cells = with_items mid.cells cells; clients = mid.clients; keeper = mid.keeper; counted = mid.counted } in
     let zip = subst (λ (l : List CellView). AllZip HasMoreAside l cells) c.as_mut_slice.ensures.value c.bring_all-brought.ensures.cells in
     let is : (with_items mid.cells cells).items ≡ cells = with_items_is mid.cells cells (zip_long HasMoreAside c.as_mut_slice.result.now cells c.bring_all-brought.ensures.cells ∙ c.as_mut_slice.ensures.len) in
-    let mailed : IsMailed mid new = record { plan = refl; clock = refl; clients = refl; keeper = refl; counted = refl; courier = c.bring_all-brought.ensures.kept; cells = subst (AllZip HasMoreAside mid.cells.items) (sym is) zip } in
+    let mailed : IsMailed mid new = record { plan = refl; clock = refl; clients = refl; keeper = refl; counted = refl; cells = subst (AllZip HasMoreAside mid.cells.items) (sym is) zip } in
     is_worked c.phases_work.ensures.work c.phases_close.ensures.goes_on c.phases_work.ensures.late k c.args.run mid new between (c.in_ok-run.ensures.done c.in_default.is k between.standing) mailed
     (subst (All KeptCell) (sym is) c.bring_all-brought.ensures.known) (subst (All HasNoLateMail) (sym is) c.in-Ok.ensures.none)

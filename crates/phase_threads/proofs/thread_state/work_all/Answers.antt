@@ -1,10 +1,8 @@
 -- Lemmas of `Places` and `Sending`.
 use denote.Param.Send.{sendable}
 use Rattle.std.proofs.Common.{◌≡◌, ℕ, length, sym, subst, ◌∙◌, All}
-use Rattle.std.specs.declared.option.Option.TheVariants.{None}
-use Rattle.client_endpoints.specs.Endpoint.{Fit}
 use Rattle.phase_threads.specs.declared.thread_state.ThreadState.{ThreadState}
-use Rattle.phase_threads.specs.Told.{GoesOn}
+use Rattle.phase_threads.specs.ThreadStates.{CanWork, DidWork}
 use Rattle.thread_work.specs.Pairwise.{Beside}
 use Rattle.thread_work.proofs.lemmas.Places.{written_back, made_beside}
 use Rattle.phase_threads.proofs.lemmas.Sending.{state_send, shared_cells_sync}
@@ -17,27 +15,14 @@ pub each-requires-sync-C : goal.each-requires-sync-C
 each-requires-sync-C g c κs within = search (sendable, shared_cells_sync) depth 40
 
 pub each-requires-clause-can : goal.each-requires-clause-can
-each-requires-clause-can g c κs within =
-    let value = c.as_mut_slice.ensures.value in
-    let shared_cells = c.args.shared_cells.now in
-    subst (All (λ (p : ThreadState g.row.T.Denot). Fit p.endpoint shared_cells × (p.endpoint.refused ≡ None) × g.T.Duty.ready p.duty shared_cells.cell_shards p.endpoint.desk)) (sym value) (λ k d lt. (c.requires.fit k d lt, c.requires.sound k d lt, c.requires.ready k d lt))
+each-requires-clause-can g c κs within = subst (All (CanWork g.T.Duty.ready c.args.shared_cells.now)) (sym c.as_mut_slice.ensures.value) c.requires
 
-pub returns-clause-goes : goal.returns-clause-goes
-returns-clause-goes g c =
+pub returns : goal.returns
+returns g c =
     let new = c.each.new.states in
     let old = c.args.states.items in
     let value = c.as_mut_slice.ensures.value in
     let len : length new ≡ c.args.states.len = c.each.ensures.count ∙ c.as_mut_slice.ensures.len in
-    let R : ℕ → ThreadState g.row.T.Denot → ThreadState g.row.T.Denot → Type 0 = λ i p q. GoesOn p.endpoint q.endpoint in
-    let beside = made_beside R (R 0) c.as_mut_slice.result.now new c.each.ensures.count (λ i d lt. (c.each.ensures.done i d lt).0) (λ i x y r. r) in
-    subst (Beside R old) (sym (written_back c.args.states.len new old len)) (subst (λ l. Beside R l new) value beside)
-
-pub returns-clause-done : goal.returns-clause-done
-returns-clause-done g c =
-    let new = c.each.new.states in
-    let old = c.args.states.items in
-    let value = c.as_mut_slice.ensures.value in
-    let len : length new ≡ c.args.states.len = c.each.ensures.count ∙ c.as_mut_slice.ensures.len in
-    let R : ℕ → ThreadState g.row.T.Denot → ThreadState g.row.T.Denot → Type 0 = λ i p q. q.endpoint.refused ≡ None → g.T.Duty.done p.duty p.endpoint.desk q.duty q.endpoint.desk in
-    let beside = made_beside R (R 0) c.as_mut_slice.result.now new c.each.ensures.count (λ i d lt. (c.each.ensures.done i d lt).1) (λ i x y r. r) in
+    let R : ℕ → ThreadState g.row.T.Denot → ThreadState g.row.T.Denot → Type 0 = λ i p q. DidWork g.T.Duty.done p q in
+    let beside = made_beside R (R 0) c.as_mut_slice.result.now new c.each.ensures.count c.each.ensures.done (λ i x y r. r) in
     subst (Beside R old) (sym (written_back c.args.states.len new old len)) (subst (λ l. Beside R l new) value beside)
