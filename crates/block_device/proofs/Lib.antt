@@ -2,3 +2,4 @@ pub mod lemmas
 mod Fitting
 mod Doing
 mod Cut
+mod Searching

@@ -4,3 +4,4 @@ pub mod Device
 pub mod Refusals
 pub mod Pieces
 pub mod Ops
+pub mod Latest

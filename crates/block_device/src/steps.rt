@@ -1,14 +1,20 @@
-ghost use Rattle.std.specs.Prelude.{◌≡◌, ◌+◌, ◌≤◌, length, IfOk, IfSome};
+ghost use Rattle.std.specs.Prelude.{◌≡◌, ◌+◌, ◌≤◌, ◌<◌, length, IfOk, IfSome, map};
 ghost use Rattle.std.specs.Option.{option_copied};
-ghost use Rattle.wire_forms.specs.Ops.{Fits as OpFits};
+ghost use Rattle.protocol.specs.Instance.{setting};
+ghost use Rattle.protocol.specs.Messages.{IsBytes};
+ghost use Rattle.protocol.specs.Seen.{record_of, block_of, work_of};
+ghost use Rattle.protocol.specs.World.{Fits as FitsWork};
 ghost use Rattle.block_device.specs.Device.{merged};
+ghost use Rattle.block_device.specs.Latest.{AreWhole};
 ghost use Rattle.block_device.specs.Steps.{Fits};
-ghost use Rattle.block_device.specs.Ops.{changed, op_of, step_of, value_of};
+ghost use Rattle.block_device.specs.Ops.{op_of, step_of, value_of};
 
+use crate::latest::latest_read;
 use crate::merging::merge;
 use cross_sum::Bytes;
 use lists::{ItemList, NoMemory};
 use quorum_rules::Config;
+use run_words::Record;
 use std::alloc::Global;
 use wire_forms::Op;
 
@@ -34,37 +40,41 @@ impl BlockStep {
         }
     }
 
-    /// The block whose last read the step writes again with other bytes, if it does.
-    pub fn changed(&self) -> Option<u32>
-        ensures { result ≡ changed self.now }
-    {
-        match self {
-            BlockStep::Merge { block, .. } => Some(*block),
-            BlockStep::Read { .. } | BlockStep::Whole { .. } => None,
-        }
-    }
-
-    /// The operation that the step is, where its block was last read as this, if it was: else a merge changes zeros.
+    /// The operation that the step is for a client, where the operations so far have these records: a merge changes what the client's
+    /// latest read of the block gave, or zeros where it has read nothing. The operation is one that the client may start.
     pub fn into_op(
         self,
         alloc: Global,
         config: &Config,
-        seen: Option<&Bytes>,
+        client: u32,
+        records: &[Record],
     ) -> Result<Op, NoMemory>
         requires fits { Fits config.now self }
-        requires seen { IfSome seen (λ old. length old.now ≡ config.now.size) }
-        ensures op { IfOk result (λ op. op ≡ op_of config.now.size self (option_copied seen.entry)) }
-        ensures fits { IfOk result (OpFits config.now) }
+        requires whole { AreWhole config.now.size (map record_of records.now) }
+        ensures op { IfOk result (λ op.
+            op ≡ op_of config.now.size client (map record_of records.now) self) }
+        ensures block { IfOk result (λ op. block_of op < config.now.blocks) }
+        ensures fits { IfOk result (λ op. FitsWork (setting config.now) (work_of op)) }
     {
         match self {
             BlockStep::Read { block } => Ok(Op::Read { block }),
-            BlockStep::Whole { block, value } => Ok(Op::Write { block, value }),
+            BlockStep::Whole { block, value } => Ok(write_of(block, value)),
             BlockStep::Merge { block, at, bytes } => {
+                let seen = latest_read(records, client, block);
                 let value = merge_into(alloc, config, seen, at, &bytes)?;
-                Ok(Op::Write { block, value })
+                Ok(write_of(block, value))
             }
         }
     }
+}
+
+/// A write of a value, whose bytes are bytes.
+fn write_of(block: u32, value: Bytes) -> Op
+    ensures op { result ≡ Op.Write block value }
+    ensures bytes { IsBytes value }
+{
+    let _bytes = value.as_slice();
+    Op::Write { block, value }
 }
 
 /// What was read of a block, or zeros where nothing was, but for these bytes.

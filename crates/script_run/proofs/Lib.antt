@@ -8,4 +8,3 @@ mod LastWorlds
 mod Records
 mod Reports
 mod Telling
-mod Starting

@@ -1,13 +1,10 @@
 -- The queues that the code keeps, as contracts see them.
-use Rattle.std.specs.Prelude.{◌≡◌, ⊤, ℕ, List, [], length, slice_index_or, slice_get}
+use Rattle.std.specs.Prelude.{◌≡◌, ℕ, List, [], length, slice_index_or, slice_get}
 use Rattle.std.specs.declared.option.Option.TheVariants.{Some}
 use Rattle.std.specs.List.{All}
 use Rattle.quorum_rules.specs.Limits.{Numbers}
 use Rattle.block_device.specs.declared.steps.BlockStep.{BlockStep}
 use Rattle.block_device.specs.Steps.{Fits}
-use Rattle.wire_forms.specs.declared.op.Op.{Op}
-use Rattle.wire_forms.specs.declared.op.Op.TheVariants.{Read, Write}
-use Rattle.protocol.specs.Messages.{IsBytes}
 use Rattle.world_state.specs.Worlds.{WorldView, world_in}
 use Rattle.script_run.specs.Performing.{CommandQueues}
 
@@ -24,8 +21,3 @@ queues_in v = record { world = world_in v.world; left = λ k. slice_index_or v.l
 pub record AreQueues (c : Numbers) (left : List (List BlockStep)) : Type 0 where
   pub count : length left ≡ 1001
   pub fit : (k : ℕ) (steps : List BlockStep) → slice_get left k ≡ Some steps → All (Fits c) steps
-
--- what an operation writes is bytes
-abbrev pub HasBytes : Op → Type 0
-HasBytes (Read block) = ⊤
-HasBytes (Write block value) = IsBytes value

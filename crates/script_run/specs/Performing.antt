@@ -1,51 +1,29 @@
 -- The run of a replay's event lines: plain lines as they stand, and device commands step by step.
-use Rattle.std.specs.Prelude.{◌≡◌, ℕ, ◌+◌, ◌&&◌, ◌==◌, List, [], ◌∷◌, ◌++◌, length, if◌then◌else◌, option_map, unwrap_or, Option}
+use Rattle.std.specs.Prelude.{◌≡◌, ℕ, ◌+◌, List, [], ◌∷◌, ◌++◌, length, option_map, Option}
 use Rattle.std.specs.declared.option.Option.TheVariants.{None, Some}
 use Rattle.quorum_rules.specs.Limits.{Numbers}
 use Rattle.wire_forms.specs.declared.device.DeviceOp.{DeviceOp}
 use Rattle.wire_forms.specs.declared.device.DeviceOp.TheVariants.{Put as Puts, Get as Gets}
 use Rattle.run_words.specs.declared.line.Line.{Line}
-use Rattle.run_words.specs.declared.line.Line.TheVariants.{Write, Read, Lost, Back}
-use Rattle.run_words.specs.declared.outcome.Outcome.TheVariants.{Gave}
+use Rattle.run_words.specs.declared.line.Line.TheVariants.{Lost, Back}
 use Rattle.line_forms.specs.declared.cause.Cause.{Cause}
 use Rattle.line_forms.specs.declared.cause.Cause.TheVariants.{Device, QueueBusy, NoCommand, Step}
 use Rattle.line_forms.specs.declared.cause.DeviceFault.{DeviceFault}
 use Rattle.event_lines.specs.declared.line.ReplayLine.{ReplayLine}
 use Rattle.event_lines.specs.declared.line.ReplayLine.TheVariants.{Plain, Put, Get, Next}
 use Rattle.block_device.specs.declared.steps.BlockStep.{BlockStep}
-use Rattle.block_device.specs.declared.steps.BlockStep.TheVariants.{Read as Reads, Whole, Merge}
 use Rattle.block_device.specs.Ranges.{fault_of}
 use Rattle.block_device.specs.Steps.{steps_of}
-use Rattle.block_device.specs.Device.{merged}
+use Rattle.block_device.specs.Ops.{op_of}
 use Rattle.protocol.specs.Count.{update}
-use Rattle.protocol.specs.Setting.{Setting, zeros}
-use Rattle.protocol.specs.Operations.{Outcome}
-use Rattle.protocol.specs.World.{World, Record, start_world, only_place}
-use Rattle.protocol.specs.Lines.{fault, plays}
+use Rattle.protocol.specs.Setting.{Setting}
+use Rattle.protocol.specs.World.{World, start_world, only_place}
+use Rattle.protocol.specs.Lines.{fault, plays, start_line}
 
 -- a world, and of each client the steps that are left of its last command
 pub record CommandQueues : Type 0 where
   pub world : World
   pub left : ℕ → List BlockStep
-
--- the value that a read gave
-abbrev pub value_given : Option Outcome → Option (List ℕ)
-value_given (Some (Gave stamp value how rounds)) = Some value
-value_given _ = None
-
--- the value that the client's read of the block gave, if this is one that has
-abbrev pub read_by : ℕ → ℕ → Record → Option (List ℕ)
-read_by client block r = if (r.client == client) && (r.block == block) then value_given r.outcome else None
-
--- what there is, or else the other
-abbrev pub or_else : Option (List ℕ) → Option (List ℕ) → Option (List ℕ)
-or_else (Some x) other = Some x
-or_else None other = other
-
--- the value that the client's latest ended read of the block gave, if there is one
-abbrev pub latest_read : ℕ → ℕ → List Record → Option (List ℕ)
-latest_read client block [] = None
-latest_read client block (r ∷ rs) = or_else (latest_read client block rs) (read_by client block r)
 
 -- why a command can't begin: its range, or steps that are left of an earlier one
 abbrev pub command_cause : Option DeviceFault → List BlockStep → Option Cause
@@ -64,11 +42,9 @@ without left None = left
 without left (Some client) = update left client []
 
 module _ (s : Setting) where
-  -- the operation that a step starts: a read, a write of the whole block, or a write of the client's latest read of it with the step's bytes in their place
+  -- the line by which a client starts a step: as the operation that the step is after the records so far
   abbrev pub started_by : World → ℕ → BlockStep → Line
-  started_by w client (Reads k) = Read client k
-  started_by w client (Whole k value) = Write client k value
-  started_by w client (Merge k at bytes) = Write client k (merged (unwrap_or (latest_read client k w.records) (zeros s)) at bytes)
+  started_by w client step = start_line client (op_of s.size client w.records step)
 
   -- the line of the run at which the first step that is left starts
   abbrev pub next_line : World → ℕ → List BlockStep → Line

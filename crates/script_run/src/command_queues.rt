@@ -1,23 +1,19 @@
 ghost use Rattle.std.specs.Prelude.{◌≡◌, ◌≤◌, ◌<◌, ℕ, [], length, replicate, option_map, slice_set, All, IfSome, IfNone, IfOk, OnOk, IsErrOf};
 ghost use Rattle.std.specs.declared.option.Option.TheVariants.{None, Some};
-ghost use Rattle.std.specs.Option.{option_copied};
 ghost use Rattle.wire_forms.specs.Liars.{has_number, AreLiars};
 ghost use Rattle.protocol.specs.Instance.{setting_of};
 ghost use Rattle.protocol.specs.Lines.{FitsLine, fault, plays, start_line};
 ghost use Rattle.block_device.specs.Ranges.{fault_of};
 ghost use Rattle.block_device.specs.Steps.{steps_of, Fits};
-ghost use Rattle.block_device.specs.Ops.{changed};
 ghost use Rattle.event_lines.specs.declared.line.ReplayLine.TheVariants.{Plain};
 ghost use Rattle.line_forms.specs.declared.cause.Cause.TheVariants.{Step};
 ghost use Rattle.line_forms.specs.declared.cause.Cause.{Cause as Causes};
 ghost use Rattle.event_lines.specs.Lines.{IsEventLine};
 ghost use Rattle.world_state.specs.Worlds.{setting_in, world_in};
-ghost use Rattle.script_run.specs.Performing.{returning, start_queues, cause_of, after_line, started_by, run_line, next_line, command_cause, next_cause, begun, stepped, latest_read};
-ghost use Rattle.script_run.specs.CommandQueues.{queues_in, HasBytes};
+ghost use Rattle.script_run.specs.Performing.{returning, start_queues, cause_of, after_line, started_by, run_line, next_line, command_cause, next_cause, begun, stepped};
+ghost use Rattle.script_run.specs.CommandQueues.{queues_in};
 
-use crate::latest::latest_read;
 use block_device::{BlockStep, Command, DeviceOp, DeviceRefusal, commands, range_fault};
-use cross_sum::Bytes;
 use event_lines::ReplayLine;
 use line_forms::{Cause, LineRefusal};
 use lists::{ItemList, NoMemory};
@@ -202,19 +198,9 @@ impl CommandQueues {
             (world_in self.now.world) client step) }
         ensures fits { IfOk result (λ line. FitsLine (setting_in self.now.world) line) }
     {
-        let seen = self.seen(client, &step);
-        let op = step.into_op(self.alloc, &self.config, seen)?;
-        Ok(start_of(client, op))
-    }
-
-    /// What the client's latest read gave of the block that a step changes, if there are both.
-    fn seen<'a>(&'a self, client: u32, step: &BlockStep) -> Option<&'a Bytes>
-        ensures value { (k : ℕ) → changed step.now ≡ Some k
-            → option_copied result ≡ latest_read client k self.now.world.seen.records }
-        ensures len { IfSome result (λ old. length old.now ≡ self.now.world.config.size) }
-    {
         self.world.is_reached();
-        latest_read(self.world.records(), client, step.changed()?)
+        let op = step.into_op(self.alloc, &self.config, client, self.world.records())?;
+        Ok(start_of(client, op))
     }
 
     /// The world alone.
@@ -259,19 +245,15 @@ fn play(world: &mut World, place: u64, line: &Line) -> Result<(), LineRefusal>
 
 /// The line by which a client starts an operation.
 fn start_of(client: u32, op: Op) -> Line
-    ensures line { result ≡ start_line client op }
-    ensures bytes { HasBytes op }
+    ensures { result ≡ start_line client op }
 {
     match op {
         Op::Read { block } => Line::Read { client, block },
-        Op::Write { block, value } => {
-            let _bytes = value.as_slice();
-            Line::Write {
-                client,
-                block,
-                value,
-            }
-        }
+        Op::Write { block, value } => Line::Write {
+            client,
+            block,
+            value,
+        },
     }
 }
 

@@ -4,7 +4,6 @@
 
 mod command_queues;
 mod history;
-mod latest;
 mod lines_left;
 mod run;
 

@@ -1,10 +1,10 @@
 use Rattle.std.proofs.Common.{◌≡◌, ◌-◌, ◌+◌, ap, sym, ◌∙◌, drop, arith}
 use Rattle.std.specs.declared.option.Option.TheVariants.{None, Some}
 use Rattle.protocol.specs.Seen.{record_of}
-use Rattle.script_run.specs.Performing.{read_by}
+use Rattle.block_device.specs.Latest.{read_by}
 use Rattle.run_words.specs.declared.record.Record.{Record as Told}
-use Rattle.script_run.proofs.Reading.{latest, latest_at, latest_of}
-use Rattle.script_run.proofs.latest.latest_read.Goals as goal
+use Rattle.block_device.proofs.Searching.{latest, latest_at, latest_of}
+use Rattle.block_device.proofs.latest.latest_read.Goals as goal
 
 pub returns-in-Some : goal.returns-in-Some
 returns-in-Some c =
