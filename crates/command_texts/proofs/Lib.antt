@@ -5,6 +5,7 @@ mod Ascending
 mod Events
 mod Formed
 mod Loads
+mod NbdForms
 pub mod OneReport
 mod Running
 mod Told

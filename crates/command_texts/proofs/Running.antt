@@ -6,14 +6,17 @@ use Rattle.text_lines.specs.Lines.{text_of_lines}
 use Rattle.quorum_rules.specs.Limits.{Numbers}
 use Rattle.wire_forms.specs.Liars.{Liars, AreLiars}
 use Rattle.protocol.specs.Setting.{Setting}
-use Rattle.protocol.specs.Lines.{Line}
+use Rattle.protocol.specs.World.{World}
+use Rattle.protocol.specs.Lines.{Line, IsRun}
 use Rattle.world_state.specs.Worlds.{WorldView, world_in}
 use Rattle.journals.specs.declared.whole.Journals.{Journals}
 use Rattle.journals.specs.Journals.{setting_for, IsMerge}
-use Rattle.merge_trace.specs.Traces.{placed, AreOfSomeRun}
+use Rattle.journals.specs.Merged.{OfMerged, AreRun}
+use Rattle.merge_trace.specs.Traces.{placed}
 use Rattle.plan_words.specs.declared.plan.Plan.{Plan}
 use Rattle.plan_followed.specs.Asked.{conduct_of}
 use Rattle.plan_followed.specs.Laws.{OfPlans, HasLiars, PlansRun}
+use Rattle.plan_followed.specs.Followed.{AreOfPlan}
 use Rattle.event_lines.specs.Lines.{IsEventLine}
 use Rattle.event_lines.specs.declared.line.ReplayLine.TheVariants.{Plain}
 use Rattle.script_text.specs.Replays.{AreAscendingLiars, replay_text}
@@ -30,8 +33,12 @@ plan_liars law plan j of =
     let h = of.1 in
     subst (λ (l : Liars). AreLiars j.config l) (sym h.follows.are_for.liars) (subst (λ (c : Numbers). AreLiars c plan.liars) (sym h.follows.are_for.config) (law plan h.fits))
 
-pub plan_run : PlansRun → (plan : Plan) (j : Journals) → AreOfPlanRun plan j → AreOfSomeRun j
-plan_run law plan j of = (conduct_of plan.rules, law plan j of.0 of.1)
+-- and their lines lead to the last world of each run that they are
+pub leads_to : PlansRun → OfMerged AreRun → (plan : Plan) (j : Journals) (drawn : ℕ) → AreOfPlan plan j drawn → (lines : List Line) (w : World) → IsMerge j (placed 0 lines)
+    → ((last : World) → IsRun (setting_for j) (placed 0 lines) last → w ≡ last) → IsRun (setting_for j) (placed 0 lines) w
+leads_to runs law plan j drawn of lines w merged leads =
+    let run = law (conduct_of plan.rules) j (placed 0 lines) (runs plan j drawn of) merged in
+    subst (λ (v : World). IsRun (setting_for j) (placed 0 lines) v) (sym (leads run.0 run.1)) run.1
 
 -- ---- the run, its report
 

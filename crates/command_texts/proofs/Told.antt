@@ -1,5 +1,5 @@
 -- The history of a run whose records were made out of its journals.
-use Rattle.std.proofs.Common.{◌≡◌, ℕ, ◌+◌, ◌-◌, ◌^◌, ◌≤◌, ◌<◌, List, [], ◌∷◌, map, Option, refl, sym, ◌∙◌, ap, subst, arith}
+use Rattle.std.proofs.Common.{◌≡◌, ℕ, ◌+◌, ◌^◌, ◌≤◌, List, [], ◌∷◌, map, Option, refl, sym, ◌∙◌, ap, subst, arith}
 use Rattle.stamp_order.specs.declared.Stamp.{Stamp}
 use Rattle.wire_forms.specs.Liars.{has_number}
 use Rattle.wire_forms.specs.Firsts.{first_of}

@@ -1,4 +1,4 @@
--- The words of a command that has two.
+-- Which words are of a form, and which of none.
 use Rattle.std.proofs.Common.{◌≡◌, ℕ, ◌<◌, ◌^◌, Bool, true, false, List, [], ◌∷◌, ap, sym, ◌∙◌, refl, lit≤, subst, arith}
 use Rattle.std.specs.Prelude.{codes, decimal, not, Some, None}
 use Rattle.std.specs.Str.{bytes_eq}
@@ -8,10 +8,19 @@ use Rattle.std.proofs.lemmas.Slice.Eq.{bytes_eq-Decides}
 use Rattle.std.proofs.lemmas.Str.Parse.{digit_from_value}
 use Rattle.text_lines.specs.Fields.{number_of}
 use Rattle.text_lines.proofs.lemmas.Numbers.{number_of-some, number_of-text}
-use Rattle.command_texts.specs.Words.{words_of, IsForm, IsCommand}
+use Rattle.command_texts.specs.Words.{words_of, IsCommand, AreOfForm, AreOfCommand, AreOfNbd}
 use Rattle.command_texts.specs.declared.words.Serving.TheVariants.{ByLocks, ByWorkers}
 use Rattle.command_texts.specs.declared.words.Command.{Command}
 use Rattle.command_texts.specs.declared.words.Command.TheVariants.{Replay, Run, Trace, Check, Sum, Soak}
+use Rattle.command_texts.specs.declared.words.Form.{Form}
+use Rattle.command_texts.specs.declared.words.Form.TheVariants.{Text, Session}
+
+-- words of neither are of no form
+pub no_form : (words : List (List ℕ)) → (AreOfCommand words → ⊥) → (AreOfNbd words → ⊥) → (form : Form) → AreOfForm words form → ⊥
+no_form words command nbd (Text c) of = command (c, of)
+no_form words command nbd (Session c) of = nbd (c, of)
+
+-- ---- words of a command that has two
 
 -- no command but one of a run by workers, and none but `soak` with a number, has two words
 no_command : (command : Command) (digits : List ℕ) → number_of (2 ^ 64) digits ≡ None → IsCommand command → codes "soak" ∷ digits ∷ [] ≡ words_of command → ⊥
@@ -64,10 +73,10 @@ pub is_word : (word name : List ℕ) → false ≡ not (bytes_eq word name) → 
 is_word word name e = (bytes_eq-Decides word name).0 (not_other (bytes_eq word name) e)
 
 -- digits that spell no number are no command's
-pub no_number_no_form : (word digits bytes : List ℕ) → word ≡ codes "soak" → bytes ≡ digits → None ≡ number_of (2 ^ 64) bytes → IsForm (word ∷ digits ∷ []) → ⊥
+pub no_number_no_form : (word digits bytes : List ℕ) → word ≡ codes "soak" → bytes ≡ digits → None ≡ number_of (2 ^ 64) bytes → AreOfCommand (word ∷ digits ∷ []) → ⊥
 no_number_no_form word digits bytes w same none form =
     let here : number_of (2 ^ 64) digits ≡ None = ap (λ d. number_of (2 ^ 64) d) (sym same) ∙ sym none in
-    no_command form.0 digits here form.1 (ap (λ z. z ∷ digits ∷ []) (sym w) ∙ form.2)
+    no_command form.0 digits here form.1.0 (ap (λ z. z ∷ digits ∷ []) (sym w) ∙ form.1.1)
 
 -- digits that spell a number are that number's
 pub number_form : (word digits bytes : List ℕ) (n : ℕ) → word ≡ codes "soak" → bytes ≡ digits → Some n ≡ number_of (2 ^ 64) bytes → (n < 2 ^ 64) × (words_of (Soak n) ≡ word ∷ digits ∷ [])

@@ -7,7 +7,6 @@ use Rattle.history_book.specs.declared.judging.Flaw.{Flaw}
 use Rattle.history_book.specs.ReportTexts.{report}
 use Rattle.command_texts.specs.Replays.{Replays, Stops}
 use Rattle.command_texts.specs.Verdicts.{Judges}
-use Rattle.command_texts.specs.Words.{words_of}
 use Rattle.command_texts.specs.declared.words.Command.{Command}
 use Rattle.command_texts.specs.declared.words.Command.TheVariants.{Replay, Run, Trace, Check, Sum, Soak}
 use Rattle.command_texts.specs.declared.refusal.Refusal.{Refusal}
@@ -94,14 +93,6 @@ AnswersFor command before after text flaw = (input : List ℕ) × IsGiven comman
 abbrev pub IsRefusedFor : Command → Option (List ℕ) → Option (List ℕ) → Refusal → Type 0
 IsRefusedFor command before after refusal = (input : List ℕ) × IsGiven command before after input × Refuses command input refusal
 
--- the text is what the command of these words writes for what it was given, and the flaw what it finds
-abbrev pub Answers : List (List ℕ) → Option (List ℕ) → Option (List ℕ) → List ℕ → Option Flaw → Type 0
-Answers words before after text flaw = (command : Command) × (words ≡ words_of command) × AnswersFor command before after text flaw
-
--- the command of these words refuses what it was given
-abbrev pub IsRefused : List (List ℕ) → Option (List ℕ) → Option (List ℕ) → Refusal → Type 0
-IsRefused words before after refusal = (command : Command) × (words ≡ words_of command) × IsRefusedFor command before after refusal
-
--- the command of these words refuses the input for want of memory alone
-abbrev pub IsAccepted : List (List ℕ) → List ℕ → Type 0
-IsAccepted words input = (command : Command) → words ≡ words_of command → (refusal : Refusal) → Refuses command input refusal → refusal ≡ NoMemory
+-- the command refuses the input for want of memory alone
+abbrev pub IsAccepted : Command → List ℕ → Type 0
+IsAccepted command input = (refusal : Refusal) → Refuses command input refusal → refusal ≡ NoMemory

@@ -1,5 +1,5 @@
 -- The words of the command line.
-use Rattle.std.specs.Prelude.{ℕ, ◌≡◌, ◌⊎◌, ◌<◌, ◌^◌, ⊤, List, [], ◌∷◌, map, codes, decimal, string_bytes}
+use Rattle.std.specs.Prelude.{ℕ, ◌≡◌, ◌<◌, ◌^◌, ⊤, List, [], ◌∷◌, map, codes, decimal, string_bytes}
 use Rattle.std.specs.declared.string.String.{String}
 use Rattle.std.specs.declared.alloc.Global.{Global}
 use Rattle.quorum_rules.specs.declared.Edition.TheVariants.{One}
@@ -8,6 +8,8 @@ use Rattle.command_texts.specs.declared.words.Serving.{Serving}
 use Rattle.command_texts.specs.declared.words.Serving.TheVariants.{ByLocks, ByWorkers}
 use Rattle.command_texts.specs.declared.words.Command.{Command}
 use Rattle.command_texts.specs.declared.words.Command.TheVariants.{Replay, Run, Trace, Check, Sum, Soak}
+use Rattle.command_texts.specs.declared.words.Form.{Form}
+use Rattle.command_texts.specs.declared.words.Form.TheVariants.{Text, Session}
 
 -- the bytes of each word
 abbrev pub texts : List (String Global) → List (List ℕ)
@@ -45,21 +47,23 @@ RunsThreads Check = ⊥
 RunsThreads Sum = ⊥
 RunsThreads (Soak number) = ⊤
 
--- the words are those of a command that runs threads
-abbrev pub AskForThreads : List (List ℕ) → Type 0
-AskForThreads words = (command : Command) × IsCommand command × RunsThreads command × (words ≡ words_of command)
+-- the command runs the plan that its input spells
+abbrev pub RunsInput : Command → Type 0
+RunsInput Replay = ⊥
+RunsInput (Run serving) = ⊤
+RunsInput (Trace serving) = ⊤
+RunsInput Check = ⊥
+RunsInput Sum = ⊥
+RunsInput (Soak number) = ⊥
 
--- the words are those of a command that runs a plan
-abbrev pub AskForPlan : List (List ℕ) → Type 0
-AskForPlan words = (serving : Serving) × ((words ≡ words_of (Run serving)) ⊎ (words ≡ words_of (Trace serving)))
-
--- the words are those of `soak` and a number
-abbrev pub AskForLoad : List (List ℕ) → Type 0
-AskForLoad words = (number : ℕ) × (number < 2 ^ 64) × (words ≡ words_of (Soak number))
-
--- the words are those of a command
-abbrev pub IsForm : List (List ℕ) → Type 0
-IsForm words = (command : Command) × IsCommand command × (words ≡ words_of command)
+-- the command runs the load of its number
+abbrev pub RunsLoad : Command → Type 0
+RunsLoad Replay = ⊥
+RunsLoad (Run serving) = ⊥
+RunsLoad (Trace serving) = ⊥
+RunsLoad Check = ⊥
+RunsLoad Sum = ⊥
+RunsLoad (Soak number) = ⊤
 
 -- one word is a command's
 abbrev pub IsNamed : List ℕ → Type 0
@@ -75,6 +79,24 @@ pub record IsNbd (words : List (List ℕ)) (c : Numbers) : Type 0 where
   pub valid : IsValid c
   pub spelled : words ≡ nbd_words c
 
--- the words are those of `nbd` with some configuration
-abbrev pub IsNbdForm : List (List ℕ) → Type 0
-IsNbdForm words = (c : Numbers) × IsNbd words c
+-- ---- forms
+-- the words are of this form
+abbrev pub AreOfForm : List (List ℕ) → Form → Type 0
+AreOfForm words (Text command) = IsCommand command × (words ≡ words_of command)
+AreOfForm words (Session c) = IsNbd words c
+
+-- they are of none
+abbrev pub AreOfNoForm : List (List ℕ) → Type 0
+AreOfNoForm words = (form : Form) → AreOfForm words form → ⊥
+
+-- they are those of a command that writes a text
+abbrev pub AreOfCommand : List (List ℕ) → Type 0
+AreOfCommand words = (command : Command) × AreOfForm words (Text command)
+
+-- they are those of `nbd` with some configuration
+abbrev pub AreOfNbd : List (List ℕ) → Type 0
+AreOfNbd words = (c : Numbers) × AreOfForm words (Session c)
+
+-- they are those of a command that runs threads
+abbrev pub AskForThreads : List (List ℕ) → Type 0
+AskForThreads words = (command : Command) × AreOfForm words (Text command) × RunsThreads command

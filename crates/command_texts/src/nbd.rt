@@ -1,6 +1,6 @@
 ghost use Rattle.std.specs.Prelude.{◌≡◌, ◌^◌, [], ◌∷◌, codes, IfSome, IfNone};
 ghost use Rattle.text_lines.specs.Fields.{number_of};
-ghost use Rattle.command_texts.specs.Words.{texts, IsNbd, IsNbdForm};
+ghost use Rattle.command_texts.specs.Words.{texts, IsNbd, AreOfNbd};
 
 use quorum_rules::Config;
 use text_lines::number_u32;
@@ -8,7 +8,7 @@ use text_lines::number_u32;
 /// The configuration that the words of `nbd` spell, if they do.
 pub fn nbd_of(words: &[String]) -> Option<Config>
     ensures some { IfSome result (λ config. IsNbd (texts words.now) config) }
-    ensures none { IfNone result (IsNbdForm (texts words.now) → ⊥) }
+    ensures none { IfNone result (AreOfNbd (texts words.now) → ⊥) }
 {
     match words {
         [word, n, t, b, qc, m, size, blocks] if word.as_str() == "nbd" => config_of(
@@ -36,7 +36,7 @@ fn config_of(
 ) -> Option<Config>
     ensures some { IfSome result (λ config. IsNbd (codes "nbd" ∷ n.now ∷ t.now ∷ b.now ∷ qc.now
         ∷ m.now ∷ size.now ∷ blocks.now ∷ []) config) }
-    ensures none { IfNone result (IsNbdForm (codes "nbd" ∷ n.now ∷ t.now ∷ b.now ∷ qc.now
+    ensures none { IfNone result (AreOfNbd (codes "nbd" ∷ n.now ∷ t.now ∷ b.now ∷ qc.now
         ∷ m.now ∷ size.now ∷ blocks.now ∷ []) → ⊥) }
 {
     let n = number_in(n)?;

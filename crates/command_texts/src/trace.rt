@@ -16,7 +16,7 @@ use cross_sum::Bytes;
 use history_book::print;
 use journals::Journals;
 use lists::NoMemory;
-use merge_trace::{MergedRun, merge_run};
+use merge_trace::{MergedLines, merge};
 use plan_words::Plan;
 use script_run::history_of;
 use std::alloc::Global;
@@ -24,12 +24,12 @@ use text_lines::Text;
 use world_steps::World;
 
 /// The run that journals of a run of the plan tell, for which so many numbers were drawn.
-fn merged(
+fn run_of(
     alloc: Global,
     plan: &Plan,
     journals: &Journals,
     drawn: u64,
-) -> Result<MergedRun, NoMemory>
+) -> Result<MergedLines, NoMemory>
     requires run { AreOfPlan plan.now journals.now drawn }
     requires clock { drawn ≤ 2 ^ 56 }
     ensures run { IfOk result (λ r. IsPlanRun plan.now journals.now r.lines r.world) }
@@ -42,8 +42,10 @@ fn merged(
     journal_records::laws::merged_lines();
     journal_records::laws::all_records();
     journal_records::laws::few_records();
-    let merged_run = merge_run(alloc, journals)?;
-    Ok(merged_run)
+    merge_trace::laws::kept_journals();
+    journals::laws::merged_runs();
+    let merged = merge(alloc, journals)?;
+    Ok(merged)
 }
 
 /// The report of the history of a world.
@@ -81,9 +83,9 @@ pub fn trace_text(
 {
     journal_records::laws::complete_histories();
     plans_declare();
-    let merged_run = merged(alloc, plan, &journals, drawn)?;
-    let report = report_of(alloc, &merged_run.world)?;
-    let MergedRun { lines, world } = merged_run;
+    let merged = run_of(alloc, plan, &journals, drawn)?;
+    let report = report_of(alloc, &merged.world)?;
+    let MergedLines { lines, world } = merged;
     drop(world);
     let Journals { config, liars, .. } = journals;
     let script = script_of(alloc, config, liars, lines)?;

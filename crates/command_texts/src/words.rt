@@ -1,6 +1,8 @@
 ghost use Rattle.std.specs.Prelude.{◌≡◌, ◌↔◌, [], ◌∷◌, IsTrue, IfSome, IfNone, codes};
-ghost use Rattle.command_texts.specs.Words.{texts, IsForm, IsCommand, RunsThreads, words_of, IsNamed};
+ghost use Rattle.command_texts.specs.Words.{texts, AreOfForm, AreOfNoForm, AreOfCommand, IsCommand, RunsThreads, words_of, IsNamed};
 
+use crate::nbd::nbd_of;
+use quorum_rules::Config;
 use text_lines::number;
 
 /// How the nodes of a run serve its clients.
@@ -12,7 +14,7 @@ pub enum Serving {
     ByWorkers,
 }
 
-/// What the program's words ask for.
+/// A command that writes a text.
 #[derive(Clone, Copy, Debug, PartialEq, Eq)]
 pub enum Command {
     /// Replays a script, and writes the report of its history.
@@ -38,6 +40,26 @@ impl Command {
     }
 }
 
+/// What the program's words ask for.
+#[derive(Clone, Copy)]
+pub enum Form {
+    /// A text, which is made of the whole input and then written.
+    Text(Command),
+    /// `nbd`: a session of requests to a device of this configuration, each answered before the next is read.
+    Session(Config),
+}
+
+/// The form that the words are of.
+pub fn form_of(words: &[String]) -> Option<Form>
+    ensures some { IfSome result (AreOfForm (texts words.now)) }
+    ensures none { IfNone result (AreOfNoForm (texts words.now)) }
+{
+    if let Some(config) = nbd_of(words) {
+        return Some(Form::Session(config));
+    }
+    Some(Form::Text(command_of(words)?))
+}
+
 // The command of a single word.
 fn named(word: &str) -> Option<Command>
     ensures some { IfSome result (λ command. words_of command ≡ word.now ∷ []) }
@@ -57,7 +79,7 @@ fn named(word: &str) -> Option<Command>
 fn with_workers(word: &str) -> Option<Command>
     ensures some { IfSome result (λ command.
         IsCommand command × (words_of command ≡ word.now ∷ codes "workers" ∷ [])) }
-    ensures none { IfNone result (IsForm (word.now ∷ codes "workers" ∷ []) → ⊥) }
+    ensures none { IfNone result (AreOfCommand (word.now ∷ codes "workers" ∷ []) → ⊥) }
 {
     match word {
         "run" => Some(Command::Run(Serving::ByWorkers)),
@@ -70,7 +92,7 @@ fn with_workers(word: &str) -> Option<Command>
 fn paired(word: &str, second: &str) -> Option<Command>
     ensures some { IfSome result (λ command.
         IsCommand command × (words_of command ≡ word.now ∷ second.now ∷ [])) }
-    ensures none { IfNone result (IsForm (word.now ∷ second.now ∷ []) → ⊥) }
+    ensures none { IfNone result (AreOfCommand (word.now ∷ second.now ∷ []) → ⊥) }
 {
     if second == "workers" {
         return with_workers(word);
@@ -81,11 +103,11 @@ fn paired(word: &str, second: &str) -> Option<Command>
     Some(Command::Soak(number(second.as_bytes())?))
 }
 
-/// The command that the words are the form of.
-pub fn command_of(words: &[String]) -> Option<Command>
+// The command that the words are those of.
+fn command_of(words: &[String]) -> Option<Command>
     ensures some { IfSome result (λ command.
         IsCommand command × (texts words.now ≡ words_of command)) }
-    ensures none { IfNone result (IsForm (texts words.now) → ⊥) }
+    ensures none { IfNone result (AreOfCommand (texts words.now) → ⊥) }
 {
     match words {
         [word] => named(word.as_str()),

@@ -9,7 +9,7 @@ use crate::sheet::Sheet;
 use crate::unmade::Unmade;
 use event_lines::{ReplayLine, add_event};
 use journals::Journals;
-use merge_trace::{can_merge, merge_any};
+use merge_trace::{MergedLines, can_merge, merge};
 use run_words::Line;
 use script_text::{Replay, read_replay};
 use std::alloc::Global;
@@ -30,7 +30,7 @@ pub fn lines_of(alloc: Global, head: &[u8], sheet: Sheet) -> Result<Option<Text>
     if !can_merge(alloc, &journals)? {
         return Ok(None);
     }
-    let lines = merge_any(alloc, &journals)?;
+    let MergedLines { lines, .. } = merge(alloc, &journals)?;
     let mut text = Text::new(alloc);
     for line in lines.into_vec() {
         add_line(alloc, &mut text, line)?;

@@ -1,8 +1,9 @@
 pub mod Accepted
 pub mod Given
 pub mod WellFormed
+mod Doing
+mod Called
 mod Legal
-mod Ending
 mod Sessions
 mod RunsOfPlans
 mod Tracing

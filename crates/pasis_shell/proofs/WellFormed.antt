@@ -1,5 +1,5 @@
 -- Which inputs are refused for want of memory alone.
-use Rattle.std.proofs.Common.{◌≡◌, ℕ, ◌+◌, ◌-◌, List, [], ◌∷◌, ◌++◌, refl, sym, subst, inl, inr}
+use Rattle.std.proofs.Common.{◌≡◌, ℕ, ◌+◌, List, [], ◌∷◌, ◌++◌, refl, sym, subst, inl, inr}
 use Rattle.std.specs.declared.option.Option.TheVariants.{None, Some}
 use Rattle.quorum_rules.specs.Limits.{Numbers}
 use Rattle.wire_forms.specs.Liars.{Liars}
@@ -21,26 +21,20 @@ use Rattle.plan_words.specs.declared.plan.Plan.{Plan}
 use Rattle.plan_words.specs.Plans.{Fits}
 use Rattle.plan_text.specs.Plans.{Spells as PlanSpells, plan_script}
 use Rattle.plan_text.proofs.lemmas.PlanLaws.{plan_accepted}
-use Rattle.command_texts.specs.Words.{words_of}
 use Rattle.command_texts.specs.Replays.{cluster_of, Stops}
-use Rattle.command_texts.specs.Texts.{HasFault, IsAccepted, RunsIt, Refuses}
-use Rattle.command_texts.proofs.lemmas.Alone.{replay_alone, check_alone, sum_alone}
+use Rattle.command_texts.specs.Texts.{HasFault, IsAccepted, RunsIt}
 use Rattle.command_texts.specs.declared.words.Command.{Command}
 use Rattle.command_texts.specs.declared.words.Command.TheVariants.{Replay, Check, Sum}
-use Rattle.command_texts.specs.declared.refusal.Refusal.{Refusal}
 use Rattle.command_texts.specs.declared.refusal.Refusal.TheVariants.{NoMemory, BadScript, ClockFull}
 use Rattle.line_forms.proofs.lemmas.Texts.{no_fault}
 
 -- ---- one command
 
-only_memory : (command : Command) (input : List ℕ) → (RunsIt command input → ⊥) → ((fault : ScriptFault) → HasFault command input fault → ⊥) → (refusal : Refusal) → Refuses command input refusal → refusal ≡ NoMemory
-only_memory command input alone faultless NoMemory h = refl
-only_memory command input alone faultless (BadScript fault) h = absurd (faultless fault h)
-only_memory command input alone faultless (ClockFull drawn) h = absurd (alone h.0)
-
--- a command that has its words alone, runs no threads, and finds no fault of the input
-accepts : (mine : Command) (input : List ℕ) → ((command : Command) → words_of mine ≡ words_of command → mine ≡ command) → (RunsIt mine input → ⊥) → ((fault : ScriptFault) → HasFault mine input fault → ⊥) → IsAccepted (words_of mine) input
-accepts mine input alone quiet faultless = λ command e refusal h. only_memory mine input quiet faultless refusal (subst (λ (k : Command). Refuses k input refusal) (sym (alone command e)) h)
+-- a command is refused for want of memory alone that runs nothing and finds no fault of the input
+accepts : (command : Command) (input : List ℕ) → (RunsIt command input → ⊥) → ((fault : ScriptFault) → HasFault command input fault → ⊥) → IsAccepted command input
+accepts command input alone faultless NoMemory h = refl
+accepts command input alone faultless (BadScript fault) h = absurd (faultless fault h)
+accepts command input alone faultless (ClockFull drawn) h = absurd (alone h.0)
 
 -- ---- no fault
 
@@ -74,14 +68,14 @@ module _ (input : List ℕ) (c : Numbers) (liars : Liars) (lines : List ReplayLi
         | inr stop ↦ runs_to_its_end fault stop
       ]
 
-  pub replay_is_accepted : IsAccepted (words_of Replay) input
-  replay_is_accepted = accepts Replay input replay_alone (λ no. no) replay_faultless
+  pub replay_is_accepted : IsAccepted Replay input
+  replay_is_accepted = accepts Replay input (λ no. no) replay_faultless
 
-pub sum_is_accepted : (c : Numbers) (v : List ℕ) → IsSum c v → IsAccepted (words_of Sum) (sum_text c v)
-sum_is_accepted c v good = accepts Sum (sum_text c v) sum_alone (λ no. no) (λ fault h. no_fault sum_script (sum_text c v) fault.line fault.cause (sum_accepted c v good) h)
+pub sum_is_accepted : (c : Numbers) (v : List ℕ) → IsSum c v → IsAccepted Sum (sum_text c v)
+sum_is_accepted c v good = accepts Sum (sum_text c v) (λ no. no) (λ fault h. no_fault sum_script (sum_text c v) fault.line fault.cause (sum_accepted c v good) h)
 
-pub report_is_accepted : (book : Book) → IsReport book → IsAccepted (words_of Check) (report_text book)
-report_is_accepted book good = accepts Check (report_text book) check_alone (λ no. no) (λ fault h. no_fault report (report_text book) fault.line fault.cause (report_accepted book good) h)
+pub report_is_accepted : (book : Book) → IsReport book → IsAccepted Check (report_text book)
+report_is_accepted book good = accepts Check (report_text book) (λ no. no) (λ fault h. no_fault report (report_text book) fault.line fault.cause (report_accepted book good) h)
 
 pub plan_is_no_bad_script : (input : List ℕ) (plan : Plan) (fault : ScriptFault) → Fits plan → PlanSpells input plan → IsFault plan_script input fault.line fault.cause → ⊥
 plan_is_no_bad_script input plan fault fits spelled bad = no_fault plan_script input fault.line fault.cause (plan_accepted input plan fits spelled) bad

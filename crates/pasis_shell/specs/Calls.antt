@@ -1,58 +1,57 @@
--- How a call of the program ends: what its source gave and its sink took, by its status.
-use Rattle.std.specs.Prelude.{ℕ, ◌≡◌, ◌+◌, ⊤, List, Option}
-use Rattle.std.specs.declared.option.Option.TheVariants.{None, Some}
-use Rattle.outside_io.specs.declared.reading.TheConstants.{LIMIT}
-use Rattle.outside_io.specs.Given.{GaveAtMost, GaveExactly}
-use Rattle.outside_io.specs.Written.{Adds, AllFlushed, TakesPrefix}
-use Rattle.history_book.specs.declared.judging.Flaw.{Flaw}
-use Rattle.command_texts.specs.Words.{IsForm, words_of}
-use Rattle.command_texts.specs.Texts.{Answers, IsRefusedFor, ReadsInput}
-use Rattle.command_texts.specs.declared.words.Command.{Command}
+-- A call of the program: its source and its sink before it and after it, and when a fault is told.
+use Rattle.std.specs.Prelude.{ℕ, ◌≡◌, ◌≢◌, List, Option}
+use Rattle.outside_io.specs.declared.source.Source.{Ghosts as SeenSource}
+use Rattle.outside_io.specs.declared.sink.Sink.{Ghosts as SeenSink}
+use Rattle.outside_io.specs.Causes.{Rose}
 use Rattle.command_texts.specs.declared.status.Status.{Status}
-use Rattle.command_texts.specs.declared.status.Status.TheVariants.{Done, Illegal, BadWords, BadScript, ReadFault, WriteFault, NoMemory, TooLong, ClockFull, BadMagic, CutRequest, TooManyRequests}
-use Rattle.command_texts.specs.declared.refusal.Refusal.TheVariants as refusals
+use Rattle.command_texts.specs.declared.status.Status.TheVariants.{ReadFault, WriteFault}
 
--- why a command has no text to write, by what the source gave. A script is refused by its first line that has a cause, and that
--- line's first cause
-abbrev pub StopsFor : Command → Status → Option (List ℕ) → Option (List ℕ) → Type 0
-StopsFor command NoMemory before after = ⊤
-StopsFor command ReadFault before after = ReadsInput command × GaveAtMost LIMIT before after
-StopsFor command TooLong before after = ReadsInput command × GaveExactly (LIMIT + 1) before after
-StopsFor command (BadScript line cause) before after = IsRefusedFor command before after (refusals.BadScript (record { line = line; cause = cause }))
-StopsFor command (ClockFull drawn) before after = IsRefusedFor command before after (refusals.ClockFull drawn)
-StopsFor command Done before after = ⊥
-StopsFor command (Illegal flaw) before after = ⊥
-StopsFor command BadWords before after = ⊥
-StopsFor command WriteFault before after = ⊥
-StopsFor command (BadMagic at) before after = ⊥
-StopsFor command (CutRequest at) before after = ⊥
-StopsFor command TooManyRequests before after = ⊥
+-- a call: its source and its sink, before it and after it. The parameters are what contracts see of such a source and such a sink
+pub record Call {S K : Type 0} (seen_source : SeenSource S) (seen_sink : SeenSink K) : Type 0 where
+  pub source : S
+  pub source_after : S
+  pub sink : K
+  pub sink_after : K
 
--- the command of these words stops so
-abbrev pub HasStopped : List (List ℕ) → Status → Option (List ℕ) → Option (List ℕ) → Type 0
-HasStopped words status before after = (command : Command) × (words ≡ words_of command) × StopsFor command status before after
+abbrev pub call_of : {S K : Type 0} → (seen_source : SeenSource S) (seen_sink : SeenSink K) → (source source_after : S) → (sink sink_after : K) → Call seen_source seen_sink
+call_of seen_source seen_sink source source_after sink sink_after = record { source = source; source_after = source_after; sink = sink; sink_after = sink_after }
 
--- the text was written whole and flushed, and the flaw is what was found
-abbrev pub HasWritten : List (List ℕ) → Option Flaw → (left left_after taken taken_after : Option (List ℕ)) → ℕ → Type 0
-HasWritten words flaw left left_after taken taken_after flushed_after =
-    (text : List ℕ) × Answers words left left_after text flaw × Adds taken taken_after text × AllFlushed taken_after flushed_after
+module _ {S K : Type 0} {seen_source : SeenSource S} {seen_sink : SeenSink K} where
+  -- the bytes that the source has left, where it tells them
+  abbrev pub left : Call seen_source seen_sink → Option (List ℕ)
+  left call = seen_source.left call.source
 
--- a beginning of the text was taken, and nothing was flushed
-abbrev pub HasBegun : List (List ℕ) → (left left_after taken taken_after : Option (List ℕ)) → ℕ → ℕ → Type 0
-HasBegun words left left_after taken taken_after flushed flushed_after =
-    (text : List ℕ) × (flaw : Option Flaw) × Answers words left left_after text flaw × TakesPrefix taken taken_after text × (flushed_after ≡ flushed)
+  abbrev pub left_after : Call seen_source seen_sink → Option (List ℕ)
+  left_after call = seen_source.left call.source_after
 
--- what a call with these words has read and written that ends so. Of the words of `nbd` it says nothing
-abbrev pub Ends : List (List ℕ) → Status → (left left_after taken taken_after : Option (List ℕ)) → ℕ → ℕ → Type 0
-Ends words Done left left_after taken taken_after flushed flushed_after = HasWritten words None left left_after taken taken_after flushed_after
-Ends words (Illegal flaw) left left_after taken taken_after flushed flushed_after = HasWritten words (Some flaw) left left_after taken taken_after flushed_after
-Ends words BadWords left left_after taken taken_after flushed flushed_after = IsForm words → ⊥
-Ends words (BadScript line cause) left left_after taken taken_after flushed flushed_after = HasStopped words (BadScript line cause) left left_after
-Ends words ReadFault left left_after taken taken_after flushed flushed_after = HasStopped words ReadFault left left_after
-Ends words WriteFault left left_after taken taken_after flushed flushed_after = HasBegun words left left_after taken taken_after flushed flushed_after
-Ends words NoMemory left left_after taken taken_after flushed flushed_after = HasStopped words NoMemory left left_after
-Ends words TooLong left left_after taken taken_after flushed flushed_after = HasStopped words TooLong left left_after
-Ends words (ClockFull drawn) left left_after taken taken_after flushed flushed_after = HasStopped words (ClockFull drawn) left left_after
-Ends words (BadMagic at) left left_after taken taken_after flushed flushed_after = ⊥
-Ends words (CutRequest at) left left_after taken taken_after flushed flushed_after = ⊥
-Ends words TooManyRequests left left_after taken taken_after flushed flushed_after = ⊥
+  -- the bytes that the sink took, where it tells them, and how many of them were flushed
+  abbrev pub taken : Call seen_source seen_sink → Option (List ℕ)
+  taken call = seen_sink.taken call.sink
+
+  abbrev pub taken_after : Call seen_source seen_sink → Option (List ℕ)
+  taken_after call = seen_sink.taken call.sink_after
+
+  abbrev pub flushed : Call seen_source seen_sink → ℕ
+  flushed call = seen_sink.flushed call.sink
+
+  abbrev pub flushed_after : Call seen_source seen_sink → ℕ
+  flushed_after call = seen_sink.flushed call.sink_after
+
+  -- the source failed in the call, or the sink: its count of faults rose, or stands at the last value that it can have
+  abbrev pub ReadFailed : Call seen_source seen_sink → Type 0
+  ReadFailed call = Rose seen_source.last (seen_source.faults call.source) (seen_source.faults call.source_after)
+
+  abbrev pub WriteFailed : Call seen_source seen_sink → Type 0
+  WriteFailed call = Rose seen_sink.last (seen_sink.faults call.sink) (seen_sink.faults call.sink_after)
+
+  -- neither did
+  pub record IsCalm (call : Call seen_source seen_sink) : Type 0 where
+    pub read : ReadFailed call → ⊥
+    pub written : WriteFailed call → ⊥
+
+  -- a status tells of a fault only where there was one, and each other status only where the count stayed
+  pub record TellsFaults (status : Status) (call : Call seen_source seen_sink) : Type 0 where
+    pub read_fault : status ≡ ReadFault → ReadFailed call
+    pub write_fault : status ≡ WriteFault → WriteFailed call
+    pub calm_source : status ≢ ReadFault → seen_source.faults call.source_after ≡ seen_source.faults call.source
+    pub calm_sink : status ≢ WriteFault → seen_sink.faults call.sink_after ≡ seen_sink.faults call.sink

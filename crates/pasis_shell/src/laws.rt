@@ -20,7 +20,6 @@ ghost use Rattle.plan_words.specs.declared.plan.Plan.{Plan};
 ghost use Rattle.plan_words.specs.Plans.{Fits};
 ghost use Rattle.plan_text.specs.Plans.{Spells as SpellsPlan};
 ghost use Rattle.command_texts.specs.Texts.{HasFault, IsAccepted};
-ghost use Rattle.command_texts.specs.Words.{words_of};
 ghost use Rattle.command_texts.specs.declared.words.Serving.{Serving as Servings};
 ghost use Rattle.event_lines.specs.declared.line.ReplayLine.TheVariants.{Plain};
 ghost use Rattle.journals.specs.declared.whole.Journals.{Journals};
@@ -36,11 +35,11 @@ pub fn well_formed_inputs_are_accepted()
         (lines : List ReplayLine) (queues : CommandQueues)
         → IsReplay c liars lines → Spells input c liars lines
         → Performs (cluster_of c liars) c lines queues
-        → IsAccepted (words_of Command.Replay) input }
+        → IsAccepted Command.Replay input }
     ensures sums { (c : Numbers) (v : List ℕ) → IsSum c v
-        → IsAccepted (words_of Command.Sum) (sum_text c v) }
+        → IsAccepted Command.Sum (sum_text c v) }
     ensures reports { (book : Book) → IsReport book
-        → IsAccepted (words_of Command.Check) (report_text book) }
+        → IsAccepted Command.Check (report_text book) }
 {}
 
 /// A text that spells a plan that can be run is no bad script for `run` and `trace`.

@@ -3,7 +3,7 @@ use Rattle.quorum_rules.specs.Limits.{Numbers, IsValid}
 use Rattle.quorum_rules.specs.Faults.{numbers}
 use Rattle.quorum_rules.specs.declared.Edition.TheVariants.{One}
 use Rattle.command_texts.specs.Words.{IsNbd}
-use Rattle.command_texts.proofs.lemmas.NbdForms.{AreRead, spelled, no_n, no_t, no_b, no_qc, no_m, no_size, no_blocks, is_nbd, no_config}
+use Rattle.command_texts.proofs.NbdForms.{AreRead, spelled, no_n, no_t, no_b, no_qc, no_m, no_size, no_blocks, is_nbd, no_config}
 use Rattle.command_texts.proofs.nbd.config_of.Goals as goal
 
 pub returns-in_err-n-clause-none : goal.returns-in_err-n-clause-none

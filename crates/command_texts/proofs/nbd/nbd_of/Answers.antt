@@ -1,7 +1,7 @@
 use Rattle.std.proofs.Common.{◌≡◌, [], ◌∷◌, get_or, ap, sym, ◌∙◌, arith}
 use Rattle.std.specs.Prelude.{codes, string_bytes}
 use Rattle.command_texts.specs.Words.{texts}
-use Rattle.command_texts.proofs.lemmas.NbdForms.{eight_texts, is_nbd_word}
+use Rattle.command_texts.proofs.NbdForms.{eight_texts, is_nbd_word}
 use Rattle.command_texts.proofs.nbd.nbd_of.Goals as goal
 
 pub returns-in-len8-clause-some : goal.returns-in-len8-clause-some

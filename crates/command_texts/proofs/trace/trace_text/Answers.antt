@@ -5,9 +5,9 @@ pub script_of-requires-clause-liars : goal.script_of-requires-clause-liars
 script_of-requires-clause-liars c = journals_declare c.plans_declare.ensures c.args.plan.now c.args.journals (c.args.drawn, c.requires.run)
 
 pub script_of-requires-clause-lines : goal.script_of-requires-clause-lines
-script_of-requires-clause-lines c = journals_told c.args.plan.now c.args.journals (c.args.drawn, c.requires.run) c.in_ok-merged_run.merged_run.lines c.in_ok-merged_run.ensures.told
+script_of-requires-clause-lines c = journals_told c.args.plan.now c.args.journals (c.args.drawn, c.requires.run) c.in_ok-merged.merged.lines c.in_ok-merged.ensures.told
 
 pub returns : goal.returns
 returns c =
-    let run = runs_plan c.complete_histories.ensures c.args.plan.now c.args.journals (c.args.drawn, c.requires.run) c.in_ok-merged_run.merged_run.lines c.in_ok-merged_run.merged_run.world c.in_ok-merged_run.ensures.run c.in_ok-report.report c.in_ok-report.ensures in
+    let run = runs_plan c.complete_histories.ensures c.args.plan.now c.args.journals (c.args.drawn, c.requires.run) c.in_ok-merged.merged.lines c.in_ok-merged.merged.world c.in_ok-merged.ensures.run c.in_ok-report.report c.in_ok-report.ensures in
     traces_plan c.args.plan.now c.args.journals (c.args.drawn, c.requires.run) c.in_ok-report.report c.in_ok-text.text c.in_ok-script.script run c.in_ok-script.ensures.text c.in_ok-script.ensures.events c.in_ok-text.ensures

@@ -12,27 +12,7 @@ use Rattle.quorum_rules.specs.declared.Edition.TheVariants.{One}
 use Rattle.quorum_rules.proofs.lemmas.FaultLaws.{size_at_most, blocks_at_most}
 use Rattle.text_lines.specs.Fields.{number_of}
 use Rattle.text_lines.proofs.lemmas.Numbers.{number_of-some, number_of-text}
-use Rattle.command_texts.specs.Words.{texts, words_of, nbd_words, IsForm, IsNbd, IsNbdForm, AskForThreads}
-use Rattle.command_texts.specs.declared.words.Serving.TheVariants.{ByLocks, ByWorkers}
-use Rattle.command_texts.specs.declared.words.Command.{Command}
-use Rattle.command_texts.specs.declared.words.Command.TheVariants.{Replay, Run, Trace, Check, Sum, Soak}
-
--- no command has so many words
-more_words : (command : Command) (c : Numbers) → words_of command ≡ nbd_words c → ⊥
-more_words Replay c e = absurd cc
-more_words (Run ByLocks) c e = absurd cc
-more_words (Run ByWorkers) c e = absurd cc
-more_words (Trace ByLocks) c e = absurd cc
-more_words (Trace ByWorkers) c e = absurd cc
-more_words Check c e = absurd cc
-more_words Sum c e = absurd cc
-more_words (Soak n) c e = absurd cc
-
-pub no_command : (words : List (List ℕ)) → IsForm words → IsNbdForm words → ⊥
-no_command words form nbd = more_words form.0 nbd.0 (sym form.2 ∙ nbd.1.spelled)
-
-pub no_threads : (words : List (List ℕ)) → AskForThreads words → IsNbdForm words → ⊥
-no_threads words ask nbd = more_words ask.0 nbd.0 (sym ask.3 ∙ nbd.1.spelled)
+use Rattle.command_texts.specs.Words.{texts, nbd_words, IsNbd, AreOfNbd}
 
 -- eight words one by one
 pub eight_texts : (words : List (String Global)) (a b c d e f g h : String Global) → length words ≡ 8
@@ -90,25 +70,25 @@ module _ (wn wt wb wqc wm wsize wblocks : List ℕ) where
   abbrev pub spelled : List (List ℕ)
   spelled = codes "nbd" ∷ wn ∷ wt ∷ wb ∷ wqc ∷ wm ∷ wsize ∷ wblocks ∷ []
 
-  pub no_n : None ≡ number_of (2 ^ 32) wn → IsNbdForm spelled → ⊥
+  pub no_n : None ≡ number_of (2 ^ 32) wn → AreOfNbd spelled → ⊥
   no_n none form = let e = form.1.spelled in unread wn form.0.n none (small form.0 form.1.valid).n cc
 
-  pub no_t : None ≡ number_of (2 ^ 32) wt → IsNbdForm spelled → ⊥
+  pub no_t : None ≡ number_of (2 ^ 32) wt → AreOfNbd spelled → ⊥
   no_t none form = let e = form.1.spelled in unread wt form.0.t none (small form.0 form.1.valid).t cc
 
-  pub no_b : None ≡ number_of (2 ^ 32) wb → IsNbdForm spelled → ⊥
+  pub no_b : None ≡ number_of (2 ^ 32) wb → AreOfNbd spelled → ⊥
   no_b none form = let e = form.1.spelled in unread wb form.0.b none (small form.0 form.1.valid).b cc
 
-  pub no_qc : None ≡ number_of (2 ^ 32) wqc → IsNbdForm spelled → ⊥
+  pub no_qc : None ≡ number_of (2 ^ 32) wqc → AreOfNbd spelled → ⊥
   no_qc none form = let e = form.1.spelled in unread wqc form.0.qc none (small form.0 form.1.valid).qc cc
 
-  pub no_m : None ≡ number_of (2 ^ 32) wm → IsNbdForm spelled → ⊥
+  pub no_m : None ≡ number_of (2 ^ 32) wm → AreOfNbd spelled → ⊥
   no_m none form = let e = form.1.spelled in unread wm form.0.m none (small form.0 form.1.valid).m cc
 
-  pub no_size : None ≡ number_of (2 ^ 32) wsize → IsNbdForm spelled → ⊥
+  pub no_size : None ≡ number_of (2 ^ 32) wsize → AreOfNbd spelled → ⊥
   no_size none form = let e = form.1.spelled in unread wsize form.0.size none (small form.0 form.1.valid).size cc
 
-  pub no_blocks : None ≡ number_of (2 ^ 32) wblocks → IsNbdForm spelled → ⊥
+  pub no_blocks : None ≡ number_of (2 ^ 32) wblocks → AreOfNbd spelled → ⊥
   no_blocks none form = let e = form.1.spelled in unread wblocks form.0.blocks none (small form.0 form.1.valid).blocks cc
 
   -- the words spell these numbers
@@ -145,7 +125,7 @@ module _ (wn wt wb wqc wm wsize wblocks : List ℕ) where
   pub is_nbd : (c : Numbers) → AreRead c → IsValid c → IsNbd spelled c
   is_nbd c r valid = record { edition = r.edition; valid = valid; spelled = (read c r).0 }
 
-  pub no_config : (c : Numbers) → AreRead c → (IsValid c → ⊥) → IsNbdForm spelled → ⊥
+  pub no_config : (c : Numbers) → AreRead c → (IsValid c → ⊥) → AreOfNbd spelled → ⊥
   no_config c r bad form =
       let own = read c r in
       let alike : form.0 ≡ c = one form.0 c (small form.0 form.1.valid) own.1 (form.1.edition ∙ sym r.edition) (sym form.1.spelled ∙ own.0) in
