@@ -5,7 +5,8 @@ use Rattle.quorum_rules.specs.Limits.{Numbers}
 use Rattle.protocol.specs.Messages.{Reply, Message}
 use Rattle.protocol.specs.Instance.{setting}
 use Rattle.protocol.specs.Seen.{SeenTask, phase_of}
-use Rattle.client_core.specs.Clients.{ClientView, mail_of}
+use Rattle.client_core.specs.Clients.{mail_of}
+use Rattle.operation_core.specs.Clients.{ClientView}
 use Rattle.batch_clients.specs.declared.run.Standing.TheVariants.{Asking}
 use Rattle.batch_clients.specs.declared.run.Run.{Run}
 use Rattle.batch_clients.specs.declared.turn.Turn.{Turn}
