@@ -1,28 +1,51 @@
 //! Journals that are written anew.
-ghost use Rattle.std.specs.Prelude.{◌≡◌, ◌<◌};
+ghost use Rattle.std.specs.Prelude.{◌≡◌, ◌<◌, true, IfSome, OnOk, OnErr};
+ghost use Rattle.store_device.specs.Stores.{seat_at, is_up};
+ghost use Rattle.pasis_store.specs.Upkeep.{Holds, IsReseated, IsTended};
 
-use crate::folder::{FileNode, FileStore, Journal, MOST, path_in, seat_folder, seat_journal};
+use crate::folder::{FileStore, Journal, MOST, path_in, seat_journal};
 use file_disk::{FileDisk, Opening};
+use lists::NoMemory;
 use std::alloc::Global;
+use store_words::Down;
 
 /// A journal that is longer than twice what it could be, and this many bytes, is written anew.
 const LEAST: u64 = 1 << 16;
 
-/// Writes the journals anew that are due.
+// Where a node's journal stands, and where a new one is written.
+#[derive(Drop)]
+struct Places {
+    path: String,
+    beside: String,
+}
+
+/// Writes the journals anew that are due: the nodes go on on them as they are.
 pub fn compact_due(rt: &HostRuntime, folders: &[String], store: &mut FileStore)
-    ensures { store.new.config ≡ store.old.config }
+    ensures tended { IsTended store.old store.new }
+    ensures config { store.new.config ≡ store.old.config }
 {
     for seat in 0..store.config().n() as u8 {
-        if let Some(folder) = folders.get(usize::from(seat)) {
-            if is_due(store, usize::from(seat)) {
-                compact(rt, folder.as_str(), seat, store);
-            }
-        }
+        compact_one(rt, folders, seat, store);
     }
 }
 
-fn is_due(store: &mut FileStore, seat: usize) -> bool
-    ensures { store.new ≡ store.old }
+// The same of one node.
+#[tactic(auto, using(crate::proofs::Journals::same_seats))]
+fn compact_one(rt: &HostRuntime, folders: &[String], seat: u8, store: &mut FileStore)
+    requires { seat < store.old.config.n }
+    ensures { IsReseated store.old store.new }
+{
+    let Some(folder) = folders.get(usize::from(seat)) else {
+        return;
+    };
+    if is_due(store, usize::from(seat)) {
+        compact(rt, folder.as_str(), seat, store);
+    }
+}
+
+// Whether the journal of a node that is up is to be written anew.
+fn is_due(store: &FileStore, seat: usize) -> bool
+    ensures { result ≡ true → is_up (seat_at store.now seat) ≡ true }
 {
     if !store.is_up(seat) {
         return false;
@@ -33,47 +56,74 @@ fn is_due(store: &mut FileStore, seat: usize) -> bool
     }
 }
 
-// Writes a node's journal anew beside it, puts it in its place, and seats the node on it. Where it can't be written, the node goes on with the
-// old one; where it can't be put in its place, the node is opened again from the one that is there.
+// Writes a node's journal anew beside it, puts it in its place, and has the node go on on it. Where it can't be written, the node goes on with
+// the old one. Where it can't be put in its place, it isn't known which of the two stands there, so neither is to be written: the node is down
+// until the store is opened again.
+#[tactic(auto, using(crate::proofs::Journals::same_seats, crate::proofs::Reseating::taken_out))]
 fn compact(rt: &HostRuntime, folder: &str, seat: u8, store: &mut FileStore)
     requires { seat < store.old.config.n }
-    ensures { store.new.config ≡ store.old.config }
+    ensures { IsReseated store.old store.new }
 {
-    let Some(mut disk) = written_anew(rt, folder, store.node(usize::from(seat))) else {
+    let Ok(places) = places_in(rt.alloc(), folder) else {
         return;
     };
-    if put_in_place(rt, folder, &mut disk) {
-        if seat_journal(rt.alloc(), store, seat, disk).is_ok() {
-            return;
-        }
-    } else {
-        // Its lock goes with it, so that the path can be opened anew.
-        drop(disk);
-    }
-    let _ = store.take_node(usize::from(seat));
-    if let Err(why) = seat_folder(rt, store, seat, folder) {
+    let Some(disk) = written_anew(rt, &places, store, usize::from(seat)) else {
+        return;
+    };
+    if let Err(why) = go_on(rt, &places, seat, store, disk) {
+        let _ = store.take_node(usize::from(seat));
         let _ = eprintln!(rt; "pasis_store: node {seat} is down: {why}");
     }
 }
 
-// The shortest journal of a node, beside its own.
-fn written_anew(rt: &HostRuntime, folder: &str, node: Option<&FileNode>) -> Option<Journal> {
-    let beside = path_in(rt.alloc(), folder, "journal.new").ok()?;
-    let disk = FileDisk::open(rt, rt.alloc(), beside.as_str(), Opening::Emptied, MOST).ok()?;
-    node?.compact(disk).ok()
+fn places_in(alloc: Global, folder: &str) -> Result<Places, NoMemory> {
+    Ok(Places {
+        path: path_in(alloc, folder, "journal")?,
+        beside: path_in(alloc, folder, "journal.new")?,
+    })
 }
 
-fn put_in_place(rt: &HostRuntime, folder: &str, disk: &mut Journal) -> bool {
-    match paths(rt.alloc(), folder) {
-        Some((beside, path)) => disk
-            .put_in_place(rt, beside.as_str(), path.as_str())
-            .is_ok(),
-        None => false,
+// The shortest journal of the node that sits at a seat, beside its own.
+fn written_anew(
+    rt: &HostRuntime,
+    places: &Places,
+    store: &FileStore,
+    seat: usize,
+) -> Option<Journal>
+    ensures { IfSome result
+        (λ disk. Holds store.now.config seat disk.bytes (seat_at store.now seat)) }
+{
+    let node = store.node(seat)?;
+    let beside = places.beside.as_str();
+    let Ok(disk) = FileDisk::open(rt, rt.alloc(), beside, Opening::Emptied, MOST) else {
+        return None;
+    };
+    match node.compact(disk) {
+        Ok(disk) => Some(disk),
+        Err(_) => None,
     }
 }
 
-fn paths(alloc: Global, folder: &str) -> Option<(String, String)> {
-    let beside = path_in(alloc, folder, "journal.new").ok()?;
-    let path = path_in(alloc, folder, "journal").ok()?;
-    Some((beside, path))
+// Puts a node's new journal in its place, and has the node go on on it.
+fn go_on(
+    rt: &HostRuntime,
+    places: &Places,
+    seat: u8,
+    store: &mut FileStore,
+    disk: Journal,
+) -> Result<(), Down>
+    requires there { seat < store.old.config.n }
+    requires holds { Holds store.old.config seat disk.bytes (seat_at store.old seat) }
+    ensures on { OnOk result (IsReseated store.old store.new) }
+    ensures stays { OnErr result (store.new ≡ store.old) }
+{
+    let mut disk = disk;
+    if disk
+        .put_in_place(rt, places.beside.as_str(), places.path.as_str())
+        .is_err()
+    {
+        return Err(Down::Fault);
+    }
+    seat_journal(rt.alloc(), store, seat, disk)?;
+    Ok(())
 }

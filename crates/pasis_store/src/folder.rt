@@ -1,5 +1,6 @@
 //! A node's directory: its file `cluster`, and its file `journal`.
-ghost use Rattle.std.specs.Prelude.{◌≡◌, ◌<◌};
+ghost use Rattle.std.specs.Prelude.{◌≡◌, ◌<◌, OnOk, OnErr};
+ghost use Rattle.pasis_store.specs.Upkeep.{IsSeated};
 
 use cluster_file::{Membership, MembershipRefusal};
 use file_disk::{FileDisk, FileRefusal, Opening};
@@ -61,7 +62,7 @@ pub fn seat_folder(
     seat_journal(rt.alloc(), store, seat, disk)
 }
 
-/// Has the node of a journal sit on its seat.
+/// Has the node that a journal holds sit on its seat.
 pub fn seat_journal(
     alloc: Global,
     store: &mut FileStore,
@@ -69,7 +70,9 @@ pub fn seat_journal(
     disk: Journal,
 ) -> Result<(), Down>
     requires { seat < store.old.config.n }
-    ensures { store.new.config ≡ store.old.config }
+    ensures config { store.new.config ≡ store.old.config }
+    ensures seated { OnOk result (IsSeated seat disk.bytes store.old store.new) }
+    ensures err { OnErr result (store.new ≡ store.old) }
 {
     match store.seat_disk(alloc, seat, disk) {
         Ok(()) => Ok(()),

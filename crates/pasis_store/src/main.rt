@@ -6,6 +6,7 @@ mod create;
 mod folder;
 mod groups;
 mod help;
+mod keeping;
 mod nodes;
 mod opening;
 mod renew;

@@ -1,4 +1,6 @@
 //! A store, opened from its directories.
+ghost use Rattle.std.specs.Prelude.{◌≡◌, length, filter, is_some};
+
 use crate::folder::FileStore;
 use crate::nodes::{Nodes, open_nodes};
 use store_words::{Down, Refusal};
@@ -32,14 +34,10 @@ pub fn found_nodes(rt: &HostRuntime, folders: &[String]) -> Result<Nodes, Refusa
 }
 
 /// How many nodes are down.
-pub fn count_down(down: &[Option<Down>]) -> u64 {
-    let mut count: u64 = 0;
-    for one in down {
-        if one.is_some() {
-            count = count.saturating_add(1);
-        }
-    }
-    count
+pub fn count_down(down: &[Option<Down>]) -> u64
+    ensures { result ≡ length (filter is_some down.now) }
+{
+    down.iter().filter(|one| one.is_some()).count() as u64
 }
 
 // Tells of each node that is down.

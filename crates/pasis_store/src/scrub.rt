@@ -1,3 +1,7 @@
+ghost use Rattle.std.specs.Prelude.{◌≡◌};
+ghost use Rattle.std.specs.List.{list_any};
+ghost use Rattle.store_care.specs.Tallies.{is_lacking};
+
 use crate::compacting::compact_due;
 use crate::folder::FileStore;
 use crate::groups::{Group, group_count, group_of};
@@ -32,7 +36,9 @@ pub fn scrub<T: Threads + Sync>(
 }
 
 // Whether some node didn't hold what was read.
-fn is_lacking(tallies: &[NodeTally]) -> bool {
+fn is_lacking(tallies: &[NodeTally]) -> bool
+    ensures { result ≡ list_any is_lacking tallies.now }
+{
     tallies.iter().any(|tally| tally.is_lacking())
 }
 

@@ -1,9 +1,14 @@
+ghost use Rattle.std.specs.Prelude.{◌≡◌};
+ghost use Rattle.pasis_store.specs.Upkeep.{IsSession, IsTended};
+
 use crate::folder::FileStore;
+use crate::keeping::ByClosure;
 use crate::opening::open_store;
 use crate::upkeep::Upkeep;
+use lists::NoMemory;
 use outside_io::{Sink, Source, StdSink, StdSource};
 use std::thread::Threads;
-use store_front::{Session, SessionEnd};
+use store_front::SessionEnd;
 use store_words::{Refusal, Status};
 
 /// Serves the device over standard input and output.
@@ -13,9 +18,18 @@ pub fn serve<T: Threads + Sync>(
     folders: &[String],
 ) -> Result<Status, Refusal> {
     let mut store = open_store(rt, folders)?;
+    let mut upkeep = Upkeep::new(rt, &store)?;
     let mut source = StdSource::new(rt.stdin());
     let mut sink = StdSink::new(rt.stdout());
-    match serve_store(rt, threads, folders, &mut store, &mut source, &mut sink) {
+    match serve_store(
+        rt,
+        threads,
+        folders,
+        &mut store,
+        &mut upkeep,
+        &mut source,
+        &mut sink,
+    ) {
         Ok(()) => Ok(Status::Done),
         Err(end) => {
             let _ = eprintln!(rt; "pasis_store: {}", told(&end));
@@ -30,23 +44,23 @@ fn serve_store<T: Threads + Sync, S: Source, K: Sink>(
     threads: &T,
     folders: &[String],
     store: &mut FileStore,
+    upkeep: &mut Upkeep,
     source: &mut S,
     sink: &mut K,
-) -> Result<(), SessionEnd> {
-    let alloc = rt.alloc();
-    let mut upkeep = Upkeep::new(rt, store)?;
-    let mut session = Session::begin(alloc, store, sink)?;
-    for _ in 0..u64::MAX {
-        if upkeep.is_due(store) && !session.is_ready() {
-            upkeep.tend(rt, threads, folders, store)?;
-        }
-        if !session.wait(source)? {
-            return Ok(());
-        }
-        let len = session.serve_round(threads, alloc, store, sink)?;
-        upkeep.served(rt, store, len);
-    }
-    Err(SessionEnd::TooManyRequests)
+) -> Result<(), SessionEnd>
+    // what was read, asked of the store, and written; between rounds the store is only looked after
+    ensures session { IsSession store.old.config store.old store.new result (S.left source.old)
+        (S.left source.new) (K.taken sink.old) (K.taken sink.new) }
+{
+    let tend = |upkeep: &mut Upkeep, store: &mut FileStore, served: usize, is_ready: bool| -> Result<
+        (),
+        NoMemory,
+    >
+        ensures tended { IsTended store.old store.new }
+        ensures config { store.new.config ≡ store.old.config }
+    { upkeep.tend(rt, threads, folders, store, served, is_ready) };
+    let mut keeper = ByClosure { upkeep, tend };
+    store_front::serve(threads, rt.alloc(), store, &mut keeper, source, sink)
 }
 
 fn told(end: &SessionEnd) -> &'static str {

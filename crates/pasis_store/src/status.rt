@@ -1,3 +1,7 @@
+ghost use Rattle.std.specs.Prelude.{◌≡◌, IfOk};
+ghost use Rattle.store_device.specs.Stores.{seat_at};
+ghost use Rattle.pasis_store.specs.Lines.{IsLine};
+
 use crate::folder::FileStore;
 use crate::nodes::Nodes;
 use crate::opening::{count_down, found_nodes};
@@ -34,7 +38,11 @@ fn lines_of(
 }
 
 // The line of a node that is down for this reason, or for none.
-fn line_of(store: &mut FileStore, node: usize, why: Option<Down>) -> Result<NodeLine, NoMemory> {
+fn line_of(store: &mut FileStore, node: usize, why: Option<Down>) -> Result<NodeLine, NoMemory>
+    ensures same { store.new ≡ store.old }
+    ensures line { IfOk result (IsLine store.old.config.blocks node why
+        (seat_at store.old node)) }
+{
     let versions = later_versions(store, node)?;
     match (why, store.node(node)) {
         (Some(why), _) => Ok(NodeLine::Down { node, why }),

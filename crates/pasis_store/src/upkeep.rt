@@ -1,10 +1,12 @@
 //! What is done for a store between the rounds of a session.
+ghost use Rattle.std.specs.Prelude.{◌≡◌};
+ghost use Rattle.pasis_store.specs.Upkeep.{IsTended};
+
 use crate::compacting::compact_due;
 use crate::folder::FileStore;
-use crate::groups::{Group, group_count, group_of};
 use lists::NoMemory;
 use std::thread::Threads;
-use store_care::prune_due;
+use store_care::prune_all;
 
 /// How many bytes of requests are served, at least, before the store is looked after again.
 const LEAST_BYTES: u64 = 1 << 20;
@@ -21,7 +23,7 @@ pub struct Upkeep {
 
 impl Upkeep {
     /// Of a store that was just opened.
-    pub fn new(rt: &HostRuntime, store: &mut FileStore) -> Result<Upkeep, NoMemory> {
+    pub fn new(rt: &HostRuntime, store: &FileStore) -> Result<Upkeep, NoMemory> {
         let mut was_up = Vec::new(rt.alloc());
         for seat in 0..store.config().n() as usize {
             was_up.push(store.is_up(seat))?;
@@ -29,9 +31,32 @@ impl Upkeep {
         Ok(Upkeep { was_up, since: 0 })
     }
 
-    /// So many bytes of requests were served. Tells of each node whose disk failed meanwhile.
-    pub fn served(&mut self, rt: &HostRuntime, store: &mut FileStore, len: usize) {
-        self.since = self.since.saturating_add(len as u64);
+    /// So many bytes of requests were served since this was last called. Where enough were, and no request waits, the blocks are pruned of
+    /// which nodes keep many versions, and the journals that are due are written anew. Tells of each node whose disk has failed.
+    #[tactic(auto, using(crate::proofs::Journals::not_tended))]
+    pub fn tend<T: Threads + Sync>(
+        &mut self,
+        rt: &HostRuntime,
+        threads: &T,
+        folders: &[String],
+        store: &mut FileStore,
+        served: usize,
+        is_ready: bool,
+    ) -> Result<(), NoMemory>
+        ensures tended { IsTended store.old store.new }
+        ensures config { store.new.config ≡ store.old.config }
+    {
+        self.since = self.since.saturating_add(served as u64);
+        self.tell_failed(rt, store);
+        if is_ready || !self.is_due(store) {
+            return Ok(());
+        }
+        self.since = 0;
+        look_after(rt, threads, folders, store)
+    }
+
+    // Tells of each node whose disk has failed since this was last called.
+    fn tell_failed(&mut self, rt: &HostRuntime, store: &FileStore) {
         for (seat, was_up) in self.was_up.iter_mut().enumerate() {
             if *was_up && !store.is_up(seat) {
                 *was_up = false;
@@ -40,27 +65,25 @@ impl Upkeep {
         }
     }
 
-    /// Whether enough was served that the store is to be looked after.
-    pub fn is_due(&self, store: &FileStore) -> bool {
+    // Whether enough was served that the store is to be looked after.
+    fn is_due(&self, store: &FileStore) -> bool {
         let config = store.config();
         let device = u64::from(config.size()).saturating_mul(u64::from(config.blocks()));
         self.since >= LEAST_BYTES.max(device / 4)
     }
+}
 
-    /// Prunes the blocks of which nodes keep many versions, and writes the journals anew that are due.
-    pub fn tend<T: Threads + Sync>(
-        &mut self,
-        rt: &HostRuntime,
-        threads: &T,
-        folders: &[String],
-        store: &mut FileStore,
-    ) -> Result<(), NoMemory> {
-        self.since = 0;
-        for number in 0..group_count(store.config()) {
-            let Group { first, count } = group_of(store.config(), number);
-            prune_due(threads, rt.alloc(), store, first, count, MOST_VERSIONS)?;
-        }
-        compact_due(rt, folders, store);
-        Ok(())
-    }
+// Prunes the blocks of which nodes keep many versions, and writes the journals anew that are due.
+fn look_after<T: Threads + Sync>(
+    rt: &HostRuntime,
+    threads: &T,
+    folders: &[String],
+    store: &mut FileStore,
+) -> Result<(), NoMemory>
+    ensures tended { IsTended store.old store.new }
+    ensures config { store.new.config ≡ store.old.config }
+{
+    prune_all(threads, rt.alloc(), store, MOST_VERSIONS)?;
+    compact_due(rt, folders, store);
+    Ok(())
 }

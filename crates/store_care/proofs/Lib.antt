@@ -9,3 +9,4 @@ mod Block
 mod Looks
 mod Refused
 mod Groups
+mod Tending

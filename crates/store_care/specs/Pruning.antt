@@ -1,10 +1,12 @@
 -- What pruning does to a store.
-use Rattle.std.specs.Prelude.{◌≡◌, ℕ, ⊤, ◌≤◌, ◌<◌, ◌+◌, List, [], ◌∷◌, Option}
-use Rattle.std.specs.declared.option.Option.TheVariants.{Some}
+use Rattle.std.specs.Prelude.{◌≡◌, ℕ, zero, suc, ⊤, ◌≤◌, ◌<◌, ◌+◌, ◌-◌, if◌then◌else◌, List, [], ◌∷◌, length, Option}
+use Rattle.std.specs.declared.option.Option.TheVariants.{None, Some}
 use Rattle.std.specs.List.{All}
 use Rattle.wire_forms.specs.declared.op.Op.{Op}
 use Rattle.wire_forms.specs.declared.op.Op.TheVariants.{Read, Write}
 use Rattle.protocol.specs.Operations.{Outcome}
+use Rattle.node_core.specs.Seen.{versions_in}
+use Rattle.version_disk.specs.Stored.{Stored}
 use Rattle.store_device.specs.Calls.{Call}
 use Rattle.store_device.specs.Calls.Deed.{Performs, Prunes}
 use Rattle.store_care.specs.Prunes.{prunes_by}
@@ -36,3 +38,14 @@ module _ {D : Type 0} (first count : ℕ) where
   ArePruning (read ∷ []) = IsReadingSome read
   ArePruning (read ∷ prune ∷ []) = IsPruning read prune
   ArePruning _ = ⊥
+
+module _ {D : Type 0} where
+  -- how many versions the node of a seat keeps of a block; none where it isn't up
+  abbrev pub versions_at : Option (Stored D) → ℕ → ℕ
+  versions_at None block = 0
+  versions_at (Some node) block = if node.broken then 0 else length (versions_in node.node block)
+
+  -- how many beside the first ones, of this many blocks
+  abbrev pub later_in : Option (Stored D) → ℕ → ℕ
+  later_in seat zero = 0
+  later_in seat (suc k) = later_in seat k + (versions_at seat k - 1)

@@ -16,5 +16,5 @@ pub use blocks::MOST_BLOCKS;
 pub use care::Care;
 pub use filling::{Filled, FilledDisk, fill_disk};
 pub use holding::Holding;
-pub use pruning::{later_versions, prune_due};
+pub use pruning::{later_versions, prune_all, prune_due};
 pub use tally::NodeTally;

@@ -1,10 +1,12 @@
-ghost use Rattle.std.specs.Prelude.{◌≡◌, ◌+◌, ◌-◌, ◌≤◌, ◌<◌, ◌++◌, List, All, length, option_copied, IfOk, OnOk};
+ghost use Rattle.std.specs.Prelude.{◌≡◌, ◌+◌, ◌-◌, ◌^◌, ◌≤◌, ◌<◌, ◌++◌, List, All, length, min, option_copied, IfOk, OnOk};
+ghost use Rattle.store_device.specs.Stores.{seat_at};
 ghost use Rattle.store_device.specs.Calls.{Call, Leads};
+ghost use Rattle.store_device.specs.Steps.{IsTended};
 ghost use Rattle.store_care.specs.Batches.{AreBelow};
 ghost use Rattle.store_care.specs.Prunes.{prune_by, prunes_by};
-ghost use Rattle.store_care.specs.Pruning.{ArePruning, IsReadAmong};
+ghost use Rattle.store_care.specs.Pruning.{ArePruning, IsReadAmong, later_in, versions_at};
 
-use crate::blocks::{add, block_of};
+use crate::blocks::{MOST_BLOCKS, add, block_of};
 use crate::calls::{outcome_at, perform};
 use client_core::Outcome;
 use disk_model::Disk;
@@ -32,11 +34,32 @@ pub fn prune_due<D: Disk + Send, R: Threads + Sync>(
     ensures calls { (calls : List (Call D))
         × Leads D.pending D.seen D.moment D.left_since store.old calls store.new
         × ArePruning first count calls }
+    // so the store is looked after: nothing is written, and each prune is by the stamp of the block's latest read
+    ensures tended { IsTended D.pending D.seen D.moment D.left_since store.old store.new }
 {
     let due = due_reads(alloc, store, first, count, most)?;
     let outcomes = perform(rt, store, &due)?;
     let prunes = prunes_by(alloc, &due, &outcomes)?;
     store.prune_all(rt, &prunes);
+    Ok(())
+}
+
+/// The same of all blocks, as many in one go as may be.
+pub fn prune_all<D: Disk + Send, R: Threads + Sync>(
+    rt: &R,
+    alloc: Global,
+    store: &mut Store<D>,
+    most: usize,
+) -> Result<(), NoMemory>
+    ensures config { store.new.config ≡ store.old.config }
+    ensures tended { IsTended D.pending D.seen D.moment D.left_since store.old store.new }
+{
+    let blocks = store.config().blocks();
+    for group in 0..blocks.div_ceil(MOST_BLOCKS) {
+        let first = blocks.min(group.saturating_mul(MOST_BLOCKS));
+        let count = MOST_BLOCKS.min(blocks - first);
+        prune_due(rt, alloc, store, first, count, most)?;
+    }
     Ok(())
 }
 
@@ -116,6 +139,7 @@ fn most_versions<D: Disk>(store: &mut Store<D>, block: u32) -> Result<usize, NoM
 fn versions_at<D: Disk>(store: &mut Store<D>, seat: usize, block: u32) -> Result<usize, NoMemory>
     requires { block < store.old.config.blocks }
     ensures same { store.new ≡ store.old }
+    ensures count { IfOk result (λ count. count ≡ versions_at (seat_at store.old seat) block) }
 {
     if !store.is_up(seat) {
         return Ok(0);
@@ -129,6 +153,8 @@ fn versions_at<D: Disk>(store: &mut Store<D>, seat: usize, block: u32) -> Result
 /// How many versions the node of a seat keeps beside the first ones, of all blocks; 0 where it isn't up.
 pub fn later_versions<D: Disk>(store: &mut Store<D>, seat: usize) -> Result<u64, NoMemory>
     ensures same { store.new ≡ store.old }
+    ensures count { IfOk result (λ count. count
+        ≡ min (later_in (seat_at store.old seat) store.old.config.blocks) (2 ^ 64 - 1)) }
 {
     let mut count: u64 = 0;
     for block in 0..store.config().blocks() {

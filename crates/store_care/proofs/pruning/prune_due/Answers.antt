@@ -9,9 +9,11 @@ use Rattle.store_device.specs.Stores.{SeenStore}
 use Rattle.store_device.specs.Seating.{ArePrunesApart}
 use Rattle.store_device.specs.Calls.{HasPerformed, HasPruned}
 use Rattle.store_device.specs.Calls.Deed.{Prunes}
+use Rattle.store_device.proofs.lemmas.Steps.{none_tended}
 use Rattle.store_care.specs.Prunes.{prunes_by}
 use Rattle.store_care.proofs.Apart.{of_blocks, prunes_apart}
 use Rattle.store_care.proofs.Looks.{performed}
+use Rattle.store_care.proofs.Tending.{pruning_tends}
 use Rattle.store_care.proofs.pruning.prune_due.Goals as goal
 
 pub returns-in_err-outcomes-clause-calls : goal.returns-in_err-outcomes-clause-calls
@@ -77,3 +79,25 @@ returns-clause-calls g c =
       (h, (pruned, refl)),
       record { reads = due; among = c.in_ok-due.ensures.among; outcomes = outcomes; is = refl; by_reads = refl },
     )
+
+pub returns-in_err-due-clause-tended : goal.returns-in_err-due-clause-tended
+returns-in_err-due-clause-tended g c =
+    let D = g.D.Disk in none_tended D.pending D.seen D.moment D.left_since c.args.store.now c.due_reads.new.store c.due_reads.ensures.same
+
+pub returns-in_err-outcomes-clause-tended : goal.returns-in_err-outcomes-clause-tended
+returns-in_err-outcomes-clause-tended g c =
+    let D = g.D.Disk in
+    let did = returns-in_err-outcomes-clause-calls g c in
+    pruning_tends D.pending D.seen D.moment D.left_since c.args.first c.args.count c.args.store.now c.perform.new.store did.0 did.1 did.2
+
+pub returns-in_err-prunes-clause-tended : goal.returns-in_err-prunes-clause-tended
+returns-in_err-prunes-clause-tended g c =
+    let D = g.D.Disk in
+    let did = returns-in_err-prunes-clause-calls g c in
+    pruning_tends D.pending D.seen D.moment D.left_since c.args.first c.args.count c.args.store.now c.perform.new.store did.0 did.1 did.2
+
+pub returns-clause-tended : goal.returns-clause-tended
+returns-clause-tended g c =
+    let D = g.D.Disk in
+    let did = returns-clause-calls g c in
+    pruning_tends D.pending D.seen D.moment D.left_since c.args.first c.args.count c.args.store.now c.prune_all.new.self did.0 did.1 did.2

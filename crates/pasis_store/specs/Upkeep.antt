@@ -1,0 +1,62 @@
+-- What is done with a store's nodes, and how it is looked after.
+use Rattle.std.specs.Prelude.{◌≡◌, ℕ, ◌<◌, ◌^◌, false, Bool, List, length, Option, Some, Result}
+use denote.Ref.{MutBor}
+use Rattle.quorum_rules.specs.Limits.{Numbers}
+use Rattle.disk_model.specs.Past.{LeftSince}
+use Rattle.file_disk.specs.OnFile.{OnFile}
+use Rattle.nbd_front.specs.declared.ending.SessionEnd.{SessionEnd}
+use Rattle.version_disk.specs.Held.{held}
+use Rattle.version_disk.specs.Stored.{Stored}
+use Rattle.store_device.specs.Stores.{SeenStore, IsSound}
+use Rattle.store_device.specs.Seating.{with_seat, IsReseated as IsReseatedOn}
+use Rattle.store_device.specs.Steps.{IsTended as IsTendedOn}
+use Rattle.store_front.specs.Sessions.{IsSession as IsSessionOn}
+
+-- a node of this number sits there that is up, and these bytes hold it
+pub record Holds {D : Type 0} (c : Numbers) (number : ℕ) (bytes : List ℕ) (seat : Option (Stored D)) : Type 0 where
+  pub node : Stored D
+  pub there : seat ≡ Some node
+  pub up : node.broken ≡ false
+  pub same : held c number bytes ≡ node.node
+
+-- ---- a store whose disks are files
+
+module _ {F : Type 0} where
+  -- the node that these bytes hold sits at the seat then, on a disk that has it, safe from a crash
+  pub record IsSeated (number : ℕ) (bytes : List ℕ) (old new : SeenStore (OnFile F)) : Type 0 where
+    pub node : Stored (OnFile F)
+    pub there : new ≡ with_seat old number (Some node)
+    pub same : node.node ≡ held old.config number bytes
+    pub whole : node.broken ≡ false
+    pub sound : IsSound (λ d. d.pending) (λ d. d.bytes) old.config number node
+
+  -- its nodes go on as they are, or are taken out
+  abbrev pub IsReseated : SeenStore (OnFile F) → SeenStore (OnFile F) → Type 0
+  IsReseated old new = IsReseatedOn (λ d. d.pending) (λ d. d.bytes) old new
+
+  -- it is only looked after
+  abbrev pub IsTended : SeenStore (OnFile F) → SeenStore (OnFile F) → Type 0
+  IsTended old new = IsTendedOn (λ d. d.pending) (λ d. d.bytes) (λ d. length d.past) (λ d. LeftSince d.past d.pending) old new
+
+  -- a session in which it is only looked after between rounds
+  abbrev pub IsSession : Numbers → (old new : SeenStore (OnFile F)) → Result (Unit {0}) SessionEnd → (left left_after taken taken_after : Option (List ℕ)) → Type 0
+  IsSession c old new result left left_after taken taken_after =
+      IsSessionOn (λ d. d.pending) (λ d. d.bytes) (λ d. length d.past) (λ d. LeftSince d.past d.pending) IsTended c old new result left left_after taken taken_after
+
+-- ---- a closure that looks after a store
+
+-- it may be called
+abbrev pub MayTend : {U S : Type 0} → (MutBor U → MutBor S → ℕ → Bool → Type 0) → Type 0
+MayTend {U} {S} pre = (upkeep : MutBor U) (store : MutBor S) (served : ℕ) (is_ready : Bool) → pre upkeep store served is_ready
+
+-- a call does this to the store
+abbrev pub DoesTend : {U S E : Type 0} → (MutBor U → MutBor S → ℕ → Bool → Result (Unit {0}) E → MutBor U → MutBor S → Type 0) → (S → S → Type 0) → Type 0
+DoesTend {U} {S} {E} post does =
+    (upkeep : MutBor U) (store : MutBor S) (served : ℕ) (is_ready : Bool) (result : Result (Unit {0}) E) (upkeep_after : MutBor U) (store_after : MutBor S)
+    → served < 2 ^ 64
+    → post upkeep store served is_ready result upkeep_after store_after
+    → does store.now store_after.now
+
+-- the cluster's numbers stay
+abbrev pub HasConfigOf : {D : Type 0} → SeenStore D → SeenStore D → Type 0
+HasConfigOf old new = new.config ≡ old.config
