@@ -4,7 +4,7 @@ ghost use Rattle.std.specs.Thread.{IsSync};
 ghost use Rattle.inboxes.specs.Sides.{new_putter, took, items_from, IsDone};
 
 use crate::pairs::{list_of, pair_of};
-use inboxes::{Inbox, Mail, Putter, Sent, Taker, settle};
+use inboxes::{Inbox, InboxItem, Putter, Sent, Taker, settle};
 use lists::NoMemory;
 use std::alloc::Global;
 use std::sync::Wait;
