@@ -12,7 +12,7 @@ use std::collections::BTreeSet;
 
 /// The clients that the plan names.
 pub fn clients_of(alloc: Global, plan: &Plan) -> Result<BTreeSet<u32>, NoMemory>
-    ensures { IfOk result (λ named. named.endpoint ≡ ascending (clients plan.now.rules plan.now.work)) }
+    ensures { IfOk result (λ named. named.keys ≡ ascending (clients plan.now.rules plan.now.work)) }
 {
     let mut named = BTreeSet::new(alloc);
     add_lying(&mut named, plan.rules.as_slice())?;
@@ -22,8 +22,8 @@ pub fn clients_of(alloc: Global, plan: &Plan) -> Result<BTreeSet<u32>, NoMemory>
 }
 
 fn add_lying(named: &mut BTreeSet<u32>, rules: &[Fault]) -> Result<(), NoMemory>
-    ensures { OnOk result (named.new.endpoint
-        ≡ fold (insert_key nat_cmp) named.old.endpoint (filter_map lying_client rules.now)) }
+    ensures { OnOk result (named.new.keys
+        ≡ fold (insert_key nat_cmp) named.old.keys (filter_map lying_client rules.now)) }
 {
     for rule in rules {
         if let Some(client) = rule.lying_client() {
@@ -34,8 +34,8 @@ fn add_lying(named: &mut BTreeSet<u32>, rules: &[Fault]) -> Result<(), NoMemory>
 }
 
 fn add_troubled(named: &mut BTreeSet<u32>, rules: &[Fault]) -> Result<(), NoMemory>
-    ensures { OnOk result (named.new.endpoint
-        ≡ fold (insert_key nat_cmp) named.old.endpoint (filter_map troubled_client rules.now)) }
+    ensures { OnOk result (named.new.keys
+        ≡ fold (insert_key nat_cmp) named.old.keys (filter_map troubled_client rules.now)) }
 {
     for rule in rules {
         if let Some(client) = rule.troubled_client() {
@@ -46,8 +46,8 @@ fn add_troubled(named: &mut BTreeSet<u32>, rules: &[Fault]) -> Result<(), NoMemo
 }
 
 fn add_working(named: &mut BTreeSet<u32>, work: &[Job]) -> Result<(), NoMemory>
-    ensures { OnOk result (named.new.endpoint
-        ≡ fold (insert_key nat_cmp) named.old.endpoint (filter_map job_client work.now)) }
+    ensures { OnOk result (named.new.keys
+        ≡ fold (insert_key nat_cmp) named.old.keys (filter_map job_client work.now)) }
 {
     for job in work {
         if let Some(client) = job.client() {

@@ -6,4 +6,4 @@ use Rattle.plan_words.specs.Named.{lying_client}
 use Rattle.client_duties.proofs.named.add_lying.Given as goal
 
 abbrev pub invariant-loop-rule : goal.invariant-loop-rule
-invariant-loop-rule l = fold (insert_key nat_cmp) l.named.endpoint (filter_map lying_client (drop l.rule-index l.rules)) ≡ fold (insert_key nat_cmp) l.fn.named.endpoint (filter_map lying_client l.rules)
+invariant-loop-rule l = fold (insert_key nat_cmp) l.named.keys (filter_map lying_client (drop l.rule-index l.rules)) ≡ fold (insert_key nat_cmp) l.fn.named.keys (filter_map lying_client l.rules)

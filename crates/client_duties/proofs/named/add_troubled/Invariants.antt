@@ -6,4 +6,4 @@ use Rattle.plan_words.specs.Named.{troubled_client}
 use Rattle.client_duties.proofs.named.add_troubled.Given as goal
 
 abbrev pub invariant-loop-rule : goal.invariant-loop-rule
-invariant-loop-rule l = fold (insert_key nat_cmp) l.named.endpoint (filter_map troubled_client (drop l.rule-index l.rules)) ≡ fold (insert_key nat_cmp) l.fn.named.endpoint (filter_map troubled_client l.rules)
+invariant-loop-rule l = fold (insert_key nat_cmp) l.named.keys (filter_map troubled_client (drop l.rule-index l.rules)) ≡ fold (insert_key nat_cmp) l.fn.named.keys (filter_map troubled_client l.rules)

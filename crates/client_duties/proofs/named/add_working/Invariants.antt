@@ -6,4 +6,4 @@ use Rattle.plan_words.specs.Named.{job_client}
 use Rattle.client_duties.proofs.named.add_working.Given as goal
 
 abbrev pub invariant-loop-job : goal.invariant-loop-job
-invariant-loop-job l = fold (insert_key nat_cmp) l.named.endpoint (filter_map job_client (drop l.job-index l.work)) ≡ fold (insert_key nat_cmp) l.fn.named.endpoint (filter_map job_client l.work)
+invariant-loop-job l = fold (insert_key nat_cmp) l.named.keys (filter_map job_client (drop l.job-index l.work)) ≡ fold (insert_key nat_cmp) l.fn.named.keys (filter_map job_client l.work)
