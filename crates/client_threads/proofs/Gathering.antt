@@ -29,7 +29,7 @@ use Rattle.phase_threads.specs.declared.duty.Seat.{Seat}
 use Rattle.client_duties.specs.declared.reads.GivenRead.{GivenRead}
 use Rattle.client_duties.specs.declared.work.ClientDuty.{ClientDuty}
 use Rattle.client_duties.specs.declared.work.ClientDuty.TheVariants.{Client, Lying}
-use Rattle.client_duties.specs.declared.worker.CorrectClient.{CorrectClient}
+use Rattle.client_duties.specs.declared.correct_client.CorrectClient.{CorrectClient}
 use Rattle.client_duties.specs.ClientDuty.{given_by, all_given, Stands}
 use Rattle.client_threads.specs.Pruned.{pruning_of}
 use Rattle.client_threads.specs.Reads.{reads_in, reads_of, block_stamp, early_reads, late_reads, AreParted, IsPartedAs, IsParted}

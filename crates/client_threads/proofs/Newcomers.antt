@@ -29,7 +29,7 @@ use Rattle.phase_threads.specs.declared.duty.Seat.{Seat}
 use Rattle.thread_work.proofs.lemmas.Places.{get_snoc}
 use Rattle.client_duties.specs.declared.work.ClientDuty.{ClientDuty}
 use Rattle.client_duties.specs.declared.work.ClientDuty.TheVariants.{Client, Lying}
-use Rattle.client_duties.specs.declared.worker.CorrectClient.{CorrectClient}
+use Rattle.client_duties.specs.declared.correct_client.CorrectClient.{CorrectClient}
 use Rattle.client_duties.specs.declared.liar.Liar.{Liar}
 use Rattle.client_duties.specs.ClientDuty.{IsReady, HasMail, phase_at}
 use Rattle.client_threads.specs.Opened.{IsUnusedPass, IsNewCell, AreNewCells, IsBefore, IsNewSeat, cell_count, shards_of}
