@@ -1,3 +1,3 @@
 -- What proofs of other crates may cite.
 pub mod SenderWords
-pub mod CrossesThreads
+pub mod Sending

@@ -4,3 +4,4 @@ pub mod Joining
 pub mod Joins
 pub mod Aside
 pub mod Sides
+pub mod Sending

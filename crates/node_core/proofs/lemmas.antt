@@ -2,3 +2,4 @@
 pub mod Changes
 pub mod Accepting
 pub mod Blocks
+pub mod Sending

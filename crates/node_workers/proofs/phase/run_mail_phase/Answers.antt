@@ -2,7 +2,7 @@
 use denote.Param.Send.{sendable}
 use Rattle.std.proofs.Common.{ap, ◌∙◌}
 use Rattle.client_endpoints.specs.Endpoint.{SharedCellsView}
-use Rattle.phase_threads.proofs.lemmas.Sending.{shared_cells_sync}
+use Rattle.client_endpoints.proofs.lemmas.Sending.{shared_cells_sync}
 use Rattle.node_workers.specs.ThreadStates.{nodes_in, clients_in}
 use Rattle.node_workers.proofs.Sending.{state_send}
 use Rattle.node_workers.proofs.Working.{can_all}

@@ -5,7 +5,8 @@ use Rattle.phase_threads.specs.declared.thread_state.ThreadState.{ThreadState}
 use Rattle.phase_threads.specs.ThreadStates.{CanWork, DidWork}
 use Rattle.thread_work.specs.Pairwise.{Beside}
 use Rattle.thread_work.proofs.lemmas.Places.{written_back, made_beside}
-use Rattle.phase_threads.proofs.lemmas.Sending.{state_send, shared_cells_sync}
+use Rattle.client_endpoints.proofs.lemmas.Sending.{shared_cells_sync}
+use Rattle.phase_threads.proofs.lemmas.Sending.{state_send}
 use Rattle.phase_threads.proofs.thread_state.work_all.Goals as goal
 
 pub each-requires-send-P : goal.each-requires-send-P
