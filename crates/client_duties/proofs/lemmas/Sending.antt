@@ -10,7 +10,6 @@ use Rattle.atomic_table.specs.contracts.send_lease.SendLease as lease
 use Rattle.cross_sum.specs.contracts.bytes.Bytes as bytes
 use Rattle.cross_sum.specs.contracts.sum.CrossSum as sum
 use Rattle.wire_forms.specs.contracts.message.Message as message
-use Rattle.client_duties.specs.contracts.reads.GivenRead as given
 use Rattle.client_duties.specs.contracts.correct_client.CorrectClient as correct_client
 use Rattle.client_duties.specs.contracts.liar.Liar as liar
 use Rattle.client_duties.specs.contracts.work.ClientDuty as work
@@ -21,11 +20,8 @@ ruleset all = (lease_send, lease_sync, sendable, std.crosses, maps.crosses, over
 bytes_send : IsSend bytes.the_row
 bytes_send = search all depth 60 fits 50000
 
-given_send : IsSend given.the_row
-given_send = search (all, bytes_send) depth 40
-
 correct_field : IsSend correct_client.the_field.row
-correct_field = search (all, given_send, bytes_send) depth 60 fits 50000
+correct_field = search (all, bytes_send) depth 60 fits 50000
 
 liar_field : IsSend liar.the_field.row
 liar_field = search (all, message_send) depth 60 fits 50000
