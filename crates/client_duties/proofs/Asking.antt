@@ -1,17 +1,13 @@
 -- An ask of a client in turn, and its crash: both go by the plan.
-use Rattle.std.proofs.Common.{◌≡◌, ℕ, ◌-◌, ◌*◌, ◌^◌, ◌%◌, ◌<◌, ◌≤◌, Bool, true, false, cond, List, [], ◌∷◌, ◌++◌, length, All, Option, refl, sym, ap, subst, ◌∙◌, arith}
+use Rattle.std.proofs.Common.{◌≡◌, ℕ, ◌-◌, ◌*◌, ◌^◌, ◌%◌, ◌<◌, ◌≤◌, Bool, true, false, cond, [], ◌∷◌, ◌++◌, Option, refl, sym, ap, subst, ◌∙◌, arith}
 use Rattle.std.specs.declared.option.Option.TheVariants.{None, Some}
 use Rattle.std.specs.Option.{IsSome}
 use Rattle.std.specs.Prelude.{nat_lt}
-use Rattle.std.proofs.lemmas.List.Elements.{All-push}
 use Rattle.quorum_rules.specs.Limits.{Numbers}
-use Rattle.stamp_order.specs.declared.Stamp.{Stamp}
-use Rattle.protocol.specs.Count.{one_more}
 use Rattle.protocol.specs.Messages.{Tag, Message}
 use Rattle.protocol.specs.Instance.{setting}
 use Rattle.protocol.specs.Operations.{Outcome, outstanding}
 use Rattle.protocol.specs.Seen.{SeenTask, outstanding_of, phase_of, ops_of, task_at as whole_task}
-use Rattle.run_words.specs.declared.outcome.Outcome.TheVariants.{Wrote, Spent, Gave, Outvoted}
 use Rattle.journals.specs.declared.desk.Way.{Way}
 use Rattle.journals.specs.declared.desk.DeskAct.TheVariants.{Crash, Call}
 use Rattle.journals.specs.declared.desk.DeskEntry.{DeskEntry}
@@ -22,14 +18,10 @@ use Rattle.plan_followed.specs.Clients.{InEach, GoesByPlan, IsNext, IsCutOff, cl
 use Rattle.plan_followed.proofs.lemmas.Entries as followed
 use Rattle.client_endpoints.specs.Endpoint.{IsAskOn, AsksOn}
 use Rattle.client_duties.specs.declared.correct_client.CorrectClient.{CorrectClient}
-use Rattle.client_duties.specs.declared.reads.GivenRead.{GivenRead}
-use Rattle.client_duties.specs.ClientDuty.{given_by, all_given, asks_left, Counts, HasReads, Goes, IsWholeIn, counted, HasCounted, IsOn}
-use Rattle.client_duties.proofs.Heard.{numbered, EndedWith, GoesOnWith, told_on, told_end}
+use Rattle.client_duties.specs.ClientDuty.{asks_left, Counts, Goes, counted, HasCounted, IsOn}
+use Rattle.client_duties.proofs.Heard.{numbered, GoesOnWith, told_on, told_end}
 use Rattle.client_duties.proofs.Going.{state_is, same_times, counts_more, way_is}
 use Rattle.journals.proofs.lemmas.Lists.{state_snoc}
-
-abbrev read_of : ℕ → Stamp → List ℕ → GivenRead
-read_of block stamp value = record { block = block; stamp = stamp; value = value }
 
 -- what is asked of a node is to it, and of the phase and the operation under way
 asked_is : (config : Numbers) (id node : ℕ) (t : SeenTask) (ask : Message) → outstanding_of (setting config) id (Some t) node ≡ Some ask → (ask.node ≡ node) × (ask.tag ≡ record { op = t.op; phase = t.phase })
@@ -103,9 +95,6 @@ module _ (w w' : CorrectClient) (d : DeskView) (n node : ℕ) (way : Way) (ask :
       (subst (λ (i : ℕ). HasCounted w i way w') (sym to) count)
 
   -- the client after the entry
-  after_is : client_after w.plan.value w.client (d.entries ++ e ∷ []) ≡ desk_told (state_at d) n reply
-  after_is = state_snoc (new_desk w.plan.value.config w.client) d.entries e ∙ ap (λ (x : DeskState). desk_told x n reply) (state_is w d g.its)
-
   now_is : state_at (with_call d n (Call way ask reply)) ≡ desk_told (state_at d) n reply
   now_is = state_snoc (new_desk d.config d.id) d.entries e
 
@@ -114,22 +103,11 @@ module _ (w w' : CorrectClient) (d : DeskView) (n node : ℕ) (way : Way) (ask :
     goes_with : GoesOnWith (state_at d) (desk_told (state_at d) n reply) t
     goes_with = told_on (state_at d) n t reply busy on
 
-    same_reads : all_given (state_at d).ended ≡ all_given (client_after w.plan.value w.client (d.entries ++ e ∷ [])).ended
-    same_reads = ap all_given (sym goes_with.ended) ∙ ap (λ (x : DeskState). all_given x.ended) (sym after_is)
-
-    reads_on : HasReads (counted w node count.was) (d.entries ++ e ∷ [])
-    reads_on = record {
-      all = g.reads.all ∙ ap (λ (x : DeskState). all_given x.ended) (state_is w d g.its) ∙ same_reads;
-      inside = g.reads.inside;
-      whole = g.reads.whole;
-    }
-
     inner_on : Goes (counted w node count.was) (with_call d n (Call way ask reply))
     inner_on = record {
-      its = record { same = g.its.same; config = g.its.config; id = g.its.id; correct = g.its.correct };
+      its = record { valid = g.its.valid; same = g.its.same; config = g.its.config; id = g.its.id; correct = g.its.correct };
       acts = by_plan;
       counts = subst (λ (x : CorrectClient). Counts x (d.entries ++ e ∷ [])) count.is counts_on;
-      reads = reads_on;
     }
 
     pub asked_goes : Goes w' (with_call d n (Call way ask reply))
@@ -142,56 +120,16 @@ module _ (w w' : CorrectClient) (d : DeskView) (n node : ℕ) (way : Way) (ask :
     asked_up q = ap (λ (x : DeskState). x.crashed) now_is ∙ (Rattle.client_duties.proofs.Heard.told_stays (state_at d) n reply).crashed ∙ q
 
   -- its answer ends the operation
-  module _ (outcome : Outcome) (end : ending (state_at d).client reply ≡ Some outcome) (block : ℕ) (on : t.block ≡ block) where
-    ended_with : EndedWith (state_at d) (desk_told (state_at d) n reply) t outcome
-    ended_with = told_end (state_at d) n t reply outcome busy end
-
-    abbrev noted : CorrectClient → CorrectClient
-    noted x = record x { reads = one_more x.reads (given_by block outcome) }
-
-    more_reads : one_more w.reads (given_by block outcome) ≡ all_given (client_after w.plan.value w.client (d.entries ++ e ∷ [])).ended
-    more_reads =
-        ap (λ (x : List GivenRead). one_more x (given_by block outcome)) (g.reads.all ∙ ap (λ (x : DeskState). all_given x.ended) (state_is w d g.its))
-        ∙ ap (λ (k : ℕ). one_more (all_given (state_at d).ended) (given_by k outcome)) (sym on)
-        ∙ sym ended_with.given
-        ∙ ap (λ (x : DeskState). all_given x.ended) (sym after_is)
-
-    more_inside : block < w.plan.value.config.blocks → All (λ r. r.block < w.plan.value.config.blocks) (one_more w.reads (given_by block outcome))
-    more_inside l = at (given_by block outcome) refl
-      where
-        of_block : (x : Outcome) (r : GivenRead) → given_by block x ≡ Some r → r.block ≡ block
-        of_block (Wrote stamp) r q = absurd (cc)
-        of_block Spent r q = absurd (cc)
-        of_block (Gave stamp value how rounds) r q = let same : read_of block stamp value ≡ r = cc in ap (λ (x : GivenRead). x.block) (sym same)
-        of_block (Outvoted nodes) r q = absurd (cc)
-
-        at : (o : Option GivenRead) → given_by block outcome ≡ o → All (λ r. r.block < w.plan.value.config.blocks) (one_more w.reads o)
-        at None q = g.reads.inside
-        at (Some r) q = All-push (λ r. r.block < w.plan.value.config.blocks) w.reads r g.reads.inside (let b = of_block outcome r q in omega arith)
-
-    more_whole : IsWholeIn w.plan.value.config.size (given_by block outcome) → All (λ r. length r.value ≡ w.plan.value.config.size) (one_more w.reads (given_by block outcome))
-    more_whole = at (given_by block outcome)
-      where
-        at : (o : Option GivenRead) → IsWholeIn w.plan.value.config.size o → All (λ r. length r.value ≡ w.plan.value.config.size) (one_more w.reads o)
-        at None h = g.reads.whole
-        at (Some r) h = All-push (λ r. length r.value ≡ w.plan.value.config.size) w.reads r g.reads.whole h
-
-    pub ended_goes : block < w.plan.value.config.blocks → IsWholeIn w.plan.value.config.size (given_by block outcome) → Goes (noted w') (with_call d n (Call way ask reply))
-    ended_goes l h = subst (λ (x : CorrectClient). Goes (noted x) (with_call d n (Call way ask reply))) (sym count.is) inner
-      where
-        held : Counts (counted w node count.was) (d.entries ++ e ∷ [])
-        held = subst (λ (x : CorrectClient). Counts x (d.entries ++ e ∷ [])) count.is counts_on
-
-        inner : Goes (noted (counted w node count.was)) (with_call d n (Call way ask reply))
-        inner = record {
-          its = record { same = g.its.same; config = g.its.config; id = g.its.id; correct = g.its.correct };
-          acts = by_plan;
-          counts = record { nodes = held.nodes; ways = held.ways; left = held.left; few = held.few };
-          reads = record { all = more_reads; inside = more_inside l; whole = more_whole h };
-        }
+  module _ (outcome : Outcome) (end : ending (state_at d).client reply ≡ Some outcome) where
+    pub ended_goes : Goes w' (with_call d n (Call way ask reply))
+    ended_goes = subst (λ (x : CorrectClient). Goes x (with_call d n (Call way ask reply))) (sym count.is) (record {
+      its = record { valid = g.its.valid; same = g.its.same; config = g.its.config; id = g.its.id; correct = g.its.correct };
+      acts = by_plan;
+      counts = subst (λ (x : CorrectClient). Counts x (d.entries ++ e ∷ [])) count.is counts_on;
+    })
 
     pub ended_idle : task_at (with_call d n (Call way ask reply)) ≡ None
-    ended_idle = ap (λ (x : DeskState). x.client.seen.task) now_is ∙ ended_with.task
+    ended_idle = ap (λ (x : DeskState). x.client.seen.task) now_is ∙ told_end (state_at d) n reply outcome end
 
     pub ended_up : (state_at d).crashed ≡ false → (state_at (with_call d n (Call way ask reply))).crashed ≡ false
     ended_up q = ap (λ (x : DeskState). x.crashed) now_is ∙ (Rattle.client_duties.proofs.Heard.told_stays (state_at d) n reply).crashed ∙ q

@@ -1,10 +1,10 @@
 -- A client that has done nothing stands before its first phase.
-use Rattle.std.proofs.Common.{◌≡◌, ℕ, zero, suc, ◌+◌, ◌-◌, ◌<◌, false, List, [], ◌++◌, length, map, take, All, Option, refl, sym, ap, subst, ◌∙◌, arith, inl}
+use Rattle.std.proofs.Common.{◌≡◌, ℕ, zero, suc, ◌+◌, ◌-◌, ◌<◌, false, List, [], ◌++◌, length, map, take, Option, refl, sym, ap, subst, ◌∙◌, arith, inl}
 use Rattle.std.specs.declared.option.Option.TheVariants.{None, Some}
 use Rattle.std.specs.Prelude.{slice_get}
 use Rattle.std.specs.List.{range_with_len}
-use Rattle.std.proofs.lemmas.List.Elements.{All-nil}
 use Rattle.std.proofs.lemmas.List.FromFn.{length-map-range_with_len}
+use Rattle.quorum_rules.specs.Limits.{IsValid}
 use Rattle.block_device.specs.declared.steps.BlockStep.{BlockStep}
 use Rattle.plan_words.specs.declared.plan.Plan.{Plan}
 use Rattle.client_desks.specs.Desks.{DeskView}
@@ -16,8 +16,7 @@ use Rattle.client_duties.specs.declared.task.ClientTask.{ClientTask}
 use Rattle.client_duties.specs.Phases.{all_steps}
 use Rattle.client_duties.specs.Tasks.{ways_of, IsClientTask}
 use Rattle.client_duties.specs.declared.correct_client.CorrectClient.{CorrectClient}
-use Rattle.client_duties.specs.declared.reads.GivenRead.{GivenRead}
-use Rattle.client_duties.specs.ClientDuty.{ways_left, asks_left, phase_in, steps_of_first, HasSteps, Counts, HasReads, IsReady}
+use Rattle.client_duties.specs.ClientDuty.{ways_left, asks_left, phase_in, steps_of_first, HasSteps, Counts, IsReady}
 
 get_range : {A : Type 0} (f : ℕ → A) (from n i : ℕ) → i < n → slice_get (map f (range_with_len from n)) i ≡ Some (f (from + i))
 get_range f from zero i l = absurd (omega arith)
@@ -61,8 +60,8 @@ module _ (plan : Plan) (t : ClientTask) (h : IsClientTask plan t) where
       ap (λ (ws : List Ways). slice_get ws i) h.ways ∙ get_range (ways_of plan.rules t.client) 0 plan.config.n i l ∙ ap (λ (k : ℕ). Some (ways_of plan.rules t.client k)) e
       ∙ ap Some (none_asked (drops plan.rules t.client i) (holds plan.rules t.client i))
 
-module _ (w : CorrectClient) (t : ClientTask) (d : DeskView) (h : IsClientTask w.plan.value t) (same : w.config ≡ w.plan.value.config) (client : w.client ≡ t.client) (phases : w.phases.items ≡ t.phases)
-    (ways : w.ways ≡ t.ways) (crash : w.crash_after ≡ t.crash_after) (reads : w.reads ≡ []) (config : d.config ≡ w.plan.value.config) (id : d.id ≡ w.client) (correct : d.lying ≡ false) (entries : d.entries ≡ []) where
+module _ (w : CorrectClient) (t : ClientTask) (d : DeskView) (h : IsClientTask w.plan.value t) (valid : IsValid w.plan.value.config) (same : w.config ≡ w.plan.value.config) (client : w.client ≡ t.client) (phases : w.phases.items ≡ t.phases)
+    (ways : w.ways ≡ t.ways) (crash : w.crash_after ≡ t.crash_after) (config : d.config ≡ w.plan.value.config) (id : d.id ≡ w.client) (correct : d.lying ≡ false) (entries : d.entries ≡ []) where
   counts_none : Counts w []
   counts_none = record {
     nodes = ap length (ways ∙ h.ways) ∙ length-map-range_with_len (ways_of w.plan.value.rules t.client) 0 w.plan.value.config.n;
@@ -70,13 +69,6 @@ module _ (w : CorrectClient) (t : ClientTask) (d : DeskView) (h : IsClientTask w
         ∙ ap (λ (c : ℕ). Some (ways_left (drops w.plan.value.rules c i) (holds w.plan.value.rules c i) 0)) (sym client);
     left = crash ∙ h.crash ∙ ap (client_crash w.plan.value.rules) (sym client) ∙ all_left (client_crash w.plan.value.rules w.client);
     few = λ count e. omega arith;
-  }
-
-  reads_none : HasReads w []
-  reads_none = record {
-    all = reads;
-    inside = subst (All (λ r. r.block < w.plan.value.config.blocks)) (sym reads) (All-nil (λ (r : GivenRead). r.block < w.plan.value.config.blocks));
-    whole = subst (All (λ r. length r.value ≡ w.plan.value.config.size)) (sym reads) (All-nil (λ (r : GivenRead). length r.value ≡ w.plan.value.config.size));
   }
 
   steps_all : HasSteps w.plan.value w.client w.phases.items
@@ -94,10 +86,9 @@ module _ (w : CorrectClient) (t : ClientTask) (d : DeskView) (h : IsClientTask w
   begins = record {
     stands = record {
       goes = record {
-        its = record { same = same; config = config; id = id; correct = correct };
+        its = record { valid = valid; same = same; config = config; id = id; correct = correct };
         acts = subst (InEach (GoesByPlan w.plan.value w.client)) (sym entries) (followed.each_in (GoesByPlan w.plan.value w.client) [] tt);
         counts = subst (Counts w) (sym entries) counts_none;
-        reads = subst (HasReads w) (sym entries) reads_none;
       };
       done = subst (IsDone w.plan.value w.client (steps_of_first w.plan.value w.client (phase_in w.plan.value w.phases.items))) (sym entries) done_none;
       steps = steps_all;

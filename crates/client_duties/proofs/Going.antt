@@ -6,25 +6,26 @@ use Rattle.std.proofs.lemmas.Bool.Decides.{nat_tests}
 use Rattle.quorum_rules.specs.Limits.{Numbers}
 use Rattle.wire_forms.specs.declared.op.Op.{Op}
 use Rattle.block_device.specs.declared.steps.BlockStep.{BlockStep}
+use Rattle.block_device.specs.Ops.{op_of}
 use Rattle.protocol.specs.Messages.{Message}
 use Rattle.journals.specs.declared.desk.Way.{Way}
 use Rattle.journals.specs.declared.desk.Way.TheVariants.{Call as ByCall, Lose as ByLose, Hold as ByHold}
 use Rattle.journals.specs.declared.desk.DeskAct.{DeskAct}
 use Rattle.journals.specs.declared.desk.DeskAct.TheVariants.{Start, Crash, Call}
 use Rattle.journals.specs.declared.desk.DeskEntry.{DeskEntry}
-use Rattle.journals.specs.Desks.{DeskState, new_desk, desk_after, desk_after_all}
+use Rattle.journals.specs.Desks.{new_desk, desk_after_all}
+use Rattle.journals.specs.Records.{client_records}
 use Rattle.locked_nodes.specs.declared.cell_shard.CellShard.{CellShard}
 use Rattle.locked_nodes.specs.CellShards.{IsWholeAt}
 use Rattle.client_desks.specs.Desks.{DeskView, state_at, with_own, desk_entry}
 use Rattle.plan_followed.specs.Asked.{drops, holds, client_crash}
-use Rattle.plan_followed.specs.Clients.{client_after, times, starts, asks, asks_of, way_of, op_of}
+use Rattle.plan_followed.specs.Clients.{client_after, times, starts, asks, asks_of, way_of}
 use Rattle.plan_followed.proofs.lemmas.Entries as followed
 use Rattle.client_duties.specs.declared.task.Ways.{Ways}
 use Rattle.client_duties.specs.declared.correct_client.CorrectClient.{CorrectClient}
-use Rattle.client_duties.specs.ClientDuty.{all_given, ways_left, asks_left, every_step, IsItsDesk, Counts, HasReads, Goes, counted, HasCounted, HoldsWhole}
+use Rattle.client_duties.specs.ClientDuty.{ways_left, asks_left, every_step, IsItsDesk, Counts, Goes, counted, HasCounted, HoldsWhole}
 use Rattle.client_duties.proofs.Heard.{times_snoc}
 use Rattle.lists.proofs.lemmas.Members.{slice_get-set}
-use Rattle.journals.proofs.lemmas.Lists.{state_snoc}
 
 -- ---- lists
 
@@ -66,29 +67,20 @@ counts_still w es e not_ask none h = record {
   few = λ count q. let a = same_times asks es e not_ask in let b = h.few count q in omega arith;
 }
 
-reads_still : (w : CorrectClient) (es : List DeskEntry) (e : DeskEntry) → (desk_after (client_after w.plan.value w.client es) e.number e.act).ended ≡ (client_after w.plan.value w.client es).ended → HasReads w es → HasReads w (es ++ e ∷ [])
-reads_still w es e same h = record {
-  all = h.all ∙ ap all_given (sym same ∙ ap (λ (x : DeskState). x.ended) (sym (state_snoc (new_desk w.plan.value.config w.client) es e)));
-  inside = h.inside;
-  whole = h.whole;
-}
-
 -- it starts the operation of its next step
 pub start_goes : (w : CorrectClient) (d : DeskView) (n : ℕ) (op : Op) (step : BlockStep) → Goes w d → slice_get (every_step w.plan.value w.client) (times starts d.entries) ≡ Some step
-    → op ≡ op_of (client_after w.plan.value w.client d.entries) step → Goes w (with_own d n (Start op))
+    → op ≡ op_of w.plan.value.config.size w.client (client_records w.client (client_after w.plan.value w.client d.entries)) step → Goes w (with_own d n (Start op))
 start_goes w d n op step g next is = record {
-  its = record { same = g.its.same; config = g.its.config; id = g.its.id; correct = g.its.correct };
+  its = record { valid = g.its.valid; same = g.its.same; config = g.its.config; id = g.its.id; correct = g.its.correct };
   acts = followed.one_more w.plan.value w.client d.entries (desk_entry n (Start op)) g.acts (record { start = (step, next, is); turn = tt; way = tt });
   counts = counts_still w d.entries (desk_entry n (Start op)) refl (λ i. refl) g.counts;
-  reads = reads_still w d.entries (desk_entry n (Start op)) refl g.reads;
 }
 
 pub crash_goes : (w : CorrectClient) (d : DeskView) (n : ℕ) → Goes w d → Goes w (with_own d n Crash)
 crash_goes w d n g = record {
-  its = record { same = g.its.same; config = g.its.config; id = g.its.id; correct = g.its.correct };
+  its = record { valid = g.its.valid; same = g.its.same; config = g.its.config; id = g.its.id; correct = g.its.correct };
   acts = followed.one_more w.plan.value w.client d.entries (desk_entry n Crash) g.acts (record { start = tt; turn = tt; way = tt });
   counts = counts_still w d.entries (desk_entry n Crash) refl (λ i. refl) g.counts;
-  reads = reads_still w d.entries (desk_entry n Crash) refl g.reads;
 }
 
 -- ---- an ask

@@ -1,11 +1,9 @@
 -- What an entry more does to a client.
 use Rattle.std.proofs.Common.{◌≡◌, ℕ, ◌+◌, ◌*◌, ◌^◌, ◌==◌, Bool, true, false, cond, List, [], ◌∷◌, ◌++◌, Option, refl, sym, ap, subst, ◌∙◌, arith}
 use Rattle.std.specs.declared.option.Option.TheVariants.{None, Some}
-use Rattle.std.specs.List.{cons_option}
 use Rattle.std.proofs.lemmas.List.Sums.{sum_by-cons, sum_by_push}
 use Rattle.quorum_rules.specs.Limits.{Numbers}
 use Rattle.wire_forms.specs.declared.message.Body.TheVariants.{Ask as Asks, Answer as Answers}
-use Rattle.protocol.specs.Count.{one_more}
 use Rattle.protocol.specs.Messages.{Tag, Message, Body, Reply}
 use Rattle.protocol.specs.Setting.{Setting}
 use Rattle.protocol.specs.Instance.{setting}
@@ -17,10 +15,9 @@ use Rattle.operation_core.specs.Clients.{ClientView, told, hears}
 use Rattle.journals.specs.declared.desk.DeskAct.{DeskAct}
 use Rattle.journals.specs.declared.desk.DeskAct.TheVariants.{Start, Crash, Call}
 use Rattle.journals.specs.declared.desk.DeskEntry.{DeskEntry}
-use Rattle.journals.specs.Desks.{DeskState, Ended, new_desk, by_hearing, ended_by, desk_heard, desk_told, desk_after, desk_after_all}
+use Rattle.journals.specs.Desks.{DeskState, new_desk, by_hearing, desk_heard, desk_told, desk_after, desk_after_all}
 use Rattle.client_desks.specs.Desks.{outcome_in, ending}
 use Rattle.plan_followed.specs.Clients.{times, starts}
-use Rattle.client_duties.specs.ClientDuty.{given_by, all_given}
 
 -- ---- one entry more
 
@@ -71,12 +68,6 @@ pub record GoesOnWith (d new : DeskState) (t : SeenTask) : Type 0 where
   pub task : new.client.seen.task ≡ Some next
   pub op : next.op ≡ t.op
   pub block : next.block ≡ t.block
-  pub ended : new.ended ≡ d.ended
-
--- it ended with this outcome
-pub record EndedWith (d new : DeskState) (t : SeenTask) (outcome : Outcome) : Type 0 where
-  pub task : new.client.seen.task ≡ None
-  pub given : all_given new.ended ≡ one_more (all_given d.ended) (given_by t.block outcome)
 
 -- what stays
 pub record Stays (d new : DeskState) : Type 0 where
@@ -85,19 +76,6 @@ pub record Stays (d new : DeskState) : Type 0 where
   pub life : new.client.seen.life ≡ d.client.seen.life
   pub started : new.client.seen.started ≡ d.client.seen.started
   pub crashed : new.crashed ≡ d.crashed
-
-given_more : (xs : List Ended) (x : Ended) → all_given (one_more xs (Some x)) ≡ one_more (all_given xs) (given_by x.block x.outcome)
-given_more [] x = at (given_by x.block x.outcome)
-  where
-    at : {A : Type 0} (o : Option A) → cons_option o [] ≡ one_more [] o
-    at None = refl
-    at (Some y) = refl
-given_more (y ∷ xs) x = ap (cons_option (given_by y.block y.outcome)) (given_more xs x) ∙ at (given_by y.block y.outcome) (all_given xs) (given_by x.block x.outcome)
-  where
-    at : {A : Type 0} (o : Option A) (zs : List A) (p : Option A) → cons_option o (one_more zs p) ≡ one_more (cons_option o zs) p
-    at None zs p = refl
-    at (Some z) zs None = refl
-    at (Some z) zs (Some p) = refl
 
 heard_stays : (d : DeskState) (n : ℕ) (h : Hearing) → Stays d (desk_heard d n h)
 heard_stays d n Ignored = record { config = refl; id = refl; life = refl; started = refl; crashed = refl }
@@ -109,46 +87,27 @@ pub told_stays : (d : DeskState) (n : ℕ) (reply : Option Message) → Stays d 
 told_stays d n None = record { config = refl; id = refl; life = refl; started = refl; crashed = refl }
 told_stays d n (Some m) = heard_stays d n (hears d.client d.client.seen.task m)
 
-no_end : (start n : ℕ) (o : Option SeenTask) → ended_by start n o Ignored ≡ None
-no_end start n None = refl
-no_end start n (Some t) = refl
-
-no_end_counted : (start n : ℕ) (o : Option SeenTask) (u : SeenTask) → ended_by start n o (Counted u) ≡ None
-no_end_counted start n None u = refl
-no_end_counted start n (Some t) u = refl
-
-no_end_begins : (start n : ℕ) (o : Option SeenTask) (u : SeenTask) → ended_by start n o (Begins u) ≡ None
-no_end_begins start n None u = refl
-no_end_begins start n (Some t) u = refl
-
 goes_on : (d : DeskState) (n : ℕ) (t : SeenTask) (h : Hearing) → d.client.seen.task ≡ Some t → Keeps t h → outcome_in h ≡ None → GoesOnWith d (desk_heard d n h) t
-goes_on d n t Ignored e k f = record { next = t; task = e; op = refl; block = refl; ended = ap (one_more d.ended) (no_end d.began n d.client.seen.task) }
-goes_on d n t (Counted u) e k f = record { next = u; task = refl; op = k.0; block = k.1; ended = ap (one_more d.ended) (no_end_counted d.began n d.client.seen.task u) }
-goes_on d n t (Begins u) e k f = record { next = u; task = refl; op = k.0; block = k.1; ended = ap (one_more d.ended) (no_end_begins d.began n d.client.seen.task u) }
+goes_on d n t Ignored e k f = record { next = t; task = e; op = refl; block = refl }
+goes_on d n t (Counted u) e k f = record { next = u; task = refl; op = k.0; block = k.1 }
+goes_on d n t (Begins u) e k f = record { next = u; task = refl; op = k.0; block = k.1 }
 goes_on d n t (Ends outcome) e k f = absurd (cc)
 
-ends : (d : DeskState) (n : ℕ) (t : SeenTask) (h : Hearing) (outcome : Outcome) → d.client.seen.task ≡ Some t → outcome_in h ≡ Some outcome → EndedWith d (desk_heard d n h) t outcome
-ends d n t Ignored outcome e f = absurd (cc)
-ends d n t (Counted u) outcome e f = absurd (cc)
-ends d n t (Begins u) outcome e f = absurd (cc)
-ends d n t (Ends o) outcome e f =
-    let same : o ≡ outcome = cc in
-    record {
-      task = refl;
-      given = ap (λ (x : Option SeenTask). all_given (one_more d.ended (ended_by d.began n x (Ends o)))) e
-          ∙ given_more d.ended (record { block = t.block; work = t.work; start = d.began; end = n; outcome = o })
-          ∙ ap (λ (x : Outcome). one_more (all_given d.ended) (given_by t.block x)) same;
-    }
+ends : (d : DeskState) (n : ℕ) (h : Hearing) (outcome : Outcome) → outcome_in h ≡ Some outcome → (desk_heard d n h).client.seen.task ≡ None
+ends d n Ignored outcome f = absurd (cc)
+ends d n (Counted u) outcome f = absurd (cc)
+ends d n (Begins u) outcome f = absurd (cc)
+ends d n (Ends o) outcome f = refl
 
 -- a call whose answer ends nothing
 pub told_on : (d : DeskState) (n : ℕ) (t : SeenTask) (reply : Option Message) → d.client.seen.task ≡ Some t → ending d.client reply ≡ None → GoesOnWith d (desk_told d n reply) t
-told_on d n t None e f = record { next = t; task = e; op = refl; block = refl; ended = refl }
+told_on d n t None e f = record { next = t; task = e; op = refl; block = refl }
 told_on d n t (Some m) e f = goes_on d n t (hears d.client d.client.seen.task m) e (subst (λ (x : Option SeenTask). Keeps t (hears d.client x m)) (sym e) (hears_keep d.client t m)) f
 
 -- a call whose answer ends the operation
-pub told_end : (d : DeskState) (n : ℕ) (t : SeenTask) (reply : Option Message) (outcome : Outcome) → d.client.seen.task ≡ Some t → ending d.client reply ≡ Some outcome → EndedWith d (desk_told d n reply) t outcome
-told_end d n t None outcome e f = absurd (cc)
-told_end d n t (Some m) outcome e f = ends d n t (hears d.client d.client.seen.task m) outcome e f
+pub told_end : (d : DeskState) (n : ℕ) (reply : Option Message) (outcome : Outcome) → ending d.client reply ≡ Some outcome → (desk_told d n reply).client.seen.task ≡ None
+told_end d n None outcome f = absurd (cc)
+told_end d n (Some m) outcome f = ends d n (hears d.client d.client.seen.task m) outcome f
 
 -- ---- the numbers of operations
 

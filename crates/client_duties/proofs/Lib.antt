@@ -10,5 +10,4 @@ pub mod Phasing
 pub mod Beginning
 pub mod Running
 pub mod Mailing
-pub mod Opening
 pub mod Ending

@@ -1,46 +1,24 @@
 -- From step to step, and from phase to phase.
-use Rattle.std.proofs.Common.{◌≡◌, ◌⊎◌, ℕ, suc, ◌+◌, ◌<◌, ◌≤◌, ◌==◌, Bool, true, false, cond, List, [], ◌∷◌, ◌++◌, length, take, fold, All, refl, sym, ap, subst, ◌∙◌, arith, inl, inr, append_assoc, length-append}
-use Rattle.std.specs.declared.option.Option.TheVariants.{None, Some}
-use Rattle.std.specs.Prelude.{slice_get, unwrap_or}
-use Rattle.std.specs.List.{cons_option}
+use Rattle.std.proofs.Common.{◌≡◌, ◌⊎◌, ℕ, suc, ◌+◌, ◌<◌, ◌≤◌, false, List, [], ◌∷◌, ◌++◌, length, take, All, refl, sym, ap, subst, ◌∙◌, arith, inl, inr, append_assoc, length-append}
+use Rattle.std.specs.declared.option.Option.TheVariants.{Some}
+use Rattle.std.specs.Prelude.{slice_get}
 use Rattle.std.proofs.lemmas.List.{append-nil}
 use Rattle.std.proofs.lemmas.List.Elements.{All-from_recursion, recursion_from_All}
-use Rattle.quorum_rules.specs.Limits.{Numbers}
 use Rattle.block_device.specs.declared.steps.BlockStep.{BlockStep}
-use Rattle.block_device.specs.declared.steps.BlockStep.TheVariants.{Read, Whole, Merge}
 use Rattle.block_device.specs.Steps.{Fits}
-use Rattle.protocol.specs.Operations.{Outcome}
 use Rattle.protocol.specs.Seen.{block_of}
 use Rattle.wire_forms.specs.declared.op.Op.{Op}
-use Rattle.run_words.specs.declared.outcome.Outcome.TheVariants.{Wrote, Spent, Gave, Outvoted}
 use Rattle.plan_words.specs.declared.plan.Plan.{Plan}
 use Rattle.journals.specs.declared.desk.DeskAct.TheVariants.{Start}
-use Rattle.journals.specs.Desks.{DeskState, Ended, new_desk}
+use Rattle.journals.specs.Desks.{DeskState, new_desk}
 use Rattle.client_desks.specs.Desks.{DeskView, CanStart, state_at, with_own, desk_entry}
-use Rattle.plan_followed.specs.Clients.{IsCutOff, IsDone, times, starts, value_given, value_in, op_of}
+use Rattle.plan_followed.specs.Clients.{IsCutOff, IsDone, times, starts}
 use Rattle.client_duties.specs.Phases.{all_steps}
 use Rattle.client_duties.specs.declared.correct_client.CorrectClient.{CorrectClient}
-use Rattle.client_duties.specs.ClientDuty.{given_by, all_given, latest_given, phase_in, steps_of_first, every_step, HasSteps, StepsFit, Goes, Stands, IsAmid, IsAmidOrOff, IsOn, block_in, DidStep}
+use Rattle.client_duties.specs.ClientDuty.{phase_in, steps_of_first, every_step, HasSteps, StepsFit, Goes, Stands, IsAmid, IsAmidOrOff, IsOn, DidStep}
 use Rattle.client_duties.proofs.Heard.{numbered}
 use Rattle.client_duties.proofs.Going.{state_is, more_times}
 use Rattle.journals.proofs.lemmas.Lists.{state_snoc}
-
--- ---- reads
-
--- the latest read, from the reads that gave a value
-pub latest_is : (block : ℕ) (value : List ℕ) (xs : List Ended) → fold (λ v x. unwrap_or (value_given block x) v) value xs ≡ latest_given block value (all_given xs)
-latest_is block value [] = refl
-latest_is block value (x ∷ xs) = at (λ (v : List ℕ). latest_is block v xs) x.outcome (x.block == block) refl
-  where
-    at : ((v : List ℕ) → fold (λ a y. unwrap_or (value_given block y) a) v xs ≡ latest_given block v (all_given xs)) → (o : Outcome) (b : Bool) → (x.block == block) ≡ b → fold (λ v y. unwrap_or (value_given block y) v) (unwrap_or (cond b (value_in o) None) value) xs ≡ latest_given block value (cons_option (given_by x.block o) (all_given xs))
-    at ih (Wrote stamp) true e = ih value
-    at ih (Wrote stamp) false e = ih value
-    at ih Spent true e = ih value
-    at ih Spent false e = ih value
-    at ih (Outvoted nodes) true e = ih value
-    at ih (Outvoted nodes) false e = ih value
-    at ih (Gave stamp given how rounds) true e = ih given ∙ ap (λ (z : Bool). latest_given block (cond z given value) (all_given xs)) (sym e)
-    at ih (Gave stamp given how rounds) false e = ih value ∙ ap (λ (z : Bool). latest_given block (cond z given value) (all_given xs)) (sym e)
 
 -- ---- steps
 
@@ -144,16 +122,6 @@ phase_done w d g (inl a) =
 phase_done w d g (inr f) = inr f
 
 -- ---- starts
-
-pub op_block : (d : DeskState) (step : BlockStep) → block_of (op_of d step) ≡ block_in step
-op_block d (Read k) = refl
-op_block d (Whole k value) = refl
-op_block d (Merge k at bytes) = refl
-
-pub fits_block : (config : Numbers) (step : BlockStep) → Fits config step → block_in step < config.blocks
-fits_block config (Read k) h = h
-fits_block config (Whole k value) h = h.0
-fits_block config (Merge k at bytes) h = h.0
 
 pub start_on : (d : DeskView) (n : ℕ) (op : Op) (block : ℕ) → block_of op ≡ block → IsOn block (with_own d n (Start op))
 start_on d n op block e =

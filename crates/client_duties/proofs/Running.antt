@@ -1,5 +1,5 @@
 -- What a call of the next node leaves, and what a worker is after it.
-use Rattle.std.proofs.Common.{◌≡◌, ℕ, inl, inr, ◌+◌, ◌%◌, ◌<◌, ◌≤◌, false, List, [], ◌∷◌, ◌++◌, Option, refl, sym, ap, subst, ◌∙◌, append-nil, append_assoc}
+use Rattle.std.proofs.Common.{◌≡◌, ℕ, inl, inr, ◌+◌, ◌%◌, ◌<◌, ◌≤◌, false, List, Option, refl, sym, ap, subst, ◌∙◌}
 use Rattle.std.specs.declared.option.Option.TheVariants.{None, Some}
 use Rattle.std.specs.declared.result.Result.{Result}
 use Rattle.std.specs.declared.result.Result.TheVariants.{Ok, Err}
@@ -8,57 +8,46 @@ use Rattle.std.specs.Prelude.{OnOk, slice_get}
 use Rattle.quorum_rules.specs.Limits.{Numbers}
 use Rattle.wire_forms.specs.declared.op.Op.{Op}
 use Rattle.block_device.specs.declared.steps.BlockStep.{BlockStep}
+use Rattle.block_device.specs.Latest.{AreWhole}
+use Rattle.block_device.specs.Ops.{op_of}
 use Rattle.locked_nodes.specs.declared.answers.CellRefusal.{CellRefusal}
 use Rattle.locked_nodes.specs.declared.cell_shard.CellShard.{CellShard}
 use Rattle.plan_words.specs.declared.plan.Plan.{Plan}
 use Rattle.plan_followed.specs.Asked.{holds}
-use Rattle.protocol.specs.Count.{one_more}
 use Rattle.protocol.specs.Operations.{Outcome}
+use Rattle.protocol.specs.World.{Record}
 use Rattle.protocol.specs.Seen.{block_of}
 use Rattle.journals.specs.declared.desk.Way.{Way}
 use Rattle.journals.specs.declared.desk.DeskAct.TheVariants.{Start, Crash, Call}
-use Rattle.journals.specs.Desks.{new_desk}
-use Rattle.client_desks.specs.Desks.{DeskView, CanStart, state_at, task_at, with_own, desk_entry}
+use Rattle.journals.specs.Records.{client_records}
+use Rattle.client_desks.specs.Desks.{DeskView, CanStart, state_at, task_at, records_at, with_own, desk_entry}
 use Rattle.client_endpoints.specs.Endpoint.{EndpointView, SharedCellsView, Fit, HasCalled, fixed, refusal_in}
 use Rattle.client_desks.specs.Later.{IsLater}
-use Rattle.plan_followed.specs.Clients.{IsNext, client_after, op_of, last_of, turn_after, times, starts}
+use Rattle.plan_followed.specs.Clients.{IsNext, client_after, last_of, turn_after, times, starts}
 use Rattle.client_duties.specs.declared.correct_client.CorrectClient.{CorrectClient}
-use Rattle.client_duties.specs.declared.reads.GivenRead.{GivenRead}
-use Rattle.client_duties.specs.ClientDuty.{given_by, every_step, Goes, IsWholeIn, HasCounted, HasAskedOn, IsOn, IsOpOf, IsSame, MoreReads, HoldsWhole, block_in}
-use Rattle.client_duties.proofs.Heard.{config_all}
-use Rattle.client_duties.proofs.Going.{same_times, start_goes, crash_goes}
+use Rattle.client_duties.specs.ClientDuty.{every_step, Goes, HasCounted, HasAskedOn, IsOn, IsSame, HoldsWhole}
+use Rattle.client_duties.proofs.lemmas.Given.{given_whole}
+use Rattle.client_duties.proofs.Going.{state_is, same_times, start_goes, crash_goes}
 use Rattle.client_duties.proofs.Asking.{tag_at, asked_goes, asked_on, asked_up, ended_goes, ended_idle, ended_up, crash_cuts}
-use Rattle.client_duties.proofs.Phasing.{op_block, start_on, start_up, start_counts}
+use Rattle.client_duties.proofs.Phasing.{start_on, start_up, start_counts}
 
 -- ---- the same worker
 
 pub same_self : (w : CorrectClient) → IsSame w w
-same_self w = record { plan = refl; client = refl; reads = ([], sym (append-nil w.reads)) }
+same_self w = record { plan = refl; client = refl }
 
 pub same_on : (a b c : CorrectClient) → IsSame a b → IsSame b c → IsSame a c
 same_on a b c x y = record {
   plan = y.plan ∙ x.plan;
   client = y.client ∙ x.client;
-  reads = (x.reads.0 ++ y.reads.0, y.reads.1 ∙ ap (λ (rs : List GivenRead). rs ++ y.reads.0) x.reads.1 ∙ append_assoc a.reads x.reads.0 y.reads.0);
 }
 
 pub whole_on : (a b : CorrectClient) (cell_shards : List CellShard) → IsSame a b → HoldsWhole a cell_shards → HoldsWhole b cell_shards
 whole_on a b cell_shards x whole node some =
     whole node (subst (λ (c : ℕ). 0 < holds a.plan.value.rules c node) x.client (subst (λ (p : Plan). 0 < holds p.rules b.client node) x.plan some))
 
--- a worker that noted what an operation gave
-abbrev pub noted_by : CorrectClient → ℕ → Outcome → CorrectClient
-noted_by w block outcome = record w { reads = one_more w.reads (given_by block outcome) }
-
-more_of : (rs : List GivenRead) (o : Option GivenRead) → MoreReads rs (one_more rs o)
-more_of rs None = ([], sym (append-nil rs))
-more_of rs (Some r) = (r ∷ [], refl)
-
 pub same_counted : (w w' : CorrectClient) (node : ℕ) (way : Way) → HasCounted w node way w' → IsSame w w'
-same_counted w w' node way c = subst (IsSame w) (sym c.is) (record { plan = refl; client = refl; reads = ([], sym (append-nil w.reads)) })
-
-pub same_noted : (w : CorrectClient) (block : ℕ) (outcome : Outcome) → IsSame w (noted_by w block outcome)
-same_noted w block outcome = record { plan = refl; client = refl; reads = more_of w.reads (given_by block outcome) }
+same_counted w w' node way c = subst (IsSame w) (sym c.is) (record { plan = refl; client = refl })
 
 pub counted_phases : (w w' : CorrectClient) (node : ℕ) (way : Way) → HasCounted w node way w' → w'.phases.items ≡ w.phases.items
 counted_phases w w' node way c = ap (λ (x : CorrectClient). x.phases.items) c.is
@@ -98,14 +87,13 @@ call_on w w' d d' node way block m on h =
       starts = same_times starts d.entries (desk_entry n (Call way h.ask h.reply)) refl;
     })
 
-pub call_ends : (w w' : CorrectClient) (d d' : DeskView) (node : ℕ) (way : Way) (block : ℕ) (outcome : Outcome) → MayCall w w' d node way → IsOn block d → HasCalled d node way (Some outcome) d'
-    → block < w.plan.value.config.blocks → IsWholeIn w.plan.value.config.size (given_by block outcome) → CallEnds (noted_by w' block outcome) d d'
-call_ends w w' d d' node way block outcome m on h l whole =
+pub call_ends : (w w' : CorrectClient) (d d' : DeskView) (node : ℕ) (way : Way) (block : ℕ) (outcome : Outcome) → MayCall w w' d node way → IsOn block d → HasCalled d node way (Some outcome) d' → CallEnds w' d d'
+call_ends w w' d d' node way block outcome m on h =
     let n = h.call.number in
-    subst (CallEnds (noted_by w' block outcome) d) (sym h.call.desk) (record {
-      goes = ended_goes w w' d n node way h.ask h.reply on.0 m.goes on.1 h.asked m.below m.left m.count m.next outcome (sym h.ended) block on.2 l whole;
-      idle = ended_idle w w' d n node way h.ask h.reply on.0 m.goes on.1 h.asked m.below m.left m.count m.next outcome (sym h.ended) block on.2;
-      up = ended_up w w' d n node way h.ask h.reply on.0 m.goes on.1 h.asked m.below m.left m.count m.next outcome (sym h.ended) block on.2 m.up;
+    subst (CallEnds w' d) (sym h.call.desk) (record {
+      goes = ended_goes w w' d n node way h.ask h.reply on.0 m.goes on.1 h.asked m.below m.left m.count m.next outcome (sym h.ended);
+      idle = ended_idle w w' d n node way h.ask h.reply on.0 m.goes on.1 h.asked m.below m.left m.count m.next outcome (sym h.ended);
+      up = ended_up w w' d n node way h.ask h.reply on.0 m.goes on.1 h.asked m.below m.left m.count m.next outcome (sym h.ended) m.up;
       starts = same_times starts d.entries (desk_entry n (Call way h.ask h.reply)) refl;
     })
 
@@ -158,19 +146,18 @@ module _ (from w w' : CorrectClient) (first endpoint endpoint' : EndpointView) (
         starts = x.starts ∙ a.starts;
       }
 
-  -- the operation ended, and the worker noted what it gave
-  pub asked_out : (answer : Option Outcome) (outcome : Outcome) (new : CorrectClient) → answer ≡ Some outcome → HasCalled endpoint.desk node way answer endpoint'.desk → block < w.plan.value.config.blocks
-      → IsWholeIn w'.config.size (given_by block outcome) → new ≡ noted_by w' block outcome → HasAskedOn from first.desk new endpoint'.desk
-  asked_out answer outcome new e h l whole is =
-      let size : w'.config.size ≡ w.plan.value.config.size = ap (λ (x : CorrectClient). x.config.size) m.count.is ∙ ap (λ (n : Numbers). n.size) m.goes.its.same in
-      let x = call_ends w w' endpoint.desk endpoint'.desk node way block outcome m a.on (subst (λ (o : Option Outcome). HasCalled endpoint.desk node way o endpoint'.desk) e h) l (subst (λ (k : ℕ). IsWholeIn k (given_by block outcome)) size whole) in
-      subst (λ (v : CorrectClient). HasAskedOn from first.desk v endpoint'.desk) (sym is) (record {
-        same = same_on from w' (noted_by w' block outcome) (same_on from w w' a.same (same_counted w w' node way m.count)) (same_noted w' block outcome);
+  -- the operation ended
+  pub asked_out : (answer : Option Outcome) → IsSome answer → HasCalled endpoint.desk node way answer endpoint'.desk → HasAskedOn from first.desk w' endpoint'.desk
+  asked_out None some h = absurd (cc)
+  asked_out (Some outcome) some h =
+      let x = call_ends w w' endpoint.desk endpoint'.desk node way block outcome m a.on h in
+      record {
+        same = same_on from w w' a.same (same_counted w w' node way m.count);
         phases = counted_phases w w' node way m.count ∙ a.phases;
         goes = x.goes;
         starts = x.starts ∙ a.starts;
         over = inl (x.idle, x.up);
-      })
+      }
 
 -- no ask was left, and the client crashed
 pub crashed_out : (from w : CorrectClient) (first endpoint : EndpointView) (shared_cells : SharedCellsView) (block : ℕ) (d' : DeskView) → IsAsking from w first endpoint shared_cells block → w.crash_after ≡ Some 0
@@ -195,14 +182,25 @@ pub record HasBegun (w : CorrectClient) (block : ℕ) (before d : DeskView) : Ty
   pub on : IsOn block d
   pub starts : times starts d.entries ≡ times starts before.entries + 1
 
-pub begun : (w : CorrectClient) (d d' : DeskView) (step : BlockStep) (op : Op) (block : ℕ) → Goes w d → CanStart d → slice_get (every_step w.plan.value w.client) (times starts d.entries) ≡ Some step → IsOpOf w step op → block ≡ block_in step
+pub begun : (w : CorrectClient) (d seen d' : DeskView) (records : List Record) (step : BlockStep) (op : Op) (block : ℕ) → Goes w d → CanStart d → slice_get (every_step w.plan.value w.client) (times starts d.entries) ≡ Some step
+    → seen ≡ d → records ≡ records_at seen → op ≡ op_of w.config.size w.client records step → block ≡ block_of op
     → ((n : ℕ) × (d.pass.seen ≤ n) × (d' ≡ with_own d n (Start op))) → HasBegun w block d d'
-begun w d d' step op block g can next o b s =
+begun w d seen d' records step op block g can next same told o b s =
     let now = client_after w.plan.value w.client d.entries in
-    let is : op ≡ op_of now step = o.is now (config_all (new_desk w.plan.value.config w.client) d.entries ∙ sym g.its.same) g.reads.all in
+    let all : records ≡ client_records w.client now =
+    told ∙ ap records_at same ∙ ap (λ (c : ℕ). client_records c (state_at d)) g.its.id ∙ ap (client_records w.client) (sym (state_is w d g.its)) in
+    let is : op ≡ op_of w.plan.value.config.size w.client (client_records w.client now) step =
+    o ∙ ap (λ (c : Numbers). op_of c.size w.client records step) g.its.same ∙ ap (λ (rs : List Record). op_of w.plan.value.config.size w.client rs step) all in
     subst (HasBegun w block d) (sym s.2) (record {
       goes = start_goes w d s.0 op step g next is;
       up = start_up d s.0 op can.up.up;
-      on = start_on d s.0 op block (ap block_of is ∙ op_block now step ∙ sym b);
+      on = start_on d s.0 op block (sym b);
       starts = start_counts d s.0 op;
     })
+
+-- what the client's reads gave is as long as a block
+pub reads_whole : (w : CorrectClient) (d seen : DeskView) (records : List Record) → Goes w d → seen ≡ d → records ≡ records_at seen → AreWhole w.config.size records
+reads_whole w d seen records g same told =
+    let config : d.config ≡ w.config = g.its.config ∙ sym g.its.same in
+    subst (λ (c : Numbers). AreWhole c.size records) config (subst (AreWhole d.config.size) (sym (told ∙ ap records_at same))
+    (given_whole d.config (subst (λ (c : Numbers). 1 ≤ c.m) (sym g.its.config) g.its.valid.shares.0) d.id d.entries))

@@ -9,12 +9,13 @@ use Rattle.line_forms.specs.declared.cause.DeviceFault.{DeviceFault}
 use Rattle.wire_forms.specs.declared.device.DeviceOp.{DeviceOp}
 use Rattle.block_device.specs.declared.steps.BlockStep.{BlockStep}
 use Rattle.block_device.specs.Ranges.{fault_of}
+use Rattle.block_device.specs.Ops.{step_of}
 use Rattle.block_device.specs.Steps.{steps_of}
 use Rattle.plan_words.specs.declared.job.Job.{Job}
 use Rattle.plan_words.specs.declared.job.Job.TheVariants.{Block, Device, Phase}
 use Rattle.plan_words.specs.Named.{is_phase}
 use Rattle.plan_words.specs.Plans.{step_count, steps_unless, step_limit, device_fault}
-use Rattle.plan_followed.specs.Asked.{step_of, steps_in, steps_for, first_phases}
+use Rattle.plan_followed.specs.Asked.{steps_in, steps_for, first_phases}
 use Rattle.client_duties.specs.Phases.{all_steps, with_steps, phases_in}
 
 take_none : (k : ℕ) → ◌≡◌ {A = List (List BlockStep)} (take k []) []

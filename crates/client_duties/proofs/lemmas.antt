@@ -1,2 +1,3 @@
 -- What proofs of other crates may cite.
 pub mod Sending
+pub mod Given

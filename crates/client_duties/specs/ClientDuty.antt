@@ -1,48 +1,27 @@
 -- When the threads of clients do what the plan says.
-use Rattle.std.specs.Prelude.{◌≡◌, ◌⊎◌, ℕ, ◌+◌, ◌-◌, ◌%◌, ◌<◌, ◌≤◌, ◌==◌, if◌then◌else◌, true, false, List, [], ◌++◌, length, take, fold, count_by, All, Option, slice_get, slice_set}
+use Rattle.std.specs.Prelude.{◌≡◌, ◌⊎◌, ℕ, ◌+◌, ◌-◌, ◌%◌, ◌<◌, ◌≤◌, true, false, List, [], ◌++◌, length, take, count_by, All, Option, slice_get, slice_set}
 use Rattle.std.specs.declared.option.Option.TheVariants.{None, Some}
-use Rattle.std.specs.List.{filter_map}
 use Rattle.block_device.specs.declared.steps.BlockStep.{BlockStep}
-use Rattle.block_device.specs.declared.steps.BlockStep.TheVariants.{Read, Whole, Merge}
 use Rattle.block_device.specs.Steps.{Fits}
-use Rattle.wire_forms.specs.declared.op.Op.{Op}
-use Rattle.protocol.specs.Operations.{Outcome}
+use Rattle.quorum_rules.specs.Limits.{IsValid}
 use Rattle.protocol.specs.Messages.{Tag}
 use Rattle.protocol.specs.Seen.{SeenTask, ops_of, phase_of}
-use Rattle.run_words.specs.declared.outcome.Outcome.TheVariants.{Gave}
 use Rattle.plan_words.specs.declared.plan.Plan.{Plan}
 use Rattle.plan_words.specs.Named.{is_phase}
 use Rattle.journals.specs.declared.desk.DeskEntry.{DeskEntry}
 use Rattle.locked_nodes.specs.declared.cell_shard.CellShard.{CellShard}
 use Rattle.locked_nodes.specs.CellShards.{IsWholeAt}
 use Rattle.journals.specs.declared.desk.Way.{Way}
-use Rattle.journals.specs.Desks.{Ended, DeskState, FitsOp}
 use Rattle.client_desks.specs.Desks.{DeskView, state_at, task_at}
 use Rattle.plan_followed.specs.Asked.{steps_for, first_phases, drops, holds, client_crash, messages}
-use Rattle.plan_followed.specs.Clients.{InEach, GoesByPlan, IsDone, IsCutOff, client_after, times, starts, asks, asks_of, all_asked, op_of, way_of, last_of, turn_after}
+use Rattle.plan_followed.specs.Clients.{InEach, GoesByPlan, IsDone, IsCutOff, times, starts, asks, asks_of, all_asked, way_of, last_of, turn_after}
 use Rattle.client_duties.specs.declared.task.Ways.{Ways}
 use Rattle.client_duties.specs.Phases.{all_steps}
 use Rattle.client_duties.specs.Tasks.{IsSendable}
-use Rattle.client_duties.specs.declared.reads.GivenRead.{GivenRead}
 use Rattle.client_duties.specs.declared.work.ClientDuty.{ClientDuty}
 use Rattle.client_duties.specs.declared.work.ClientDuty.TheVariants.{Client, Lying}
 use Rattle.client_duties.specs.declared.correct_client.CorrectClient.{CorrectClient}
 use Rattle.client_duties.specs.declared.liar.Liar.{Liar}
-
--- ---- reads
-
--- the read that an operation on the block was, if it gave a value
-abbrev pub given_by : ℕ → Outcome → Option GivenRead
-given_by block (Gave stamp value how rounds) = Some (record { block = block; stamp = stamp; value = value })
-given_by block _ = None
-
--- the reads that gave a value, of operations that ended
-abbrev pub all_given : List Ended → List GivenRead
-all_given ended = filter_map (λ x. given_by x.block x.outcome) ended
-
--- the value that the latest of these reads of the block gave, or another one where none did
-abbrev pub latest_given : ℕ → List ℕ → List GivenRead → List ℕ
-latest_given block value reads = fold (λ v r. if r.block == block then r.value else v) value reads
 
 -- ---- a correct client
 
@@ -78,8 +57,9 @@ pub record HasSteps (plan : Plan) (c : ℕ) (phases : List (List BlockStep)) : T
   pub fit : All (All (Fits plan.config)) phases
 
 module _ (w : CorrectClient) where
-  -- the desk is the correct client's
+  -- the desk is the correct client's, in the plan's valid cluster
   pub record IsItsDesk (d : DeskView) : Type 0 where
+    pub valid : IsValid w.plan.value.config
     pub same : w.config ≡ w.plan.value.config
     pub config : d.config ≡ w.plan.value.config
     pub id : d.id ≡ w.client
@@ -92,18 +72,11 @@ module _ (w : CorrectClient) where
     pub left : w.crash_after ≡ asks_left (times asks es) (client_crash w.plan.value.rules w.client)
     pub few : (count : ℕ) → client_crash w.plan.value.rules w.client ≡ Some count → times asks es ≤ count
 
-  -- its reads are those of the client that gave a value, in order; each is of one of the cluster's blocks, and gave a block
-  pub record HasReads (es : List DeskEntry) : Type 0 where
-    pub all : w.reads ≡ all_given (client_after w.plan.value w.client es).ended
-    pub inside : All (λ r. r.block < w.plan.value.config.blocks) w.reads
-    pub whole : All (λ r. length r.value ≡ w.plan.value.config.size) w.reads
-
   -- the client went by the plan so far, and the thread counted it
   pub record Goes (d : DeskView) : Type 0 where
     pub its : IsItsDesk d
     pub acts : InEach (GoesByPlan w.plan.value w.client) d.entries
     pub counts : Counts d.entries
-    pub reads : HasReads d.entries
 
   -- the client did the phases that it has done, or crashed on the way
   pub record Stands (d : DeskView) : Type 0 where
@@ -115,15 +88,10 @@ module _ (w : CorrectClient) where
 abbrev pub HoldsWhole : CorrectClient → List CellShard → Type 0
 HoldsWhole w cell_shards = (node : ℕ) → 0 < holds w.plan.value.rules w.client node → IsWholeAt cell_shards node
 
--- the new reads are the old ones, and perhaps more
-abbrev pub MoreReads : List GivenRead → List GivenRead → Type 0
-MoreReads old new = (more : List GivenRead) × (new ≡ old ++ more)
-
--- the worker is of the same plan and client, and its reads only grew
+-- the worker is of the same plan and client
 pub record IsSame (old new : CorrectClient) : Type 0 where
   pub plan : new.plan.value ≡ old.plan.value
   pub client : new.client ≡ old.client
-  pub reads : MoreReads old.reads new.reads
 
 -- a worker that has a phase to do
 pub record IsReady (w : CorrectClient) (d : DeskView) : Type 0 where
@@ -135,22 +103,6 @@ pub record HasWorked (old : CorrectClient) (new : CorrectClient) (d : DeskView) 
   pub same : IsSame old new
   pub stands : Stands new d
   pub one : length new.phases.items + 1 ≡ length old.phases.items
-
--- the block of a step
-abbrev pub block_in : BlockStep → ℕ
-block_in (Read k) = k
-block_in (Whole k value) = k
-block_in (Merge k at bytes) = k
-
--- the operation fits the cluster, and is that of the step for a client whose reads the worker has
-pub record IsOpOf (w : CorrectClient) (step : BlockStep) (op : Op) : Type 0 where
-  pub fits : FitsOp w.config op
-  pub is : (d : DeskState) → d.client.config ≡ w.config → w.reads ≡ all_given d.ended → op ≡ op_of d step
-
--- a value that is given is a block
-abbrev pub IsWholeIn : ℕ → Option GivenRead → Type 0
-IsWholeIn size None = Unit {0}
-IsWholeIn size (Some r) = length r.value ≡ size
 
 -- the worker after an ask to the node was counted, to which these ways were left
 abbrev pub counted : CorrectClient → ℕ → Ways → CorrectClient

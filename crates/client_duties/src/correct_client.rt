@@ -1,30 +1,22 @@
 //! The work of a correct client.
-ghost use Rattle.std.specs.Prelude.{◌≡◌, ◌<◌, [], length, All, false, Some, IfOk, OnOk};
-ghost use Rattle.block_device.specs.Steps.{Fits as StepFits};
-ghost use Rattle.protocol.specs.Messages.{IsBytes};
-ghost use Rattle.protocol.specs.Count.{one_more};
+ghost use Rattle.std.specs.Prelude.{◌≡◌, ◌<◌, [], length, false, Some};
 ghost use Rattle.plan_words.specs.Plans.{Fits};
 ghost use Rattle.client_desks.specs.Desks.{DeskView};
 ghost use Rattle.plan_followed.specs.Clients.{way_of};
 ghost use Rattle.client_duties.specs.Tasks.{IsClientTask};
-ghost use Rattle.client_duties.specs.ClientDuty.{given_by, phase_at, IsReady, HasCounted, IsWholeIn, IsOpOf, ways_left};
+ghost use Rattle.client_duties.specs.ClientDuty.{phase_at, IsReady, HasCounted, ways_left};
 
-use crate::reads::{GivenRead, latest};
 use crate::{ClientTask, Ways};
-use block_device::{BlockStep, BlockSteps, merge};
-use cross_sum::Bytes;
+use block_device::BlockSteps;
 use journals::Way;
-use lists::{ItemList, NoMemory};
+use lists::ItemList;
 use plan_words::Plan;
 use quorum_rules::Config;
-use run_words::Outcome;
-use std::alloc::Global;
 use std::collections::VecDeque;
 use std::snapshot::Snapshot;
-use wire_forms::Op;
 
 /// A correct client at work, by its plan: the steps of the phases that are left, what is left of the asks to each node that go wrong,
-/// and of all asks until it crashes, and its reads that gave a value.
+/// and of all asks until it crashes.
 pub struct CorrectClient {
     pub plan: Snapshot<Plan>,
     pub config: Config,
@@ -32,7 +24,6 @@ pub struct CorrectClient {
     pub phases: VecDeque<BlockSteps>,
     pub ways: ItemList<Ways>,
     pub crash_after: Option<u64>,
-    pub reads: ItemList<GivenRead>,
 }
 
 // By hand, since a derived drop is proved anew wherever one is let go.
@@ -45,19 +36,17 @@ impl Drop for CorrectClient {
             phases: _phases,
             ways: _ways,
             crash_after: _crash_after,
-            reads: _reads,
         } = self;
     }
 }
 
 impl CorrectClient {
     /// The client of a task of the plan before it did anything.
-    pub fn new(alloc: Global, plan: &Plan, task: ClientTask) -> CorrectClient
+    pub fn new(plan: &Plan, task: ClientTask) -> CorrectClient
         requires fits { Fits plan.now }
         requires task { IsClientTask plan.now task }
         ensures plan { result.plan.value ≡ plan.now }
         ensures client { result.client ≡ task.client }
-        ensures reads { result.reads ≡ [] }
         ensures first { phase_at result ≡ 0 }
         ensures ready { (d : DeskView) → d.config ≡ plan.now.config → d.id ≡ task.client →
             d.lying ≡ false → d.entries ≡ [] → IsReady result d }
@@ -75,15 +64,7 @@ impl CorrectClient {
             phases: VecDeque::from_vec(phases.into_vec()),
             ways,
             crash_after,
-            reads: ItemList::new(alloc),
         }
-    }
-
-    /// The reads that gave a value, in the order in which they ended.
-    pub fn reads(&self) -> &[GivenRead]
-        ensures { result.now ≡ self.now.reads }
-    {
-        self.reads.as_slice()
     }
 
     /// Counts an ask to the node, and tells which way it goes.
@@ -100,54 +81,6 @@ impl CorrectClient {
         let _counted = self.ways.replace(i, after_one(ways));
         first_way(&ways)
     }
-
-    /// Notes what an operation on the block gave, if it gave a value.
-    pub fn note(&mut self, block: u32, outcome: Outcome) -> Result<(), NoMemory>
-        ensures ok { OnOk result
-            (self.new
-            ≡ record self.old { reads = one_more self.old.reads (given_by block outcome) }) }
-        ensures whole { OnOk result (IsWholeIn self.old.config.size (given_by block outcome)) }
-    {
-        let Outcome::Gave { stamp, value, .. } = outcome else {
-            return Ok(());
-        };
-        // A read gives a block.
-        if value.len() != self.config.size() as usize {
-            return Err(NoMemory);
-        }
-        self.reads.push(GivenRead {
-            block,
-            stamp,
-            value,
-        })
-    }
-
-    /// The operation of a step.
-    pub fn op_of(&self, step: BlockStep) -> Result<Op, NoMemory>
-        requires fits { StepFits self.now.config step }
-        requires whole { All (λ r. length r.value ≡ self.now.config.size) self.now.reads }
-        ensures { IfOk result (λ op. IsOpOf self.now step op) }
-    {
-        match step {
-            BlockStep::Read { block } => Ok(Op::Read { block }),
-            BlockStep::Whole { block, value } => Ok(write_of(block, value)),
-            BlockStep::Merge { block, at, bytes } => {
-                let alloc = self.reads.allocator();
-                let old = latest(alloc, self.reads.as_slice(), block, self.config.size())?;
-                let value = merge(alloc, &old, at, &bytes)?;
-                Ok(write_of(block, value))
-            }
-        }
-    }
-}
-
-/// A write of a value, whose bytes are bytes.
-fn write_of(block: u32, value: Bytes) -> Op
-    ensures op { result ≡ Op.Write block value }
-    ensures bytes { IsBytes value }
-{
-    let _ = value.as_slice();
-    Op::Write { block, value }
 }
 
 /// The way of the next ask.

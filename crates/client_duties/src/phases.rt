@@ -13,7 +13,6 @@ use plan_words::Job;
 use quorum_rules::Config;
 use std::alloc::Global;
 use std::mem::replace;
-use wire_forms::Op;
 
 /// The client's steps in each phase of the work.
 pub fn phases_of(
@@ -76,7 +75,9 @@ fn add_steps(
     ensures fit { OnOk result (All (StepFits config.now) steps.new) }
 {
     match job {
-        Job::Block { client: owner, op } if *owner == client => steps.push(step_of(op)?),
+        Job::Block { client: owner, op } if *owner == client => {
+            steps.push(BlockStep::of(op.copy()?))
+        }
         Job::Device { client: owner, op } if *owner == client => {
             match commands(alloc, config, op) {
                 Ok(mut more) => steps.append(&mut more),
@@ -86,17 +87,4 @@ fn add_steps(
         }
         _ => Ok(()),
     }
-}
-
-/// An operation as the step of a block.
-fn step_of(op: &Op) -> Result<BlockStep, NoMemory>
-    ensures { IfOk result (λ step. step ≡ Rattle.plan_followed.specs.Asked.step_of op.now) }
-{
-    Ok(match op {
-        Op::Read { block } => BlockStep::Read { block: *block },
-        Op::Write { block, value } => BlockStep::Whole {
-            block: *block,
-            value: value.copy()?,
-        },
-    })
 }

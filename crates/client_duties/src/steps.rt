@@ -5,11 +5,11 @@ ghost use Rattle.client_desks.specs.Desks.{CanStart, state_at};
 ghost use Rattle.client_desks.specs.Later.{IsLater};
 ghost use Rattle.plan_followed.specs.Clients.{starts, times};
 ghost use Rattle.client_endpoints.specs.Endpoint.{Fit, fixed};
-ghost use Rattle.client_duties.specs.ClientDuty.{every_step, Goes, IsSame, IsReady, HasWorked, HasStepped, IsOn, IsAmidOrOff, HoldsWhole, HasAskedOn, StepsFit, block_in};
+ghost use Rattle.client_duties.specs.ClientDuty.{every_step, Goes, IsSame, IsReady, HasWorked, HasStepped, IsOn, IsAmidOrOff, HoldsWhole, HasAskedOn, StepsFit};
 
 use crate::correct_client::CorrectClient;
 use crate::turns::next_node;
-use block_device::{BlockStep, Command};
+use block_device::{BlockStep, Command, block_of};
 use client_desks::laws::desks_go_on;
 use client_endpoints::{Endpoint, SharedCells};
 use locked_nodes::CellRefusal;
@@ -100,8 +100,9 @@ impl CorrectClient {
             HasStepped self.old endpoint.old.desk self.new endpoint.new.desk }
     {
         desks_go_on();
-        let block = block_of(&step);
-        let Ok(op) = self.op_of(step) else {
+        let alloc = self.ways.allocator();
+        let records = endpoint.desk().records();
+        let Ok(op) = step.into_op(alloc, &self.config, self.client, records) else {
             endpoint.refuse(CellRefusal::NoMemory);
             return;
         };
@@ -109,7 +110,7 @@ impl CorrectClient {
         if endpoint.start(shared_cells, &op).is_err() {
             return;
         }
-        if self.ask_on(rt, gate, shared_cells, endpoint, block) {
+        if self.ask_on(rt, gate, shared_cells, endpoint, block_of(&op)) {
             gate.at(self.client, endpoint.desk().ops(), Edge::End);
         }
     }
@@ -128,7 +129,6 @@ impl CorrectClient {
         requires goes { Goes self.old endpoint.old.desk }
         requires up { (state_at endpoint.old.desk).crashed ≡ false }
         requires on { IsOn block endpoint.old.desk }
-        requires there { block < self.old.plan.value.config.blocks }
         requires whole { HoldsWhole self.old shared_cells.now.cell_shards }
         ensures stays { fixed endpoint.new ≡ fixed endpoint.old }
         ensures fit { Fit endpoint.new shared_cells.now }
@@ -150,25 +150,10 @@ impl CorrectClient {
             let Ok(answer) = endpoint.call(rt, gate, shared_cells, node, block, way) else {
                 return false;
             };
-            if let Some(outcome) = answer {
-                if self.note(block, outcome).is_err() {
-                    endpoint.refuse(CellRefusal::NoMemory);
-                    return false;
-                }
+            if answer.is_some() {
                 return true;
             }
         }
         false
-    }
-}
-
-/// The block of a step.
-fn block_of(step: &BlockStep) -> u32
-    ensures { result ≡ block_in step.now }
-{
-    match step {
-        BlockStep::Read { block }
-        | BlockStep::Whole { block, .. }
-        | BlockStep::Merge { block, .. } => *block,
     }
 }

@@ -1,9 +1,8 @@
 -- A run in which nobody has done anything.
-use Rattle.std.proofs.Common.{◌≡◌, ◌⊎◌, ℕ, ◌<◌, ◌≤◌, ◌%◌, Bool, true, false, cond, List, [], ◌∷◌, length, refl, sym, ◌∙◌, ap, subst, inl, inr, arith}
-use Rattle.std.specs.Prelude.{replicate}
+use Rattle.std.proofs.Common.{◌≡◌, ◌⊎◌, ℕ, ◌<◌, ◌≤◌, ◌%◌, Bool, true, false, cond, List, [], ◌∷◌, refl, sym, ◌∙◌, ap, subst, inl, inr, arith}
 use Rattle.std.proofs.Math.Nat.{mod-lt}
 use Rattle.std.specs.declared.option.Option.TheVariants.{Some}
-use Rattle.std.specs.List.{Contains, AllZip, All}
+use Rattle.std.specs.List.{Contains, All}
 use Rattle.std.proofs.lemmas.List.Elements.{All-nil, All-cons, All-head, All-tail, All-contains}
 use Rattle.event_clock.specs.Passes.{ClockId}
 use Rattle.journals.specs.declared.node.NodeEntry.{NodeEntry}
@@ -12,7 +11,7 @@ use Rattle.journals.specs.declared.desk.DeskEntry.{DeskEntry}
 use Rattle.journals.specs.declared.whole.Journals.{Journals}
 use Rattle.journals.specs.Steps.{side, IsOwn}
 use Rattle.locked_nodes.specs.Cells.{CellView}
-use Rattle.client_desks.specs.Desks.{DeskView, state_at}
+use Rattle.client_desks.specs.Desks.{DeskView}
 use Rattle.plan_words.specs.declared.plan.Plan.{Plan}
 use Rattle.plan_followed.specs.Closed.{AreBelow, AreEmpty, Begins}
 use Rattle.locked_nodes.specs.CellShards.{cell_shard_of, cell_shards_of, Cover}
@@ -23,9 +22,7 @@ use Rattle.phase_threads.proofs.lemmas.Cells.{journal_is, desk_at}
 use Rattle.phase_threads.specs.declared.duty.Seat.{Seat}
 use Rattle.thread_work.proofs.lemmas.Places.{all_from_places, get_map}
 use Rattle.client_duties.specs.declared.work.ClientDuty.{ClientDuty}
-use Rattle.client_duties.specs.declared.work.ClientDuty.TheVariants.{Client, Lying}
 use Rattle.client_threads.specs.Opened.{IsNewCell, AreNewCells, IsNewSeat, shards_of}
-use Rattle.client_threads.specs.Reads.{IsPartedAs, IsParted}
 use Rattle.client_threads.specs.Running.{desks_of, clients_of, plan_of, journals_in, StandsAt, LiarsNamed, IsOpen, IsBetween}
 use Rattle.client_threads.specs.declared.state.Run.{Run}
 use Rattle.lists.proofs.lemmas.Members.{Contains-head, Contains-none, Contains-map_cases, place_of}
@@ -127,23 +124,14 @@ nothing_below bound plan j h = record {
   desks = λ c e there. absurd (Contains-none e (subst (λ (es : List DeskEntry). Contains es e) (h.desks c) there));
 }
 
--- no read has ended
-part_new : (w : ClientDuty) (d : DeskView) → IsPartedAs 0 w d 0
-part_new (Client w) d = record { before = []; after = (state_at d).ended; ended = refl; count = refl; low = λ x there. absurd (Contains-none x there); high = λ x there. omega arith }
-part_new (Lying w) d = refl
-
-pub parts_new : (seats : List (Seat ClientDuty)) → AllZip (IsParted 0) seats (replicate (length seats) 0)
-parts_new [] = tt
-parts_new (s ∷ seats) = (part_new s.duty s.desk, parts_new seats)
-
 seen_all : {X : Type 0} (seen : X → ℕ) (xs : List X) → All (λ x. 0 ≤ seen x) xs
 seen_all seen [] = All-nil (λ x. 0 ≤ seen x)
 seen_all seen (x ∷ xs) = All-cons (λ x. 0 ≤ seen x) x xs (omega arith) (seen_all seen xs)
 
 -- so the run stands before its first phase
 pub is_first : (begins : Begins) (run : Run) (shards : ℕ) → 1 ≤ shards → IsOpen run → AreNewCells (plan_of run) shards run.clock (plan_of run).config.n 0 run.cells.items → All (IsNewSeat (plan_of run) run.clock) run.clients.items
-    → AreClients (plan_of run) (clients_of run) → run.counted.items ≡ replicate (length run.clients.items) 0 → LiarsNamed (plan_of run) → IsBetween 0 run
-is_first begins run shards some is_open c s are counted named =
+    → AreClients (plan_of run) (clients_of run) → run.begun ≡ 0 → LiarsNamed (plan_of run) → IsBetween 0 run
+is_first begins run shards some is_open c s are begun named =
     let empty = journals_empty (plan_of run) shards some run.clock run.cells.items run.clients.items c s in
     record {
       standing = record {
@@ -161,7 +149,7 @@ is_first begins run shards some is_open c s are counted named =
       low = nothing_below 0 (plan_of run) (journals_in run) empty;
       seen = record { cells = seen_all (λ (c : CellView). c.pass.seen) run.cells.items; desks = seen_all (λ (d : DeskView). d.pass.seen) (clients_of run) };
       began = omega arith;
-      counted = subst (λ (l : List ℕ). AllZip (IsParted 0) run.clients.items l) (sym counted) (parts_new run.clients.items);
+      begun = begun;
     }
   where
     parts : (seats : List (Seat ClientDuty)) → All (IsNewSeat (plan_of run) run.clock) seats → All (λ s. StandsAt (plan_of run) 0 s.duty s.desk) seats

@@ -7,11 +7,9 @@ mod Keepers
 mod Mailing
 mod Newcomers
 mod Pairs
-mod Parting
 mod Places
 mod Phasing
 mod Prunes
-mod Reading
 mod Rounds
 mod Stepping
 mod Threading

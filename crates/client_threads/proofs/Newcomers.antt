@@ -1,6 +1,6 @@
 -- The cells, desks and passes that a run begins with.
 use Rattle.std.proofs.Common.{◌≡◌, ◌⊎◌, ℕ, zero, suc, ◌+◌, ◌*◌, ◌<◌, ◌≤◌, ltb, eqb, Bool, true, false, List, [], ◌∷◌, ◌++◌, length, map, length-append, refl, sym, ◌∙◌, ap, subst, inl, inr, arith}
-use Rattle.std.specs.Prelude.{Option, slice_get, fold, replicate}
+use Rattle.std.specs.Prelude.{Option, slice_get, fold}
 use Rattle.std.specs.declared.option.Option.TheVariants.{None, Some}
 use Rattle.std.specs.List.{Contains, All, AllByRecursion, filter_map, cons_option}
 use Rattle.std.specs.Ordering.{nat_cmp}
@@ -333,7 +333,7 @@ pub record IsNewRun (run : Run) (plan : Plan) : Type 0 where
   pub ids : map (λ s. s.desk.id) run.clients.items ≡ ascending (clients plan.rules plan.work)
   pub keeper : IsUnusedPass run.clock run.keeper
   pub passes : run.clock.passes ≡ cell_count plan shards plan.config.n + length run.clients.items + 1
-  pub counted : run.counted.items ≡ replicate (length run.clients.items) 0
+  pub begun : run.begun ≡ 0
   pub named : LiarsNamed plan
 
 first_of : (begins : Begins) (run : Run) → IsNewRun run (plan_of run) → IsBetween 0 run
@@ -346,7 +346,7 @@ first_of begins run h =
       keeper = (h.keeper.ticks, h.keeper.drawn);
       passes = omega (arith, h.passes, h.cells.count);
     })
-    h.cells h.seats (clients_are (plan_of run) run.clock run.clients.items h.seats h.ids) h.counted h.named
+    h.cells h.seats (clients_are (plan_of run) run.clock run.clients.items h.seats h.ids) h.begun h.named
 
 pub stands_first : (begins : Begins) (run : Run) (plan : Plan) → plan_of run ≡ plan → IsNewRun run plan → IsBetween 0 run
 stands_first begins run plan same h = first_of begins run (subst (IsNewRun run) (sym same) h)

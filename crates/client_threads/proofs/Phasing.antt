@@ -13,14 +13,12 @@ use Rattle.event_clock.specs.Passes.{ClockId}
 use Rattle.journals.specs.declared.node.NodeAct.{NodeAct}
 use Rattle.journals.specs.declared.node.NodeAct.TheVariants.{Answered, Lied, Silent, CrashedAt, Delivered, LateLost, Pruned}
 use Rattle.journals.specs.declared.node.NodeEntry.{NodeEntry}
-use Rattle.journals.specs.declared.desk.DeskEntry.{DeskEntry}
 use Rattle.journals.specs.declared.whole.Journals.{Journals}
-use Rattle.phase_threads.proofs.lemmas.Cells.{desk_rises}
 use Rattle.journals.specs.Phases.{Phase}
 use Rattle.journals.specs.Steps.{side}
 use Rattle.locked_nodes.specs.Cells.{CellView, KeptCell, IsPrune}
 use Rattle.locked_nodes.specs.Joined.{join}
-use Rattle.client_desks.specs.Desks.{DeskView, KeptDesk}
+use Rattle.client_desks.specs.Desks.{DeskView}
 use Rattle.plan_words.specs.declared.plan.Plan.{Plan}
 use Rattle.plan_followed.specs.Followed.{ArePrunes}
 use Rattle.plan_followed.specs.Closed.{next_begin, HaveClosed, IsWorkedOff, AreBelow, HavePruned, Closes}
@@ -34,12 +32,11 @@ use Rattle.client_duties.specs.declared.work.ClientDuty.TheVariants.{Client, Lyi
 use Rattle.client_threads.specs.Met.{IsKeeper, HasMetCell, HasMetDesk, HasMetSeat}
 use Rattle.client_threads.specs.Meeting.{HasMetAll}
 use Rattle.client_threads.specs.Pruned.{HasMorePrunes, AllPruned, reopened, prunings_of}
-use Rattle.client_threads.specs.Reads.{reads_in, reads_of, early_reads, late_reads, AreParted, IsPartedAs, IsParted}
+use Rattle.client_threads.specs.Reads.{early_reads, late_reads}
 use Rattle.client_threads.specs.Running.{desks_of, clients_of, plan_of, StandsAt, LiarsNamed, IsOpen, IsBetween, IsWorked}
 use Rattle.client_threads.specs.declared.state.Run.{Run}
 use Rattle.client_threads.proofs.Pairs.{HasMoreAlone, HasSameEntries, pairs_on}
-use Rattle.client_threads.proofs.Parting.{parted_all}
-use Rattle.client_threads.proofs.Gathering.{prunes_are, reads_are}
+use Rattle.client_threads.proofs.Gathering.{prunes_are}
 use Rattle.client_threads.proofs.Places.{reopened_fixed}
 use Rattle.client_threads.proofs.Working.{zip_map, zip_then, zip_all, IsFixedAs, fixed_same, planned_fixed}
 use Rattle.lists.proofs.lemmas.Members.{Contains-none}
@@ -58,10 +55,9 @@ stands_met plan k w d e h s = subst (StandsAt plan k w) (sym (met_is d e h)) (ki
       s.0,
       record {
         goes = record {
-          its = record { same = s.1.goes.its.same; config = s.1.goes.its.config; id = s.1.goes.its.id; correct = s.1.goes.its.correct };
+          its = record { valid = s.1.goes.its.valid; same = s.1.goes.its.same; config = s.1.goes.its.config; id = s.1.goes.its.id; correct = s.1.goes.its.correct };
           acts = s.1.goes.acts;
           counts = s.1.goes.counts;
-          reads = s.1.goes.reads;
         };
         done = s.1.done;
         steps = s.1.steps;
@@ -74,7 +70,7 @@ seats_met : (plan : Plan) (k : ℕ) (xs ys : List (Seat ClientDuty)) → AllZip 
 seats_met plan k xs ys z a = zip_all HasMetSeat (λ s. StandsAt plan k s.duty s.desk) (λ s. StandsAt plan k s.duty s.desk) xs ys
     (λ x y h s. subst (λ (w : ClientDuty). StandsAt plan k w y.desk) (sym h.duty) (stands_met plan k x.duty x.desk y.desk h.desk s)) z a
 
-desks_met : (xs ys : List (Seat ClientDuty)) → AllZip HasMetSeat xs ys → AllZip HasMetDesk (desks_of xs) (desks_of ys)
+pub desks_met : (xs ys : List (Seat ClientDuty)) → AllZip HasMetSeat xs ys → AllZip HasMetDesk (desks_of xs) (desks_of ys)
 desks_met [] [] z = tt
 desks_met [] (y ∷ ys) z = absurd z
 desks_met (x ∷ xs) [] z = absurd z
@@ -87,7 +83,7 @@ ids_met [] (y ∷ ys) z = absurd z
 ids_met (x ∷ xs) [] z = absurd z
 ids_met (x ∷ xs) (y ∷ ys) z = λ i. z.0.id i ∷ ids_met xs ys z.1 i
 
-clients_met : (plan : Plan) (xs ys : List DeskView) → AllZip HasMetDesk xs ys → AreClients plan xs → AreClients plan ys
+pub clients_met : (plan : Plan) (xs ys : List DeskView) → AllZip HasMetDesk xs ys → AreClients plan xs → AreClients plan ys
 clients_met plan xs ys z h = record {
   ascend = subst Ascend (sym (ids_met xs ys z)) h.ascend;
   named = zip_all HasMetDesk (λ d. Contains (clients plan.rules plan.work) d.id) (λ d. Contains (clients plan.rules plan.work) d.id) xs ys (λ x y m p. subst (Contains (clients plan.rules plan.work)) (sym m.id) p) z h.named;
@@ -137,16 +133,6 @@ pub all_map : {X : Type 0} (P Q : X → Type 0) (xs : List X) → ((x : X) → P
 all_map P Q [] h a = All-nil Q
 all_map P Q (x ∷ xs) h a = All-cons Q x xs (h x (All-head P x xs a)) (all_map P Q xs h (All-tail P x xs a))
 
-pub all_both : {X : Type 0} (P Q : X → Type 0) (xs : List X) → All P xs → All Q xs → All (λ x. P x × Q x) xs
-all_both P Q [] a b = All-nil (λ x. P x × Q x)
-all_both P Q (x ∷ xs) a b = All-cons (λ x. P x × Q x) x xs (All-head P x xs a, All-head Q x xs b) (all_both P Q xs (All-tail P x xs a) (All-tail Q x xs b))
-
-pub zip_left : {X Y : Type 0} (R S : X → Y → Type 0) (P : X → Type 0) (xs : List X) (ys : List Y) → ((x : X) (y : Y) → R x y → P x → S x y) → AllZip R xs ys → All P xs → AllZip S xs ys
-zip_left R S P [] [] h z a = tt
-zip_left R S P [] (y ∷ ys) h z a = absurd z
-zip_left R S P (x ∷ xs) [] h z a = absurd z
-zip_left R S P (x ∷ xs) (y ∷ ys) h z a = (h x y z.0 (All-head P x xs a), zip_left R S P xs ys h z.1 (All-tail P x xs a))
-
 -- ---- cells with entries more
 
 alone_then : (a b c : CellView) → HasMoreAlone a b → HasMoreAlone b c → HasMoreAlone a c
@@ -159,44 +145,11 @@ alone_then a b c x y = record {
 met_alone : (a b : CellView) → HasMetCell a b → HasMoreAlone a b
 met_alone a b h = record { more = []; grew = h.journal ∙ append_nil a.journal; alone = λ e there. absurd (Contains-none e there) }
 
--- ---- reads
-
-kind_met : (from n : ℕ) (w : ClientDuty) (d e : DeskView) → HasMetDesk d e → IsPartedAs from w d n → IsPartedAs from w e n
-kind_met from n (Client v) d e h p = subst (λ (x : DeskView). AreParted from x n) (sym (met_is d e h)) (record { before = p.before; after = p.after; ended = p.ended; count = p.count; low = p.low; high = p.high })
-kind_met from n (Lying v) d e h p = p
-
-parted_met : (from : ℕ) (xs ys : List (Seat ClientDuty)) (counted : List ℕ) → AllZip HasMetSeat xs ys → AllZip (IsParted from) xs counted → AllZip (IsParted from) ys counted
-parted_met from [] [] counted z p = p
-parted_met from [] (y ∷ ys) counted z p = absurd z
-parted_met from (x ∷ xs) [] counted z p = absurd z
-parted_met from (x ∷ xs) (y ∷ ys) [] z p = absurd p
-parted_met from (x ∷ xs) (y ∷ ys) (n ∷ ns) z p = (subst (λ (w : ClientDuty). IsPartedAs from w y.desk n) (sym z.0.duty) (kind_met from n x.duty x.desk y.desk z.0.desk p.0), parted_met from xs ys ns z.1 p.1)
-
--- all reads of a client ended below what bounds its entries
-all_of : (plan : Plan) (k end : ℕ) (w : ClientDuty) (d : DeskView) → StandsAt plan k w d → ((e : DeskEntry) → Contains d.entries e → e.number < end) → IsPartedAs end w d (length (reads_in w))
-all_of plan k end (Client w) d h low = subst (AreParted end d) (ap length (sym (reads_are w d h.1))) (parted_all end d low)
-all_of plan k end (Lying w) d h low = refl
-
-all_parted : (plan : Plan) (k end : ℕ) (xs ys : List (Seat ClientDuty)) → AllZip HasMetSeat xs ys → All (λ s. StandsAt plan k s.duty s.desk) xs
-    → All (λ d. (e : DeskEntry) → Contains d.entries e → e.number < end) (desks_of xs) → AllZip (IsParted end) ys (map (λ s. length (reads_of s)) xs)
-all_parted plan k end [] [] z a low = tt
-all_parted plan k end [] (y ∷ ys) z a low = absurd z
-all_parted plan k end (x ∷ xs) [] z a low = absurd z
-all_parted plan k end (x ∷ xs) (y ∷ ys) z a low = (
-  (let p = all_of plan k end x.duty x.desk (All-head (λ s. StandsAt plan k s.duty s.desk) x xs a) (All-head (λ d. (e : DeskEntry) → Contains d.entries e → e.number < end) x.desk (desks_of xs) low) in
-      subst (λ (w : ClientDuty). IsPartedAs end w y.desk (length (reads_of x))) (sym z.0.duty) (kind_met end (length (reads_of x)) x.duty x.desk y.desk z.0.desk p)),
-  all_parted plan k end xs ys z.1 (All-tail (λ s. StandsAt plan k s.duty s.desk) x xs a) (All-tail (λ d. (e : DeskEntry) → Contains d.entries e → e.number < end) x.desk (desks_of xs) low),
-)
-
 -- ---- seats that met a pass, of a phase that is worked off
 
 module _ (k : ℕ) (run0 run1 : Run) (b : IsWorked k run0) (m : HasMetAll run0 run1) where
   pub works_met : All (λ s. StandsAt (plan_of run0) (k + 1) s.duty s.desk) run1.clients.items
   works_met = seats_met (plan_of run0) (k + 1) run0.clients.items run1.clients.items m.seats b.standing.works
-
-  pub parted_on : AllZip (IsParted (next_begin b.phases)) run1.clients.items run1.counted.items
-  parted_on = subst (λ (l : List ℕ). AllZip (IsParted (next_begin b.phases)) run1.clients.items l) (sym m.counted)
-      (parted_met (next_begin b.phases) run0.clients.items run1.clients.items run0.counted.items m.seats b.counted)
 
 -- ---- the run
 
@@ -206,7 +159,7 @@ pub record HasPruned (ps : List BlockStamp) (old new : Run) : Type 0 where
   pub clock : new.clock ≡ old.clock
   pub clients : new.clients.items ≡ old.clients.items
   pub keeper : IsKeeper old.keeper new.keeper
-  pub counted : new.counted.items ≡ map (λ s. length (reads_of s)) old.clients.items
+  pub begun : new.begun ≡ new.keeper.seen
   pub some : AllZip HasMorePrunes (reopened old.cells.items) new.cells.items
   pub all : AllPruned (plan_of old) old.keeper.seen ps old.cells.items new.cells.items
   pub seen : All (λ c. c.pass.seen ≤ new.keeper.seen) new.cells.items
@@ -250,7 +203,7 @@ pruned_alone (x ∷ xs) (y ∷ ys) z = (
 
 module _ (below : JournalsBelow) (prune : CellsPrune) (close : Closes) (k : ℕ) (run0 run1 run2 run3 : Run) (ps : List BlockStamp)
     (b : IsWorked k run0) (m : HasMetAll run0 run1) (did : HasPruned ps run1 run2) (n : HasMetAll run2 run3)
-    (are : ArePrunings (early_reads run1.clients.items run1.counted.items ++ late_reads run1.clients.items run1.counted.items) (late_reads run1.clients.items run1.counted.items) ps)
+    (are : ArePrunings (late_reads (next_begin b.phases) run1.clients.items ++ early_reads (next_begin b.phases) run1.clients.items) (late_reads (next_begin b.phases) run1.clients.items) ps)
     (kept1 : AreKept run1.cells.items (clients_of run1)) (kept2 : All KeptCell run2.cells.items) where
   abbrev P : Plan
   P = plan_of run0
@@ -312,11 +265,8 @@ module _ (below : JournalsBelow) (prune : CellsPrune) (close : Closes) (k : ℕ)
   clients1 : AreClients P (clients_of run1)
   clients1 = clients_met P (clients_of run0) (clients_of run1) seats1 b.standing.clients
 
-  parted1 : AllZip (IsParted (next_begin b.phases)) run1.clients.items run1.counted.items
-  parted1 = parted_on k run0 run1 b m
-
   prunes : ArePrunes P j1 (next_begin b.phases) p (prunings_of ps)
-  prunes = prunes_are P (k + 1) (next_begin b.phases) run1.clients.items run1.counted.items works1 parted1 clients1 run1.cells.items p low ps are
+  prunes = prunes_are P (k + 1) (next_begin b.phases) run1.clients.items works1 clients1 run1.cells.items p low ps are
 
   pruned : HavePruned P p (prunings_of ps) j1 j2
   pruned = prune P run0.clock p (prunings_of ps) run1.cells.items run2.cells.items (clients_of run1) planned1 planned2
@@ -355,13 +305,6 @@ module _ (below : JournalsBelow) (prune : CellsPrune) (close : Closes) (k : ℕ)
   clock3 : run3.clock ≡ run0.clock
   clock3 = n.clock ∙ did.clock ∙ m.clock
 
-  counted3 : AllZip (IsParted p.end) run3.clients.items run3.counted.items
-  counted3 = subst (λ (l : List ℕ). AllZip (IsParted p.end) run3.clients.items l) (sym (n.counted ∙ did.counted))
-      (all_parted P (k + 1) p.end run1.clients.items run3.clients.items seats3 works1 (all_map (λ d. KeptDesk d × (d.pass.seen ≤ p.end)) (λ d. (e : DeskEntry) → Contains d.entries e → e.number < p.end) (clients_of run1)
-      (λ d h e there. (let r = (desk_rises 0 d.entries d.pass.seen h.0.rises e there).1 in let s = h.1 in omega (arith, r, s)))
-      (all_both KeptDesk (λ d. d.pass.seen ≤ p.end) (clients_of run1) kept1.desks
-      (all_map (λ d. (run0.keeper.seen ≤ d.pass.seen) × (d.pass.seen ≤ run1.keeper.seen)) (λ d. d.pass.seen ≤ p.end) (clients_of run1) (λ d h. (let a = h.1 in let l = longer in omega (arith, a, l))) m.desks_seen))))
-
   pub is_between : IsOpen run3 → IsBetween (k + 1) run3
   is_between is_open = record {
     standing = record {
@@ -384,5 +327,5 @@ module _ (below : JournalsBelow) (prune : CellsPrune) (close : Closes) (k : ℕ)
       desks = all_map (λ d. (run2.keeper.seen ≤ d.pass.seen) × (d.pass.seen ≤ run3.keeper.seen)) (λ d. p.end ≤ d.pass.seen) (clients_of run3) (λ d h. h.0) n.desks_seen;
     });
     began = (let e = next_is_end b.phases p in let l = n.keeper.seen in omega (arith, e, l));
-    counted = subst (λ (x : ℕ). AllZip (IsParted x) run3.clients.items run3.counted.items) (sym (next_is_end b.phases p)) counted3;
+    begun = n.begun ∙ did.begun ∙ sym (next_is_end b.phases p);
   }

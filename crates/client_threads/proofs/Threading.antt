@@ -1,23 +1,20 @@
 -- The threads of a phase: what they may begin with, and what they leave.
-use Rattle.std.proofs.Common.{◌≡◌, ◌⊎◌, ℕ, zero, suc, ◌+◌, ◌<◌, ◌≤◌, true, List, [], ◌∷◌, ◌++◌, length, length-append, map, refl, sym, ◌∙◌, ap, subst, inl, inr, arith}
+use Rattle.std.proofs.Common.{◌≡◌, ◌⊎◌, ℕ, zero, suc, ◌+◌, ◌<◌, ◌≤◌, true, List, [], ◌∷◌, ◌++◌, length, map, refl, sym, ◌∙◌, ap, subst, inl, inr, arith}
 use Rattle.std.specs.List.{Contains, AllZip, All}
-use Rattle.std.proofs.lemmas.List.Elements.{Contains-append_cases, Contains-append_left, All-nil, All-cons, All-head, All-tail, All-contains}
+use Rattle.std.proofs.lemmas.List.Elements.{All-nil, All-cons, All-head, All-tail, All-contains}
 use Rattle.protocol.specs.Report.{Ascend}
 use Rattle.plan_words.specs.Named.{clients}
 use Rattle.wire_forms.specs.Liars.{has_number}
 use Rattle.event_clock.specs.Passes.{ClockId}
 use Rattle.quorum_rules.specs.Limits.{Numbers}
-use Rattle.journals.specs.declared.node.NodeEntry.{NodeEntry}
-use Rattle.journals.specs.declared.desk.DeskAct.{DeskAct}
-use Rattle.journals.specs.declared.desk.DeskEntry.{DeskEntry}
 use Rattle.locked_nodes.specs.Cells.{CellView, KeptCell}
 use Rattle.locked_nodes.specs.declared.cell_shard.CellShard.{CellShard}
 use Rattle.locked_nodes.specs.CellShards.{cell_shard_of, cell_shards_of, IsWholeAt}
-use Rattle.client_desks.specs.Desks.{DeskView, desk_entry}
+use Rattle.client_desks.specs.Desks.{DeskView}
 use Rattle.client_desks.specs.Later.{IsLater}
 use Rattle.plan_words.specs.declared.plan.Plan.{Plan}
 use Rattle.plan_followed.specs.Asked.{holds}
-use Rattle.phase_threads.specs.Standing.{IsDeskAt, AreCells, AreInside, IsPlanned, HasSideOn, PairsStand, HasWorked, ArePlanned}
+use Rattle.phase_threads.specs.Standing.{IsDeskAt, AreCells, AreInside, IsPlanned, PairsStand, HasWorked, ArePlanned}
 use Rattle.phase_threads.specs.Ended.{AreClients}
 use Rattle.phase_threads.proofs.lemmas.Sharded.{holds_whole}
 use Rattle.phase_threads.specs.declared.duty.Seat.{Seat}
@@ -29,7 +26,7 @@ use Rattle.client_duties.specs.ClientDuty.{Ready, Done}
 use Rattle.client_threads.specs.Running.{desks_of, clients_of, plan_of, StandsAt, cuts, LiarsNamed, IsOpen, IsStanding, HasDonePhase}
 use Rattle.client_threads.specs.declared.state.Run.{Run}
 use Rattle.client_threads.proofs.Working.{IsFixedAs, zip_all, zip_long, cells_fixed, inside_fixed, planned_fixed}
-use Rattle.lists.proofs.lemmas.Members.{Contains-none, Contains-one, Contains-slice_get}
+use Rattle.lists.proofs.lemmas.Members.{Contains-slice_get}
 
 -- ---- before the phase
 
@@ -167,7 +164,7 @@ pub record HasEndedThreads (old new : Run) : Type 0 where
   pub plan : plan_of new ≡ plan_of old
   pub clock : new.clock ≡ old.clock
   pub keeper : new.keeper ≡ old.keeper
-  pub counted : new.counted.items ≡ old.counted.items
+  pub begun : new.begun ≡ old.begun
   pub cells : AllZip HasWorked old.cells.items new.cells.items
   pub desks : AllZip (λ s t. IsLater s.desk t.desk) old.clients.items new.clients.items
 
@@ -201,7 +198,7 @@ module _ (old new : Run) (e : HasEndedThreads old new) (kept : All KeptCell old.
   module _ (done : AllZip (λ s t. Done s.duty s.desk t.duty t.desk) old.clients.items new.clients.items) (pairs : PairsStand new.cells.items (clients_of new)) where
     pub phase_done : (k : ℕ) → IsStanding k old → HasDonePhase k old new
     phase_done k h = record {
-      same = record { plan = e.plan; clock = e.clock; keeper = e.keeper; counted = e.counted };
+      same = record { plan = e.plan; clock = e.clock; keeper = e.keeper; begun = e.begun };
       standing = record {
         opened = open_after h.opened;
         planned = subst (λ (p : Plan). ArePlanned p new.clock new.cells.items) (sym e.plan) (subst (λ (c : ClockId). ArePlanned (plan_of old) c new.cells.items) (sym e.clock) (planned_fixed (plan_of old) old.clock old.cells.items new.cells.items fixed h.planned));

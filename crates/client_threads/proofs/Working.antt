@@ -32,11 +32,9 @@ use Rattle.phase_threads.specs.declared.duty.Seat.{Seat}
 use Rattle.client_duties.specs.declared.work.ClientDuty.{ClientDuty}
 use Rattle.client_duties.specs.declared.work.ClientDuty.TheVariants.{Client, Lying}
 use Rattle.client_duties.specs.ClientDuty.{phase_at}
-use Rattle.client_threads.specs.Reads.{IsPartedAs, IsParted}
 use Rattle.client_threads.specs.Running.{desks_of, clients_of, plan_of, journals_in, StandsAt, LiarsNamed, IsOpen, IsStanding, HasDonePhase, IsBetween, IsWorked}
 use Rattle.client_threads.specs.declared.state.Run.{Run}
 use Rattle.client_threads.proofs.Pairs.{HasMoreAlone, HasSameEntries, pairs_on}
-use Rattle.client_threads.proofs.Parting.{parted_on}
 use Rattle.lists.proofs.lemmas.Members.{Contains-head, Contains-none, Contains-rest, Contains-map_cases, Contains-slice_get}
 
 -- ---- lists beside each other
@@ -245,26 +243,6 @@ planned_fixed plan clock xs ys z h = record {
   each = zip_all IsFixedAs (IsPlanned plan h.shards) (IsPlanned plan h.shards) xs ys (cell_fixed plan h.shards) z h.each;
 }
 
--- ---- clients
-
--- a part says nothing of what its desk's pass has seen
-pub same_kind : (plan : Plan) (k m from n : ℕ) (v w : ClientDuty) (d e : DeskView) → StandsAt plan k v d → StandsAt plan m w e → e.lying ≡ d.lying → IsLater d e → from ≤ d.pass.seen → IsPartedAs from v d n → IsPartedAs from w e n
-same_kind plan k m from n (Client v) (Client w) d e a b honest later l p = parted_on from d e n later l p
-same_kind plan k m from n (Lying v) (Lying w) d e a b honest later l p = p
-same_kind plan k m from n (Client v) (Lying w) d e a b honest later l p = absurd (let x = a.1.goes.its.correct in let y = b.1.lying in cc (x, y, honest))
-same_kind plan k m from n (Lying v) (Client w) d e a b honest later l p = absurd (let x = b.1.goes.its.correct in let y = a.1.lying in cc (x, y, honest))
-
-pub counted_on : (plan : Plan) (k m from : ℕ) (old new : List (Seat ClientDuty)) (counted : List ℕ) → All (λ s. StandsAt plan k s.duty s.desk) old → All (λ s. StandsAt plan m s.duty s.desk) new
-    → AllZip IsLater (desks_of old) (desks_of new) → All (λ d. from ≤ d.pass.seen) (desks_of old) → AllZip (IsParted from) old counted → AllZip (IsParted from) new counted
-counted_on plan k m from [] [] counted a b z s p = p
-counted_on plan k m from [] (y ∷ ys) counted a b z s p = absurd z
-counted_on plan k m from (x ∷ xs) [] counted a b z s p = absurd z
-counted_on plan k m from (x ∷ xs) (y ∷ ys) [] a b z s p = absurd p
-counted_on plan k m from (x ∷ xs) (y ∷ ys) (n ∷ ns) a b z s p = (
-  same_kind plan k m from n x.duty y.duty x.desk y.desk (All-head (λ s. StandsAt plan k s.duty s.desk) x xs a) (All-head (λ s. StandsAt plan m s.duty s.desk) y ys b) z.0.lying z.0 (All-head (λ d. from ≤ d.pass.seen) x.desk (desks_of xs) s) p.0,
-  counted_on plan k m from xs ys ns (All-tail (λ s. StandsAt plan k s.duty s.desk) x xs a) (All-tail (λ s. StandsAt plan m s.duty s.desk) y ys b) z.1 (All-tail (λ d. from ≤ d.pass.seen) x.desk (desks_of xs) s) p.1,
-)
-
 no_phases : (phases : List Phase) (k : ℕ) → length phases ≡ k → k ≡ 0 → phases ≡ []
 no_phases [] k e z = refl
 no_phases (p ∷ ps) k e z = absurd (omega (arith, e, z))
@@ -277,7 +255,7 @@ pub record IsMailed (old new : Run) : Type 0 where
   pub clock : new.clock ≡ old.clock
   pub clients : new.clients.items ≡ old.clients.items
   pub keeper : new.keeper ≡ old.keeper
-  pub counted : new.counted.items ≡ old.counted.items
+  pub begun : new.begun ≡ old.begun
   pub cells : AllZip HasMoreAside old.cells.items new.cells.items
 
 pub open_mailed : (old new : Run) → IsMailed old new → IsOpen old → IsOpen new
@@ -371,12 +349,6 @@ module _ (works : PhasesWork) (goes : GoesOn) (nothing : NothingLate) (k : ℕ) 
         (λ x y h l. (let r = rises_from x.pass.seen (numbers_of h.more) y.pass.seen h.rises in omega (arith, r, l))) later b.seen.desks;
   }
 
-  counted : AllZip (IsParted (next_begin b.phases)) new.clients.items new.counted.items
-  counted =
-      let works1 = subst (λ (p : Plan). All (λ s. StandsAt p (k + 1) s.duty s.desk) new.clients.items) same_plan standing.works in
-      let c = counted_on plan k (k + 1) (next_begin b.phases) run.clients.items new.clients.items run.counted.items b.standing.works works1 later b.seen.desks b.counted in
-      subst (λ (l : List ℕ). AllZip (IsParted (next_begin b.phases)) new.clients.items l) (sym (m.counted ∙ d.same.counted)) c
-
   pub is_worked : IsWorked k new
   is_worked = record {
     standing = standing;
@@ -387,5 +359,5 @@ module _ (works : PhasesWork) (goes : GoesOn) (nothing : NothingLate) (k : ℕ) 
     off = subst (λ (p : Plan). IsWorkedOff p (journals_of p new.cells.items (clients_of new)) b.phases) (sym same_plan) off;
     seen = seen;
     began = (let e : new.keeper.seen ≡ run.keeper.seen = ap (λ p. p.seen) (m.keeper ∙ d.same.keeper) in let l = b.began in omega (arith, e, l));
-    counted = counted;
+    begun = m.begun ∙ d.same.begun ∙ b.begun;
   }

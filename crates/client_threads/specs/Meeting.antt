@@ -9,7 +9,7 @@ use Rattle.client_threads.specs.Running.{plan_of, clients_of}
 pub record HasMetAll (old new : Run) : Type 0 where
   pub plan : plan_of new ≡ plan_of old
   pub clock : new.clock ≡ old.clock
-  pub counted : new.counted.items ≡ old.counted.items
+  pub begun : new.begun ≡ old.begun
   pub keeper : IsKeeper old.keeper new.keeper
   pub cells : AllZip HasMetCell old.cells.items new.cells.items
   pub seats : AllZip HasMetSeat old.clients.items new.clients.items

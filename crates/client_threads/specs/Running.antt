@@ -22,7 +22,6 @@ use Rattle.client_duties.specs.declared.work.ClientDuty.{ClientDuty}
 use Rattle.client_duties.specs.declared.work.ClientDuty.TheVariants.{Client, Lying}
 use Rattle.client_duties.specs.ClientDuty.{Stands, HasMail, phase_at}
 use Rattle.client_threads.specs.declared.state.Run.{Run}
-use Rattle.client_threads.specs.Reads.{IsParted}
 
 -- ---- views of a run
 
@@ -88,7 +87,7 @@ pub record IsSameRun (old new : Run) : Type 0 where
   pub plan : plan_of new ≡ plan_of old
   pub clock : new.clock ≡ old.clock
   pub keeper : new.keeper ≡ old.keeper
-  pub counted : new.counted.items ≡ old.counted.items
+  pub begun : new.begun ≡ old.begun
 
 -- the threads did phase k
 pub record HasDonePhase (k : ℕ) (old new : Run) : Type 0 where
@@ -108,7 +107,7 @@ pub record IsBetween (k : ℕ) (run : Run) : Type 0 where
   pub low : AreBelow (next_begin phases) (journals_in run)
   pub seen : HaveSeen (next_begin phases) run.cells.items (clients_of run)
   pub began : next_begin phases ≤ run.keeper.seen
-  pub counted : AllZip (IsParted (next_begin phases)) run.clients.items run.counted.items
+  pub begun : run.begun ≡ next_begin phases
 
 -- k phases are closed, and the next is worked off
 pub record IsWorked (k : ℕ) (run : Run) : Type 0 where
@@ -120,4 +119,4 @@ pub record IsWorked (k : ℕ) (run : Run) : Type 0 where
   pub off : IsWorkedOff (plan_of run) (journals_in run) phases
   pub seen : HaveSeen (next_begin phases) run.cells.items (clients_of run)
   pub began : next_begin phases ≤ run.keeper.seen
-  pub counted : AllZip (IsParted (next_begin phases)) run.clients.items run.counted.items
+  pub begun : run.begun ≡ next_begin phases

@@ -6,7 +6,7 @@ ghost use Rattle.client_threads.specs.Meeting.{HasMetAll};
 
 use crate::meeting::{meet_cells, meet_desks};
 use crate::pruning::prune_all;
-use crate::reads::{count, gather};
+use crate::reads::gather;
 use crate::state::Run;
 use lists::NoMemory;
 use locked_nodes::CellRefusal;
@@ -34,26 +34,26 @@ pub(crate) fn close_phase(
     phases_close();
     let mut run = run;
     meet_all(&mut run);
-    let reads = gather(alloc, run.clients.as_slice(), run.counted.as_slice())?;
+    let given = gather(alloc, run.clients.as_slice(), run.begun)?;
     let blocks = plan.config.blocks();
-    let prunings = prunings(alloc, blocks, reads.given.as_slice(), reads.early)?;
+    let prunings = prunings(alloc, blocks, given.early.as_slice(), given.late.as_slice())?;
     let Run {
         plan: snapshot,
         clock,
         cells,
         clients,
         mut keeper,
-        mut counted,
+        begun: _begun,
     } = run;
     let (cells, refused) = prune_all(alloc, plan, &clock, &mut keeper, cells, prunings.as_slice())?;
-    count(counted.as_mut_slice(), clients.as_slice());
+    let begun = keeper.seen();
     let mut run = Run {
         plan: snapshot,
         clock,
         cells,
         clients,
         keeper,
-        counted,
+        begun,
     };
     meet_all(&mut run);
     Ok((run, refused))

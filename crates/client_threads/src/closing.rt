@@ -58,7 +58,7 @@ pub(crate) fn close(alloc: Global, plan: &Plan, run: Run) -> Result<Closed, NoMe
         cells,
         clients,
         keeper,
-        counted: _counted,
+        begun: _begun,
     } = run;
     let mut passes = ItemList::new(alloc);
     let nodes = finish_cells(alloc, plan.config.n(), cells, &mut passes)?;

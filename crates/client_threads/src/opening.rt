@@ -34,14 +34,13 @@ pub(crate) fn open(alloc: Global, plan: &Plan, shards: u32) -> Result<Run, NoMem
     let Some(keeper) = passes.pop() else {
         unreachable!()
     };
-    let counted = vec![in alloc; 0; clients.len()]?;
     Ok(Run {
         plan: Snapshot::of(plan),
         clock,
         cells,
         clients,
         keeper,
-        counted,
+        begun: 0,
     })
 }
 
@@ -190,7 +189,7 @@ fn open_seat(
     match task {
         Task::Client(task) => {
             let desk = Desk::new(alloc, &plan.config, task.client, pass)?;
-            let duty = ClientDuty::Client(CorrectClient::new(alloc, plan, task));
+            let duty = ClientDuty::Client(CorrectClient::new(plan, task));
             Ok(Seat { desk, duty })
         }
         Task::Liar { client, mail } => {

@@ -9,7 +9,7 @@ use phase_threads::Seat;
 use plan_words::Plan;
 use std::snapshot::Snapshot;
 
-/// The cells, desks and passes of a run, and how many reads are counted.
+/// The cells, desks and passes of a run.
 #[derive(Drop)]
 pub(crate) struct Run {
     /// The plan, in proofs alone.
@@ -21,8 +21,8 @@ pub(crate) struct Run {
     pub(crate) clients: Vec<Seat<ClientDuty>>,
     /// The pass that meets all others between phases. It draws nothing.
     pub(crate) keeper: Pass,
-    /// How many reads of each client ended before the phase that comes next or is under way.
-    pub(crate) counted: Vec<usize>,
+    /// The number from which on the entries of the phase are that comes next or is under way.
+    pub(crate) begun: u64,
 }
 
 /// What all cells keep.

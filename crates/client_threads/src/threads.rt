@@ -31,7 +31,7 @@ pub(crate) fn work<F: Fn(Clock, Vec<NodeCell>, Vec<Seat<ClientDuty>>) -> Phased>
         cells,
         clients,
         keeper,
-        counted,
+        begun,
     } = run;
     know_cells(cells.as_slice());
     let (clock, left) = phase(clock, cells, clients)?;
@@ -46,7 +46,7 @@ pub(crate) fn work<F: Fn(Clock, Vec<NodeCell>, Vec<Seat<ClientDuty>>) -> Phased>
         cells,
         clients,
         keeper,
-        counted,
+        begun,
     };
     Ok((run, refused))
 }

@@ -11,6 +11,8 @@ use Rattle.wire_forms.specs.declared.op.Op.{Op}
 use Rattle.block_device.specs.declared.steps.BlockStep.{BlockStep}
 use Rattle.block_device.specs.declared.steps.BlockStep.TheVariants.{Read, Whole, Merge}
 use Rattle.block_device.specs.Device.{merged}
+use Rattle.block_device.specs.Latest.{latest_read}
+use Rattle.block_device.specs.Ops.{op_of, value_of}
 use Rattle.run_words.specs.declared.outcome.Outcome.{Outcome}
 use Rattle.run_words.specs.declared.outcome.Outcome.TheVariants.{Wrote, Spent, Gave, Outvoted}
 use Rattle.protocol.specs.Setting.{first_stamp}
@@ -24,15 +26,16 @@ use Rattle.protocol.specs.Instance.{InEachRun}
 use Rattle.protocol.specs.Laws.{RecordsAreTold, SpentAreThese}
 use Rattle.journals.specs.declared.desk.DeskAct.{DeskAct}
 use Rattle.journals.specs.declared.desk.DeskAct.TheVariants.{Start}
-use Rattle.journals.specs.Desks.{DeskState, Ended, DeskKept, new_desk, desk_after_all}
+use Rattle.journals.specs.Desks.{Ended, DeskKept, new_desk, desk_after_all}
 use Rattle.journals.specs.declared.whole.Journals.{Journals}
 use Rattle.journals.specs.Journals.{setting_for, at_desk}
 use Rattle.journals.specs.Agreement.{ended_record}
+use Rattle.journals.specs.Records.{client_records}
 use Rattle.journals.specs.Merged.{OfMerged, AllRecorded}
 use Rattle.plan_words.specs.declared.plan.Plan.{Plan}
 use Rattle.plan_followed.specs.Asked.{steps_for, conduct_of, client_crash}
 use Rattle.plan_followed.specs.Laws.{PlansRun}
-use Rattle.plan_followed.specs.Clients.{ClientFollows, IsDone, IsFinished, IsNextStart, GoesByPlan, client_after, op_of, latest_read, starts, asks, times}
+use Rattle.plan_followed.specs.Clients.{ClientFollows, IsDone, IsFinished, IsNextStart, GoesByPlan, client_after, starts, asks, times}
 use Rattle.plan_followed.specs.Followed.{AreOfPlan, FollowsAs}
 use Rattle.journal_records.specs.Shown.{ended_by, IsOf, IsShown, HasCrashed, IsSteady, HistoriesAreComplete}
 use Rattle.journal_records.proofs.Operations.{What, of_op, of_ended, of_task, begun_all, started_in, started_count, kth_started}
@@ -40,16 +43,17 @@ use Rattle.journal_records.proofs.lemmas.Ongoing.{some_once}
 use Rattle.journal_records.proofs.Crashes.{down_by, down_has}
 
 -- an operation of a step is of that step
-is_of : (d : DeskState) (step : BlockStep) (x : Ended) (op : Op) → op ≡ op_of d step → of_ended x ≡ of_op op → IsOf step x
-is_of d (Read block) x op e f =
+is_of : (size client : ℕ) (records : List Record) (step : BlockStep) (x : Ended) (op : Op) → op ≡ op_of size client records step → of_ended x ≡ of_op op → IsOf step x
+is_of size client records (Read block) x op e f =
     let p : of_ended x ≡ (block, Reads) = f ∙ ap of_op e in
     (ap (λ (w : What). w.0) p, ap (λ (w : What). w.1) p)
-is_of d (Whole block value) x op e f =
+is_of size client records (Whole block value) x op e f =
     let p : of_ended x ≡ (block, Writes value) = f ∙ ap of_op e in
     (ap (λ (w : What). w.0) p, ap (λ (w : What). w.1) p)
-is_of d (Merge block at bytes) x op e f =
-    let p : of_ended x ≡ (block, Writes (merged (latest_read d block) at bytes)) = f ∙ ap of_op e in
-    (ap (λ (w : What). w.0) p, merged (latest_read d block) at bytes, ap (λ (w : What). w.1) p)
+is_of size client records (Merge block at bytes) x op e f =
+    let value = merged (value_of size (latest_read client block records)) at bytes in
+    let p : of_ended x ≡ (block, Writes value) = f ∙ ap of_op e in
+    (ap (λ (w : What). w.0) p, value, ap (λ (w : What). w.1) p)
 
 -- whoever crashed made as many asks as it may
 module _ (plan : Plan) (j : Journals) (drawn : ℕ) (h : AreOfPlan plan j drawn) (c : ℕ) (right : has_number plan.liars.clients c ≡ false) where
@@ -117,7 +121,8 @@ module _ (plan : Plan) (j : Journals) (drawn : ℕ) (h : AreOfPlan plan j drawn)
       let place : times starts kth.before ≡ k = started_count kth.before ∙ kth.place in
       let now : slice_get (steps_for plan.config c plan.work) k ≡ Some start.0 = subst (λ (i : ℕ). slice_get (steps_for plan.config c plan.work) i ≡ Some start.0) place start.1 in
       let one : start.0 ≡ step = some_once (slice_get (steps_for plan.config c plan.work) k) start.0 step now at in
-      is_of (client_after plan c kth.before) step x kth.op (start.2 ∙ ap (op_of (client_after plan c kth.before)) one) kth.is
+      let records = client_records c (client_after plan c kth.before) in
+      is_of plan.config.size c records step x kth.op (start.2 ∙ ap (op_of plan.config.size c records) one) kth.is
 
 -- an operation whose record there is stands in the history or among the spent writes
 module _ (j : Journals) (w : World) (history : List Entry) (entries : (e : Entry) → Contains history e ↔ IsEntry w.records (first_stamp (setting_for j)) e) (spent : SpentAreThese w.records) (c : ℕ) (x : Ended) (there : Contains w.records (ended_record c x)) (told : IsTold w (ended_record c x)) where

@@ -58,7 +58,7 @@ module _ (config : Numbers) (c : ℕ) where
   device_few op e = rw e (omega arith)
 
   job_few : (job : Job) → device_fault config job ≡ None → length (steps_in config c job) ≤ step_count config job
-  job_few (Block client op) h = some_or_none (c == client) (Rattle.plan_followed.specs.Asked.step_of op ∷ [])
+  job_few (Block client op) h = some_or_none (c == client) (Rattle.block_device.specs.Ops.step_of op ∷ [])
   job_few (Device client op) h =
       let one = some_or_none (c == client) (steps_of config op) in
       let all = device_few op h in

@@ -15,6 +15,7 @@ use Rattle.run_words.specs.declared.outcome.Outcome.TheVariants.{Gave}
 use Rattle.block_device.specs.declared.steps.BlockStep.{BlockStep}
 use Rattle.block_device.specs.declared.steps.BlockStep.TheVariants.{Read, Whole, Merge}
 use Rattle.block_device.specs.Device.{merged}
+use Rattle.block_device.specs.Ops.{op_of}
 use Rattle.protocol.specs.Operations.Work.{Reads}
 use Rattle.protocol.specs.Seen.{SeenTask, has_answered}
 use Rattle.plan_words.specs.declared.fault.Fault.TheVariants.{LiarSound, CrashClient, Hold}
@@ -26,8 +27,9 @@ use Rattle.journals.specs.declared.desk.DeskAct.TheVariants.{Start, Crash, Call}
 use Rattle.journals.specs.declared.desk.Way.TheVariants.{Call as ByCall, Lose as ByLose, Hold as ByHold}
 use Rattle.journals.specs.declared.desk.DeskEntry.{DeskEntry}
 use Rattle.journals.specs.Desks.{DeskState, Ended, new_desk}
+use Rattle.journals.specs.Records.{client_records}
 use Rattle.plan_followed.specs.Asked.{steps_for, first_phases}
-use Rattle.plan_followed.specs.Clients.{InEach, IsNext, way_of, op_of, client_after, IsNextStart, IsOnItsWay, GoesByPlan, IsCutOff, IsDone, ClientFollows, LiarFollows}
+use Rattle.plan_followed.specs.Clients.{InEach, IsNext, way_of, client_after, IsNextStart, IsOnItsWay, GoesByPlan, IsCutOff, IsDone, ClientFollows, LiarFollows}
 use Rattle.plan_followed.specs.Nodes.{NodeFollows}
 use Rattle.plan_followed.proofs.lemmas.Entries.{each_in}
 use Rattle.lists.proofs.lemmas.Members.{Contains-head, Contains-none}
@@ -95,7 +97,7 @@ client_follows = record {
 not_next_step : IsNextStart plan 1 (steps_for one 1 plan.work) [] (Start (ReadOp 0)) → ⊥
 not_next_step (step, there, same) = at step there same
   where
-    at : (step : BlockStep) → ◌≡◌ {A = Option BlockStep} (Some (Whole 0 (7 ∷ []))) (Some step) → ReadOp 0 ≡ op_of (new_desk one 1) step → ⊥
+    at : (step : BlockStep) → ◌≡◌ {A = Option BlockStep} (Some (Whole 0 (7 ∷ []))) (Some step) → ReadOp 0 ≡ op_of 1 1 (client_records 1 (new_desk one 1)) step → ⊥
     at (Read block) there same = absurd (cc)
     at (Whole block value) there same = absurd (cc)
     at (Merge block start bytes) there same = absurd (cc)
@@ -159,10 +161,10 @@ read_of end value = record { block = 0; work = Reads; start = end - 1; end = end
 abbrev after_reads : DeskState
 after_reads = record { client = (new_desk two 1).client; crashed = false; began = 5; ended = read_of 2 (8 ∷ 9 ∷ []) ∷ read_of 4 (3 ∷ 4 ∷ []) ∷ [] }
 
-merges_latest : op_of after_reads (Merge 0 1 (7 ∷ [])) ≡ WriteOp 0 (3 ∷ 7 ∷ [])
+merges_latest : op_of 2 1 (client_records 1 after_reads) (Merge 0 1 (7 ∷ [])) ≡ WriteOp 0 (3 ∷ 7 ∷ [])
 unfolding merged
 merges_latest = refl
 
-merges_zeros : op_of after_reads (Merge 1 0 (7 ∷ [])) ≡ WriteOp 1 (7 ∷ 0 ∷ [])
+merges_zeros : op_of 2 1 (client_records 1 after_reads) (Merge 1 0 (7 ∷ [])) ≡ WriteOp 1 (7 ∷ 0 ∷ [])
 unfolding merged
 merges_zeros = refl

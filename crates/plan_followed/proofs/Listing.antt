@@ -1,11 +1,10 @@
 -- The blocks that have a stamp, in order.
-use Rattle.std.proofs.Common.{◌≡◌, ◌⊎◌, ℕ, ◌+◌, ◌<◌, List, [], ◌∷◌, ◌++◌, take, drop, length, get_or, All, Option, refl, sym, ◌∙◌, ap, subst, inl, inr, arith}
+use Rattle.std.proofs.Common.{◌≡◌, ◌⊎◌, ℕ, ◌+◌, ◌<◌, List, [], ◌∷◌, ◌++◌, length, get_or, All, Option, refl, sym, ◌∙◌, ap, subst, inl, inr, arith}
 use Rattle.std.specs.Prelude.{slice_get}
 use Rattle.std.specs.declared.option.Option.TheVariants.{None, Some}
 use Rattle.std.specs.List.{Contains, AllByRecursion}
-use Rattle.std.proofs.lemmas.List.Elements.{Contains-append_left, Contains-append_right, Contains-append_cases, Contains-push, Contains-push_cases, All-contains, All-drop}
+use Rattle.std.proofs.lemmas.List.Elements.{Contains-append_left, Contains-push, Contains-push_cases, All-contains}
 use Rattle.std.proofs.lemmas.Option.{slice_get-get_or}
-use Rattle.std.proofs.lemmas.List.{take-append-drop}
 use Rattle.stamp_order.specs.declared.Stamp.{Stamp}
 use Rattle.protocol.specs.Report.{Ascend}
 use Rattle.plan_followed.specs.declared.prunes.BlockStamp.{BlockStamp}
@@ -53,38 +52,24 @@ put_in n tops ps x h own e =
 
 -- ---- the whole
 
-split : (k : ℕ) (xs : List BlockStamp) (y : BlockStamp) → Contains xs y → Contains (drop k xs ++ take k xs) y
-split k xs y h = turn (Contains-append_cases (take k xs) (drop k xs) y (subst (λ (l : List BlockStamp). Contains l y) (sym (take-append-drop k xs)) h))
-  where
-    turn : Contains (take k xs) y ⊎ Contains (drop k xs) y → Contains (drop k xs ++ take k xs) y
-    turn (inl t) = Contains-append_right (drop k xs) (take k xs) y t
-    turn (inr t) = Contains-append_left (drop k xs) (take k xs) y t
-
-joined : (k : ℕ) (xs : List BlockStamp) (y : BlockStamp) → Contains (drop k xs ++ take k xs) y → Contains xs y
-joined k xs y h = subst (λ (l : List BlockStamp). Contains l y) (take-append-drop k xs) (turn (Contains-append_cases (drop k xs) (take k xs) y h))
-  where
-    turn : Contains (drop k xs) y ⊎ Contains (take k xs) y → Contains (take k xs ++ drop k xs) y
-    turn (inl t) = Contains-append_right (take k xs) (drop k xs) y t
-    turn (inr t) = Contains-append_left (take k xs) (drop k xs) y t
-
-module _ (given : List BlockStamp) (fresh blocks : ℕ) (tops : List (Option Stamp)) (ps : List BlockStamp) (h : AreTops (drop fresh given) (drop fresh given ++ take fresh given) tops) (listed : AreListed blocks tops ps) where
-  top_of : (x : BlockStamp) → Contains ps x → IsTop (drop fresh given) (drop fresh given ++ take fresh given) x.block x.stamp
+module _ (late early : List BlockStamp) (blocks : ℕ) (tops : List (Option Stamp)) (ps : List BlockStamp) (h : AreTops late (late ++ early) tops) (listed : AreListed blocks tops ps) where
+  top_of : (x : BlockStamp) → Contains ps x → IsTop late (late ++ early) x.block x.stamp
   top_of x there = h.each x.block (Some x.stamp) (listed.sound x there)
 
-  in_list : (b : ℕ) → b < blocks → Contains (blocks_of (drop fresh given)) b → (top : Option Stamp) → slice_get tops b ≡ Some top → Contains (blocks_of ps) b
+  in_list : (b : ℕ) → b < blocks → Contains (blocks_of late) b → (top : Option Stamp) → slice_get tops b ≡ Some top → Contains (blocks_of ps) b
   in_list b l named None e = absurd (h.each b None e named)
   in_list b l named (Some s) e = listed.all b s l e
 
-  pub pruned : length tops ≡ blocks → All (λ x. x.block < blocks) given → ArePrunings given (drop fresh given) ps
+  pub pruned : length tops ≡ blocks → All (λ x. x.block < blocks) late → ArePrunings (late ++ early) late ps
   pruned long within = record {
     ascend = listed.ascend;
     all = λ b named.
-        let from = Contains-map_cases (λ (x : BlockStamp). x.block) (drop fresh given) b named in
-        let low : from.0.block < blocks = All-contains (λ x. x.block < blocks) (drop fresh given) from.0 (All-drop (λ x. x.block < blocks) fresh given within) from.1 in
+        let from = Contains-map_cases (λ (x : BlockStamp). x.block) late b named in
+        let low : from.0.block < blocks = All-contains (λ x. x.block < blocks) late from.0 within from.1 in
         let l : b < blocks = subst (λ (n : ℕ). n < blocks) (sym from.2) low in
         let at : slice_get tops b ≡ Some (get_or tops b None) = slice_get-get_or tops b None (omega (arith, l, long)) in
         in_list b l named (get_or tops b None) at;
     fresh = λ x there. (top_of x there).named;
-    given = λ x there. joined fresh given x (top_of x there).given;
-    greatest = λ x y there other same. (top_of x there).greatest y (split fresh given y other) same;
+    given = λ x there. (top_of x there).given;
+    greatest = λ x y there other same. (top_of x there).greatest y other same;
   }

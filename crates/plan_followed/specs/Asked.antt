@@ -4,10 +4,8 @@ use Rattle.std.specs.declared.option.Option.TheVariants.{None, Some}
 use Rattle.std.specs.List.{filter_map, flat_map, range_with_len}
 use Rattle.quorum_rules.specs.Limits.{Numbers}
 use Rattle.wire_forms.specs.declared.rule.Rule.{Rule}
-use Rattle.wire_forms.specs.declared.op.Op.{Op}
-use Rattle.wire_forms.specs.declared.op.Op.TheVariants.{Read as ReadOp, Write as WriteOp}
 use Rattle.block_device.specs.declared.steps.BlockStep.{BlockStep}
-use Rattle.block_device.specs.declared.steps.BlockStep.TheVariants.{Read, Whole}
+use Rattle.block_device.specs.Ops.{step_of}
 use Rattle.block_device.specs.Steps.{steps_of}
 use Rattle.protocol.specs.Messages.{Message}
 use Rattle.protocol.specs.Instance.{setting}
@@ -21,11 +19,6 @@ use Rattle.journals.specs.declared.node.Nature.TheVariants.{Honest, Lying}
 use Rattle.journals.specs.Steps.{Conduct}
 
 -- ---- what a client does
-
--- an operation as the step of a block
-abbrev pub step_of : Op → BlockStep
-step_of (ReadOp block) = Read block
-step_of (WriteOp block value) = Whole block value
 
 -- a client's steps of a job: an operation is one, and a command has those of its blocks
 abbrev pub steps_in : Numbers → ℕ → Job → List BlockStep

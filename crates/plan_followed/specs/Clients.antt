@@ -1,18 +1,11 @@
 -- When a client's journal follows a plan.
-use Rattle.std.specs.Prelude.{◌≡◌, ◌⊎◌, ℕ, ◌+◌, ◌-◌, ◌<◌, ◌≤◌, ◌%◌, ◌==◌, ◌&&◌, Bool, true, false, if◌then◌else◌, nat_lt, List, ◌∷◌, ◌++◌, length, fold, count_by, unwrap_or, Option, slice_get}
+use Rattle.std.specs.Prelude.{◌≡◌, ◌⊎◌, ℕ, ◌+◌, ◌-◌, ◌<◌, ◌≤◌, ◌%◌, ◌==◌, ◌&&◌, Bool, true, false, if◌then◌else◌, nat_lt, List, ◌∷◌, ◌++◌, length, count_by, Option, slice_get}
 use Rattle.std.specs.declared.option.Option.TheVariants.{None, Some}
 use Rattle.std.specs.Option.{IsSome}
 use Rattle.std.specs.List.{filter_map}
-use Rattle.wire_forms.specs.declared.op.Op.{Op}
-use Rattle.wire_forms.specs.declared.op.Op.TheVariants.{Read as ReadOp, Write as WriteOp}
 use Rattle.block_device.specs.declared.steps.BlockStep.{BlockStep}
-use Rattle.block_device.specs.declared.steps.BlockStep.TheVariants.{Read, Whole, Merge}
-use Rattle.block_device.specs.Device.{merged}
+use Rattle.block_device.specs.Ops.{op_of}
 use Rattle.protocol.specs.Messages.{Tag, Message}
-use Rattle.protocol.specs.Setting.{zeros}
-use Rattle.protocol.specs.Operations.{Outcome}
-use Rattle.run_words.specs.declared.outcome.Outcome.TheVariants.{Gave}
-use Rattle.protocol.specs.Instance.{setting}
 use Rattle.protocol.specs.Seen.{SeenTask, has_answered}
 use Rattle.plan_words.specs.declared.plan.Plan.{Plan}
 use Rattle.journals.specs.declared.desk.Way.{Way}
@@ -20,7 +13,8 @@ use Rattle.journals.specs.declared.desk.Way.TheVariants.{Call as ByCall, Lose as
 use Rattle.journals.specs.declared.desk.DeskAct.TheVariants.{Start, Call}
 use Rattle.journals.specs.declared.desk.DeskAct.{DeskAct}
 use Rattle.journals.specs.declared.desk.DeskEntry.{DeskEntry}
-use Rattle.journals.specs.Desks.{DeskState, Ended, new_desk, desk_after_all}
+use Rattle.journals.specs.Desks.{DeskState, new_desk, desk_after_all}
+use Rattle.journals.specs.Records.{client_records}
 use Rattle.journals.specs.Journals.{desks_before}
 use Rattle.journals.specs.Phases.{Phase}
 use Rattle.plan_followed.specs.Asked.{steps_for, first_phases, drops, holds, client_crash, messages}
@@ -59,26 +53,6 @@ asked _ = None
 abbrev pub all_asked : List DeskEntry → List Message
 all_asked es = filter_map (λ e. asked e.act) es
 
--- ---- which operation a step is
-
-abbrev pub value_in : Outcome → Option (List ℕ)
-value_in (Gave stamp value how rounds) = Some value
-value_in _ = None
-
--- the value that an operation gave, if it is a read of the block that gave one
-abbrev pub value_given : ℕ → Ended → Option (List ℕ)
-value_given block x = if x.block == block then value_in x.outcome else None
-
--- the value that the client's latest read of the block gave, or zeros where none has
-abbrev pub latest_read : DeskState → ℕ → List ℕ
-latest_read d block = fold (λ value x. unwrap_or (value_given block x) value) (zeros (setting d.client.config)) d.ended
-
--- the operation of a step: a merge writes the latest read of its block with the step's bytes in their place
-abbrev pub op_of : DeskState → BlockStep → Op
-op_of d (Read block) = ReadOp block
-op_of d (Whole block value) = WriteOp block value
-op_of d (Merge block at bytes) = WriteOp block (merged (latest_read d block) at bytes)
-
 -- ---- whom a client asks, and how
 
 -- after an ask of the same phase of the operation a client goes on with the next node, else it begins at its own
@@ -109,9 +83,9 @@ module _ (plan : Plan) (c : ℕ) where
   abbrev pub client_after : List DeskEntry → DeskState
   client_after es = desk_after_all (new_desk plan.config c) es
 
-  -- an operation that starts is that of the next step
+  -- an operation that starts is that of the next step, after the records that the client's journal tells so far
   abbrev pub IsNextStart : List BlockStep → List DeskEntry → DeskAct → Type 0
-  IsNextStart steps before (Start op) = (step : BlockStep) × (slice_get steps (times starts before) ≡ Some step) × (op ≡ op_of (client_after before) step)
+  IsNextStart steps before (Start op) = (step : BlockStep) × (slice_get steps (times starts before) ≡ Some step) × (op ≡ op_of plan.config.size c (client_records c (client_after before)) step)
   IsNextStart steps before _ = Unit {0}
 
   -- an ask is of the next node, in ascending order from the client's number modulo n

@@ -1,6 +1,6 @@
 //! Which blocks nodes prune after a phase of a plan, and by which stamps.
 
-ghost use Rattle.std.specs.Prelude.{◌≡◌, ◌≤◌, ◌<◌, ◌++◌, All, IfOk, IfSome, List, drop, length};
+ghost use Rattle.std.specs.Prelude.{◌≡◌, ◌<◌, ◌++◌, All, IfOk, IfSome, List, length};
 ghost use Rattle.stamp_order.specs.Stamps.{◌≼◌};
 ghost use Rattle.plan_followed.specs.Prunings.{ArePrunings};
 ghost use Rattle.plan_followed.specs.Tops.{IsOneOf, AreTops, AreListed};
@@ -19,20 +19,20 @@ pub struct BlockStamp {
 }
 
 /// What nodes prune after a phase: each block that was read in the phase, blocks ascending, by the greatest stamp that any
-/// read of it gave so far. `blocks` is how many blocks there are; `given` has what all reads gave so far, of which those
-/// from place `fresh` on came in the phase that ends.
+/// read of it gave so far. `blocks` is how many blocks there are; `late` has what the reads of the phase that ends gave, and
+/// `early` what those of the phases before gave.
 pub fn prunings(
     alloc: Global,
     blocks: u32,
-    given: &[BlockStamp],
-    fresh: usize,
+    early: &[BlockStamp],
+    late: &[BlockStamp],
 ) -> Result<Vec<BlockStamp>, NoMemory>
-    requires blocks { All (λ x. x.block < blocks) given.now }
-    requires fresh { fresh ≤ length given.now }
-    ensures { IfOk result (λ ps. ArePrunings given.now (drop fresh given.now) ps.items) }
+    requires early { All (λ x. x.block < blocks) early.now }
+    requires late { All (λ x. x.block < blocks) late.now }
+    ensures { IfOk result (λ ps. ArePrunings (late.now ++ early.now) late.now ps.items) }
 {
-    let mut tops = tops_of(alloc, blocks, &given[fresh..])?;
-    raise(&mut tops, &given[..fresh]);
+    let mut tops = tops_of(alloc, blocks, late)?;
+    raise(&mut tops, early);
     listed(alloc, blocks, &tops)
 }
 

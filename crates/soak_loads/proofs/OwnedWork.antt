@@ -25,7 +25,8 @@ use Rattle.plan_words.specs.declared.plan.Plan.{Plan}
 use Rattle.plan_words.specs.Plans.{IsOp, IsJob, step_count}
 use Rattle.journals.specs.declared.whole.Journals.{Journals}
 use Rattle.journals.specs.Desks.{Ended}
-use Rattle.plan_followed.specs.Asked.{step_of, steps_in, steps_for}
+use Rattle.block_device.specs.Ops.{step_of}
+use Rattle.plan_followed.specs.Asked.{steps_in, steps_for}
 use Rattle.journal_records.specs.Shown.{ended_by, IsOf, IsSteady, IsComplete}
 use Rattle.soak_loads.specs.Serial.{op_by}
 use Rattle.soak_loads.specs.Loads.{IsByOwner, HasOwners}

@@ -4,16 +4,12 @@ use denote.Enum.Declared.{shape as variants_of}
 use Rattle.std.proofs.Crossing.{crosses}
 use Rattle.cross_sum.proofs.bytes.Bytes.TheSendSync as bytes
 use Rattle.wire_forms.proofs.message.Message.TheSendSync as message
-use Rattle.client_duties.specs.contracts.reads.GivenRead as given
 use Rattle.client_duties.specs.contracts.correct_client.CorrectClient as correct_client
 use Rattle.client_duties.specs.contracts.liar.Liar as liar
 use Rattle.client_duties.specs.contracts.work.ClientDuty as work
 
-given_send : IsSend given.the_row
-given_send = search (sendable, crosses, bytes.the_send) depth 40
-
 correct_field : IsSend correct_client.the_field.row
-correct_field = search (sendable, crosses, given_send, bytes.the_send) depth 60 fits 50000
+correct_field = search (sendable, crosses, bytes.the_send) depth 60 fits 50000
 
 liar_field : IsSend liar.the_field.row
 liar_field = search (sendable, crosses, message.the_send) depth 60 fits 50000

@@ -59,7 +59,7 @@ returns-clause-met c =
     record {
       plan = refl;
       clock = refl;
-      counted = refl;
+      begun = refl;
       keeper = keeper_then k0 k1 k2 one two;
       cells = subst (AllZip HasMetCell run.cells.items) (sym bc) zc;
       seats = subst (AllZip HasMetSeat run.clients.items) (sym bs) zs;

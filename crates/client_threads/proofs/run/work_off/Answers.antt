@@ -20,10 +20,10 @@ pub stop-requires-in-Err-clause-opened : goal.stop-requires-in-Err-clause-opened
 stop-requires-in-Err-clause-opened g c =
     let mid = c.in_ok-run.run' in
     let cells = c.bring_all-brought.new.cells in
-    let new : Run = record { plan = mid.plan; clock = mid.clock; cells = with_items mid.cells cells; clients = mid.clients; keeper = mid.keeper; counted = mid.counted } in
+    let new : Run = record { plan = mid.plan; clock = mid.clock; cells = with_items mid.cells cells; clients = mid.clients; keeper = mid.keeper; begun = mid.begun } in
     let zip = subst (λ (l : List CellView). AllZip HasMoreAside l cells) c.as_mut_slice.ensures.value c.bring_all-brought.ensures.cells in
     let is : (with_items mid.cells cells).items ≡ cells = with_items_is mid.cells cells (zip_long HasMoreAside c.as_mut_slice.result.now cells c.bring_all-brought.ensures.cells ∙ c.as_mut_slice.ensures.len) in
-    let mailed : IsMailed mid new = record { plan = refl; clock = refl; clients = refl; keeper = refl; counted = refl; cells = subst (AllZip HasMoreAside mid.cells.items) (sym is) zip } in
+    let mailed : IsMailed mid new = record { plan = refl; clock = refl; clients = refl; keeper = refl; begun = refl; cells = subst (AllZip HasMoreAside mid.cells.items) (sym is) zip } in
     open_mailed mid new mailed c.in_ok-run.ensures.«open»
 
 pub returns-in-Ok-clause-plan : goal.returns-in-Ok-clause-plan
@@ -33,9 +33,9 @@ pub returns-in-Ok-clause-worked : goal.returns-in-Ok-clause-worked
 returns-in-Ok-clause-worked g c k between =
     let mid = c.in_ok-run.run' in
     let cells = c.bring_all-brought.new.cells in
-    let new : Run = record { plan = mid.plan; clock = mid.clock; cells = with_items mid.cells cells; clients = mid.clients; keeper = mid.keeper; counted = mid.counted } in
+    let new : Run = record { plan = mid.plan; clock = mid.clock; cells = with_items mid.cells cells; clients = mid.clients; keeper = mid.keeper; begun = mid.begun } in
     let zip = subst (λ (l : List CellView). AllZip HasMoreAside l cells) c.as_mut_slice.ensures.value c.bring_all-brought.ensures.cells in
     let is : (with_items mid.cells cells).items ≡ cells = with_items_is mid.cells cells (zip_long HasMoreAside c.as_mut_slice.result.now cells c.bring_all-brought.ensures.cells ∙ c.as_mut_slice.ensures.len) in
-    let mailed : IsMailed mid new = record { plan = refl; clock = refl; clients = refl; keeper = refl; counted = refl; cells = subst (AllZip HasMoreAside mid.cells.items) (sym is) zip } in
+    let mailed : IsMailed mid new = record { plan = refl; clock = refl; clients = refl; keeper = refl; begun = refl; cells = subst (AllZip HasMoreAside mid.cells.items) (sym is) zip } in
     is_worked c.phases_work.ensures.work c.phases_close.ensures.goes_on c.phases_work.ensures.late k c.args.run mid new between (c.in_ok-run.ensures.done c.in_default.is k between.standing) mailed
     (subst (All KeptCell) (sym is) c.bring_all-brought.ensures.known) (subst (All HasNoLateMail) (sym is) c.in-Ok.ensures.none)

@@ -1,5 +1,5 @@
 -- Lemmas of `Threading`.
-use Rattle.std.proofs.Common.{◌≡◌, ◌≤◌, ℕ, Ok, length, refl, subst, rules}
+use Rattle.std.proofs.Common.{◌≡◌, ◌≤◌, Ok, length, refl, subst, rules}
 use Rattle.std.specs.Prelude.{All}
 use Rattle.locked_nodes.specs.Cells.{KeptCell}
 use Rattle.client_threads.specs.declared.state.Run.{Run}
@@ -18,8 +18,8 @@ returns-clause-open g c =
     let few : length run.clients.items ≤ 65535 = search rules in
     let may = may_phase run c.requires.standing.0 few c.requires.standing.1 c.requires.standing.2 in
     let told = c.requires.phase.does run.clock run.cells run.clients (Ok (c.in_ok-clock.clock, c.in_ok-clock.left)) may c.in_ok-clock.ensures in
-    let new : Run = record { plan = run.plan; clock = c.in_ok-clock.clock; cells = c.in_ok-clock.left.cells; clients = c.in_ok-clock.left.seats; keeper = run.keeper; counted = run.counted } in
-    open_after run new (record { plan = refl; clock = told.clock; keeper = refl; counted = refl; cells = told.cells; desks = told.desks }) (subst (All KeptCell) c.as_slice.ensures.value c.know_cells.ensures) c.requires.standing.1.opened
+    let new : Run = record { plan = run.plan; clock = c.in_ok-clock.clock; cells = c.in_ok-clock.left.cells; clients = c.in_ok-clock.left.seats; keeper = run.keeper; begun = run.begun } in
+    open_after run new (record { plan = refl; clock = told.clock; keeper = refl; begun = refl; cells = told.cells; desks = told.desks }) (subst (All KeptCell) c.as_slice.ensures.value c.know_cells.ensures) c.requires.standing.1.opened
 
 pub returns-clause-done : goal.returns-clause-done
 returns-clause-done g c none k standing =
@@ -27,6 +27,6 @@ returns-clause-done g c none k standing =
     let few : length run.clients.items ≤ 65535 = search rules in
     let may = may_phase run c.requires.standing.0 few c.requires.standing.1 c.requires.standing.2 in
     let told = c.requires.phase.does run.clock run.cells run.clients (Ok (c.in_ok-clock.clock, c.in_ok-clock.left)) may c.in_ok-clock.ensures in
-    let new : Run = record { plan = run.plan; clock = c.in_ok-clock.clock; cells = c.in_ok-clock.left.cells; clients = c.in_ok-clock.left.seats; keeper = run.keeper; counted = run.counted } in
-    phase_done run new (record { plan = refl; clock = told.clock; keeper = refl; counted = refl; cells = told.cells; desks = told.desks }) (subst (All KeptCell) c.as_slice.ensures.value c.know_cells.ensures)
+    let new : Run = record { plan = run.plan; clock = c.in_ok-clock.clock; cells = c.in_ok-clock.left.cells; clients = c.in_ok-clock.left.seats; keeper = run.keeper; begun = run.begun } in
+    phase_done run new (record { plan = refl; clock = told.clock; keeper = refl; begun = refl; cells = told.cells; desks = told.desks }) (subst (All KeptCell) c.as_slice.ensures.value c.know_cells.ensures)
     (told.duties none) (told.pairs none) k standing

@@ -1,4 +1,4 @@
-use Rattle.std.proofs.Common.{◌≡◌, ◌-◌, List, take, drop, length, Option, sym, ◌∙◌, subst, arith, length-drop}
+use Rattle.std.proofs.Common.{◌≡◌, ◌++◌, List, drop, length, Option, sym, ◌∙◌, subst, arith}
 use Rattle.std.proofs.lemmas.List.{take_all, take-append-le}
 use Rattle.std.proofs.lemmas.Result.{IfOk-weaker}
 use Rattle.stamp_order.specs.declared.Stamp.{Stamp}
@@ -10,12 +10,12 @@ use Rattle.plan_followed.proofs.prunes.prunings.Goals as goal
 
 pub returns : goal.returns
 returns c =
-    let late : List BlockStamp = drop c.args.fresh c.args.given.now in
+    let late : List BlockStamp = c.args.late.now in
+    let early : List BlockStamp = c.args.early.now in
     let tops : List (Option Stamp) = c.raise.new.tops in
-    let whole : take (length c.args.given.now - c.args.fresh) late ≡ late = take_all (length c.args.given.now - c.args.fresh) late (omega (arith, length-drop c.args.fresh c.args.given.now)) in
-    let first : AreTops late late c.deref_mut.result.now = subst (AreTops late late) (sym c.deref_mut.ensures.value) (subst (λ (xs : List BlockStamp). AreTops xs xs c.in_ok-tops.tops.items) whole c.in_ok-tops.ensures.tops) in
+    let first : AreTops late late c.deref_mut.result.now = subst (AreTops late late) (sym c.deref_mut.ensures.value) c.in_ok-tops.ensures.tops in
     let long : length tops ≡ c.in_ok-tops.tops.len = omega (arith, c.raise.auto.tops, c.deref_mut.ensures.len) in
     let same : c.deref.result.now ≡ tops = c.deref.ensures.value ∙ take-append-le c.in_ok-tops.tops.len tops (drop (length tops) c.in_ok-tops.tops.items) (omega (arith, long)) ∙ take_all c.in_ok-tops.tops.len tops (omega (arith, long)) in
-    IfOk-weaker c.listed.result (λ ps. AreListed c.args.blocks c.deref.result.now ps.items) (λ ps. ArePrunings c.args.given.now late ps.items) (λ ps listed.
-    pruned c.args.given.now c.args.fresh c.args.blocks tops ps.items (c.raise.ensures late late first) (subst (λ (l : List (Option Stamp)). AreListed c.args.blocks l ps.items) same listed)
-    (omega (arith, long, c.in_ok-tops.tops.ok.0, c.in_ok-tops.ensures.length)) c.requires.blocks) c.listed.ensures
+    IfOk-weaker c.listed.result (λ ps. AreListed c.args.blocks c.deref.result.now ps.items) (λ ps. ArePrunings (late ++ early) late ps.items) (λ ps listed.
+    pruned late early c.args.blocks tops ps.items (c.raise.ensures late late first) (subst (λ (l : List (Option Stamp)). AreListed c.args.blocks l ps.items) same listed)
+    (omega (arith, long, c.in_ok-tops.tops.ok.0, c.in_ok-tops.ensures.length)) c.requires.late) c.listed.ensures

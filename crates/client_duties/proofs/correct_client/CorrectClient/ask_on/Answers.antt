@@ -1,13 +1,10 @@
-use Rattle.std.proofs.Common.{rules, arith, ◌≡◌, ◌<◌, ◌∙◌, sym, ap, subst}
+use Rattle.std.proofs.Common.{rules, arith, ◌≡◌, ◌<◌, ◌∙◌, sym, ap}
 use Rattle.quorum_rules.specs.Limits.{Numbers}
-use Rattle.plan_words.specs.declared.plan.Plan.{Plan}
-use Rattle.std.specs.declared.option.Option.TheVariants.{Some}
-use Rattle.client_desks.specs.Later.{IsLater}
-use Rattle.client_endpoints.specs.Endpoint.{EndpointView}
-use Rattle.client_duties.specs.ClientDuty.{given_by, IsWholeIn}
+use Rattle.std.specs.Option.{IsSome}
+use Rattle.std.specs.declared.option.Option.TheVariants.{None, Some}
 use Rattle.client_duties.proofs.Going.{held_whole}
 use Rattle.client_duties.proofs.Asking.{asks_block}
-use Rattle.client_duties.proofs.Running.{whole_on, ok_gives, may_call, asking_on, asked_out, crashed_out, noted_by}
+use Rattle.client_duties.proofs.Running.{whole_on, ok_gives, may_call, asking_on, asked_out, crashed_out}
 use Rattle.client_duties.proofs.correct_client.CorrectClient.ask_on.Goals as goal
 
 pub call-requires-clause-on : goal.call-requires-clause-on
@@ -33,30 +30,25 @@ returns-then-eq-clause-asked g c ok =
 pub returns-in_default-call-clause-later : goal.returns-in_default-call-clause-later
 returns-in_default-call-clause-later g c = c.desks_go_on.ensures.on c.args.endpoint.now.desk c.loop.endpoint.desk c.call.new.self.desk c.loop.invariant.2.later c.call.ensures.later
 
-pub returns-then-is_err-clause-later : goal.returns-then-is_err-clause-later
-returns-then-is_err-clause-later g c =
-    subst (λ (k : EndpointView). IsLater c.args.endpoint.now.desk k.desk) (sym c.refuse.ensures) (c.desks_go_on.ensures.on c.args.endpoint.now.desk c.loop.endpoint.desk c.call.new.self.desk c.loop.invariant.2.later c.call.ensures.later)
+pub returns-then-is_some-clause-later : goal.returns-then-is_some-clause-later
+returns-then-is_some-clause-later g c = c.desks_go_on.ensures.on c.args.endpoint.now.desk c.loop.endpoint.desk c.call.new.self.desk c.loop.invariant.2.later c.call.ensures.later
 
-pub returns-in-Some-answer-clause-later : goal.returns-in-Some-answer-clause-later
-returns-in-Some-answer-clause-later g c = c.desks_go_on.ensures.on c.args.endpoint.now.desk c.loop.endpoint.desk c.call.new.self.desk c.loop.invariant.2.later c.call.ensures.later
-
-pub returns-in-Some-answer-clause-asked : goal.returns-in-Some-answer-clause-asked
-returns-in-Some-answer-clause-asked g c ok =
+pub returns-then-is_some-clause-asked : goal.returns-then-is_some-clause-asked
+returns-then-is_some-clause-asked g c ok =
     let w' = c.count_ask-way.new.self in
     let a = c.loop.invariant.2 in
     let m = may_call c.loop.self w' c.loop.endpoint.desk c.desk.result.now c.in-Some-next_node.node c.count_ask-way.result a.goes a.up c.desk.ensures c.in-Some-next_node.ensures.node c.count_ask-way.ensures.counted c.in-Some-next_node.ensures.next in
-    let whole : IsWholeIn w'.config.size (given_by c.args.block c.in-Some-answer.outcome) = search rules in
-    let is : c.note.new.self ≡ noted_by w' c.args.block c.in-Some-answer.outcome = search rules in
-    asked_out c.args.self.now c.loop.self w' c.args.endpoint.now c.loop.endpoint c.call.new.self c.args.shared_cells.now c.args.block c.in-Some-next_node.node c.count_ask-way.result a m
-    c.in-Ok.answer c.in-Some-answer.outcome c.note.new.self c.in-Some-answer.is c.in-Ok.ensures.called (subst (λ (p : Plan). c.args.block < p.config.blocks) (sym a.same.plan) c.requires.there) whole is
+    let some : IsSome c.in-Ok.answer = search rules in
+    asked_out c.args.self.now c.loop.self w' c.args.endpoint.now c.loop.endpoint c.call.new.self c.args.shared_cells.now c.args.block c.in-Some-next_node.node c.count_ask-way.result a m c.in-Ok.answer some c.in-Ok.ensures.called
 
 pub loop-preserved : goal.loop-preserved
 loop-preserved g c =
     let w' = c.count_ask-way.new.self in
     let a = c.loop.invariant.2 in
+    let none : c.in-Ok.answer ≡ None = search rules in
     let m = may_call c.loop.self w' c.loop.endpoint.desk c.desk.result.now c.in-Some-next_node.node c.count_ask-way.result a.goes a.up c.desk.ensures c.in-Some-next_node.ensures.node c.count_ask-way.ensures.counted c.in-Some-next_node.ensures.next in (
       tt,
       tt,
       asking_on c.args.self.now c.loop.self w' c.args.endpoint.now c.loop.endpoint c.call.new.self c.args.shared_cells.now c.args.block c.in-Some-next_node.node c.count_ask-way.result a m
-          c.in-Ok.answer c.in_default-answer.is c.in-Ok.ensures.called c.in-Ok.ensures.stays c.in-Ok.ensures.fit c.in-Ok.ensures.refused (c.desks_go_on.ensures.on c.args.endpoint.now.desk c.loop.endpoint.desk c.call.new.self.desk a.later c.in-Ok.ensures.later),
+          c.in-Ok.answer none c.in-Ok.ensures.called c.in-Ok.ensures.stays c.in-Ok.ensures.fit c.in-Ok.ensures.refused (c.desks_go_on.ensures.on c.args.endpoint.now.desk c.loop.endpoint.desk c.call.new.self.desk a.later c.in-Ok.ensures.later),
     )

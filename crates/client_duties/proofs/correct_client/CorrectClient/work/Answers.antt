@@ -25,4 +25,4 @@ pub returns-in-Some-clause-done : goal.returns-in-Some-clause-done
 returns-in-Some-clause-done g c ok =
     let s = c.do_steps.ensures.same ok in
     worked c.args.self.now c.do_steps.new.self c.in-Some.steps c.pop_front.new.self.items c.args.endpoint.now.desk c.do_steps.new.endpoint.desk c.in-Some.ensures.items s.1
-    (record { plan = s.0.plan; client = s.0.client; reads = s.0.reads }) c.requires.ready.stands (c.do_steps.ensures.goes ok) (c.do_steps.ensures.done ok)
+    (record { plan = s.0.plan; client = s.0.client }) c.requires.ready.stands (c.do_steps.ensures.goes ok) (c.do_steps.ensures.done ok)
