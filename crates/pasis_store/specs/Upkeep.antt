@@ -1,5 +1,5 @@
 -- What is done with a store's nodes, and how it is looked after.
-use Rattle.std.specs.Prelude.{◌≡◌, ℕ, ◌<◌, ◌^◌, false, Bool, List, length, Option, Some, Result}
+use Rattle.std.specs.Prelude.{◌≡◌, ℕ, ◌+◌, ◌-◌, ◌*◌, ◌/◌, ◌<◌, ◌^◌, ◌&&◌, false, not, min, max, nat_le, if◌then◌else◌, Bool, List, length, Option, Some, Result}
 use denote.Ref.{MutBor}
 use Rattle.quorum_rules.specs.Limits.{Numbers}
 use Rattle.disk_model.specs.Past.{LeftSince}
@@ -10,6 +10,7 @@ use Rattle.version_disk.specs.Stored.{Stored}
 use Rattle.store_device.specs.Stores.{SeenStore, IsSound}
 use Rattle.store_device.specs.Seating.{with_seat, IsReseated as IsReseatedOn}
 use Rattle.store_device.specs.Steps.{IsTended as IsTendedOn}
+use Rattle.store_care.specs.Settling.{Try, TriesLead as TriesLeadOn}
 use Rattle.store_front.specs.Sessions.{IsSession as IsSessionOn}
 
 -- a node of this number sits there that is up, and these bytes hold it
@@ -38,10 +39,34 @@ module _ {F : Type 0} where
   abbrev pub IsTended : SeenStore (OnFile F) → SeenStore (OnFile F) → Type 0
   IsTended old new = IsTendedOn (λ d. d.pending) (λ d. d.bytes) (λ d. length d.past) (λ d. LeftSince d.past d.pending) old new
 
+  -- groups of its blocks are tried to be settled, one after the other, and nothing else is done
+  abbrev pub IsTried : SeenStore (OnFile F) → SeenStore (OnFile F) → Type 0
+  IsTried old new =
+      (tries : List (Try (OnFile F)))
+      × TriesLeadOn (λ d. d.pending) (λ d. d.bytes) (λ d. length d.past) (λ d. LeftSince d.past d.pending) old tries new
+
   -- a session in which it is only looked after between rounds
   abbrev pub IsSession : Numbers → (old new : SeenStore (OnFile F)) → Result (Unit {0}) SessionEnd → (left left_after taken taken_after : Option (List ℕ)) → Type 0
   IsSession c old new result left left_after taken taken_after =
       IsSessionOn (λ d. d.pending) (λ d. d.bytes) (λ d. length d.past) (λ d. LeftSince d.past d.pending) IsTended c old new result left left_after taken taken_after
+
+-- ---- when a store is looked after
+
+-- how many bytes of requests were served since it was, where so many more are served now; no more than a word has
+abbrev pub served_since : (since served : ℕ) → ℕ
+served_since since served = min (since + served) (2 ^ 64 - 1)
+
+-- how many bytes the device has; no more than a word has
+abbrev pub device_len : Numbers → ℕ
+device_len c = min (c.size * c.blocks) (2 ^ 64 - 1)
+
+-- it is to be, where no request waits and so many bytes were: as many as a quarter of the device has, and no fewer than 2^20
+abbrev pub is_due : Numbers → ℕ → Bool → Bool
+is_due c since is_ready = not is_ready && nat_le (max (2 ^ 20) (device_len c / 4)) since
+
+-- how many were, behind that
+abbrev pub since_then : Numbers → ℕ → Bool → ℕ
+since_then c since is_ready = if is_due c since is_ready then 0 else since
 
 -- ---- a closure that looks after a store
 

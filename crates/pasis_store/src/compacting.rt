@@ -4,10 +4,11 @@ ghost use Rattle.store_device.specs.Stores.{seat_at, is_up};
 ghost use Rattle.pasis_store.specs.Upkeep.{Holds, IsReseated, IsTended};
 
 use crate::folder::{FileStore, Journal, MOST, path_in, seat_journal};
+use crate::telling::tell;
 use file_disk::{FileDisk, Opening};
 use lists::NoMemory;
 use std::alloc::Global;
-use store_words::Down;
+use store_words::{Down, Notice};
 
 /// A journal that is longer than twice what it could be, and this many bytes, is written anew.
 const LEAST: u64 = 1 << 16;
@@ -72,7 +73,13 @@ fn compact(rt: &HostRuntime, folder: &str, seat: u8, store: &mut FileStore)
     };
     if let Err(why) = go_on(rt, &places, seat, store, disk) {
         let _ = store.take_node(usize::from(seat));
-        let _ = eprintln!(rt; "pasis_store: node {seat} is down: {why}");
+        tell(
+            rt,
+            &Notice::Down {
+                node: usize::from(seat),
+                why,
+            },
+        );
     }
 }
 

@@ -1,5 +1,6 @@
 //! The blocks of a store, in groups that are looked at in one go.
-ghost use Rattle.std.specs.Prelude.{◌+◌, ◌≤◌, ◌<◌, ◌^◌};
+ghost use Rattle.std.specs.Prelude.{◌≡◌, ◌+◌, ◌≤◌, ◌<◌, ◌^◌};
+ghost use Rattle.pasis_store.specs.Progress.{ends_tenth};
 
 use quorum_rules::Config;
 use store_care::MOST_BLOCKS;
@@ -26,4 +27,13 @@ pub fn group_of(config: &Config, number: u32) -> Group
     let first = blocks.min(number.saturating_mul(MOST_BLOCKS));
     let count = MOST_BLOCKS.min(blocks - first);
     Group { first, count }
+}
+
+/// Whether a tenth more of so many groups is done with the one of this number, counted from 0.
+pub fn ends_tenth(number: u32, groups: u32) -> bool
+    requires { number < groups }
+    ensures { result ≡ ends_tenth number groups }
+{
+    let (number, groups) = (u64::from(number), u64::from(groups));
+    number * 10 / groups < (number + 1) * 10 / groups
 }

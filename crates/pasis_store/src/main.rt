@@ -12,8 +12,16 @@ mod opening;
 mod renew;
 mod scrub;
 mod serve;
+mod settling;
 mod status;
+mod telling;
 mod upkeep;
+
+ghost use Rattle.std.specs.Prelude.{◌≡◌, Err, IfErr, MatchOption};
+ghost use Rattle.store_words.specs.Causes.{cause};
+ghost use Rattle.store_words.specs.Statuses.{number_of};
+ghost use Rattle.store_words.specs.Words.{texts};
+ghost use Rattle.pasis_store.specs.Ends.{IsUnderstood, status_of};
 
 use std::alloc::Global;
 use std::env::{self, Args};
@@ -22,24 +30,51 @@ use std::thread::Threads;
 use store_words::{Asked, Command, Refusal, Status, read_words};
 
 fn main(rt: HostRuntime) -> ExitCode {
-    let status = match done(&rt, &rt) {
-        Ok(status) => status,
-        Err(refusal) => {
-            // a line that can't be printed changes nothing of the exit status
-            let _ = eprintln!(rt; "{refusal}");
-            refusal.status()
-        }
+    let done = match words_of(&rt) {
+        Ok(words) => done(&rt, &rt, &words),
+        Err(refusal) => Err(refusal),
     };
-    ExitCode::from(status.number())
+    if let Err(refusal) = &done {
+        // a line that can't be printed changes nothing of the exit status
+        let _ = eprintln!(rt; "{refusal}");
+    }
+    ExitCode::from(exit_number(&done))
 }
 
-// Does what the words of the command line ask for.
-fn done<T: Threads + Sync>(rt: &HostRuntime, threads: &T) -> Result<Status, Refusal> {
-    let words = words_of(rt)?;
-    let Asked { command, folders } = match read_words(&words) {
-        Ok(asked) => asked,
-        Err(why) => return Err(Refusal::BadWords(why)),
-    };
+// The number with which the program ends.
+fn exit_number(done: &Result<Status, Refusal>) -> u8
+    ensures { result ≡ number_of (status_of done.now) }
+{
+    match done {
+        Ok(status) => status.number(),
+        Err(refusal) => refusal.status().number(),
+    }
+}
+
+// Does what words ask for. They are refused for their cause, if they have one, and for nothing else.
+fn done<T: Threads + Sync>(
+    rt: &HostRuntime,
+    threads: &T,
+    words: &[String],
+) -> Result<Status, Refusal>
+    ensures { MatchOption (cause (texts words.now)) (IfErr result IsUnderstood)
+        (λ why. result ≡ Err (Refusal.BadWords why)) }
+{
+    match read_words(words) {
+        Ok(asked) => do_asked(rt, threads, asked),
+        Err(why) => Err(Refusal::BadWords(why)),
+    }
+}
+
+// Does what a command asks for.
+fn do_asked<T: Threads + Sync>(
+    rt: &HostRuntime,
+    threads: &T,
+    asked: Asked<'_>,
+) -> Result<Status, Refusal>
+    ensures { IfErr result IsUnderstood }
+{
+    let Asked { command, folders } = asked;
     match command {
         Command::Help => Ok(help::help(rt)),
         Command::Version => Ok(help::version(rt)),

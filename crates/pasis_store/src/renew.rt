@@ -1,3 +1,6 @@
+ghost use Rattle.std.specs.Prelude.{◌≡◌, IfErr};
+ghost use Rattle.pasis_store.specs.Ends.{IsUnderstood, filling_end, renewal_status};
+
 use crate::create::{is_empty, make, unmake};
 use crate::folder::{FileStore, open_journal, sync_folder};
 use crate::nodes::Nodes;
@@ -9,7 +12,7 @@ use std::fs;
 use std::io::{self, ErrorKind};
 use std::path::Path;
 use std::thread::Threads;
-use store_care::fill_disk;
+use store_care::{Filled, FilledDisk, fill_disk};
 use store_words::{Refusal, Status};
 
 /// Gives a node, whose directory is empty or gone, a new one, and scrubs the store. The new directory is made beside its place, filled with what
@@ -19,7 +22,9 @@ pub fn renew<T: Threads + Sync>(
     threads: &T,
     node: u32,
     folders: &[String],
-) -> Result<Status, Refusal> {
+) -> Result<Status, Refusal>
+    ensures { IfErr result IsUnderstood }
+{
     let (Some(folder), Ok(number)) = (folders.get(node as usize), u8::try_from(node)) else {
         return Err(Refusal::NoStore {
             folders: folders.len(),
@@ -30,11 +35,18 @@ pub fn renew<T: Threads + Sync>(
     }
     let folder = without_slashes(folder.as_str());
     match renewed(rt, threads, number, folder, folders)? {
-        Status::Done => match scrub(rt, threads, folders)? {
-            Status::Done => Ok(Status::Mended),
-            status => Ok(status),
-        },
+        Status::Done => Ok(renewal_status(scrub(rt, threads, folders)?)),
         status => Ok(status),
+    }
+}
+
+// The status of a renewal, behind which a scrub ended with this one.
+fn renewal_status(scrubbed: Status) -> Status
+    ensures { result ≡ renewal_status scrubbed }
+{
+    match scrubbed {
+        Status::Done => Status::Mended,
+        status => status,
     }
 }
 
@@ -73,7 +85,9 @@ fn renewed<T: Threads + Sync>(
     number: u8,
     folder: &str,
     folders: &[String],
-) -> Result<Status, Refusal> {
+) -> Result<Status, Refusal>
+    ensures { IfErr result IsUnderstood }
+{
     let Nodes { mut store, id, .. } = open_well(rt, folders)?;
     let config = *store.config();
     let Ok(beside) = format!(in rt.alloc(); "{folder}.new") else {
@@ -129,7 +143,9 @@ fn filled<T: Threads + Sync>(
     number: u8,
     folder: &str,
     store: &mut FileStore,
-) -> Result<Status, Refusal> {
+) -> Result<Status, Refusal>
+    ensures { IfErr result IsUnderstood }
+{
     let disk = match open_journal(rt, folder) {
         Ok(disk) => disk,
         Err(why) => {
@@ -137,10 +153,15 @@ fn filled<T: Threads + Sync>(
             return Ok(Status::Failed);
         }
     };
-    match fill_disk(threads, rt.alloc(), store, number, disk)?
-        .filled
-        .missed
-    {
+    let FilledDisk { filled, .. } = fill_disk(threads, rt.alloc(), store, number, disk)?;
+    end_of(&filled)
+}
+
+// How a renewal goes on whose new node was given this.
+fn end_of(filled: &Filled) -> Result<Status, Refusal>
+    ensures { result ≡ filling_end filled.now.missed }
+{
+    match filled.missed {
         0 => Ok(Status::Done),
         blocks => Err(Refusal::Unread { blocks }),
     }

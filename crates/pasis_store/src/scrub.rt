@@ -1,34 +1,47 @@
-ghost use Rattle.std.specs.Prelude.{◌≡◌};
+ghost use Rattle.std.specs.Prelude.{◌≡◌, IfErr};
 ghost use Rattle.std.specs.List.{list_any};
 ghost use Rattle.store_care.specs.Tallies.{is_lacking};
+ghost use Rattle.pasis_store.specs.Ends.{IsUnderstood, scrub_end};
 
 use crate::compacting::compact_due;
 use crate::folder::FileStore;
-use crate::groups::{Group, group_count, group_of};
+use crate::groups::{Group, ends_tenth, group_count, group_of};
 use crate::opening::open_store;
+use crate::settling::settle;
+use crate::telling::tell;
 use lists::NoMemory;
 use std::alloc::Global;
 use std::thread::Threads;
 use store_care::{Care, NodeTally, prune_due};
-use store_words::{Found, JournalBytes, Refusal, ScrubLine, Status, write_scrubbed};
+use store_words::{Found, JournalBytes, Notice, Refusal, ScrubLine, Status, write_scrubbed};
 
 /// How many versions a node keeps of a block that isn't pruned: the first, and one more.
 const MOST_VERSIONS: usize = 2;
 
-/// Reads every block, restores every node that is up, prunes and compacts, and tells of each node what was found.
+/// Reads every block, restores every node that is up, prunes, settles what is left and compacts, and tells of each node what was found.
 pub fn scrub<T: Threads + Sync>(
     rt: &HostRuntime,
     threads: &T,
     folders: &[String],
-) -> Result<Status, Refusal> {
+) -> Result<Status, Refusal>
+    ensures { IfErr result IsUnderstood }
+{
     let mut store = open_store(rt, folders)?;
     let before = lens(rt.alloc(), &store)?;
     let care = look_at_all(rt, threads, &mut store)?;
+    settle(rt, threads, &mut store)?;
     compact_due(rt, folders, &mut store);
     let lines = lines_of(rt.alloc(), &mut store, &before, &care)?;
     if write_scrubbed(&mut rt.stdout(), &lines).is_err() {
         return Ok(Status::Failed);
     }
+    end_of(&care)
+}
+
+// How a scrub ends that counted this.
+fn end_of(care: &Care) -> Result<Status, Refusal>
+    ensures { result ≡ scrub_end care.now.failed (list_any is_lacking care.now.tallies.items) }
+{
     match care.failed {
         0 => Ok(Status::of_scrub(is_lacking(&care.tallies))),
         blocks => Err(Refusal::Unread { blocks }),
@@ -64,30 +77,29 @@ fn look_at_all<T: Threads + Sync>(
     store: &mut FileStore,
 ) -> Result<Care, NoMemory> {
     let mut care = Care::new(rt.alloc(), store.config().n() as usize)?;
-    for number in 0..group_count(store.config()) {
-        look_at(rt, threads, store, &mut care, number)?;
+    let groups = group_count(store.config());
+    for number in 0..groups {
+        let done = look_at(rt, threads, store, &mut care, number)?;
+        if ends_tenth(number, groups) {
+            let blocks = store.config().blocks();
+            tell(rt, &Notice::Looked { done, blocks });
+        }
     }
     Ok(care)
 }
 
-// Looks at the blocks of a group, prunes them, and tells how far that is.
+// Looks at the blocks of a group, and prunes them. Gives how many blocks that and the groups before it have.
 fn look_at<T: Threads + Sync>(
     rt: &HostRuntime,
     threads: &T,
     store: &mut FileStore,
     care: &mut Care,
     number: u32,
-) -> Result<(), NoMemory> {
+) -> Result<u32, NoMemory> {
     let Group { first, count } = group_of(store.config(), number);
     care.look(threads, rt.alloc(), store, first, count)?;
     prune_due(threads, rt.alloc(), store, first, count, MOST_VERSIONS)?;
-    // progress that can't be told changes nothing
-    let _ = eprintln!(rt;
-        "pasis_store: {} of {} blocks",
-        first + count,
-        store.config().blocks()
-    );
-    Ok(())
+    Ok(first + count)
 }
 
 // A line for each node.

@@ -1,9 +1,11 @@
-ghost use Rattle.std.specs.Prelude.{◌≡◌};
+ghost use Rattle.std.specs.Prelude.{◌≡◌, IfErr};
+ghost use Rattle.pasis_store.specs.Ends.{IsUnderstood};
 ghost use Rattle.pasis_store.specs.Upkeep.{IsSession, IsTended};
 
 use crate::folder::FileStore;
 use crate::keeping::ByClosure;
 use crate::opening::open_store;
+use crate::settling::settle;
 use crate::upkeep::Upkeep;
 use lists::NoMemory;
 use outside_io::{Sink, Source, StdSink, StdSource};
@@ -11,13 +13,16 @@ use std::thread::Threads;
 use store_front::SessionEnd;
 use store_words::{Refusal, Status};
 
-/// Serves the device over standard input and output.
+/// Settles what a crash left, and then serves the device over standard input and output.
 pub fn serve<T: Threads + Sync>(
     rt: &HostRuntime,
     threads: &T,
     folders: &[String],
-) -> Result<Status, Refusal> {
+) -> Result<Status, Refusal>
+    ensures { IfErr result IsUnderstood }
+{
     let mut store = open_store(rt, folders)?;
+    settle(rt, threads, &mut store)?;
     let mut upkeep = Upkeep::new(rt, &store)?;
     let mut source = StdSource::new(rt.stdin());
     let mut sink = StdSink::new(rt.stdout());

@@ -1,5 +1,6 @@
-ghost use Rattle.std.specs.Prelude.{◌≡◌, IfOk};
+ghost use Rattle.std.specs.Prelude.{◌≡◌, IfOk, IfErr};
 ghost use Rattle.store_device.specs.Stores.{seat_at};
+ghost use Rattle.pasis_store.specs.Ends.{IsUnderstood};
 ghost use Rattle.pasis_store.specs.Lines.{IsLine};
 
 use crate::folder::FileStore;
@@ -11,7 +12,9 @@ use store_care::later_versions;
 use store_words::{Down, NodeLine, Refusal, Status, write_nodes};
 
 /// Tells of each node whether it is up.
-pub fn status(rt: &HostRuntime, folders: &[String]) -> Result<Status, Refusal> {
+pub fn status(rt: &HostRuntime, folders: &[String]) -> Result<Status, Refusal>
+    ensures { IfErr result IsUnderstood }
+{
     let Nodes {
         mut store,
         down,

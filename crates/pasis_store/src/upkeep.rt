@@ -1,12 +1,15 @@
 //! What is done for a store between the rounds of a session.
-ghost use Rattle.std.specs.Prelude.{◌≡◌};
-ghost use Rattle.pasis_store.specs.Upkeep.{IsTended};
+ghost use Rattle.std.specs.Prelude.{◌≡◌, false};
+ghost use Rattle.pasis_store.specs.Upkeep.{IsTended, is_due, served_since, since_then};
 
 use crate::compacting::compact_due;
 use crate::folder::FileStore;
+use crate::telling::tell;
 use lists::NoMemory;
+use quorum_rules::Config;
 use std::thread::Threads;
 use store_care::prune_all;
+use store_words::{Down, Notice};
 
 /// How many bytes of requests are served, at least, before the store is looked after again.
 const LEAST_BYTES: u64 = 1 << 20;
@@ -45,10 +48,15 @@ impl Upkeep {
     ) -> Result<(), NoMemory>
         ensures tended { IsTended store.old store.new }
         ensures config { store.new.config ≡ store.old.config }
+        // where it isn't due nothing at all is done to it
+        ensures not_due { is_due store.old.config (served_since self.old.since served) is_ready ≡ false
+            → store.new ≡ store.old }
+        ensures since { self.new.since
+            ≡ since_then store.old.config (served_since self.old.since served) is_ready }
     {
         self.since = self.since.saturating_add(served as u64);
         self.tell_failed(rt, store);
-        if is_ready || !self.is_due(store) {
+        if !is_due(store.config(), self.since, is_ready) {
             return Ok(());
         }
         self.since = 0;
@@ -56,21 +64,25 @@ impl Upkeep {
     }
 
     // Tells of each node whose disk has failed since this was last called.
-    fn tell_failed(&mut self, rt: &HostRuntime, store: &FileStore) {
-        for (seat, was_up) in self.was_up.iter_mut().enumerate() {
-            if *was_up && !store.is_up(seat) {
+    fn tell_failed(&mut self, rt: &HostRuntime, store: &FileStore)
+        ensures { self.new.since ≡ self.old.since }
+    {
+        for (node, was_up) in self.was_up.iter_mut().enumerate() {
+            if *was_up && !store.is_up(node) {
                 *was_up = false;
-                let _ = eprintln!(rt; "pasis_store: node {seat} is down: its disk failed");
+                let why = Down::Fault;
+                tell(rt, &Notice::Down { node, why });
             }
         }
     }
+}
 
-    // Whether enough was served that the store is to be looked after.
-    fn is_due(&self, store: &FileStore) -> bool {
-        let config = store.config();
-        let device = u64::from(config.size()).saturating_mul(u64::from(config.blocks()));
-        self.since >= LEAST_BYTES.max(device / 4)
-    }
+// Whether a store is to be looked after, of which so many bytes were served since it was: no request waits, and enough were.
+fn is_due(config: &Config, since: u64, is_ready: bool) -> bool
+    ensures { result ≡ is_due config.now since is_ready }
+{
+    let device = u64::from(config.size()).saturating_mul(u64::from(config.blocks()));
+    !is_ready && since >= LEAST_BYTES.max(device / 4)
 }
 
 // Prunes the blocks of which nodes keep many versions, and writes the journals anew that are due.

@@ -10,3 +10,4 @@ mod Looks
 mod Refused
 mod Groups
 mod Tending
+mod Settled

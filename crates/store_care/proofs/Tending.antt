@@ -1,5 +1,5 @@
 -- Prunes by the stamps that reads gave may be done at any time.
-use Rattle.std.proofs.Common.{◌≡◌, ◌≢◌, ℕ, suc, Bool, true, false, eqb, List, [], ◌∷◌, ◌++◌, Option, None, Some, refl, sym, ◌∙◌, ap, subst}
+use Rattle.std.proofs.Common.{◌≡◌, ◌≢◌, ℕ, suc, Bool, List, [], ◌∷◌, ◌++◌, Option, None, Some, refl, sym, ◌∙◌, ap, subst}
 use Rattle.std.specs.Prelude.{if◌then◌else◌}
 use Rattle.std.specs.List.{All, AllByRecursion}
 use Rattle.std.proofs.lemmas.Bool.{eq-eqb, ne_eqb}
@@ -16,12 +16,12 @@ use Rattle.block_lives.specs.Lives.{Turn as BlockTurn}
 use Rattle.store_device.specs.Stores.{SeenStore}
 use Rattle.store_device.specs.Told.{AreApart}
 use Rattle.store_device.specs.Lives.{turn_of, batch_on, prunable_after, turn_on}
-use Rattle.store_device.specs.Calls.{Deed, Call, HasDone, Leads, MayDo, MayDoAll, turn_by}
+use Rattle.store_device.specs.Calls.{Deed, Call, HasDone, Leads, MayDo, turn_by}
 use Rattle.store_device.specs.Calls.Deed.{Performs, Prunes}
 use Rattle.store_device.specs.Steps.{IsRead, WritesNone, IsTended}
 use Rattle.store_device.proofs.lemmas.Steps.{calls_tend, none_tended}
 use Rattle.store_care.specs.Prunes.{prune_by, prunes_by}
-use Rattle.store_care.specs.Pruning.{IsReadAmong, IsPruning, ArePruning}
+use Rattle.store_care.specs.Pruning.{IsReadAmong, ArePruning}
 use Rattle.store_care.proofs.Apart.{of_blocks}
 use Rattle.store_care.proofs.Rising.{rest_apart, first_apart}
 

@@ -1,5 +1,5 @@
-//! What keeps a store sound: its blocks are read, what each node holds of them is looked at, nodes are restored, and old versions are
-//! pruned.
+//! What keeps a store sound: its blocks are read, what each node holds of them is looked at, nodes are restored, old versions are pruned,
+//! and what writes left that were cut off is settled.
 #![tactic(auto)]
 
 mod blocks;
@@ -10,6 +10,7 @@ pub mod filling;
 pub mod holding;
 mod newest;
 pub mod pruning;
+pub mod settling;
 pub mod tally;
 
 pub use blocks::MOST_BLOCKS;
@@ -17,4 +18,5 @@ pub use care::Care;
 pub use filling::{Filled, FilledDisk, fill_disk};
 pub use holding::Holding;
 pub use pruning::{later_versions, prune_all, prune_due};
+pub use settling::settle_all;
 pub use tally::NodeTally;

@@ -10,6 +10,8 @@ use Rattle.store_words.specs.declared.refusal.Refusal.{Refusal}
 use Rattle.store_words.specs.declared.refusal.Refusal.TheVariants.{BadWords as Words, NoText, NoMemory, NoStore, TooManyDown, Unread}
 use Rattle.store_words.specs.declared.down.Down.{Down}
 use Rattle.store_words.specs.declared.down.Down.TheVariants.{Gone, NoCluster, BadLine, OtherStore, OtherNode, Journal, Damaged, Fault, NoMemory as Unopened}
+use Rattle.store_words.specs.declared.notice.Notice.{Notice}
+use Rattle.store_words.specs.declared.notice.Notice.TheVariants.{Down as Lost, Looked, Unsettled}
 use Rattle.store_words.specs.declared.lines.NodeLine.{NodeLine}
 use Rattle.store_words.specs.declared.lines.NodeLine.TheVariants.{Up, Down as IsDown}
 use Rattle.store_words.specs.declared.lines.ScrubLine.{ScrubLine}
@@ -65,6 +67,13 @@ down_text (Journal why) = codes "its journal can't be opened: " ++ file_text why
 down_text (Damaged slot) = codes "slot " ++ decimal slot ++ codes " of its journal isn't one that it wrote"
 down_text Fault = codes "its disk failed"
 down_text Unopened = codes "no memory for its journal"
+
+-- what is said while a command is done
+abbrev pub notice_text : Notice → List ℕ
+notice_text (Lost node why) = codes "pasis_store: node " ++ (decimal node ++ (codes " is down: " ++ down_text why))
+notice_text (Looked done blocks) = codes "pasis_store: " ++ (decimal done ++ (codes " of " ++ (decimal blocks ++ codes " blocks")))
+notice_text (Unsettled blocks) =
+    codes "pasis_store: " ++ (decimal blocks ++ codes " blocks aren't settled: a write that was cut off may take place there yet")
 
 -- a node's line of `status`
 abbrev pub node_text : NodeLine → List ℕ

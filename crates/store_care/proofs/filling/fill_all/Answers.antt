@@ -1,6 +1,5 @@
-use Rattle.std.proofs.Common.{◌≡◌, ◌+◌, ◌-◌, min, ◌∷◌, [], ◌++◌, ℕ, List, length, length-append, refl, sym, ap, subst, ◌∙◌, arith}
+use Rattle.std.proofs.Common.{◌≡◌, ◌+◌, ◌-◌, min, ◌++◌, ℕ, length, length-append, ap, subst, ◌∙◌, arith}
 use Rattle.quorum_rules.specs.Limits.{Numbers}
-use Rattle.store_device.specs.Calls.{Call, Leads}
 use Rattle.store_care.specs.Filling.{AreFilling, AreGroups, first_of, count_of, groups_of}
 use Rattle.store_care.proofs.Groups.{if_err, leads_then, groups_then, group_at, filling_then}
 use Rattle.store_care.proofs.filling.fill_all.Goals as goal

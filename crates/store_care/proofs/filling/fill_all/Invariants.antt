@@ -1,4 +1,4 @@
-use Rattle.std.proofs.Common.{◌≡◌, ◌≤◌, ℕ, List, length}
+use Rattle.std.proofs.Common.{◌≡◌, ◌≤◌, List, length}
 use Rattle.store_device.specs.Calls.{Call, Leads}
 use Rattle.store_care.specs.Filling.{AreFilling, AreGroups, groups_of, nothing}
 use Rattle.store_care.proofs.filling.fill_all.Given as goal

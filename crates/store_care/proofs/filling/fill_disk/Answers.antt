@@ -1,4 +1,4 @@
-use Rattle.std.proofs.Common.{◌≡◌, subst}
+use Rattle.std.proofs.Common.{subst}
 use Rattle.quorum_rules.specs.Limits.{Numbers}
 use Rattle.store_care.specs.Filling.{IsOpened}
 use Rattle.store_care.proofs.filling.fill_disk.Goals as goal
