@@ -1,10 +1,10 @@
 ghost use Rattle.std.specs.Prelude.{◌≡◌, ◌<◌, ◌↔◌, [], length, map, replicate, slice_get, IfOk, IsTrue, Some};
 ghost use Rattle.std.specs.List.{AllByRecursion};
 ghost use Rattle.cross_sum.specs.Digest.{digest, verifier};
-ghost use Rattle.cross_sum.specs.HowKept.{HaveDigests};
+ghost use Rattle.cross_sum.specs.HowKept.{HaveDigests, IsBeside};
 
 use crate::bytes::Bytes;
-use crate::part::Shares;
+use crate::part::{Part, Shares};
 use lists::{Copied, NoMemory};
 use sha2::{Digest, Sha256};
 use std::alloc::Global;
@@ -24,7 +24,7 @@ pub fn sha(bytes: &[u8]) -> Hash
 /// A cross checksum: the digests of fragments, one each. Contracts see the list of them.
 ///
 /// It keeps its verifier, the SHA-256 of all digests in one string, so that it's computed once, and the fragments that it was made
-/// of, so that no fragment that is one of them is digested again. Copies share all of it.
+/// of, or one that stood beside it, so that no fragment that is one of them is digested again. Copies share all of it.
 pub struct CrossSum {
     shared: Arc<Digests, Global>,
 }
@@ -36,6 +36,8 @@ struct Digests {
     verifier: Hash,
     /// The strings that have these digests, or none where only the digests are known.
     strings: Shares,
+    /// One string that has the digest of its number.
+    beside: Option<Part>,
 }
 
 impl Model for CrossSum {
@@ -63,7 +65,7 @@ impl CrossSum {
         ensures { IfOk result (λ s. s ≡ map digest parts.now) }
     {
         let digests = digests_of(alloc, parts)?;
-        CrossSum::of_vec(digests, copies_of(alloc, parts)?)
+        CrossSum::of_vec(digests, copies_of(alloc, parts)?, None)
     }
 
     /// The digests of so many strings that are all this one. It is digested once.
@@ -77,19 +79,39 @@ impl CrossSum {
             digests.push(digest)?;
             strings.push(part.copy()?)?;
         }
-        CrossSum::of_vec(digests, Shares::from_vec(strings))
+        CrossSum::of_vec(digests, Shares::from_vec(strings), None)
     }
 
     /// The cross checksum that has these digests.
     pub fn of_hashes(alloc: Global, list: &[Hash]) -> Result<CrossSum, NoMemory>
         ensures { IfOk result (λ s. s ≡ list.now) }
     {
-        CrossSum::of_vec(Vec::from_slice(alloc, list)?, Shares::new(alloc))
+        CrossSum::of_vec(Vec::from_slice(alloc, list)?, Shares::new(alloc), None)
     }
 
-    /// The cross checksum of a vector's digests, which are those of the strings.
-    fn of_vec(digests: Vec<Hash>, strings: Shares) -> Result<CrossSum, NoMemory>
-        requires { HaveDigests strings digests.items }
+    /// The cross checksum that has these digests, beside which fragment `number` stands. Where it has its digest, that isn't computed
+    /// of it again.
+    pub fn of_hashes_beside(
+        alloc: Global,
+        list: &[Hash],
+        number: u8,
+        fragment: &Bytes,
+    ) -> Result<CrossSum, NoMemory>
+        ensures { IfOk result (λ s. s ≡ list.now) }
+    {
+        let digests = Vec::from_slice(alloc, list)?;
+        let beside = beside(list, number, fragment)?;
+        CrossSum::of_vec(digests, Shares::new(alloc), beside)
+    }
+
+    /// The cross checksum of a vector's digests, which are those of the strings, and of the one that stands beside it.
+    fn of_vec(
+        digests: Vec<Hash>,
+        strings: Shares,
+        beside: Option<Part>,
+    ) -> Result<CrossSum, NoMemory>
+        requires strings { HaveDigests strings digests.items }
+        requires beside { IsBeside beside digests.items }
         ensures { IfOk result (λ s. s ≡ digests.items) }
     {
         let alloc = *digests.allocator();
@@ -98,6 +120,7 @@ impl CrossSum {
             digests,
             verifier,
             strings,
+            beside,
         };
         Ok(CrossSum {
             shared: Arc::new(alloc, held)?,
@@ -156,6 +179,16 @@ impl CrossSum {
     {
         match self.shared.strings.get(i) {
             Some(string) => string.as_slice() == fragment,
+            None => self.stands_beside(i, fragment),
+        }
+    }
+
+    /// Whether the fragment is the string that stands beside, and that has digest `i`.
+    fn stands_beside(&self, i: usize, fragment: &[u8]) -> bool
+        ensures { IsTrue result → slice_get self.now i ≡ Some (digest fragment.now) }
+    {
+        match &self.shared.beside {
+            Some(part) => usize::from(part.number) == i && part.bytes.as_slice() == fragment,
             None => false,
         }
     }
@@ -166,6 +199,18 @@ impl CrossSum {
     {
         self.hashes() == other.hashes()
     }
+}
+
+/// The fragment with its number, where it has the digest of that number.
+fn beside(digests: &[Hash], number: u8, fragment: &Bytes) -> Result<Option<Part>, NoMemory>
+    ensures { IfOk result (λ beside. IsBeside beside digests.now) }
+{
+    let i = usize::from(number);
+    if i < digests.len() && hash_at(digests, i) == sha(fragment.as_slice()) {
+        let bytes = fragment.copy()?;
+        return Ok(Some(Part { number, bytes }));
+    }
+    Ok(None)
 }
 
 /// The digests of the strings, in order.

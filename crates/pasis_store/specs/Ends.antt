@@ -1,11 +1,11 @@
 -- What the program ends with, and why.
-use Rattle.std.specs.Prelude.{◌≡◌, ℕ, ◌==◌, ⊤, Bool, if◌then◌else◌, List, length, filter, is_some, Option, Result}
+use Rattle.std.specs.Prelude.{ℕ, ◌==◌, ⊤, Bool, if◌then◌else◌, List, length, filter, is_some, Option, Result}
 use Rattle.std.specs.declared.result.Result.TheVariants.{Ok, Err}
 use Rattle.store_words.specs.declared.down.Down.{Down}
 use Rattle.store_words.specs.declared.refusal.Refusal.{Refusal}
 use Rattle.store_words.specs.declared.refusal.Refusal.TheVariants.{BadWords, NoText, NoMemory, NoStore, TooManyDown, Unread}
 use Rattle.store_words.specs.declared.status.Status.{Status}
-use Rattle.store_words.specs.declared.status.Status.TheVariants.{Done, Mended, Failed}
+use Rattle.store_words.specs.declared.status.Status.TheVariants.{Done, Mended}
 use Rattle.store_words.specs.Statuses.{status_of_refusal, status_of_scrub}
 
 -- the words were those of a command

@@ -41,13 +41,14 @@ pub fn read_stamp(body: &[u8]) -> Stamp
     }
 }
 
-/// The version of a body, in a cluster of so many nodes.
-pub fn read_version(alloc: Global, nodes: u32, body: &[u8]) -> Result<Version, NoMemory>
+/// The version of a body, in a cluster of so many nodes, read by the node of this number: its fragment is digested now, and where it is
+/// the one that its cross checksum tells of, not again.
+pub fn read_version(alloc: Global, nodes: u32, number: u8, body: &[u8]) -> Result<Version, NoMemory>
     requires { 49 + 32 * nodes ≤ length body.now }
     ensures { IfOk result (λ version. version ≡ (slot_of nodes body.now).version) }
 {
-    let sum = read_digests(alloc, nodes as usize, &body[HEAD..])?;
     let fragment = Bytes::of(alloc, &body[HEAD + 32 * nodes as usize..])?;
+    let sum = read_digests(alloc, nodes as usize, number, &fragment, &body[HEAD..])?;
     Ok(Version {
         stamp: read_stamp(body),
         sum,
@@ -87,9 +88,15 @@ fn read_hash(body: &[u8], at: usize) -> Hash
     hash
 }
 
-// Reads so many digests.
+// Reads so many digests, beside which fragment `number` stands.
 #[tactic(auto, using(crate::proofs::lemmas::Codec::digests_more))]
-fn read_digests(alloc: Global, count: usize, bytes: &[u8]) -> Result<CrossSum, NoMemory>
+fn read_digests(
+    alloc: Global,
+    count: usize,
+    number: u8,
+    fragment: &Bytes,
+    bytes: &[u8],
+) -> Result<CrossSum, NoMemory>
     requires { 32 * count ≤ length bytes.now }
     ensures { IfOk result (λ sum. sum ≡ digests count bytes.now) }
 {
@@ -97,5 +104,5 @@ fn read_digests(alloc: Global, count: usize, bytes: &[u8]) -> Result<CrossSum, N
     for i in 0..count {
         list.push(read_hash(bytes, 32 * i))?;
     }
-    CrossSum::of_hashes(alloc, list.as_slice())
+    CrossSum::of_hashes_beside(alloc, list.as_slice(), number, fragment)
 }

@@ -46,9 +46,10 @@ pub(crate) fn play(
 {
     let block = block_in(body);
     if body[0] == 0 {
+        let version = read_version(alloc, config.n(), node.number(), body)?;
         let reply = node.handle(&Ask {
             block,
-            request: Request::Write(read_version(alloc, config.n(), body)?),
+            request: Request::Write(version),
         })?;
         return Ok(!matches!(reply, Reply::Refused(_)));
     }
