@@ -154,13 +154,3 @@ numbered config id es =
     let same : times starts es + 0 ≡ times starts es = omega arith in
     subst (IsNumbered (desk_after_all (new_desk config id) es)) same
     (number_all (new_desk config id) 0 es (record { life = refl; started = refl; op = λ t e. absurd (cc) }))
-
--- the cluster and the client's number stay
-pub config_all : (d : DeskState) (es : List DeskEntry) → (desk_after_all d es).client.config ≡ d.client.config
-config_all d [] = refl
-config_all d (e ∷ es) = config_all (desk_after d e.number e.act) es ∙ at e.act
-  where
-    at : (act : DeskAct) → (desk_after d e.number act).client.config ≡ d.client.config
-    at (Start op) = refl
-    at Crash = refl
-    at (Call way ask reply) = (told_stays d e.number reply).config

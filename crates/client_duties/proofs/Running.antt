@@ -33,9 +33,6 @@ use Rattle.client_duties.proofs.Phasing.{start_on, start_up, start_counts}
 
 -- ---- the same worker
 
-pub same_self : (w : CorrectClient) → IsSame w w
-same_self w = record { plan = refl; client = refl }
-
 pub same_on : (a b c : CorrectClient) → IsSame a b → IsSame b c → IsSame a c
 same_on a b c x y = record {
   plan = y.plan ∙ x.plan;
