@@ -1,33 +1,24 @@
 -- Operations are put beside one another, and what they ask.
-use Rattle.std.proofs.Common.{◌≡◌, ◌⊎◌, inl, inr, ℕ, zero, suc, ◌+◌, ◌-◌, ◌^◌, ◌<◌, ◌≤◌, Bool, true, false, cond, eqb, List, Vec, [], ◌∷◌, ◌++◌, length, map, replicate, drop, get_or, refl, sym, ap, subst, ◌∙◌, arith, add-one, drop-cons, append_assoc, append-nil, Option}
+use Rattle.std.proofs.Common.{◌≡◌, ℕ, zero, suc, ◌+◌, ◌-◌, ◌^◌, ◌<◌, ◌≤◌, List, [], ◌∷◌, ◌++◌, length, map, replicate, drop, get_or, refl, sym, ap, subst, ◌∙◌, arith, add-one, drop-cons, append_assoc, append-nil, Option}
 use Rattle.std.specs.Prelude.{slice_get, option_to_list, All}
 use Rattle.std.specs.List.{filter_map}
 use Rattle.std.specs.declared.option.Option.TheVariants.{None, Some}
-use Rattle.std.proofs.lemmas.Bool.Decides.{nat_tests}
 use Rattle.std.proofs.lemmas.List.{length-map, length-replicate, map-append}
 use Rattle.std.proofs.lemmas.List.Elements.{All-nil, All-push, All-head, All-tail, filter_map-append}
 use Rattle.quorum_rules.specs.Limits.{Numbers}
 use Rattle.wire_forms.specs.declared.op.Op.{Op}
-use Rattle.protocol.specs.Messages.{Ask, Reply, Message}
+use Rattle.protocol.specs.Messages.{Ask, Reply}
 use Rattle.protocol.specs.Setting.{Setting}
 use Rattle.protocol.specs.Instance.{setting}
-use Rattle.protocol.specs.Operations.{Outcome}
-use Rattle.protocol.specs.Seen.{SeenTask, ops_of, phase_of, block_of, work_of, seen_begun}
+use Rattle.protocol.specs.Seen.{SeenTask, ops_of, block_of, work_of, seen_begun}
 use Rattle.operation_core.specs.Clients.{ClientView, started, with_started}
 use Rattle.client_core.specs.Clients.{idle_client}
-use Rattle.client_core.specs.declared.heard.Heard.{Heard}
-use Rattle.client_core.specs.declared.heard.Heard.TheVariants.{Unchanged, More, Send, Ended as EndedWith}
-use Rattle.block_lives.specs.Phases.{Progress, after_phase}
-use Rattle.block_lives.specs.Phases.Progress.{UnderWay, Over}
+use Rattle.block_lives.specs.Phases.{after_phase}
 use Rattle.batch_clients.specs.declared.run.Run.{Run}
-use Rattle.batch_clients.specs.declared.run.Standing.{Standing}
-use Rattle.batch_clients.specs.declared.run.Standing.TheVariants.{Asking, Ended as HasEnded, Lost as IsLost}
+use Rattle.batch_clients.specs.declared.run.Standing.TheVariants.{Asking}
 use Rattle.batch_clients.specs.Batches.{Stand, Running, how_many, reply_at, column, ask_by, asks_to, begun, stand_after, stand_heard, after_answers, AreAsksOf}
 use Rattle.batch_clients.specs.Batches.Stand.{Asks as AsksOne, Ended, Lost}
-use Rattle.batch_clients.specs.declared.turn.Turn.{Turn}
-use Rattle.batch_clients.specs.declared.turn.Turn.TheVariants.{Hears, Asks, Over as IsDone}
-use Rattle.batch_clients.specs.Parts.{running, stand_of, stand_in, stand_by, phase_at, rest_of, left_by, HasCome, AskMore, IsAdded, IsAsking, IsRun}
-use Rattle.batch_clients.specs.Turns.{HasMail, IsOver, HasHeard, heard_as, IsTurnOf}
+use Rattle.batch_clients.specs.Parts.{running, stand_of, stand_in, phase_at, rest_of, left_by, AskMore, IsAdded, IsRun}
 
 module _ (s : Setting) where
   one_asks : (i : ℕ) (r : Running) → filter_map (λ (x : Running). ask_by s i x.stand) (r ∷ []) ≡ option_to_list (ask_by s i r.stand)

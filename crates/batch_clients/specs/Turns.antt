@@ -11,7 +11,7 @@ use Rattle.batch_clients.specs.declared.run.Standing.TheVariants.{Asking}
 use Rattle.batch_clients.specs.declared.run.Run.{Run}
 use Rattle.batch_clients.specs.declared.turn.Turn.{Turn}
 use Rattle.batch_clients.specs.declared.turn.Turn.TheVariants.{Hears, Asks, Over, Starved}
-use Rattle.batch_clients.specs.Batches.{Stand, Running, how_many, stand_heard}
+use Rattle.batch_clients.specs.Batches.{Running, how_many, stand_heard}
 use Rattle.batch_clients.specs.Batches.Stand.{Asks as AsksOne}
 use Rattle.batch_clients.specs.Parts.{running, stand_of, stand_in, stand_by, phase_at, left_by, IsAsking, IsRun}
 

@@ -1,32 +1,27 @@
 -- A desk and its transport after a call, and where they stand.
 use Rattle.std.proofs.Common.{◌≡◌, ℕ, zero, suc, ◌<◌, List, [], ◌∷◌, ◌++◌, length, get_or, Result, Ok, Err, refl, sym, ap, subst, ◌∙◌, arith, inl, inr}
 use Rattle.std.specs.declared.option.Option.TheVariants.{None, Some}
-use Rattle.std.specs.Prelude.{◌⊎◌, ◌≤◌, All, IfOk, OnOk, OnErr, slice_get, map}
+use Rattle.std.specs.Prelude.{◌⊎◌, ◌≤◌, IfOk, OnOk, slice_get, map}
 use Rattle.std.specs.List.{Contains}
 use Rattle.std.proofs.lemmas.List.{length-map}
 use Rattle.std.proofs.lemmas.List.Elements.{Contains-push, Contains-append_left, Contains-append_cases}
 use Rattle.std.proofs.lemmas.Option.{slice_get_read, slice_get_within}
 use Rattle.protocol.specs.Messages.{Message}
-use Rattle.protocol.specs.Operations.{Outcome}
 use Rattle.inboxes.specs.Sides.{Putting, took}
 use Rattle.std.specs.Global.{Vec}
 use Rattle.std.specs.Vec.{with_item}
 use Rattle.event_clock.specs.Passes.{Sight}
 use Rattle.receipt_lock.specs.Chits.{Holder as Chit, Deposit}
 use Rattle.journals.specs.declared.desk.Way.{Way}
-use Rattle.journals.specs.declared.desk.Way.TheVariants.{Call as ByCall}
 use Rattle.journals.specs.declared.desk.DeskAct.{DeskAct}
 use Rattle.journals.specs.declared.desk.DeskEntry.{DeskEntry}
 use Rattle.journals.specs.Steps.{IsOwn}
 use Rattle.locked_nodes.specs.declared.answers.CellRefusal.{CellRefusal}
 use Rattle.locked_nodes.specs.declared.answers.Told.{Told}
-use Rattle.locked_nodes.specs.Cells.{number_of, reply_told}
 use Rattle.locked_nodes.specs.declared.charter.Item.{Item}
 use Rattle.locked_nodes.specs.declared.charter.Item.TheVariants.{Entry}
-use Rattle.locked_nodes.specs.declared.cell_shard.CellShard.{CellShard}
 use Rattle.locked_nodes.specs.CellShards.{IsPlace}
-use Rattle.quorum_rules.specs.Limits.{Numbers}
-use Rattle.client_desks.specs.Desks.{DeskView, desk_entry, with_own, with_call}
+use Rattle.client_desks.specs.Desks.{DeskView, desk_entry, with_own}
 use Rattle.client_endpoints.specs.declared.asked.Asked.{Asked}
 use Rattle.client_endpoints.specs.declared.asked.NodePlace.{NodePlace}
 use Rattle.client_endpoints.specs.declared.answered.Answered.{Answered}
@@ -34,11 +29,11 @@ use Rattle.client_endpoints.specs.declared.mail.ByMail.{ByMail}
 use Rattle.client_endpoints.specs.declared.transport.Transport.{Transport}
 use Rattle.client_endpoints.specs.declared.transport.Transport.TheVariants.{Locks, Mail}
 use Rattle.client_endpoints.specs.Asking.{HasTaken}
-use Rattle.client_endpoints.specs.Transports.{call_of, IsTold, HasTold, HasReceipt, HasAnswer, LeavesSide, Route, route, inboxes_of, AtRest, IsNew}
-use Rattle.client_endpoints.specs.Endpoint.{SharedCellsView, vaults_of, IsHead, IsShared, EndpointView, Agree, IsEndpoint, AreItsVaults, AreItsInboxes, Reaches, Fit, refusal_in, HasAsked, HasCalled, HasSent, AddBoth}
+use Rattle.client_endpoints.specs.Transports.{call_of, IsTold, HasTold, HasAnswer, LeavesSide, route, inboxes_of, AtRest, IsNew}
+use Rattle.client_endpoints.specs.Endpoint.{SharedCellsView, vaults_of, Agree, IsEndpoint, AreItsVaults, AreItsInboxes, Reaches, refusal_in, AddBoth}
 use Rattle.client_endpoints.proofs.Telling.{chits_told}
 use Rattle.client_endpoints.proofs.lemmas.Mailing.{mail_told}
-use Rattle.lists.proofs.lemmas.Members.{Contains-none, Contains-one, at_place, all_at_place}
+use Rattle.lists.proofs.lemmas.Members.{Contains-none, Contains-one, all_at_place}
 
 -- a desk and its transport that have one call more agree still
 module _ (began old new : DeskView) (was now : Transport) (agree : Agree began old was) (add : AddBoth old was new now) where

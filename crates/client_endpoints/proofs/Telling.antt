@@ -1,5 +1,5 @@
 -- What chits tell after a turn of one of them.
-use Rattle.std.proofs.Common.{◌≡◌, ◌≢◌, ℕ, List, [], ◌∷◌, ◌++◌, Option, refl, sym, ap, subst, ◌∙◌, inl, inr, append-nil}
+use Rattle.std.proofs.Common.{◌≡◌, ◌≢◌, ℕ, List, [], ◌∷◌, ◌++◌, Option, refl, sym, ap, subst, ◌∙◌, inl, inr}
 use Rattle.std.specs.declared.option.Option.TheVariants.{None, Some}
 use Rattle.std.specs.Prelude.{◌⊎◌, All, slice_get, slice_set, map}
 use Rattle.std.specs.List.{Contains}
@@ -18,11 +18,11 @@ use Rattle.locked_nodes.specs.declared.charter.Item.{Item}
 use Rattle.locked_nodes.specs.declared.charter.Item.TheVariants.{Entry}
 use Rattle.locked_nodes.specs.Cells.{entry}
 use Rattle.client_endpoints.specs.declared.transport.Transport.TheVariants.{Locks}
-use Rattle.client_endpoints.specs.Transports.{HasReceipt, HasTold, HasLeft, LeavesSide, route}
+use Rattle.client_endpoints.specs.Transports.{HasReceipt, HasTold, LeavesSide, route}
 use Rattle.client_endpoints.specs.Transports.Route.{ToVaults}
 use Rattle.thread_work.proofs.lemmas.Places.{slice_get-set_cases}
 use Rattle.client_endpoints.proofs.Lists.{still_there}
-use Rattle.lists.proofs.lemmas.Members.{Contains-none, Contains-one, slice_get-set}
+use Rattle.lists.proofs.lemmas.Members.{Contains-one, slice_get-set}
 
 -- one of these receipts is of an entry of which this is client c's side
 record IsAmong (more : List (ℕ × Item)) (c : ℕ) (e : DeskEntry) : Type 0 where

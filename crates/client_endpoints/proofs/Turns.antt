@@ -1,5 +1,5 @@
 -- What a turn at a cell leaves in a chit.
-use Rattle.std.proofs.Common.{◌≡◌, ℕ, ◌%◌, List, [], ◌∷◌, ◌++◌, length, map, Result, Ok, Err, refl, sym, ap, subst, ◌∙◌, inl, inr, append-nil}
+use Rattle.std.proofs.Common.{◌≡◌, ℕ, ◌%◌, List, [], ◌∷◌, ◌++◌, length, Result, Ok, Err, refl, sym, ap, subst, ◌∙◌}
 use Rattle.std.specs.declared.option.Option.TheVariants.{Some}
 use Rattle.std.specs.Prelude.{IfOk, OnErr, drop}
 use Rattle.quorum_rules.specs.Limits.{Numbers}
@@ -15,12 +15,11 @@ use Rattle.journals.specs.declared.node.NodeAct.{NodeAct}
 use Rattle.journals.specs.Acts.{act, answer_of, reply_in}
 use Rattle.locked_nodes.specs.declared.answers.CellRefusal.{CellRefusal}
 use Rattle.locked_nodes.specs.declared.answers.Told.{Told}
-use Rattle.locked_nodes.specs.declared.charter.Charter.{Charter}
 use Rattle.locked_nodes.specs.declared.charter.Item.{Item}
-use Rattle.locked_nodes.specs.declared.charter.Item.TheVariants.{Head, Entry}
+use Rattle.locked_nodes.specs.declared.charter.Item.TheVariants.{Entry}
 use Rattle.locked_nodes.specs.Cells.{CellView, IsShare, IsWhole, Serves, HoldsWhole, entry, items, with_entry, state_of, number_of, told_as, reply_told}
 use Rattle.locked_nodes.specs.declared.cell_shard.CellShard.{CellShard}
-use Rattle.locked_nodes.specs.CellShards.{cell_shard_of, IsFor}
+use Rattle.locked_nodes.specs.CellShards.{IsFor}
 use Rattle.locked_nodes.proofs.lemmas.Sides.{items_snoc, items_grew, items_same, told_reply, act_side}
 use Rattle.client_endpoints.specs.Transports.{call_of, HasLeft, LeavesSide}
 use Rattle.client_endpoints.specs.Endpoint.{IsHead, IsAskOn}

@@ -1,5 +1,5 @@
 -- What a client asks by mail, and what it takes.
-use Rattle.std.specs.Prelude.{◌≡◌, ℕ, ◌<◌, List, [], ◌∷◌, ◌++◌, map, All}
+use Rattle.std.specs.Prelude.{◌≡◌, ℕ, ◌<◌, [], ◌∷◌, ◌++◌, map, All}
 use Rattle.std.specs.declared.result.Result.TheVariants.{Ok}
 use Rattle.protocol.specs.Messages.{Message}
 use Rattle.inboxes.specs.Sides.{took, IsDone}

@@ -1,6 +1,6 @@
 -- The records of a plan's run are few, and so are the rounds of its reads.
-use Rattle.std.proofs.Common.{◌≡◌, ℕ, zero, suc, ◌+◌, ◌*◌, ◌^◌, ◌<◌, ◌≤◌, Bool, true, false, cond, List, [], ◌∷◌, ◌++◌, length, map, Option, refl, sym, ◌∙◌, ap, subst, inl, inr, arith, length-append}
-use Rattle.std.specs.Prelude.{slice_get, sum_by, nat_eq, All, ◌==◌}
+use Rattle.std.proofs.Common.{◌≡◌, ℕ, zero, suc, ◌+◌, ◌*◌, ◌^◌, ◌<◌, ◌≤◌, Bool, true, false, cond, List, [], ◌∷◌, length, map, Option, refl, sym, ◌∙◌, ap, subst, arith, length-append}
+use Rattle.std.specs.Prelude.{sum_by, nat_eq, All, ◌==◌}
 use Rattle.std.specs.declared.option.Option.TheVariants.{None, Some}
 use Rattle.std.specs.List.{Contains, AllByRecursion}
 use Rattle.std.specs.Set.{unique_keys}
@@ -23,7 +23,7 @@ use Rattle.journals.specs.declared.desk.DeskAct.{DeskAct}
 use Rattle.journals.specs.declared.desk.DeskAct.TheVariants.{Start}
 use Rattle.journals.specs.declared.desk.DeskJournal.{DeskJournal}
 use Rattle.journals.specs.declared.whole.Journals.{Journals}
-use Rattle.journals.specs.Desks.{DeskState, DeskKept, new_desk, desk_after_all}
+use Rattle.journals.specs.Desks.{DeskKept, new_desk, desk_after_all}
 use Rattle.journals.specs.Journals.{setting_for, at_desk, AreOfRun}
 use Rattle.journals.specs.Agreement.{ended_record}
 use Rattle.journals.proofs.lemmas.Lists.{own_entries}
@@ -39,7 +39,7 @@ use Rattle.plan_followed.specs.Laws.{PlansRun}
 use Rattle.journals.specs.Records.{record_of_task, client_records, records_in, told_records}
 use Rattle.journal_records.specs.Records.{AreAllRecords}
 use Rattle.journal_records.specs.Few.{RecordsFitHistory}
-use Rattle.journal_records.proofs.Operations.{What, of_ended, of_task, begun_by, begun_all, started_in, started_count, kth_started}
+use Rattle.journal_records.proofs.Operations.{of_ended, of_task, begun_by, begun_all, started_in, started_count, kth_started}
 use Rattle.journal_records.proofs.Together.{kept_desks, no_records, has_told}
 use Rattle.journal_records.proofs.Completing.{follows}
 use Rattle.journal_records.proofs.Places.{desk_below}

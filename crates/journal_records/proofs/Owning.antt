@@ -26,7 +26,6 @@ use Rattle.journals.specs.Records.{record_of_task, client_records, last_desk}
 use Rattle.journal_records.specs.Records.{IsDeskRecord, AreAllRecords, WorldsHaveAllRecords, RecordsAreThose}
 use Rattle.journal_records.proofs.LastDesks.{limit, desk, desk_is, desk_agrees, first_life, tells_alike}
 use Rattle.lists.proofs.lemmas.Members.{Contains-head, Contains-none, Contains-rest, Contains-cons_cases, Contains-one, Contains-map_cases, Contains-map}
-use Rattle.lists.proofs.lemmas.Tests.{eqb_self}
 use Rattle.journals.proofs.lemmas.Lists.{own_entries}
 
 -- ---- the desk of a client

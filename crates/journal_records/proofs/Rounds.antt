@@ -1,5 +1,5 @@
 -- A client begins no more rounds than it has entries.
-use Rattle.std.proofs.Common.{◌≡◌, ℕ, suc, ◌+◌, ◌≤◌, Bool, true, false, cond, List, [], ◌∷◌, ◌++◌, length, map, Option, refl, sym, ◌∙◌, ap, subst, arith}
+use Rattle.std.proofs.Common.{◌≡◌, ℕ, ◌+◌, ◌≤◌, Bool, true, false, cond, List, [], ◌∷◌, length, map, Option, refl, ◌∙◌, ap, arith}
 use Rattle.std.specs.declared.option.Option.TheVariants.{None, Some}
 use Rattle.stamp_order.specs.declared.Stamp.{Stamp}
 use Rattle.stamp_order.specs.declared.Bound.{Bound}
@@ -9,13 +9,12 @@ use Rattle.std.specs.Prelude.{not, leb, ltb, ◌==◌, ◌-◌, ◌^◌}
 use Rattle.wire_forms.specs.declared.message.Message.{Message}
 use Rattle.wire_forms.specs.declared.message.Body.{Body}
 use Rattle.wire_forms.specs.declared.message.Body.TheVariants.{Ask as Asks, Answer as Answers}
-use Rattle.wire_forms.specs.declared.op.Op.{Op}
 use Rattle.run_words.specs.declared.outcome.How.TheVariants.{Plain}
-use Rattle.run_words.specs.declared.outcome.Outcome.TheVariants.{Gave, Spent, Outvoted}
+use Rattle.run_words.specs.declared.outcome.Outcome.TheVariants.{Gave, Spent}
 use Rattle.protocol.specs.Messages.{Reply, Tag}
 use Rattle.protocol.specs.Setting.{Setting, first_stamp, same_digests, zeros}
 use Rattle.protocol.specs.Instance.{setting}
-use Rattle.protocol.specs.Operations.{Task, Work, Stage, Outcome, Decision, decide, decide_pivot, drawn_from, pivot, support, candidate, chosen, sum_of_first, stored, first_work, rounds_after}
+use Rattle.protocol.specs.Operations.{Task, Work, Stage, Decision, decide, decide_pivot, drawn_from, pivot, support, candidate, chosen, sum_of_first, stored, first_work, rounds_after}
 use Rattle.protocol.specs.Operations.Work.{Reads, Writes}
 use Rattle.protocol.specs.Operations.Stage.{Times, Versions, Storing}
 use Rattle.protocol.specs.Operations.Decision.{GoesOn, Ends}
@@ -28,7 +27,7 @@ use Rattle.operation_core.specs.Clients.{ClientView, told, hears}
 use Rattle.journals.specs.declared.desk.DeskEntry.{DeskEntry}
 use Rattle.journals.specs.declared.desk.DeskAct.{DeskAct}
 use Rattle.journals.specs.declared.desk.DeskAct.TheVariants.{Start, Crash, Call}
-use Rattle.journals.specs.Desks.{DeskState, Ended, by_hearing, ended_by, desk_heard, desk_after, desk_after_all}
+use Rattle.journals.specs.Desks.{DeskState, Ended, ended_by, desk_heard, desk_after, desk_after_all}
 use Rattle.journals.specs.Agreement.{ended_record}
 use Rattle.journals.specs.Records.{record_of_task, client_records}
 use Rattle.journal_records.proofs.Operations.{task_after, task_is}

@@ -1,6 +1,6 @@
 -- Which operations of a plan's clients a history has.
 use Rattle.std.specs.Prelude.{◌≡◌, ◌⊎◌, ℕ, ◌+◌, ◌-◌, ◌^◌, ◌≤◌, false, List, length, slice_get}
-use Rattle.std.specs.declared.option.Option.TheVariants.{None, Some}
+use Rattle.std.specs.declared.option.Option.TheVariants.{Some}
 use Rattle.std.specs.List.{Contains}
 use Rattle.wire_forms.specs.Liars.{has_number}
 use Rattle.block_device.specs.declared.steps.BlockStep.{BlockStep}

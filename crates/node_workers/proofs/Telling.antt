@@ -22,7 +22,7 @@ use Rattle.client_endpoints.specs.declared.mail.ByMail.{ByMail}
 use Rattle.client_endpoints.specs.declared.transport.Transport.{Transport}
 use Rattle.client_endpoints.specs.declared.transport.Transport.TheVariants.{Mail}
 use Rattle.client_endpoints.specs.Transports.{IsTold, HasAnswer}
-use Rattle.node_workers.specs.Workers.{AnswerPutter, Tells, TellsOf, WasTold, HasAnswered}
+use Rattle.node_workers.specs.Workers.{AnswerPutter, TellsOf, WasTold, HasAnswered}
 use Rattle.node_workers.proofs.Answering.{none_in}
 use Rattle.phase_threads.specs.Standing.{HasSideIn}
 use Rattle.phase_threads.specs.Told.{IsToldIn, AreJustTold}

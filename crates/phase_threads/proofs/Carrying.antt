@@ -1,7 +1,7 @@
 -- A turn of the courier at a cell, and its chits after that.
-use Rattle.std.proofs.Common.{◌≡◌, ℕ, zero, suc, ◌+◌, ◌<◌, List, [], ◌∷◌, ◌++◌, length, map, get_or, drop, refl, sym, ap, subst, ◌∙◌, arith, inl, inr}
+use Rattle.std.proofs.Common.{◌≡◌, ℕ, ◌+◌, ◌<◌, List, [], ◌∷◌, ◌++◌, length, map, get_or, drop, refl, sym, ap, subst, ◌∙◌, arith, inl, inr}
 use Rattle.std.specs.declared.option.Option.TheVariants.{None, Some}
-use Rattle.std.specs.Prelude.{◌⊎◌, All, Option, slice_get, slice_set}
+use Rattle.std.specs.Prelude.{All, Option, slice_get}
 use Rattle.std.specs.List.{Contains}
 use Rattle.std.specs.Vec.{with_item}
 use Rattle.std.proofs.lemmas.List.{length-map}
@@ -12,7 +12,6 @@ use Rattle.quorum_rules.specs.Limits.{Numbers}
 use Rattle.receipt_lock.specs.Tickets.{Begins, new_entries, placed_from}
 use Rattle.receipt_lock.specs.Chits.{Holder as Chit, Deposit, took, gave, found_list}
 use Rattle.journals.specs.declared.node.NodeEntry.{NodeEntry}
-use Rattle.journals.specs.Steps.{side}
 use Rattle.locked_nodes.specs.declared.charter.Item.{Item}
 use Rattle.locked_nodes.specs.declared.charter.Item.TheVariants.{Entry}
 use Rattle.locked_nodes.specs.declared.answers.CellRefusal.{CellRefusal}

@@ -23,7 +23,7 @@ use Rattle.client_endpoints.specs.Endpoint.{EndpointView, SharedCellsView, IsHea
 use Rattle.phase_threads.specs.Standing.{AreCells, IsCellOf, IsDeskAt}
 use Rattle.thread_work.specs.Pairwise.{Beside}
 use Rattle.phase_threads.specs.Phased.{IsVaultOf, new_portion}
-use Rattle.thread_work.proofs.lemmas.Places.{all_from_places, get_map, map_get}
+use Rattle.thread_work.proofs.lemmas.Places.{all_from_places, map_get}
 use Rattle.lists.proofs.lemmas.Members.{all_at_place, Contains-none}
 use Rattle.std.specs.List.{Contains}
 use Rattle.phase_threads.specs.Carried.{IsAside}

@@ -12,7 +12,7 @@ use Rattle.protocol.specs.Instance.{setting}
 use Rattle.protocol.specs.Operations.{Work, Stage as ModelStage}
 use Rattle.protocol.specs.Operations.Work.{Reads}
 use Rattle.protocol.specs.Operations.Stage.{Times, Versions, Storing}
-use Rattle.protocol.specs.Seen.{SeenTask, SeenOperation, Hearing, task_at, by_decision, ends_phase, seen_counted, seen_goes_on, with_task}
+use Rattle.protocol.specs.Seen.{SeenTask, SeenOperation, Hearing, task_at, by_decision, ends_phase, seen_counted, seen_goes_on}
 use Rattle.protocol.specs.Seen.Hearing.{Ended}
 use Rattle.operation_core.specs.declared.stage.Stage.{Stage}
 use Rattle.operation_core.specs.Stages.{stage_of}

@@ -1,16 +1,14 @@
 -- Operations on the way come to their end, phase by phase, where enough nodes are up.
-use Rattle.std.proofs.Common.{◌≡◌, ◌⊎◌, inl, inr, ℕ, suc, ◌+◌, ◌*◌, ◌<◌, ◌≤◌, Bool, true, false, cond, eqb, List, [], ◌∷◌, length, map, Option, Some, None, Ok, Err, Result, refl, sym, ◌∙◌, ap, subst, arith}
+use Rattle.std.proofs.Common.{◌≡◌, ◌⊎◌, inl, inr, ℕ, suc, ◌+◌, ◌<◌, ◌≤◌, Bool, true, false, cond, eqb, List, [], ◌∷◌, length, map, Option, Some, None, Ok, Err, Result, refl, sym, ◌∙◌, ap, subst, arith}
 use Rattle.std.specs.List.{AllByRecursion, slice_get, cons_option}
 use Rattle.std.specs.Prelude.{All, IfOk, slice_index_or, is_some, sum}
 use Rattle.std.proofs.lemmas.List.Elements.{recursion_from_All}
-use Rattle.std.proofs.lemmas.Bool.{cases_lt}
 use Rattle.std.proofs.lemmas.Bool.Decides.{nat_tests}
-use Rattle.std.proofs.lemmas.Option.{slice_get-map, slice_get-get_or, slice_get_within, get_or_from_slice_get}
+use Rattle.std.proofs.lemmas.Option.{slice_get-map, slice_get_within, get_or_from_slice_get}
 use Rattle.std.proofs.lemmas.List.Sums.{sum_by-cons}
 use Rattle.std.specs.Option.{option_map}
 use Rattle.lists.proofs.lemmas.Members.{at_place}
 use Rattle.quorum_rules.specs.Limits.{Numbers, IsValid}
-use Rattle.stamp_order.specs.declared.Bound.{Bound}
 use Rattle.stamp_order.specs.declared.Bound.TheVariants.{All as Every, AtMost, Below}
 use Rattle.wire_forms.specs.declared.op.Op.{Op}
 use Rattle.protocol.specs.Count.{count}
@@ -20,7 +18,7 @@ use Rattle.protocol.specs.Laws.{InEachCluster}
 use Rattle.protocol.specs.Operations.{Outcome, Stage, Work, is_answered, first_work}
 use Rattle.protocol.specs.Operations.Stage.{Times, Versions, Storing}
 use Rattle.protocol.specs.Operations.Work.{Reads, Writes}
-use Rattle.protocol.specs.Seen.{SeenTask, block_of, work_of, seen_begun}
+use Rattle.protocol.specs.Seen.{SeenTask, block_of, work_of}
 use Rattle.protocol.proofs.lemmas.Counting.{count_within, nobody_counts}
 use Rattle.disk_model.specs.Crash.{Pending, MayLeave}
 use Rattle.version_disk.specs.Stored.{Stored}
@@ -34,7 +32,7 @@ use Rattle.store_device.specs.Stores.{SeenStore, kept_in, seat_at}
 use Rattle.store_device.specs.Told.{AreApart, kept_of}
 use Rattle.store_device.specs.Lives.{first_nodes}
 use Rattle.store_device.specs.Working.{AreHanded, WorksIn}
-use Rattle.store_device.specs.Going.{IsAsking, StandsAt, AreGoing, IsGoing, MayBegin, store_of}
+use Rattle.store_device.specs.Going.{StandsAt, AreGoing, IsGoing, MayBegin, store_of}
 use Rattle.store_device.specs.Answered.{AllCome, AreFew, ComesAt, HaveReplied, IsComing, IsEnough, RepliesIn, has_room, phases_on}
 use Rattle.store_device.proofs.Turns.{AreLaws, IsTurn, are_answers}
 use Rattle.store_device.proofs.Batches.{IsPlaced, placed_one, are_own, own_asks}

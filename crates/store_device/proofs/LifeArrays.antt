@@ -1,10 +1,9 @@
 -- A life of which all was done is answered as a plain array answers it.
-use Rattle.std.proofs.Common.{◌≡◌, ◌≢◌, ◌⊎◌, inl, inr, ℕ, zero, suc, ◌+◌, ◌<◌, ◌≤◌, Bool, true, false, cond, eqb, map, List, [], ◌∷◌, ◌++◌, length, Option, refl, sym, ◌∙◌, ap, subst, arith}
+use Rattle.std.proofs.Common.{◌≡◌, ◌≢◌, ◌⊎◌, inl, inr, ℕ, zero, suc, ◌+◌, ◌<◌, Bool, true, false, cond, eqb, map, List, [], ◌∷◌, ◌++◌, length, Option, refl, sym, ◌∙◌, ap, subst, arith}
 use Rattle.std.specs.Prelude.{slice_get}
 use Rattle.std.specs.declared.option.Option.TheVariants.{None, Some}
 use Rattle.std.specs.List.{Contains, AllByRecursion}
-use Rattle.std.proofs.lemmas.Bool.{cases_Bool, cases_lt, cases_eq, eqb-true, eq-eqb}
-use Rattle.std.proofs.lemmas.Bool.Decides.{nat_tests}
+use Rattle.std.proofs.lemmas.Bool.{cases_lt, cases_eq, eqb-true, eq-eqb}
 use Rattle.lists.proofs.lemmas.Members.{Contains-head, filter_is, filter_has, member_of_all, Contains-slice_get}
 use Rattle.quorum_rules.specs.Limits.{Numbers}
 use Rattle.stamp_order.specs.declared.Stamp.{Stamp}
@@ -12,16 +11,15 @@ use Rattle.wire_forms.specs.declared.op.Op.{Op}
 use Rattle.wire_forms.specs.declared.op.Op.TheVariants.{Read as ReadOp, Write as WriteOp}
 use Rattle.protocol.specs.Setting.{zeros}
 use Rattle.protocol.specs.Instance.{setting}
-use Rattle.protocol.specs.World.{Fits}
 use Rattle.protocol.specs.Operations.{Outcome, How}
-use Rattle.protocol.specs.Seen.{block_of, work_of}
+use Rattle.protocol.specs.Seen.{block_of}
 use Rattle.run_words.specs.declared.outcome.Outcome.TheVariants.{Wrote, Spent, Gave, Outvoted}
-use Rattle.linear_runs.specs.Linear.{Operation, IsBefore, IsLinear, on_block}
-use Rattle.linear_runs.specs.Linear.Act.{Read, Write}
+use Rattle.linear_runs.specs.Linear.{Operation, on_block}
+use Rattle.linear_runs.specs.Linear.Act.{Read}
 use Rattle.linear_runs.specs.Meaning.{IsSource, ReadsAreWritten}
 use Rattle.store_device.specs.Stores.{Nodes}
 use Rattle.store_device.specs.Told.{AreDone}
-use Rattle.store_device.specs.Lives.{Turn, Moment, told, told_one, prunable_after, turn_on, TakesAll, IsLife, IsToldOn, NoneClash, WasTold, IsReadAfter, AcknowledgedWritesAreRead, first_nodes}
+use Rattle.store_device.specs.Lives.{Turn, Moment, told, told_one, prunable_after, turn_on, TakesAll, IsLife, IsToldOn, NoneClash, WasTold, AcknowledgedWritesAreRead, first_nodes}
 use Rattle.store_device.specs.Lives.Turn.{Performed, Pruned, Changed}
 use Rattle.store_device.specs.Arrays.{Contents, contents_after, IsAnswered, AreAnswered, with_outcomes, operations_in, operations_of, WasDone, LivesAreArrays}
 use Rattle.store_device.proofs.Batches.{AreOwn, are_own}

@@ -1,5 +1,5 @@
 -- A life goes on over calls between which nodes go on on other disks, or are taken out.
-use Rattle.std.proofs.Common.{◌≡◌, inl, inr, ℕ, ◌+◌, ◌<◌, ◌^◌, Bool, true, false, cond, not, List, [], ◌∷◌, ◌++◌, length, Option, Some, None, refl, sym, ◌∙◌, ap, subst, arith, append_assoc}
+use Rattle.std.proofs.Common.{◌≡◌, inl, inr, ℕ, ◌+◌, ◌<◌, ◌^◌, Bool, false, cond, List, [], ◌∷◌, ◌++◌, length, Option, Some, None, refl, sym, ◌∙◌, ap, subst, arith, append_assoc}
 use Rattle.std.proofs.lemmas.Bool.{cases_Bool}
 use Rattle.std.proofs.lemmas.List.{length-append, append-nil}
 use Rattle.quorum_rules.specs.Limits.{Numbers, IsValid}
@@ -8,11 +8,11 @@ use Rattle.protocol.specs.Instance.{IsCluster}
 use Rattle.disk_model.specs.Crash.{Pending}
 use Rattle.node_core.specs.Seen.{SeenNode, versions_in}
 use Rattle.version_disk.specs.Stored.{Stored}
-use Rattle.store_device.specs.Stores.{SeenStore, Nodes, IsSound, IsStore, IsFound, kept_at, kept_in, seat_at, is_up}
+use Rattle.store_device.specs.Stores.{SeenStore, Nodes, IsSound, IsFound, kept_at, kept_in, seat_at, is_up}
 use Rattle.store_device.specs.Lives.{Moment, IsLife, KeepAlike, prunable_after, turn_on}
-use Rattle.store_device.specs.Calls.{Call, StaysStore, MayDoAll, moments_of, nodes_of, prunable_by, latest_reads, turn_by}
-use Rattle.store_device.specs.Seating.{GoesOn, IsReseatedAt, IsReseated}
-use Rattle.store_device.specs.Steps.{Step, calls_among, moments_in, gone_after, HasComeTo, AreFound, StepsLead, StepsAreLives, StepsGoOn}
+use Rattle.store_device.specs.Calls.{Call, StaysStore, MayDoAll, moments_of, nodes_of, prunable_by, latest_reads}
+use Rattle.store_device.specs.Seating.{IsReseatedAt, IsReseated}
+use Rattle.store_device.specs.Steps.{calls_among, moments_in, gone_after, HasComeTo, StepsLead, StepsAreLives, StepsGoOn}
 use Rattle.store_device.specs.Steps.Step.{Called, Reseated}
 use Rattle.store_device.proofs.lemmas.Steps.{lead_then}
 use Rattle.store_device.proofs.LifeCalls.{found_is_kept}

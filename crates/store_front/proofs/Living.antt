@@ -14,7 +14,6 @@ use Rattle.store_device.specs.Steps.{Step, called, calls_among, StepsLead, IsTen
 use Rattle.store_device.proofs.lemmas.Steps.{among_called, calls_lead, calls_then, lead_then, may_then}
 use Rattle.store_front.specs.Asking.{IsPerformed}
 use Rattle.store_front.specs.Rounds.{Exchange, IsExchange, IsBegun, calls_of}
-use Rattle.store_front.specs.Replies.{IsCutOff}
 use Rattle.store_front.specs.Sessions.{RoundsLead, LeavesStore, steps_in, steps_left, IsTendedSession, steps_of}
 use Rattle.store_front.proofs.Asking.{Performed, all_then, heard_only}
 

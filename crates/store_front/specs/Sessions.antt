@@ -13,7 +13,7 @@ use Rattle.nbd_front.specs.declared.ending.SessionEnd.{SessionEnd}
 use Rattle.nbd_front.specs.declared.ending.SessionEnd.TheVariants.{NoMemory, ReadFault, WriteFault, BadMagic, CutRequest, TooManyRequests}
 use Rattle.store_device.specs.Stores.{SeenStore, Nodes}
 use Rattle.store_device.specs.Lives.{Moment}
-use Rattle.store_device.specs.Calls.{Call, Leads, MayDoAll}
+use Rattle.store_device.specs.Calls.{Leads, MayDoAll}
 use Rattle.store_device.specs.Steps.{Step, called, calls_among, moments_in, gone_after, HasComeTo, AreFound, StepsLead, IsTended}
 use Rattle.store_front.specs.Asking.{IsFront}
 use Rattle.store_front.specs.Rounds.{BeginsWithRequest, Exchange, IsExchange, calls_of}

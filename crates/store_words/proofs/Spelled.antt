@@ -1,6 +1,6 @@
 -- Words that spell numbers, and words one by one.
-use Rattle.std.proofs.Common.{◌≡◌, ℕ, ◌^◌, ◌<◌, ◌≤◌, ◌-◌, List, ◌∷◌, [], length, take, drop, map, get_or, refl, sym, ap, ◌∙◌, arith, lit≤}
-use Rattle.std.specs.Prelude.{decimal, string_bytes, Some, None}
+use Rattle.std.proofs.Common.{◌≡◌, ℕ, ◌^◌, ◌<◌, ◌≤◌, ◌-◌, List, ◌∷◌, [], length, take, drop, get_or, refl, arith}
+use Rattle.std.specs.Prelude.{decimal, string_bytes, Some}
 use Rattle.std.specs.declared.string.String.{String}
 use Rattle.std.specs.declared.alloc.Global.{Global}
 use Rattle.std.proofs.lemmas.List.{take_all, length-map}

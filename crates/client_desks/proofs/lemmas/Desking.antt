@@ -22,7 +22,7 @@ use Rattle.journals.specs.declared.desk.DeskAct.TheVariants.{Start, Crash, Call}
 use Rattle.journals.specs.declared.desk.DeskEntry.{DeskEntry}
 use Rattle.journals.specs.Desks.{DeskState, new_desk, by_hearing, desk_told, desk_after, desk_after_all, ActsAs, LiarCalls, DeskKept}
 use Rattle.journals.specs.Records.{client_records}
-use Rattle.locked_nodes.specs.Cells.{Rises, with_seen, entry}
+use Rattle.locked_nodes.specs.Cells.{Rises, with_seen}
 use Rattle.client_desks.specs.Desks.{DeskView, state_at, asks_of, CanCall, own_of, own_numbers, numbers_of, IsDesk, desk_entry, heard}
 use Rattle.journals.proofs.lemmas.Lists.{state_snoc}
 use Rattle.locked_nodes.proofs.lemmas.Growing.{rises_snoc, rises_more}

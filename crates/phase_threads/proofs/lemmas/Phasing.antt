@@ -19,7 +19,7 @@ use Rattle.client_endpoints.specs.declared.shared_cells.Cells.TheVariants.{Vault
 use Rattle.client_endpoints.specs.declared.transport.Transport.{Transport}
 use Rattle.client_endpoints.specs.declared.transport.Transport.TheVariants.{Locks}
 use Rattle.client_endpoints.specs.Transports.{route, AtRest, IsByLocks}
-use Rattle.client_endpoints.specs.Endpoint.{EndpointView, SharedCellsView, Fixed, fixed, Agree, Fit}
+use Rattle.client_endpoints.specs.Endpoint.{EndpointView, SharedCellsView, Fixed, Agree, Fit}
 use Rattle.phase_threads.specs.Told.{HasHeard}
 use Rattle.phase_threads.specs.declared.duty.Seat.{Seat}
 use Rattle.phase_threads.specs.declared.thread_state.ThreadState.{ThreadState}

@@ -1,4 +1,4 @@
-use Rattle.std.proofs.Common.{◌≡◌, ◌∙◌, ◌++◌, ◌+◌, Option, map, take, sym, ap}
+use Rattle.std.proofs.Common.{◌∙◌, ◌++◌, ◌+◌, Option, map, take, sym, ap}
 use Rattle.std.specs.Prelude.{option_to_list}
 use Rattle.run_words.specs.declared.record.Record.{Record as Told}
 use Rattle.protocol.specs.Seen.{record_of}

@@ -1,4 +1,4 @@
-use Rattle.std.proofs.Common.{◌≡◌, ◌∙◌, ◌++◌, ◌+◌, List, map, take, sym, ap}
+use Rattle.std.proofs.Common.{◌∙◌, ◌++◌, ◌+◌, List, map, take, sym, ap}
 use Rattle.protocol.specs.World.{Record}
 use Rattle.protocol.specs.Seen.{record_of}
 use Rattle.plan_followed.specs.declared.prunes.BlockStamp.{BlockStamp}

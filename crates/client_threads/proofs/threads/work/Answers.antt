@@ -1,5 +1,5 @@
 -- Lemmas of `Threading`.
-use Rattle.std.proofs.Common.{◌≡◌, ◌≤◌, Ok, length, refl, subst, rules}
+use Rattle.std.proofs.Common.{◌≤◌, Ok, length, refl, subst, rules}
 use Rattle.std.specs.Prelude.{All}
 use Rattle.locked_nodes.specs.Cells.{KeptCell}
 use Rattle.client_threads.specs.declared.state.Run.{Run}

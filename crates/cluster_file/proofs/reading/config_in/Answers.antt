@@ -1,4 +1,4 @@
-use Rattle.std.proofs.Common.{◌≡◌, Some, None, ap, sym, ◌∙◌}
+use Rattle.std.proofs.Common.{◌≡◌, Some, ap, sym, ◌∙◌}
 use Rattle.text_lines.specs.Lines.{fields_of, texts}
 use Rattle.line_forms.specs.Heads.{cluster_fields}
 use Rattle.line_forms.proofs.lemmas.Accepted.{cluster_apart}

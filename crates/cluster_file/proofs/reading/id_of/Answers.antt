@@ -1,5 +1,4 @@
-use Rattle.std.proofs.Common.{◌≡◌, Some, None, sym, ◌∙◌}
-use Rattle.text_lines.specs.Fields.{value_of}
+use Rattle.std.proofs.Common.{sym, ◌∙◌}
 use Rattle.cluster_file.proofs.Printed.{sixteen_is, no_id}
 use Rattle.cluster_file.proofs.reading.id_of.Goals as goal
 

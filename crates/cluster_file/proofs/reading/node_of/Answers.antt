@@ -1,4 +1,4 @@
-use Rattle.std.proofs.Common.{◌≡◌, ◌<◌, Some, None, sym, ◌∙◌, arith, lit≤}
+use Rattle.std.proofs.Common.{◌≡◌, Some, sym, ◌∙◌, arith, lit≤}
 use Rattle.text_lines.specs.Fields.{number_of}
 use Rattle.text_lines.proofs.lemmas.Numbers.{number_of-some}
 use Rattle.cluster_file.proofs.Printed.{one_number, no_number}

@@ -5,7 +5,6 @@ use Rattle.std.specs.Prelude.{slice_get}
 use Rattle.std.specs.Vec.Iter.{into_iter_items, into_iter_len}
 use Rattle.thread_work.proofs.lemmas.Places.{walk_on, walk_end}
 use Rattle.inboxes.specs.Sides.{took_in}
-use Rattle.client_desks.specs.Desks.{DeskView}
 use Rattle.client_endpoints.specs.declared.mail.ByMail.{ByMail}
 use Rattle.node_workers.specs.declared.thread_state.ThreadState.TheVariants.{Client}
 use Rattle.node_workers.specs.ThreadStates.{nodes_in, clients_in}

@@ -1,11 +1,9 @@
 -- Lemmas of `Posting`.
-use Rattle.std.proofs.Common.{◌≡◌, ◌++◌, ◌∷◌, [], List, length, map, reverse, ap, sym, subst, ◌∙◌, refl, All, append-nil}
+use Rattle.std.proofs.Common.{◌≡◌, ◌++◌, ◌∷◌, [], List, length, map, reverse, ap, sym, subst, ◌∙◌, All, append-nil}
 use Rattle.std.specs.declared.option.Option.TheVariants.{None}
 use Rattle.std.specs.Vec.Iter.{into_iter_items, into_iter_len}
 use Rattle.std.proofs.lemmas.List.{map-append}
 use Rattle.std.proofs.lemmas.List.Elements.{All-nil, All-push}
-use Rattle.receipt_lock.specs.Chits.{Holder as Chit}
-use Rattle.locked_nodes.specs.declared.charter.Item.{Item}
 use Rattle.client_endpoints.specs.Transports.{IsByLocks, AtRest}
 use Rattle.client_endpoints.specs.Endpoint.{EndpointView, Agree}
 use Rattle.phase_threads.specs.declared.duty.Seat.{Seat}

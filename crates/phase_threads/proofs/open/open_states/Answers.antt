@@ -4,7 +4,6 @@ use Rattle.std.specs.Vec.Iter.{into_iter_items, into_iter_len}
 use Rattle.std.proofs.lemmas.List.Elements.{All-pop}
 use Rattle.receipt_lock.specs.Chits.{Holder as Chit}
 use Rattle.locked_nodes.specs.declared.charter.Item.{Item}
-use Rattle.phase_threads.specs.declared.duty.Seat.{Seat}
 use Rattle.phase_threads.specs.declared.thread_state.ThreadState.{ThreadState}
 use Rattle.thread_work.specs.Pairwise.{Beside}
 use Rattle.phase_threads.specs.declared.thread_state.ThreadState.TheVariants.{Client, Courier as Carrier}

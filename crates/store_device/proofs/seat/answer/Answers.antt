@@ -1,4 +1,4 @@
-use Rattle.std.proofs.Common.{◌≡◌, ◌≤◌, ℕ, true, false, length, refl, ap, inl, inr, Err}
+use Rattle.std.proofs.Common.{◌≡◌, false, refl, ap, inl, inr, Err}
 use Rattle.std.proofs.lemmas.Bool.{cases_Bool}
 use Rattle.store_device.proofs.Rooms.{room_before, refused}
 use Rattle.store_device.proofs.seat.answer.Goals as goal

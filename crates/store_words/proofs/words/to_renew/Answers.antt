@@ -1,4 +1,4 @@
-use Rattle.std.proofs.Common.{refl, arith, ◌≡◌}
+use Rattle.std.proofs.Common.{refl}
 use Rattle.store_words.proofs.Spelled.{spelled, number_fits, one_text, behind_one, texts_length}
 use Rattle.store_words.proofs.words.to_renew.Goals as goal
 

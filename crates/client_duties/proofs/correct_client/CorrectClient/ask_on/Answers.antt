@@ -1,4 +1,4 @@
-use Rattle.std.proofs.Common.{rules, arith, ◌≡◌, ◌<◌, ◌∙◌, sym, ap}
+use Rattle.std.proofs.Common.{rules, arith, ◌≡◌, ◌∙◌, sym, ap}
 use Rattle.quorum_rules.specs.Limits.{Numbers}
 use Rattle.std.specs.Option.{IsSome}
 use Rattle.std.specs.declared.option.Option.TheVariants.{None, Some}

@@ -1,9 +1,9 @@
 use Rattle.std.proofs.Common.{◌≡◌, ◌≤◌, [], ap, subst, ◌∙◌, rules}
 use Rattle.event_clock.specs.Passes.{Holder, drew}
 use Rattle.locked_nodes.specs.declared.answers.Late.TheVariants.{Delivered, Lost}
-use Rattle.locked_nodes.specs.Cells.{CellView, BroughtLate, HasMoreAside}
+use Rattle.locked_nodes.specs.Cells.{BroughtLate}
 use Rattle.locked_nodes.proofs.Keeping.{late_asks}
-use Rattle.locked_nodes.proofs.lemmas.Aside.{aside_none, aside_late}
+use Rattle.locked_nodes.proofs.lemmas.Aside.{aside_late}
 use Rattle.locked_nodes.proofs.lemmas.Growing.{cell_late, cell_lates, oldest_of, late_came, told_delivered, told_lost}
 use Rattle.locked_nodes.proofs.cell.NodeCell.bring_late.Goals as goal
 

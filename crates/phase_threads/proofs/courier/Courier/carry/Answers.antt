@@ -1,5 +1,5 @@
 -- Lemmas of `Carrying`.
-use Rattle.std.proofs.Common.{◌≡◌, ◌<◌, length, sym, ap, subst, ◌∙◌, arith}
+use Rattle.std.proofs.Common.{◌≡◌, ◌<◌, length, sym, subst, arith}
 use Rattle.std.specs.declared.option.Option.TheVariants.{None, Some}
 use Rattle.receipt_lock.specs.Chits.{Holder as Chit}
 use Rattle.quorum_rules.specs.Limits.{Numbers}
@@ -9,7 +9,7 @@ use Rattle.locked_nodes.specs.declared.cell_shard.CellShard.{CellShard}
 use Rattle.client_endpoints.specs.Endpoint.{vaults_of, IsHead}
 use Rattle.lists.proofs.lemmas.Members.{all_at_place}
 use Rattle.phase_threads.specs.Carried.{IsAside}
-use Rattle.phase_threads.proofs.Carrying.{none_carried, within, chit_at, own_at, head_at, carried_on}
+use Rattle.phase_threads.proofs.Carrying.{none_carried, chit_at, own_at, head_at, carried_on}
 use Rattle.phase_threads.proofs.courier.Courier.carry.Goals as goal
 
 pub loop-round-init : goal.loop-round-init

@@ -1,7 +1,7 @@
 use Rattle.std.proofs.Common.{sym, subst}
 use Rattle.phase_threads.specs.declared.thread_state.ThreadState.{ThreadState}
-use Rattle.phase_threads.specs.declared.thread_state.ThreadState.TheVariants.{Client, Courier as Carrier}
-use Rattle.phase_threads.specs.ThreadStates.{CanWork, HasDone, DidWork}
+use Rattle.phase_threads.specs.declared.thread_state.ThreadState.TheVariants.{Client}
+use Rattle.phase_threads.specs.ThreadStates.{HasDone, DidWork}
 use Rattle.phase_threads.proofs.thread_state.SharedCellsThreadWorkThreadState.work.Goals as goal
 
 pub returns-in-Client : goal.returns-in-Client

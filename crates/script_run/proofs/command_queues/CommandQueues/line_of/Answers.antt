@@ -1,4 +1,4 @@
-use Rattle.std.proofs.Common.{◌≡◌, ◌∙◌, ℕ, ap, sym, subst, map}
+use Rattle.std.proofs.Common.{sym, subst, map}
 use Rattle.quorum_rules.specs.Limits.{Numbers}
 use Rattle.protocol.specs.Seen.{record_of}
 use Rattle.block_device.specs.Latest.{AreWhole}
