@@ -1,10 +1,18 @@
 -- What holds of plans, and of journals that follow them.
-use Rattle.std.specs.Prelude.{ℕ, List, [], ◌∷◌, ◌++◌}
+use Rattle.std.specs.Prelude.{◌≡◌, ℕ, ◌==◌, if◌then◌else◌, List, [], ◌∷◌, ◌++◌, fold, replicate, unwrap_or, Option}
+use Rattle.std.specs.declared.option.Option.TheVariants.{None, Some}
+use Rattle.wire_forms.specs.declared.op.Op.TheVariants.{Write}
+use Rattle.block_device.specs.declared.steps.BlockStep.TheVariants.{Merge}
+use Rattle.block_device.specs.Device.{merged}
+use Rattle.block_device.specs.Latest.{value_given}
+use Rattle.block_device.specs.Ops.{op_of}
 use Rattle.wire_forms.specs.Liars.{has_number, AreLiars}
 use Rattle.protocol.specs.Instance.{IsCluster}
 use Rattle.plan_words.specs.declared.plan.Plan.{Plan}
 use Rattle.plan_words.specs.Plans.{Fits}
 use Rattle.journals.specs.declared.desk.DeskEntry.{DeskEntry}
+use Rattle.journals.specs.Desks.{DeskState, Ended}
+use Rattle.journals.specs.Records.{client_records}
 use Rattle.journals.specs.Steps.{IsConduct}
 use Rattle.journals.specs.declared.whole.Journals.{Journals}
 use Rattle.journals.specs.Journals.{AreOfRun}
@@ -42,3 +50,17 @@ abbrev pub OneMore : Type 0
 OneMore =
     (plan : Plan) (c : ℕ) (es : List DeskEntry) (e : DeskEntry) → InEach (GoesByPlan plan c) es → GoesByPlan plan c es e.act
     → InEach (GoesByPlan plan c) (es ++ e ∷ [])
+
+-- what an operation that ended showed its client of a block: the value, if it is a read of the block that gave one
+abbrev pub shown_by : ℕ → Ended → Option (List ℕ)
+shown_by block x = if x.block == block then value_given (Some x.outcome) else None
+
+-- what a client has seen of a block of this size when these operations have ended, one after another: zeros at first
+abbrev pub seen_after : ℕ → ℕ → List Ended → List ℕ
+seen_after size block ended = fold (λ seen x. unwrap_or (shown_by block x) seen) (replicate size 0) ended
+
+-- a merge puts its bytes into what the client's operations that ended have shown of the block, whatever it has under way
+abbrev pub MergesIntoSeen : Type 0
+MergesIntoSeen =
+    (size client : ℕ) (d : DeskState) (block at : ℕ) (bytes : List ℕ)
+    → op_of size client (client_records client d) (Merge block at bytes) ≡ Write block (merged (seen_after size block d.ended) at bytes)

@@ -1,6 +1,6 @@
 //! Laws of plans and of journals that follow them, each the contract of a function that does nothing.
 
-ghost use Rattle.plan_followed.specs.Laws.{OfPlans, HasConduct, HasLiars, HasCluster, PlansPhase, PlansRun, OneMore};
+ghost use Rattle.plan_followed.specs.Laws.{OfPlans, HasConduct, HasLiars, HasCluster, PlansPhase, PlansRun, OneMore, MergesIntoSeen};
 ghost use Rattle.plan_followed.specs.Closed.{Begins, GoesOn, Closes, Ends};
 
 /// A plan that fits is one of a cluster: who lies is who its rules declare lying, at most `b` nodes do, and no liar crashes.
@@ -24,6 +24,12 @@ pub fn followed_plans()
 /// what comes next.
 pub fn entries()
     ensures { OneMore }
+{}
+
+/// A client's merge puts its bytes into what its reads of the block that have ended gave last, or into zeros where none has; what it
+/// has under way, and what other clients read, is nothing to it.
+pub fn merges()
+    ensures { MergesIntoSeen }
 {}
 
 /// In empty journals no phase is closed; whatever comes later leaves the closed phases closed; a phase closes when its clients have
