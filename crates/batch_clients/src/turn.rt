@@ -83,8 +83,8 @@ fn over(id: u32, standing: Standing) -> Turn
     Turn::Over(Run { id, standing })
 }
 
-/// How many operations that make or compare fragments are worth a thread: to begin one takes about as long as one of them.
-const OPERATIONS_OF_A_THREAD: usize = 4;
+/// How many operations that make or compare fragments are worth a thread: to begin one takes about half as long as one of them.
+const OPERATIONS_OF_A_THREAD: usize = 2;
 
 /// Has each operation take its turn. Where many of them have fragments to make or to compare, they work at once, in so many threads at most.
 pub(crate) fn take_all<R: Threads + Sync>(rt: &R, threads: usize, mut turns: Vec<Turn>) -> Vec<Turn>

@@ -1,5 +1,5 @@
 -- What is done with a store's nodes, and how it is looked after.
-use Rattle.std.specs.Prelude.{◌≡◌, ℕ, ◌+◌, ◌-◌, ◌*◌, ◌/◌, ◌<◌, ◌^◌, ◌&&◌, false, not, min, max, nat_le, if◌then◌else◌, Bool, List, length, Option, Some, Result}
+use Rattle.std.specs.Prelude.{◌≡◌, ℕ, ◌+◌, ◌-◌, ◌*◌, ◌<◌, ◌^◌, ◌&&◌, false, not, min, max, nat_le, if◌then◌else◌, Bool, List, length, Option, Some, Result}
 use denote.Ref.{MutBor}
 use Rattle.quorum_rules.specs.Limits.{Numbers}
 use Rattle.disk_model.specs.Past.{LeftSince}
@@ -60,9 +60,9 @@ served_since since served = min (since + served) (2 ^ 64 - 1)
 abbrev pub device_len : Numbers → ℕ
 device_len c = min (c.size * c.blocks) (2 ^ 64 - 1)
 
--- it is to be, where no request waits and so many bytes were: as many as a quarter of the device has, and no fewer than 2^20
+-- it is to be, where no request waits and so many bytes were: as many as the device has, and no fewer than 2^20
 abbrev pub is_due : Numbers → ℕ → Bool → Bool
-is_due c since is_ready = not is_ready && nat_le (max (2 ^ 20) (device_len c / 4)) since
+is_due c since is_ready = not is_ready && nat_le (max (2 ^ 20) (device_len c)) since
 
 -- how many were, behind that
 abbrev pub since_then : Numbers → ℕ → Bool → ℕ

@@ -82,7 +82,7 @@ fn is_due(config: &Config, since: u64, is_ready: bool) -> bool
     ensures { result ≡ is_due config.now since is_ready }
 {
     let device = u64::from(config.size()).saturating_mul(u64::from(config.blocks()));
-    !is_ready && since >= LEAST_BYTES.max(device / 4)
+    !is_ready && since >= LEAST_BYTES.max(device)
 }
 
 // Prunes the blocks of which nodes keep many versions, and writes the journals anew that are due.
