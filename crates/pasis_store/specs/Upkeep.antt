@@ -1,5 +1,5 @@
 -- What is done with a store's nodes, and how it is looked after.
-use Rattle.std.specs.Prelude.{◌≡◌, ℕ, ◌+◌, ◌-◌, ◌*◌, ◌<◌, ◌^◌, ◌&&◌, false, not, min, max, nat_le, if◌then◌else◌, Bool, List, length, Option, Some, Result}
+use Rattle.std.specs.Prelude.{◌≡◌, ℕ, ◌+◌, ◌-◌, ◌*◌, ◌<◌, ◌^◌, ◌&&◌, false, not, min, max, nat_le, if◌then◌else◌, Bool, List, length, Option, Some, Result, OnOk}
 use denote.Ref.{MutBor}
 use Rattle.quorum_rules.specs.Limits.{Numbers}
 use Rattle.disk_model.specs.Past.{LeftSince}
@@ -10,7 +10,7 @@ use Rattle.version_disk.specs.Stored.{Stored}
 use Rattle.store_device.specs.Stores.{SeenStore, IsSound}
 use Rattle.store_device.specs.Seating.{with_seat, IsReseated as IsReseatedOn}
 use Rattle.store_device.specs.Steps.{IsTended as IsTendedOn}
-use Rattle.store_care.specs.Settling.{Try, TriesLead as TriesLeadOn}
+use Rattle.store_care.specs.Settling.{IsTriedOut, Try, TriesLead as TriesLeadOn}
 use Rattle.store_front.specs.Sessions.{IsSession as IsSessionOn}
 
 -- a node of this number sits there that is up, and these bytes hold it
@@ -39,11 +39,13 @@ module _ {F : Type 0} where
   abbrev pub IsTended : SeenStore (OnFile F) → SeenStore (OnFile F) → Type 0
   IsTended old new = IsTendedOn (λ d. d.pending) (λ d. d.bytes) (λ d. length d.past) (λ d. LeftSince d.past d.pending) old new
 
-  -- groups of its blocks are tried to be settled, one after the other, and nothing else is done
-  abbrev pub IsTried : SeenStore (OnFile F) → SeenStore (OnFile F) → Type 0
-  IsTried old new =
+  -- groups of its blocks are tried to be settled, one after the other, and nothing else is done; where that ends well, each block was
+  -- settled at some time of it, or was tried as often as may be
+  abbrev pub IsTried : {A E : Type 0} → Result A E → SeenStore (OnFile F) → SeenStore (OnFile F) → Type 0
+  IsTried result old new =
       (tries : List (Try (OnFile F)))
       × TriesLeadOn (λ d. d.pending) (λ d. d.bytes) (λ d. length d.past) (λ d. LeftSince d.past d.pending) old tries new
+      × OnOk result ((block : ℕ) → block < old.config.blocks → IsTriedOut old tries block)
 
   -- a session in which it is only looked after between rounds
   abbrev pub IsSession : Numbers → (old new : SeenStore (OnFile F)) → Result (Unit {0}) SessionEnd → (left left_after taken taken_after : Option (List ℕ)) → Type 0

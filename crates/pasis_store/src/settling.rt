@@ -15,7 +15,7 @@ pub fn settle<T: Threads + Sync>(
     store: &mut FileStore,
 ) -> Result<(), NoMemory>
     ensures config { store.new.config ≡ store.old.config }
-    ensures tried { IsTried store.old store.new }
+    ensures tried { IsTried result store.old store.new }
 {
     let blocks = settle_all(threads, rt.alloc(), store)?;
     if blocks > 0 {

@@ -11,3 +11,4 @@ mod Refused
 mod Groups
 mod Tending
 mod Settled
+mod Tried

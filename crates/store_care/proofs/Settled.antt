@@ -14,10 +14,9 @@ use Rattle.protocol.specs.Seen.{block_of}
 use Rattle.disk_model.specs.Crash.{Pending}
 use Rattle.store_device.specs.Stores.{SeenStore}
 use Rattle.store_device.specs.Told.{AreApart}
-use Rattle.store_device.specs.Calls.{Call, Leads}
 use Rattle.store_care.specs.Batches.{AreBelow}
 use Rattle.store_care.specs.Given.{Given, given}
-use Rattle.store_care.specs.Settling.{AreSettling, Try, TriesLead, is_settled, unsettled, write_of, writes_by}
+use Rattle.store_care.specs.Settling.{Try, TriesLead, is_settled, unsettled, write_of, writes_by}
 use Rattle.store_care.proofs.Looked.{was_given}
 use Rattle.store_care.proofs.Rising.{rest_apart, first_apart}
 
@@ -131,15 +130,3 @@ module _ {D : Type 0} (pending : D → Pending) (seen : D → List ℕ) (moment 
       → TriesLead pending seen moment left_since old (tries ++ more) new
   tries_then [] more old mid new same h = subst (λ (s : SeenStore D). TriesLead pending seen moment left_since s more new) same h
   tries_then (one ∷ tries) more old mid new are h = (are.0, are.1, tries_then tries more one.store mid new are.2 h)
-
-  -- one try more
-  pub one_more_try : (tries : List (Try D)) (first count : ℕ) (calls : List (Call D)) (old mid same new : SeenStore D)
-      → TriesLead pending seen moment left_since old tries mid → same ≡ mid
-      → Leads pending seen moment left_since same calls new → AreSettling first count same calls
-      → (all : List (Try D)) × TriesLead pending seen moment left_since old all new
-  one_more_try tries first count calls old mid same new led is leads are =
-      let one : Try D = record { first = first; count = count; calls = calls; store = new } in (
-        tries ++ one ∷ [],
-        tries_then tries (one ∷ []) old mid new led
-            (subst (λ (s : SeenStore D). Leads pending seen moment left_since s calls new) is leads, subst (λ (s : SeenStore D). AreSettling first count s calls) is are, refl),
-      )

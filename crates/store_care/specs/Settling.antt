@@ -1,5 +1,5 @@
 -- Blocks that are settled, and what settling does to a store.
-use Rattle.std.specs.Prelude.{◌≡◌, ℕ, ⊤, ◌&&◌, Bool, true, false, not, nat_le, if◌then◌else◌, List, [], ◌∷◌, ◌++◌, map, length, filter, Option}
+use Rattle.std.specs.Prelude.{◌≡◌, ◌⊎◌, ◌≤◌, ℕ, ⊤, ◌+◌, ◌&&◌, Bool, true, false, not, nat_le, nat_lt, if◌then◌else◌, List, [], ◌∷◌, ◌++◌, map, length, filter, count_by, Option}
 use Rattle.std.specs.declared.option.Option.TheVariants.{None, Some}
 use Rattle.std.specs.List.{list_all, list_any, range_with_len}
 use Rattle.std.specs.Option.{option_map}
@@ -89,3 +89,19 @@ module _ {D : Type 0} (pending : D → Pending) (seen : D → List ℕ) (moment 
   TriesLead old [] new = new ≡ old
   TriesLead old (one ∷ tries) new =
       Leads pending seen moment left_since old one.calls one.store × AreSettling one.first one.count old one.calls × TriesLead one.store tries new
+
+-- ---- what tries come to for a block
+
+module _ {D : Type 0} where
+  -- how many of the tries are of the block
+  abbrev pub tries_of : ℕ → List (Try D) → ℕ
+  tries_of block tries = count_by (λ t. nat_le t.first block && nat_lt block (t.first + t.count)) tries
+
+  -- the block is settled in the store, or behind one of the tries
+  abbrev pub WasSettled : SeenStore D → List (Try D) → ℕ → Type 0
+  WasSettled store [] block = is_settled store block ≡ true
+  WasSettled store (one ∷ tries) block = (is_settled store block ≡ true) ⊎ WasSettled one.store tries block
+
+  -- it was settled at some time, or was tried four times
+  abbrev pub IsTriedOut : SeenStore D → List (Try D) → ℕ → Type 0
+  IsTriedOut store tries block = WasSettled store tries block ⊎ (4 ≤ tries_of block tries)

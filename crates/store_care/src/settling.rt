@@ -5,7 +5,7 @@ ghost use Rattle.store_device.specs.Calls.{Call, Leads};
 ghost use Rattle.store_care.specs.Batches.{AreBelow};
 ghost use Rattle.store_care.specs.Given.{given};
 ghost use Rattle.store_care.specs.Holdings.{newest_at};
-ghost use Rattle.store_care.specs.Settling.{AreSettling, Try, TriesLead, is_settled, is_this, is_up_to, leads, newest_stamps, unsettled, write_of, writes_by};
+ghost use Rattle.store_care.specs.Settling.{AreSettling, IsTriedOut, Try, TriesLead, is_settled, is_this, is_up_to, leads, newest_stamps, unsettled, write_of, writes_by};
 
 use crate::blocks::{MOST_BLOCKS, add, block_of};
 use crate::calls::{given, outcome_at, perform};
@@ -24,7 +24,8 @@ use wire_forms::Op;
 const MOST_TRIES: u32 = 4;
 
 /// Settles all blocks, as many in one go as may be, each group again while something in it isn't settled, but no more than a few
-/// times. Gives how many blocks aren't settled at the end: a node may keep a version of a time that no write reaches.
+/// times: so each block was settled at some time of the call, or was tried as often as that. Gives how many blocks aren't settled at
+/// the end: a node may keep a version of a time that no write reaches.
 pub fn settle_all<D: Disk + Send, R: Threads + Sync>(
     rt: &R,
     alloc: Global,
@@ -32,7 +33,9 @@ pub fn settle_all<D: Disk + Send, R: Threads + Sync>(
 ) -> Result<u32, NoMemory>
     ensures config { store.new.config ≡ store.old.config }
     ensures tries { (tries : List (Try D))
-        × TriesLead D.pending D.seen D.moment D.left_since store.old tries store.new }
+        × TriesLead D.pending D.seen D.moment D.left_since store.old tries store.new
+        × OnOk result ((block : ℕ) → block < store.old.config.blocks
+        → IsTriedOut store.old tries block) }
     ensures unsettled { IfOk result (λ count. count
         ≡ length (unsettled store.new 0 store.new.config.blocks)) }
 {
@@ -57,9 +60,11 @@ fn settle_group<D: Disk + Send, R: Threads + Sync>(
     requires there { first + count ≤ store.old.config.blocks }
     ensures config { store.new.config ≡ store.old.config }
     ensures tries { (tries : List (Try D))
-        × TriesLead D.pending D.seen D.moment D.left_since store.old tries store.new }
+        × TriesLead D.pending D.seen D.moment D.left_since store.old tries store.new
+        × OnOk result ((block : ℕ) → first ≤ block → block < first + count
+        → IsTriedOut store.old tries block) }
 {
-    for _ in 0..MOST_TRIES {
+    for _turn in 0..MOST_TRIES {
         if count_unsettled(alloc, store, first, count)? == 0 {
             return Ok(());
         }
