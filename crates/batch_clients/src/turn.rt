@@ -13,7 +13,8 @@ use client_core::{Client, Heard};
 use lists::NoMemory;
 use std::alloc::Global;
 use std::mem::replace;
-use std::thread::{Threads, for_each_mut};
+use std::thread::Threads;
+use thread_spread::for_each_apart;
 use wire_forms::{Mail, Reply};
 
 /// What an operation has to do in a phase, and what it came to.
@@ -106,7 +107,7 @@ fn take_each<R: Threads + Sync>(rt: &R, threads: usize, turns: &mut [Turn])
     ensures each { (i : ℕ) (d : _) → i < length turns.old
         → Comes (slice_index_or turns.old i d) (slice_index_or turns.new i d) }
 {
-    for_each_mut(
+    for_each_apart(
         rt,
         turns,
         threads,
