@@ -10,6 +10,8 @@ use Rattle.version_disk.specs.Stored.{Stored}
 use Rattle.store_device.specs.Stores.{SeenStore, IsSound}
 use Rattle.store_device.specs.Seating.{with_seat, IsReseated as IsReseatedOn}
 use Rattle.store_device.specs.Steps.{IsTended as IsTendedOn}
+use Rattle.store_care.specs.Filling.{groups_of}
+use Rattle.store_care.specs.Pruning.{HavePassed}
 use Rattle.store_care.specs.Settling.{IsTriedOut, Try, TriesLead as TriesLeadOn}
 use Rattle.store_front.specs.Sessions.{IsSession as IsSessionOn}
 
@@ -38,6 +40,13 @@ module _ {F : Type 0} where
   -- it is only looked after
   abbrev pub IsTended : SeenStore (OnFile F) → SeenStore (OnFile F) → Type 0
   IsTended old new = IsTendedOn (λ d. d.pending) (λ d. d.bytes) (λ d. length d.past) (λ d. LeftSince d.past d.pending) old new
+
+  -- group by group those of its blocks of which some node kept more than so many versions are read and pruned, and then it is only looked after
+  abbrev pub IsPrunedFirst : (most : ℕ) → SeenStore (OnFile F) → SeenStore (OnFile F) → Type 0
+  IsPrunedFirst most old new =
+      (mid : SeenStore (OnFile F))
+      × HavePassed (λ d. d.pending) (λ d. d.bytes) (λ d. length d.past) (λ d. LeftSince d.past d.pending) most (groups_of old.config.blocks) old mid
+      × IsTended mid new
 
   -- groups of its blocks are tried to be settled, one after the other, and nothing else is done; where that ends well, each block was
   -- settled at some time of it, or was tried as often as may be

@@ -1,6 +1,6 @@
 //! What is done for a store between the rounds of a session.
-ghost use Rattle.std.specs.Prelude.{◌≡◌, false};
-ghost use Rattle.pasis_store.specs.Upkeep.{IsTended, is_due, served_since, since_then};
+ghost use Rattle.std.specs.Prelude.{◌≡◌, true, false, OnOk};
+ghost use Rattle.pasis_store.specs.Upkeep.{IsPrunedFirst, IsTended, is_due, served_since, since_then};
 
 use crate::compacting::compact_due;
 use crate::folder::FileStore;
@@ -48,7 +48,10 @@ impl Upkeep {
     ) -> Result<(), NoMemory>
         ensures tended { IsTended store.old store.new }
         ensures config { store.new.config ≡ store.old.config }
-        // where it isn't due nothing at all is done to it
+        // where it is due all blocks are gone through first
+        ensures due { is_due store.old.config (served_since self.old.since served) is_ready ≡ true
+            → OnOk result (IsPrunedFirst 5 store.old store.new) }
+        // where it isn't nothing at all is done to it
         ensures not_due { is_due store.old.config (served_since self.old.since served) is_ready ≡ false
             → store.new ≡ store.old }
         ensures since { self.new.since
@@ -93,6 +96,7 @@ fn look_after<T: Threads + Sync>(
     store: &mut FileStore,
 ) -> Result<(), NoMemory>
     ensures tended { IsTended store.old store.new }
+    ensures pruned { OnOk result (IsPrunedFirst 5 store.old store.new) }
     ensures config { store.new.config ≡ store.old.config }
 {
     prune_all(threads, rt.alloc(), store, MOST_VERSIONS)?;

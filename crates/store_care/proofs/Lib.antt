@@ -9,6 +9,7 @@ mod Block
 mod Looks
 mod Refused
 mod Groups
+mod Overfull
 mod Tending
 mod Settled
 mod Tried

@@ -1,7 +1,7 @@
 -- Prunes by the stamps that reads gave may be done at any time.
 use Rattle.std.proofs.Common.{◌≡◌, ◌≢◌, ℕ, suc, Bool, List, [], ◌∷◌, ◌++◌, Option, None, Some, refl, sym, ◌∙◌, ap, subst}
 use Rattle.std.specs.Prelude.{if◌then◌else◌}
-use Rattle.std.specs.List.{All, AllByRecursion}
+use Rattle.std.specs.List.{AllByRecursion}
 use Rattle.std.proofs.lemmas.Bool.{eq-eqb, ne_eqb}
 use Rattle.std.proofs.lemmas.List.Elements.{recursion_from_All}
 use Rattle.stamp_order.specs.declared.Stamp.{Stamp}
@@ -21,8 +21,9 @@ use Rattle.store_device.specs.Calls.Deed.{Performs, Prunes}
 use Rattle.store_device.specs.Steps.{IsRead, WritesNone, IsTended}
 use Rattle.store_device.proofs.lemmas.Steps.{calls_tend, none_tended}
 use Rattle.store_care.specs.Prunes.{prune_by, prunes_by}
-use Rattle.store_care.specs.Pruning.{IsReadAmong, ArePruning}
+use Rattle.store_care.specs.Pruning.{ArePruning, overfull}
 use Rattle.store_care.proofs.Apart.{of_blocks}
+use Rattle.store_care.proofs.Overfull.{only_reads}
 use Rattle.store_care.proofs.Rising.{rest_apart, first_apart}
 
 module _ (last : ℕ → Option Stamp) where
@@ -65,12 +66,6 @@ module _ (last : ℕ → Option Stamp) where
         rest,
       )
 
--- blocks among some are read
-only_reads : (first count : ℕ) (reads : List Op) → AllByRecursion (IsReadAmong first count) reads → AllByRecursion IsRead reads
-only_reads first count [] all = tt
-only_reads first count (Read block ∷ reads) all = (tt, only_reads first count reads all.1)
-only_reads first count (Write block value ∷ reads) all = absurd all.0
-
 module _ {D : Type 0} (pending : D → Pending) (seen : D → List ℕ) (moment : D → ℕ) (left_since : D → ℕ → List ℕ → Type 0) where
   abbrev Lead : SeenStore D → List (Call D) → SeenStore D → Type 0
   Lead old calls new = Leads pending seen moment left_since old calls new
@@ -87,31 +82,31 @@ module _ {D : Type 0} (pending : D → Pending) (seen : D → List ℕ) (moment 
   none_written : (deed : Deed) (reads : List Op) (told : Option (List (Option Outcome))) → deed ≡ Performs reads told → AllByRecursion IsRead reads → WritesNone deed
   none_written deed reads told is only = subst WritesNone (sym is) only
 
-  module _ (first count : ℕ) where
-    reads_in : (reads : List Op) → All (IsReadAmong first count) reads → AllByRecursion IsRead reads
-    reads_in reads among = only_reads first count reads (recursion_from_All (IsReadAmong first count) reads among)
-
+  module _ (first count most : ℕ) where
     -- what pruning does to a store is to look after it
-    pub pruning_tends : (old new : SeenStore D) (calls : List (Call D)) → Lead old calls new → ArePruning first count calls → IsTended pending seen moment left_since old new
+    pub pruning_tends : (old new : SeenStore D) (calls : List (Call D)) → Lead old calls new → ArePruning first count most old calls
+        → IsTended pending seen moment left_since old new
     pruning_tends old new [] led are = none_tended pending seen moment left_since old new led
     pruning_tends old new (read ∷ []) led are =
+        let reads = overfull old first count most in
         calls_tend pending seen moment left_since old new (read ∷ []) led
-        (λ last. (any_read read.deed last are.reads are.told are.is, tt))
-        (none_written read.deed are.reads are.told are.is (reads_in are.reads are.among), tt)
+        (λ last. (any_read read.deed last reads are.told are.is, tt))
+        (none_written read.deed reads are.told are.is (only_reads old most first count), tt)
     pruning_tends old new (read ∷ prune ∷ []) led are =
-        let only = reads_in are.reads are.among in
-        let apart = apart_in read.deed old read.store led.0 are.reads (Some are.outcomes) are.is in
+        let reads = overfull old first count most in
+        let only = only_reads old most first count in
+        let apart = apart_in read.deed old read.store led.0 reads (Some are.outcomes) are.is in
         calls_tend pending seen moment left_since old new (read ∷ prune ∷ []) led
         (λ last. (
-          any_read read.deed last are.reads (Some are.outcomes) are.is,
+          any_read read.deed last reads (Some are.outcomes) are.is,
           (
             subst (λ (d : Deed). MayDo (λ block. prunable_after (last block) (turn_on block (turn_by read.deed))) d) (sym are.by_reads)
-                (subst (λ (d : Deed). MayDo (λ block. prunable_after (last block) (turn_on block (turn_by d))) (Prunes (prunes_by are.reads are.outcomes))) (sym are.is)
-                (by_reads last 1 are.reads are.outcomes only apart)),
+                (subst (λ (d : Deed). MayDo (λ block. prunable_after (last block) (turn_on block (turn_by d))) (Prunes (prunes_by reads are.outcomes))) (sym are.is)
+                (by_reads last 1 reads are.outcomes only apart)),
             tt,
           ),
         )) (
-          none_written read.deed are.reads (Some are.outcomes) are.is only,
+          none_written read.deed reads (Some are.outcomes) are.is only,
           (subst WritesNone (sym are.by_reads) tt, tt),
         )
     pruning_tends old new (read ∷ prune ∷ more ∷ calls) led are = absurd are

@@ -1,6 +1,6 @@
 -- What tries to settle blocks come to.
-use Rattle.std.proofs.Common.{◌≡◌, ◌<◌, ◌≤◌, ℕ, zero, suc, ◌+◌, ◌&&◌, Bool, true, false, not, cond, nat_le, nat_lt, List, [], ◌∷◌, ◌++◌, length, Result, Ok, Err, OnOk, is_err, refl, sym, ◌∙◌, ap, subst, inl, inr, arith}
-use Rattle.std.proofs.lemmas.Bool.{cases_lt, le-leb, lt-ltb, false≢true}
+use Rattle.std.proofs.Common.{◌≡◌, ◌<◌, ◌≤◌, ℕ, zero, suc, ◌+◌, ◌&&◌, Bool, true, false, not, cond, nat_le, nat_lt, List, [], ◌∷◌, ◌++◌, length, Result, Ok, Err, OnOk, refl, sym, ◌∙◌, ap, subst, inl, inr, arith}
+use Rattle.std.proofs.lemmas.Bool.{cases_lt, le-leb, lt-ltb}
 use Rattle.std.proofs.lemmas.List.{length-append}
 use Rattle.std.proofs.lemmas.List.Sums.{sum_by-append}
 use Rattle.wire_forms.specs.declared.op.Op.{Op}
@@ -10,11 +10,6 @@ use Rattle.store_device.specs.Stores.{SeenStore}
 use Rattle.store_device.specs.Calls.{Call, Leads}
 use Rattle.store_care.specs.Settling.{AreSettling, IsTriedOut, Try, TriesLead, WasSettled, is_settled, tries_of, unsettled}
 use Rattle.store_care.proofs.Settled.{one_more_unsettled, tries_then}
-
--- what is owed of an Ok is no matter of an Err
-pub on_err : {A E : Type 0} (P : Type 0) (r : Result A E) → is_err r ≡ true → OnOk r P
-on_err P (Ok x) h = absurd (false≢true h)
-on_err P (Err e) h = tt
 
 pub on_any : {A E : Type 0} (P : Type 0) (r : Result A E) → P → OnOk r P
 on_any P (Ok x) h = h

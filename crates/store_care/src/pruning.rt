@@ -1,10 +1,11 @@
-ghost use Rattle.std.specs.Prelude.{◌≡◌, ◌+◌, ◌-◌, ◌^◌, ◌≤◌, ◌<◌, ◌++◌, List, All, length, min, option_copied, IfOk, OnOk};
+ghost use Rattle.std.specs.Prelude.{◌≡◌, ℕ, ◌+◌, ◌-◌, ◌^◌, ◌≤◌, ◌<◌, ◌++◌, List, length, min, nat_lt, option_copied, IfOk, OnOk};
 ghost use Rattle.store_device.specs.Stores.{seat_at};
 ghost use Rattle.store_device.specs.Calls.{Call, Leads};
 ghost use Rattle.store_device.specs.Steps.{IsTended};
 ghost use Rattle.store_care.specs.Batches.{AreBelow};
+ghost use Rattle.store_care.specs.Filling.{groups_of};
 ghost use Rattle.store_care.specs.Prunes.{prune_by, prunes_by};
-ghost use Rattle.store_care.specs.Pruning.{ArePruning, IsReadAmong, later_in, versions_at};
+ghost use Rattle.store_care.specs.Pruning.{ArePruning, HavePassed, is_overfull, later_in, overfull, version_counts, versions_at};
 
 use crate::blocks::{MOST_BLOCKS, add, block_of};
 use crate::calls::{outcome_at, perform};
@@ -18,7 +19,7 @@ use version_disk::Prune;
 use wire_forms::Op;
 
 /// Of `count` blocks from this one on reads those of which some node that is up keeps more than so many versions, and has each node that is
-/// up prune them by the stamps that the reads gave, all in one call.
+/// up prune them by the stamps that the reads gave, all in one call. Where there are none a call has no operations, and the other no prunes.
 pub fn prune_due<D: Disk + Send, R: Threads + Sync>(
     rt: &R,
     alloc: Global,
@@ -33,18 +34,19 @@ pub fn prune_due<D: Disk + Send, R: Threads + Sync>(
     // what it did to the store
     ensures calls { (calls : List (Call D))
         × Leads D.pending D.seen D.moment D.left_since store.old calls store.new
-        × ArePruning first count calls }
+        × ArePruning first count most store.old calls
+        × OnOk result (length calls ≡ 2) }
     // so the store is looked after: nothing is written, and each prune is by the stamp of the block's latest read
     ensures tended { IsTended D.pending D.seen D.moment D.left_since store.old store.new }
 {
-    let due = due_reads(alloc, store, first, count, most)?;
-    let outcomes = perform(rt, store, &due)?;
-    let prunes = prunes_by(alloc, &due, &outcomes)?;
+    let reads = overfull_reads(alloc, store, first, count, most)?;
+    let outcomes = perform(rt, store, &reads)?;
+    let prunes = prunes_by(alloc, &reads, &outcomes)?;
     store.prune_all(rt, &prunes);
     Ok(())
 }
 
-/// The same of all blocks, as many in one go as may be.
+/// The same of all blocks, as many in one go as may be: each group of them, one after the other.
 pub fn prune_all<D: Disk + Send, R: Threads + Sync>(
     rt: &R,
     alloc: Global,
@@ -52,6 +54,8 @@ pub fn prune_all<D: Disk + Send, R: Threads + Sync>(
     most: usize,
 ) -> Result<(), NoMemory>
     ensures config { store.new.config ≡ store.old.config }
+    ensures passed { OnOk result (HavePassed D.pending D.seen D.moment D.left_since most
+        (groups_of store.old.config.blocks) store.old store.new) }
     ensures tended { IsTended D.pending D.seen D.moment D.left_since store.old store.new }
 {
     let blocks = store.config().blocks();
@@ -100,7 +104,7 @@ fn add_prune(prunes: &mut Vec<Prune>, read: &Op, outcome: Option<&Outcome>) -> R
 }
 
 // Reads of those of the blocks of which some node that is up keeps more than so many versions.
-fn due_reads<D: Disk>(
+fn overfull_reads<D: Disk>(
     alloc: Global,
     store: &mut Store<D>,
     first: u32,
@@ -111,28 +115,78 @@ fn due_reads<D: Disk>(
     ensures same { store.new ≡ store.old }
     ensures batch { IfOk result (λ ops. AreBelow store.old.config (first + count) ops.items) }
     ensures few { IfOk result (λ ops. length ops.items ≤ count) }
-    ensures among { IfOk result (λ ops. All (IsReadAmong first count) ops.items) }
+    ensures reads { IfOk result (λ ops. ops.items ≡ overfull store.old first count most) }
 {
     let end = store.config().blocks().min(first + count);
-    let mut due = Vec::new(alloc);
+    let mut reads = Vec::new(alloc);
     for block in first..end {
-        if most_versions(store, block)? > most {
-            add(&mut due, Op::Read { block })?;
-        }
+        add_overfull(alloc, store, block, most, &mut reads)?;
     }
-    Ok(due)
+    Ok(reads)
 }
 
-// The most versions that a node that is up keeps of a block.
-fn most_versions<D: Disk>(store: &mut Store<D>, block: u32) -> Result<usize, NoMemory>
+// Adds a read of a block if some node that is up keeps more than so many versions of it.
+fn add_overfull<D: Disk>(
+    alloc: Global,
+    store: &mut Store<D>,
+    block: u32,
+    most: usize,
+    reads: &mut Vec<Op>,
+) -> Result<(), NoMemory>
     requires { block < store.old.config.blocks }
     ensures same { store.new ≡ store.old }
+    ensures batch { OnOk result (AreBelow store.old.config block reads.old.items
+        → AreBelow store.old.config (block + 1) reads.new.items) }
+    ensures few { OnOk result (length reads.new.items ≤ length reads.old.items + 1) }
+    ensures reads { OnOk result ((first count : ℕ) → first + count ≡ block
+        → reads.old.items ≡ overfull store.old first count most
+        → reads.new.items ≡ overfull store.old first (count + 1) most) }
 {
-    let mut most = 0;
-    for seat in 0..store.config().n() as usize {
-        most = most.max(versions_at(store, seat, block)?);
+    let full = is_overfull(alloc, store, block, most)?;
+    if full {
+        return add(reads, Op::Read { block });
     }
-    Ok(most)
+    Ok(())
+}
+
+// Whether some node that is up keeps more than so many versions of a block.
+fn is_overfull<D: Disk>(
+    alloc: Global,
+    store: &mut Store<D>,
+    block: u32,
+    most: usize,
+) -> Result<bool, NoMemory>
+    requires { block < store.old.config.blocks }
+    ensures same { store.new ≡ store.old }
+    ensures full { IfOk result (λ full. full ≡ is_overfull store.old most block) }
+{
+    let counts = version_counts(alloc, store, block)?;
+    Ok(counts.iter().any(|count| is_above(*count, most)))
+}
+
+// Whether a count is greater than so many.
+fn is_above(count: usize, most: usize) -> bool
+    ensures { result ≡ nat_lt most count }
+{
+    count > most
+}
+
+// How many versions each seat keeps of a block.
+fn version_counts<D: Disk>(
+    alloc: Global,
+    store: &mut Store<D>,
+    block: u32,
+) -> Result<Vec<usize>, NoMemory>
+    requires { block < store.old.config.blocks }
+    ensures same { store.new ≡ store.old }
+    ensures counts { IfOk result (λ counts. counts.items ≡ version_counts store.old block) }
+{
+    let mut counts = Vec::new(alloc);
+    for seat in 0..store.config().n() as usize {
+        let count = versions_at(store, seat, block)?;
+        counts.push(count)?;
+    }
+    Ok(counts)
 }
 
 // How many versions the node of a seat keeps of a block; 0 where it isn't up.

@@ -3,7 +3,8 @@ use Rattle.store_device.specs.Stores.{SeenStore}
 use Rattle.store_care.specs.Settling.{TriesLead}
 use Rattle.std.proofs.lemmas.Bool.{cases_lt}
 use Rattle.store_care.proofs.Settled.{tries_then}
-use Rattle.store_care.proofs.Tried.{on_any, on_err, tried_out_before, tried_out_behind}
+use Rattle.store_care.proofs.Looks.{on_err}
+use Rattle.store_care.proofs.Tried.{on_any, tried_out_before, tried_out_behind}
 use Rattle.store_care.proofs.settling.settle_all.Goals as goal
 
 pub loop-group-preserved : goal.loop-group-preserved

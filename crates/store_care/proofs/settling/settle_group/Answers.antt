@@ -1,7 +1,8 @@
 use Rattle.std.proofs.Common.{◌≡◌, length, sym, ap, subst, ◌∙◌, inl, inr, arith}
 use Rattle.store_device.specs.Stores.{SeenStore}
 use Rattle.store_care.specs.Settling.{TriesLead, unsettled}
-use Rattle.store_care.proofs.Tried.{on_err, one_more_try, settled_at_last}
+use Rattle.store_care.proofs.Looks.{on_err}
+use Rattle.store_care.proofs.Tried.{one_more_try, settled_at_last}
 use Rattle.store_care.proofs.settling.settle_group.Goals as goal
 
 pub returns-in_err-settle-clause-tries : goal.returns-in_err-settle-clause-tries
