@@ -107,11 +107,11 @@ fn holds(rt: &impl Abort, alloc: Global, disk: MemoryDisk, sure: u64, most: u64)
     }
 }
 
-// Opening makes five calls of the disk; adding k versions makes k and three more, for two syncs.
+// Opening makes five calls of the disk; adding versions makes four, however many they are.
 #[test]
 fn a_failed_call_leaves_the_first_few_of_many(rt: HostRuntime) -> Result<(), Fail> {
     let alloc = rt.alloc();
-    for call in 0..27u64 {
+    for call in 0..21u64 {
         for lose in [true, false] {
             let Stopped { sure, most, disk } = run_until(&rt, alloc, call)?;
             assert!(rt; holds(&rt, alloc, disk.crash(lose), sure, most));
@@ -123,30 +123,13 @@ fn a_failed_call_leaves_the_first_few_of_many(rt: HostRuntime) -> Result<(), Fai
 #[test]
 fn all_are_there_where_no_call_fails(rt: HostRuntime) -> Result<(), Fail> {
     let alloc = rt.alloc();
-    let Stopped { sure, most, disk } = run_until(&rt, alloc, 27)?;
+    let Stopped { sure, most, disk } = run_until(&rt, alloc, 21)?;
     assert!(rt; sure == 10 && most == 10);
     assert!(rt; holds(&rt, alloc, disk.crash(true), 10, 10));
     Ok(())
 }
 
-// What a crash may leave of bytes in which so many gates from one on were written: any byte in the place of each.
-fn torn_gates(
-    alloc: Global,
-    bytes: &[u8],
-    first: usize,
-    count: usize,
-    draws: &mut Draws,
-) -> Result<Vec<u8>, NoMemory>
-    requires { first + count < 1000 }
-{
-    let mut left = torn(alloc, bytes, first * 211, 1, draws)?;
-    for gate in first..first + count {
-        left = torn(alloc, &left, gate * 211, 1, draws)?;
-    }
-    Ok(left)
-}
-
-// Whether the first few are there when the bodies of so many slots may be torn, and when their gates may be.
+// Whether none is there when the bodies of so many slots may be torn, and all or none when the gate in front of them may be.
 fn holds_torn(
     rt: &impl Abort,
     alloc: Global,
@@ -169,12 +152,20 @@ fn holds_torn(
         return Ok(false);
     }
     let bytes = Vec::from_slice(alloc, node.disk().bytes())?;
-    let left = torn_gates(alloc, &bytes, first, count, draws)?;
-    Ok(bodies_torn && holds(rt, alloc, holding(alloc, &left)?, there, there + size))
+    let left = torn(alloc, &bytes, first * 211, 1, draws)?;
+    let none = holds(rt, alloc, holding(alloc, &left)?, there, there);
+    let all = holds(
+        rt,
+        alloc,
+        holding(alloc, &left)?,
+        there + size,
+        there + size,
+    );
+    Ok(bodies_torn && (none || all))
 }
 
 #[test]
-fn any_bytes_in_written_ranges_leave_the_first_few(rt: HostRuntime) -> Result<(), Fail> {
+fn any_bytes_in_written_ranges_leave_all_or_none(rt: HostRuntime) -> Result<(), Fail> {
     let alloc = rt.alloc();
     let mut draws = Draws { random: 41 };
     for (there, size) in [(0, 1), (0, 5), (2, 3), (6, 8)] {
@@ -196,5 +187,45 @@ fn a_disk_is_full_for_all_or_none(rt: HostRuntime) -> Result<(), Fail> {
     assert!(rt; added(alloc, &mut node, 0, 0) == Ok(true));
     assert!(rt; node.disk().bytes().len() == 423);
     assert!(rt; times(alloc, &node)?.as_slice() == [0, 1, 2].as_slice());
+    Ok(())
+}
+
+// Lets a node add a version, lengthen its disk by so many bytes, and add three more. Whether that ended well.
+fn lengthened<D: Disk>(alloc: Global, node: &mut StoredNode<D>, bytes: u64) -> bool
+    ensures { node.new.node.config ≡ node.old.node.config }
+{
+    added(alloc, node, 0, 1) == Ok(true)
+        && node.lengthen(bytes) == Ok(())
+        && added(alloc, node, 1, 3) == Ok(true)
+}
+
+// Slots have 211 bytes each: room for three and a half behind the first one, and then for as many bytes as the disk may have.
+#[test]
+fn slots_are_added_where_a_disk_was_lengthened(rt: HostRuntime) -> Result<(), Fail> {
+    let alloc = rt.alloc();
+    for (bytes, len) in [(739, 951), (1000, 1000)] {
+        let mut node = opened(&rt, alloc, CalmDisk::new(alloc, 1000)?)?;
+        assert!(rt; lengthened(alloc, &mut node, bytes));
+        assert!(rt; node.disk().bytes().len() == len);
+        assert!(rt; times(alloc, &node)?.as_slice() == [0, 1, 2, 3, 4].as_slice());
+        assert!(rt; node.lengthen(0) == Ok(()) && node.disk().bytes().len() == len);
+    }
+    Ok(())
+}
+
+// Opening makes five calls of the disk, each version or more that are added make four, and lengthening makes three.
+#[test]
+fn a_failed_call_leaves_what_was_there_as_a_disk_is_lengthened(
+    rt: HostRuntime,
+) -> Result<(), Fail> {
+    let alloc = rt.alloc();
+    for call in 9..12u64 {
+        for lose in [true, false] {
+            let mut node = opened(&rt, alloc, failing_at(alloc, call)?)?;
+            assert!(rt; added(alloc, &mut node, 0, 1) == Ok(true));
+            assert!(rt; node.lengthen(1000) == Err(StoreRefusal::DiskFault));
+            assert!(rt; holds(&rt, alloc, node.into_disk().crash(lose), 1, 1));
+        }
+    }
     Ok(())
 }

@@ -7,7 +7,7 @@ use Rattle.file_disk.specs.OnFile.{OnFile}
 use Rattle.nbd_front.specs.declared.ending.SessionEnd.{SessionEnd}
 use Rattle.version_disk.specs.Held.{held}
 use Rattle.version_disk.specs.Stored.{Stored}
-use Rattle.store_device.specs.Stores.{SeenStore, IsSound}
+use Rattle.store_device.specs.Stores.{SeenStore, IsSound, seat_at}
 use Rattle.store_device.specs.Seating.{with_seat, IsReseated as IsReseatedOn}
 use Rattle.store_device.specs.Steps.{IsTended as IsTendedOn}
 use Rattle.store_care.specs.Filling.{groups_of}
@@ -21,6 +21,14 @@ pub record Holds {D : Type 0} (c : Numbers) (number : ℕ) (bytes : List ℕ) (s
   pub there : seat ≡ Some node
   pub up : node.broken ≡ false
   pub same : held c number bytes ≡ node.node
+
+-- the cluster's node of this number sits there, and is up
+pub record IsUpAt {D : Type 0} (store : SeenStore D) (number : ℕ) : Type 0 where
+  pub node : Stored D
+  pub there : seat_at store number ≡ Some node
+  pub up : node.broken ≡ false
+  pub config : node.node.config ≡ store.config
+  pub numbered : node.node.number ≡ number
 
 -- ---- a store whose disks are files
 

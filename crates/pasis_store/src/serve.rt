@@ -4,16 +4,17 @@ ghost use Rattle.pasis_store.specs.Upkeep.{IsSession, IsTended};
 
 use crate::folder::FileStore;
 use crate::keeping::ByClosure;
+use crate::lengthening::lengthen_all;
 use crate::opening::open_store;
 use crate::settling::settle;
 use crate::upkeep::Upkeep;
 use lists::NoMemory;
 use outside_io::{Sink, Source, StdSink, StdSource};
-use std::thread::Threads;
+use std::thread::{Threads, available_parallelism};
 use store_front::SessionEnd;
 use store_words::{Refusal, Status};
 
-/// Settles what a crash left, and then serves the device over standard input and output.
+/// Settles what a crash left, lengthens journals, and then serves the device over standard input and output.
 pub fn serve<T: Threads + Sync>(
     rt: &HostRuntime,
     threads: &T,
@@ -22,8 +23,12 @@ pub fn serve<T: Threads + Sync>(
     ensures { IfErr result IsUnderstood }
 {
     let mut store = open_store(rt, folders)?;
+    if let Ok(processors) = available_parallelism(threads) {
+        store.hear_in(processors.get());
+    }
     settle(rt, threads, &mut store)?;
     let mut upkeep = Upkeep::new(rt, &store)?;
+    lengthen_all(rt, folders, &mut store);
     let mut source = StdSource::new(rt.stdin());
     let mut sink = StdSink::new(rt.stdout());
     match serve_store(

@@ -1,9 +1,10 @@
 //! What is done for a store between the rounds of a session.
 ghost use Rattle.std.specs.Prelude.{◌≡◌, true, false, OnOk};
-ghost use Rattle.pasis_store.specs.Upkeep.{IsPrunedFirst, IsTended, is_due, served_since, since_then};
+ghost use Rattle.pasis_store.specs.Upkeep.{IsPrunedFirst, IsTended, device_len, is_due, served_since, since_then};
 
 use crate::compacting::compact_due;
 use crate::folder::FileStore;
+use crate::lengthening::lengthen_all;
 use crate::telling::tell;
 use lists::NoMemory;
 use quorum_rules::Config;
@@ -35,7 +36,7 @@ impl Upkeep {
     }
 
     /// So many bytes of requests were served since this was last called. Where enough were, and no request waits, the blocks are pruned of
-    /// which nodes keep many versions, and the journals that are due are written anew. Tells of each node whose disk has failed.
+    /// which nodes keep many versions, the journals that are due are written anew, and journals are lengthened. Tells of each node whose disk has failed.
     #[tactic(auto, using(crate::proofs::Journals::not_tended))]
     pub fn tend<T: Threads + Sync>(
         &mut self,
@@ -84,11 +85,17 @@ impl Upkeep {
 fn is_due(config: &Config, since: u64, is_ready: bool) -> bool
     ensures { result ≡ is_due config.now since is_ready }
 {
-    let device = u64::from(config.size()).saturating_mul(u64::from(config.blocks()));
-    !is_ready && since >= LEAST_BYTES.max(device)
+    !is_ready && since >= LEAST_BYTES.max(device_len(config))
 }
 
-// Prunes the blocks of which nodes keep many versions, and writes the journals anew that are due.
+/// How many bytes a cluster's device has.
+pub fn device_len(config: &Config) -> u64
+    ensures { result ≡ device_len config.now }
+{
+    u64::from(config.size()).saturating_mul(u64::from(config.blocks()))
+}
+
+// Prunes the blocks of which nodes keep many versions, writes the journals anew that are due, and lengthens journals.
 fn look_after<T: Threads + Sync>(
     rt: &HostRuntime,
     threads: &T,
@@ -101,5 +108,6 @@ fn look_after<T: Threads + Sync>(
 {
     prune_all(threads, rt.alloc(), store, MOST_VERSIONS)?;
     compact_due(rt, folders, store);
+    lengthen_all(rt, folders, store);
     Ok(())
 }

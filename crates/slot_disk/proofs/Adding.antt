@@ -1,96 +1,57 @@
 -- The calls by which slots are added, and what a crash leaves at each moment of them.
-use Rattle.std.proofs.Common.{◌≡◌, inl, inr, ℕ, suc, ◌+◌, ◌-◌, ◌*◌, ◌<◌, ◌≤◌, List, [], ◌∷◌, ◌++◌, length, get_or, sym, ◌∙◌, ap, subst, arith}
+use Rattle.std.proofs.Common.{◌≡◌, inl, inr, ℕ, ◌+◌, ◌-◌, ◌*◌, ◌<◌, ◌≤◌, List, [], ◌∷◌, ◌++◌, length, get_or, sym, ◌∙◌, ap, subst, arith}
 use Rattle.std.proofs.lemmas.Bool.{cases_lt}
 use Rattle.std.proofs.lemmas.List.{append-nil}
 use Rattle.disk_model.specs.Crash.{Pending, MayLeave, IsWithin, Elapses, LeavesOnly, settled, with_range, overwritten}
-use Rattle.disk_model.proofs.lemmas.Crash.{only_settled, settled_stays, synced_may, range_within, overwritten_before, overwritten_inside}
+use Rattle.disk_model.proofs.lemmas.Crash.{only_settled, overwritten_behind, overwritten_inside}
 use Rattle.slot_disk.specs.Bodies.{bodies, bodies_in, IsClosedAt, AreWithFirst}
-use Rattle.slot_disk.specs.Gates.{gated, AreOpen}
-use Rattle.slot_disk.proofs.lemmas.Gates.{OnlyGates, only_gates, gate_below, gated_up_to, torn_gates, all_there, long_staged}
+use Rattle.slot_disk.specs.Gates.{gated, AreOpen, AreOpenBetween}
+use Rattle.slot_disk.proofs.lemmas.Gates.{OnlyGates, only_gates, gate_below, gated_up_to, torn_gates, all_there, long_staged, in_piece}
 use Rattle.slot_disk.proofs.lemmas.Moments.{leaves_only_started, leaves_only_goes_on, leaves_only_joined}
 use Rattle.slot_disk.proofs.lemmas.Moments.{leaves_only_weaker}
 use Rattle.slot_disk.proofs.Torn.{torn_behind}
 
 module _ {D : Type 0} (moment : D → ℕ) (left_since : D → ℕ → List ℕ → Type 0) (pending : D → Pending) (seen : D → List ℕ) where
-  -- the first k of so many gates have been written
-  pub record AreWritten (w gate more k : ℕ) (old now : D) : Type 0 where
-    pub within : IsWithin (pending now) (gated w gate k (settled (seen old)))
-    pub stays : MayLeave (pending now) (seen now)
-    pub leaves : LeavesOnly moment left_since old now (MayLeave (gated w gate more (settled (seen old))))
-
-  module _ (w gate more : ℕ) (old : D) (settles : pending old ≡ settled (seen old)) (there : gate + more * (w + 1) < length (seen old)) where
+  module _ (w gate more : ℕ) (old : D) (settles : pending old ≡ settled (seen old)) where
     abbrev S : List ℕ
     S = seen old
 
-    pub none_written : ((bytes : List ℕ) → left_since old (moment old) bytes → MayLeave (pending old) bytes) → AreWritten w gate more 0 old old
-    none_written only_now = record {
-      within = λ c m. subst (λ (p : Pending). MayLeave p c) settles m;
-      stays = subst (λ (p : Pending). MayLeave p S) (sym settles) (settled_stays S);
-      leaves = leaves_only_started moment left_since pending old (MayLeave (gated w gate more (settled S))) (λ c left. gated_up_to w gate 0 more (settled S) (omega arith) c (subst (λ (p : Pending). MayLeave p c) settles (only_now c left)));
-    }
+    -- what a crash leaves when the first of so many gates is written
+    pub first_within : (new : D) → 1 ≤ more → IsWithin (pending new) (with_range gate 1 (pending old)) → IsWithin (pending new) (gated w gate more (settled S))
+    first_within new some crash c m =
+        let here : gate ≡ gate + 0 * (w + 1) = omega arith in
+        gated_up_to w gate 1 more (settled S) some c
+        (subst (λ (n : ℕ). MayLeave (with_range n 1 (settled S)) c) here (subst (λ (p : Pending). MayLeave (with_range gate 1 p) c) settles (crash c m)))
 
-    fit : (k : ℕ) → k ≤ more → gate + k * (w + 1) ≤ length S
-    fit k le = elim (cases_lt k more) [
-      | inl lt ↦ (let below = gate_below w k more lt in omega arith)
-      | inr ge ↦ (let same : k ≡ more = omega arith in let e = ap (λ (n : ℕ). n * (w + 1)) same in omega arith)
-    ]
+    pub first_leaves : (new : D) → 1 ≤ more → ((bytes : List ℕ) → left_since old (moment old) bytes → MayLeave (pending old) bytes) → IsWithin (pending new) (with_range gate 1 (pending old))
+        → Elapses moment left_since pending old new → LeavesOnly moment left_since old new (MayLeave (gated w gate more (settled S)))
+    first_leaves new some only_now crash time =
+        leaves_only_goes_on moment left_since pending old old new (MayLeave (gated w gate more (settled S)))
+        (leaves_only_started moment left_since pending old (MayLeave (gated w gate more (settled S)))
+        (λ c left. gated_up_to w gate 0 more (settled S) (omega arith) c (subst (λ (p : Pending). MayLeave p c) settles (only_now c left))))
+        time (first_within new some crash)
 
-    -- no call changes the length
-    pub same_long : (k : ℕ) (mid : D) → k ≤ more → AreWritten w gate more k old mid → length (seen mid) ≡ length S
-    same_long k mid le so_far = (only_gates w gate S k (fit k le) (seen mid) (so_far.within (seen mid) so_far.stays)).long
+    -- and the others are open, all of them are
+    pub all_open : (new : D) → gate + more * (w + 1) < length S → ((k : ℕ) → 1 ≤ k → k < more → get_or S (gate + k * (w + 1)) 0 ≡ 1) → seen new ≡ overwritten S gate (1 ∷ []) → AreOpen w gate more (seen new)
+    all_open new there others written k below =
+        let begins : gate ≤ length S = omega (arith, there) in
+        ap (λ (l : List ℕ). get_or l (gate + k * (w + 1)) 0) written
+        ∙ elim (cases_lt 0 k) [
+          | inl later ↦ (let less = gate_below w 0 k later in overwritten_behind S gate (1 ∷ []) (gate + k * (w + 1)) begins (omega arith) ∙ others k later below)
+          | inr none ↦ (
+              let first : k ≡ 0 = omega arith in
+              let place : gate + 0 * (w + 1) ≡ gate + 0 = omega arith in
+              ap (λ (n : ℕ). get_or (overwritten S gate (1 ∷ [])) (gate + n * (w + 1)) 0) first ∙ ap (λ (n : ℕ). get_or (overwritten S gate (1 ∷ [])) n 0) place
+              ∙ overwritten_inside S gate (1 ∷ []) 0 begins (omega arith))
+        ]
 
-    module _ (k : ℕ) (below : k < more) (mid new : D) (so_far : AreWritten w gate more k old mid) (crash : IsWithin (pending new) (with_range (gate + k * (w + 1)) 1 (pending mid))) where
-      here : gate + k * (w + 1) + (w + 1) ≤ length S
-      here = let lt = gate_below w k more below in omega arith
-
-      one_more : IsWithin (pending new) (gated w gate (suc k) (settled S))
-      one_more c m =
-          let stays = so_far.stays in
-          let no_shorter = stays.no_shorter in
-          let no_longer = stays.no_longer in
-          let synced = synced_may (pending mid) (seen mid) stays in
-          let only = only_gates w gate S k (fit k (omega arith)) (pending mid).synced (so_far.within (pending mid).synced synced) in
-          let size = only.long in
-          let room = here in
-          range_within (pending mid) (gated w gate k (settled S)) so_far.within (omega arith) (gate + k * (w + 1)) 1 (omega arith) c (crash c m)
-
-      pub next_written : MayLeave (pending new) (seen new) → Elapses moment left_since pending mid new → AreWritten w gate more (suc k) old new
-      next_written stays time = record {
-        within = one_more;
-        stays = stays;
-        leaves = leaves_only_goes_on moment left_since pending old mid new (MayLeave (gated w gate more (settled S))) so_far.leaves time (λ c m. gated_up_to w gate (suc k) more (settled S) (omega arith) c (one_more c m));
-      }
-
-      pub next_open : AreOpen w gate k (seen mid) → seen new ≡ overwritten (seen mid) (gate + k * (w + 1)) (1 ∷ []) → AreOpen w gate (suc k) (seen new)
-      next_open opened written i lt =
-          let long = same_long k mid (omega arith) so_far in
-          let room = here in
-          ap (λ (l : List ℕ). get_or l (gate + i * (w + 1)) 0) written
-          ∙ elim (cases_lt i k) [
-            | inl earlier ↦ (let less = gate_below w i k earlier in overwritten_before (seen mid) (gate + k * (w + 1)) (1 ∷ []) (gate + i * (w + 1)) (omega arith) (omega arith) ∙ opened i earlier)
-            | inr later ↦ (
-                let same : i ≡ k = omega arith in
-                let place : gate + k * (w + 1) ≡ gate + k * (w + 1) + 0 = omega arith in
-                let at_hand : gate + k * (w + 1) ≤ length (seen mid) = omega arith in
-                ap (λ (n : ℕ). get_or (overwritten (seen mid) (gate + k * (w + 1)) (1 ∷ [])) (gate + n * (w + 1)) 0) same
-                ∙ ap (λ (n : ℕ). get_or (overwritten (seen mid) (gate + k * (w + 1)) (1 ∷ [])) n 0) place
-                ∙ overwritten_inside (seen mid) (gate + k * (w + 1)) (1 ∷ []) 0 at_hand (omega arith))
-          ]
-
-    pub all_written : (k : ℕ) (now : D) → k ≤ more → AreWritten w gate more k old now → AreWritten w gate more more old now
-    all_written k now le so_far = record {
-      within = λ c m. gated_up_to w gate k more (settled S) le c (so_far.within c m);
-      stays = so_far.stays;
-      leaves = so_far.leaves;
-    }
-
-  -- a body for each slot, and the closed gate behind the last; a sync; their gates; a sync
-  module _ (w count gate more : ℕ) (piece : List ℕ) (old : D)
+  -- a body for each slot, with open gates between and the closed gate behind the last; a sync; the first gate; a sync
+  module _ (w count gate more : ℕ) (piece : List ℕ) (new : List (List ℕ)) (are : bodies_in w more piece ≡ new) (old : D)
       (only_now : (bytes : List ℕ) → left_since old (moment old) bytes → MayLeave (pending old) bytes)
       (settles : pending old ≡ settled (seen old)) (closed : IsClosedAt w (seen old) count) (some : 1 ≤ more)
       (size : length piece ≡ more * (w + 1)) (zero_last : get_or piece (length piece - 1) 0 ≡ 0) (at : gate ≡ count * (w + 1)) where
     abbrev P : List ℕ → Type 0
-    P = AreWithFirst w (bodies w (seen old)) (bodies_in w more piece)
+    P = AreWithFirst w (bodies w (seen old)) new
 
     abbrev Leaves : D → Type 0
     Leaves d = LeavesOnly moment left_since old d P
@@ -120,11 +81,19 @@ module _ {D : Type 0} (moment : D → ℕ) (left_since : D → ℕ → List ℕ 
       pub enough : gate + more * (w + 1) < length (seen e)
       enough = long_staged w (seen old) count closed gate at more some piece size zero_last (seen e) staged
 
+      -- the gates between the bodies stand open there
+      pub others_open : AreOpenBetween w more piece → (k : ℕ) → 1 ≤ k → k < more → get_or (seen e) (gate + k * (w + 1)) 0 ≡ 1
+      others_open between k some_gate below =
+          let first = gate_below w 0 k some_gate in
+          let last = gate_below w k more below in
+          let place : gate + k * (w + 1) ≡ gate + (k * (w + 1) - 1) + 1 = omega arith in
+          ap (λ (n : ℕ). get_or (seen e) n 0) place ∙ in_piece w (seen old) count closed gate at more some piece size zero_last (seen e) staged (k * (w + 1) - 1) (omega arith) ∙ between k some_gate below
+
       only : (c : List ℕ) → MayLeave (gated w gate more (settled (seen e))) c → OnlyGates w gate (seen e) more c
       only c m = only_gates w gate (seen e) more (let long = enough in omega arith) c m
 
       gates : (c : List ℕ) → MayLeave (gated w gate more (settled (seen e))) c → P c
-      gates c m = torn_gates w (seen old) count closed gate at more some piece size zero_last (seen e) staged c (only c m)
+      gates c m = subst (λ (bs : List (List ℕ)). AreWithFirst w (bodies w (seen old)) bs c) are (torn_gates w (seen old) count closed gate at more some piece size zero_last (seen e) staged c (only c m))
 
       pub third : Leaves e → LeavesOnly moment left_since e f (MayLeave (gated w gate more (settled (seen e)))) → Leaves f
       third so_far opening = leaves_only_joined moment left_since pending old e f P so_far (leaves_only_weaker moment left_since e f (MayLeave (gated w gate more (settled (seen e)))) P gates opening)
@@ -135,7 +104,8 @@ module _ {D : Type 0} (moment : D → ℕ) (left_since : D → ℕ → List ℕ 
 
       -- after all of them the slots are there
       pub all_added : (h : D) → IsWithin (pending f) (gated w gate more (settled (seen e))) → MayLeave (pending f) (seen f) → AreOpen w gate more (seen f) → seen h ≡ seen f
-          → (bodies w (seen h) ≡ bodies w (seen old) ++ bodies_in w more piece) × IsClosedAt w (seen h) (count + more)
+          → (bodies w (seen h) ≡ bodies w (seen old) ++ new) × IsClosedAt w (seen h) (count + more)
       all_added h within stays opened after =
-          subst (λ (l : List ℕ). (bodies w l ≡ bodies w (seen old) ++ bodies_in w more piece) × IsClosedAt w l (count + more)) (sym after)
-          (all_there w (seen old) count closed gate at more some piece size zero_last (seen e) staged (seen f) (only (seen f) (within (seen f) stays)) opened)
+          let there = all_there w (seen old) count closed gate at more some piece size zero_last (seen e) staged (seen f) (only (seen f) (within (seen f) stays)) opened in
+          subst (λ (l : List ℕ). (bodies w l ≡ bodies w (seen old) ++ new) × IsClosedAt w l (count + more)) (sym after)
+          (there.0 ∙ ap (λ (bs : List (List ℕ)). bodies w (seen old) ++ bs) are, there.1)

@@ -24,6 +24,13 @@ use std::alloc::Global;
 use std::thread::Threads;
 use wire_forms::Op;
 
+/// In how many threads at most nodes write at once, and operations hear at once what was answered.
+#[derive(Clone, Copy)]
+pub(crate) struct ThreadCounts {
+    pub(crate) nodes: usize,
+    pub(crate) operations: usize,
+}
+
 /// How many phases the operations of a batch go on for at most. A read has two for each version that it steps back over.
 const MOST_PHASES: u64 = 1_000_000;
 
@@ -31,7 +38,7 @@ const MOST_PHASES: u64 = 1_000_000;
 pub(crate) fn go_on<D: Disk + Send, R: Threads + Sync>(
     rt: &R,
     alloc: Global,
-    threads: usize,
+    threads: ThreadCounts,
     seats: &mut [Seat<D>],
     batch: &mut Batch,
     asks: Asks,
@@ -71,7 +78,7 @@ pub(crate) fn go_on<D: Disk + Send, R: Threads + Sync>(
 fn go_through<D: Disk + Send, R: Threads + Sync>(
     rt: &R,
     alloc: Global,
-    threads: usize,
+    threads: ThreadCounts,
     seats: &mut [Seat<D>],
     batch: &mut Batch,
     asks: Asks,
@@ -98,17 +105,17 @@ fn go_through<D: Disk + Send, R: Threads + Sync>(
         (map (λ a. a.items) asks.items)) }
 {
     hand_out(seats, asks);
-    work(rt, threads, seats);
+    work(rt, threads.nodes, seats);
     none_starved(seats)?;
     let answers = gather(alloc, seats)?;
-    batch.hear(rt, threads, answers)
+    batch.hear(rt, threads.operations, answers)
 }
 
 /// Carries out operations, each by a client of its own, in step. Gives how each of them ended.
 pub(crate) fn carry_out<D: Disk + Send, R: Threads + Sync>(
     rt: &R,
     alloc: Global,
-    threads: usize,
+    threads: ThreadCounts,
     config: &Config,
     idle: &Client,
     seats: &mut [Seat<D>],

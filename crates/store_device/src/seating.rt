@@ -68,7 +68,7 @@ impl<D: Disk> Store<D> {
         ensures pruned { HasPruned D.pending D.seen D.moment D.left_since prunes.now self.old self.new }
     {
         let Store { seats, threads, .. } = self;
-        prune_each(rt, *threads, seats, prunes);
+        prune_each(rt, threads.nodes, seats, prunes);
     }
 }
 

@@ -9,7 +9,7 @@ ghost use Rattle.store_device.specs.Going.{store_of};
 ghost use Rattle.store_device.specs.Calls.{HasPerformed};
 ghost use Rattle.store_device.specs.Answered.{AreFew, IsEnough};
 
-use crate::phase::carry_out;
+use crate::phase::{ThreadCounts, carry_out};
 use crate::seat::{Seat, seat_all};
 use block_lives::operations;
 use client_core::{Client, Outcome};
@@ -33,8 +33,7 @@ pub struct Store<D: Disk> {
     /// An idle client, from which each operation's own client is made.
     idle: Client,
     pub(crate) seats: Vec<Seat<D>>,
-    /// In how many threads at most the nodes write at once, and then the operations hear what they answered.
-    pub(crate) threads: usize,
+    pub(crate) threads: ThreadCounts,
 }
 
 impl<D: Disk> Model for Store<D> {
@@ -64,7 +63,10 @@ impl<D: Disk> Store<D> {
     {
         let idle = Client::new(alloc, config, 0)?;
         let seats = seat_all(alloc, nodes)?;
-        let threads = seats.len();
+        let threads = ThreadCounts {
+            nodes: seats.len(),
+            operations: seats.len(),
+        };
         Ok(Store {
             alloc,
             config: *config,
@@ -72,6 +74,14 @@ impl<D: Disk> Store<D> {
             seats,
             threads,
         })
+    }
+
+    /// From now on operations hear what nodes answered in so many threads at most, which is best as many as there are processors. At first
+    /// it is as many as nodes.
+    pub fn hear_in(&mut self, threads: usize)
+        ensures { self.new ≡ self.old }
+    {
+        self.threads.operations = threads;
     }
 
     /// Reads and writes blocks, each by a client of its own, in step: in each phase the nodes that write do so at once, in threads, and then

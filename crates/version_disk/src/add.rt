@@ -73,9 +73,9 @@ pub(crate) fn add_version<D: Disk>(
     ensures cause { IfErr result (IfFailed (Rose D.last (D.faults disk.old) (D.faults disk.new))) }
 {
     let config = *node.config();
-    let piece = version_piece(alloc, &config, ask.block, &version)?;
+    let mut piece = version_piece(alloc, &config, ask.block, &version)?;
     node.commit(ask, Some(version))?;
-    keep_slot(disk, &config, node.number(), count, &piece)?;
+    keep_slot(disk, &config, node.number(), count, &mut piece)?;
     Ok(())
 }
 
@@ -111,8 +111,8 @@ pub(crate) fn add_prune<D: Disk>(
     ensures cause { IfErr result (IfFailed (Rose D.last (D.faults disk.old) (D.faults disk.new))) }
 {
     let config = *node.config();
-    let piece = prune_piece(alloc, &config, block, stamp)?;
+    let mut piece = prune_piece(alloc, &config, block, stamp)?;
     node.prune(block, stamp);
-    keep_slot(disk, &config, node.number(), count, &piece)?;
+    keep_slot(disk, &config, node.number(), count, &mut piece)?;
     Ok(())
 }

@@ -87,10 +87,10 @@ pub(crate) fn add_all<D: Disk>(
     }
     let Batch {
         replies,
-        pieces,
+        mut pieces,
         ..
     } = batch;
-    keep_deeds(disk, &config, node.number(), count, more, &pieces)?;
+    keep_deeds(disk, &config, node.number(), count, more, &mut pieces)?;
     Ok((replies, more))
 }
 

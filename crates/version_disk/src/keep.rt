@@ -21,24 +21,24 @@ pub(crate) fn keep_slots<D: Disk>(
     number: u8,
     count: u64,
     more: u64,
-    piece: &[u8],
+    piece: &mut [u8],
 ) -> Result<(), DiskFault>
     requires kept { IsKept D.pending D.seen config.now number
         (held config.now number (D.seen disk.old)) count disk.old }
     requires some { 1 ≤ more }
-    requires whole { length piece.now ≡ more * (body_len config.now + 1) }
-    requires zero { slice_index piece.now (length piece.now - 1) ≡ 0 }
+    requires whole { length piece.old ≡ more * (body_len config.now + 1) }
+    requires zero { slice_index piece.old (length piece.old - 1) ≡ 0 }
     requires room { (count + more) * (body_len config.now + 1) + 1 ≤ D.most disk.old }
     ensures kept { (slots : List Slot) → AreGoodIn config.now number slots → length slots ≡ more
-        → piece.now ≡ pieces_of slots → OnOk result (IsKept D.pending D.seen config.now number
+        → piece.old ≡ pieces_of slots → OnOk result (IsKept D.pending D.seen config.now number
         (played (held config.now number (D.seen disk.old)) slots) (count + more) disk.new) }
     ensures slots { (slots : List Slot) → AreGoodIn config.now number slots → length slots ≡ more
-        → piece.now ≡ pieces_of slots → OnOk result
+        → piece.old ≡ pieces_of slots → OnOk result
         (slots_of config.now (D.seen disk.new) ≡ slots_of config.now (D.seen disk.old) ++ slots) }
     ensures room { D.most disk.new ≡ D.most disk.old }
     // what a crash at any moment of the call leaves holds the state after the first few of the slots
     ensures any_moment { (slots : List Slot) → AreGoodIn config.now number slots
-        → length slots ≡ more → piece.now ≡ pieces_of slots
+        → length slots ≡ more → piece.old ≡ pieces_of slots
         → LeavesOnly D.moment D.left_since disk.old disk.new
         (HoldsFirstOf config.now number (slots_of config.now (D.seen disk.old))
         (held config.now number (D.seen disk.old)) slots) }
@@ -53,21 +53,21 @@ pub(crate) fn keep_slot<D: Disk>(
     config: &Config,
     number: u8,
     count: u64,
-    piece: &[u8],
+    piece: &mut [u8],
 ) -> Result<(), DiskFault>
     requires kept { IsKept D.pending D.seen config.now number
         (held config.now number (D.seen disk.old)) count disk.old }
-    requires whole { length piece.now ≡ body_len config.now + 1 }
-    requires zero { slice_index piece.now (body_len config.now) ≡ 0 }
+    requires whole { length piece.old ≡ body_len config.now + 1 }
+    requires zero { slice_index piece.old (body_len config.now) ≡ 0 }
     requires room { (count + 1) * (body_len config.now + 1) + 1 ≤ D.most disk.old }
-    ensures kept { (s : Slot) → IsGoodIn config.now number s → IsPieceOf s piece.now → OnOk result
+    ensures kept { (s : Slot) → IsGoodIn config.now number s → IsPieceOf s piece.old → OnOk result
         (IsKept D.pending D.seen config.now number
         (after_slot (held config.now number (D.seen disk.old)) s) (count + 1) disk.new) }
-    ensures slots { (s : Slot) → IsGoodIn config.now number s → IsPieceOf s piece.now → OnOk result
+    ensures slots { (s : Slot) → IsGoodIn config.now number s → IsPieceOf s piece.old → OnOk result
         (slots_of config.now (D.seen disk.new) ≡ slots_of config.now (D.seen disk.old) ++ s ∷ []) }
     ensures room { D.most disk.new ≡ D.most disk.old }
     // what a crash at any moment of the call leaves holds the state before it or that after it
-    ensures any_moment { (s : Slot) → IsGoodIn config.now number s → IsPieceOf s piece.now
+    ensures any_moment { (s : Slot) → IsGoodIn config.now number s → IsPieceOf s piece.old
         → LeavesOnly D.moment D.left_since disk.old disk.new
         (HoldsOneOf config.now number (slots_of config.now (D.seen disk.old))
         (held config.now number (D.seen disk.old))
@@ -84,27 +84,27 @@ pub(crate) fn keep_deeds<D: Disk>(
     number: u8,
     count: u64,
     more: u64,
-    pieces: &[u8],
+    pieces: &mut [u8],
 ) -> Result<(), DiskFault>
     requires kept { IsKept D.pending D.seen config.now number
         (held config.now number (D.seen disk.old)) count disk.old }
     requires written { (start : SeenNode) × (deeds : List Deed)
         × IsFrom config.now number (D.seen disk.old) start
-        × AreWritten start deeds pieces.now more }
+        × AreWritten start deeds pieces.old more }
     requires room { all_fit (body_len config.now) count more (D.most disk.old) ≡ true }
     ensures kept { (start : SeenNode) (deeds : List Deed)
-        → IsFrom config.now number (D.seen disk.old) start → AreWritten start deeds pieces.now more
+        → IsFrom config.now number (D.seen disk.old) start → AreWritten start deeds pieces.old more
         → OnOk result (IsKept D.pending D.seen start.config start.number (after_deeds start deeds)
         (count + more) disk.new) }
     ensures done { (start : SeenNode) (deeds : List Deed)
-        → IsFrom config.now number (D.seen disk.old) start → AreWritten start deeds pieces.now more
+        → IsFrom config.now number (D.seen disk.old) start → AreWritten start deeds pieces.old more
         → OnOk result (AreDone start.config start.number start deeds (D.seen disk.old)
         (D.seen disk.new)) }
     ensures untouched { more ≡ 0 → disk.new ≡ disk.old }
     ensures room { D.most disk.new ≡ D.most disk.old }
     // what a crash at any moment of the call leaves holds the state after the first few of the deeds
     ensures any_moment { (start : SeenNode) (deeds : List Deed)
-        → IsFrom config.now number (D.seen disk.old) start → AreWritten start deeds pieces.now more
+        → IsFrom config.now number (D.seen disk.old) start → AreWritten start deeds pieces.old more
         → LeavesOnly D.moment D.left_since disk.old disk.new
         (AreDoneInPart start.config start.number start deeds (D.seen disk.old)) }
     ensures cause { HasCause D.last (D.faults disk.old) (D.faults disk.new) result }

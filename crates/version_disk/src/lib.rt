@@ -13,6 +13,7 @@ pub mod laws;
 mod prune;
 pub mod refusal;
 mod replay;
+mod room;
 mod start;
 pub mod stored;
 

@@ -85,10 +85,10 @@ pub(crate) fn prune_all<D: Disk>(
     let mut written = room_for(alloc, pieces.len())?;
     prune_each(node, prunes, &pieces, &mut written);
     let Written {
-        pieces,
+        mut pieces,
         count: more,
     } = written;
-    keep_deeds(disk, &config, node.number(), count, more, &pieces)?;
+    keep_deeds(disk, &config, node.number(), count, more, &mut pieces)?;
     Ok(more)
 }
 

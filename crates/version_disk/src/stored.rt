@@ -16,6 +16,7 @@ use crate::compact_fault::{CompactFault, CompactRefusal};
 use crate::fault::OpenFault;
 use crate::prune::{Prune, prune_all};
 use crate::refusal::StoreRefusal;
+use crate::room::lengthen;
 use crate::start::start;
 use disk_model::Disk;
 use lists::{ItemList, NoMemory};
@@ -374,6 +375,52 @@ impl<D: Disk> StoredNode<D> {
                 Err(refusal)
             }
         }
+    }
+
+    /// Sees that the disk has so many bytes behind the node's slots, zero bytes where it had none, or as many as it may have. The node stays
+    /// as it is. A slot that is added there later doesn't lengthen a file, so its syncs take less time.
+    pub fn lengthen(&mut self, bytes: u64) -> Result<(), StoreRefusal>
+        ensures state { self.new.node ≡ self.old.node }
+        ensures slots { OnOk result (slots_of self.old.node.config (D.seen self.new.disk)
+            ≡ slots_of self.old.node.config (D.seen self.old.disk)) }
+        ensures there { OnOk result (min (slots_len self.old.node (D.seen self.old.disk) + bytes)
+            (D.most self.old.disk) ≤ length (D.seen self.new.disk)) }
+        // where it isn't broken then, the disk has it, safe from a crash
+        ensures held { self.new.broken ≡ false → held self.old.node.config self.old.node.number
+            (D.seen self.new.disk) ≡ self.old.node }
+        ensures durable { self.new.broken ≡ false
+            → D.pending self.new.disk ≡ settled (D.seen self.new.disk) }
+        ensures broken { IsErrOf result StoreRefusal.Broken ↔ (self.old.broken ≡ true) }
+        ensures not_full { IsErrOf result StoreRefusal.Full → ⊥ }
+        ensures breaks { IfErr result (IfFailed (self.new.broken ≡ true)) }
+        ensures stays { IfErr result (IfCalm (self.new.broken ≡ self.old.broken)) }
+        ensures whole { OnOk result (self.new.broken ≡ false) }
+        ensures room { D.most self.new.disk ≡ D.most self.old.disk }
+        // a crash at any moment of the call leaves the same slots
+        ensures any_moment { self.old.broken ≡ false
+            → LeavesOnly D.moment D.left_since self.old.disk self.new.disk
+            (λ c. slots_of self.old.node.config c
+            ≡ slots_of self.old.node.config (D.seen self.old.disk)) }
+        ensures later { D.faults self.old.disk ≤ D.faults self.new.disk }
+        ensures cause { IfErr result
+            (IfFailed (Rose D.last (D.faults self.old.disk) (D.faults self.new.disk))) }
+    {
+        if self.broken {
+            return Err(StoreRefusal::Broken);
+        }
+        let config = *self.node.config();
+        let number = self.node.number();
+        let wanted = self.journal_len().now.saturating_add(bytes);
+        let lengthened = lengthen(
+            self.alloc,
+            &config,
+            number,
+            &mut self.disk,
+            self.count,
+            wanted,
+        );
+        self.broken = matches!(lengthened, Err(StoreRefusal::DiskFault));
+        lengthened
     }
 
     /// Whether a fault of the disk has broken the node.

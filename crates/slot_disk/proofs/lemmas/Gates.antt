@@ -84,7 +84,7 @@ module _ (w : ℕ) (B : List ℕ) (count : ℕ) (is : IsClosedAt w B count) (gat
   long_staged = let e = length_overwritten B (gate + 1) piece begins in omega (arith, ap length written)
 
   -- the byte of the piece
-  in_piece : (q : ℕ) → q < length piece → get_or S (gate + q + 1) 0 ≡ get_or piece q 0
+  pub in_piece : (q : ℕ) → q < length piece → get_or S (gate + q + 1) 0 ≡ get_or piece q 0
   in_piece q below =
       let place : gate + q + 1 ≡ gate + 1 + q = omega arith in
       ap (λ (l : List ℕ). get_or l (gate + q + 1) 0) written ∙ ap (λ (n : ℕ). get_or (overwritten B (gate + 1) piece) n 0) place ∙ overwritten_inside B (gate + 1) piece q begins below

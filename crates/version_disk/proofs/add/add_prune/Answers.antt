@@ -17,11 +17,11 @@ returns-in_err-piece-clause-any_moment g c =
 
 pub keep_slot-requires-clause-whole : goal.keep_slot-requires-clause-whole
 keep_slot-requires-clause-whole g c =
-    ap length c.deref.ensures.value ∙ piece_long c.config.result.now (prune_slot c.config.result.now c.args.block c.args.stamp.now) c.in_ok-piece.piece.items c.in_ok-piece.ensures.fits c.in_ok-piece.ensures.piece
+    ap length c.deref_mut.ensures.value ∙ piece_long c.config.result.now (prune_slot c.config.result.now c.args.block c.args.stamp.now) c.in_ok-piece.piece.items c.in_ok-piece.ensures.fits c.in_ok-piece.ensures.piece
 
 pub keep_slot-requires-clause-zero : goal.keep_slot-requires-clause-zero
 keep_slot-requires-clause-zero g c =
-    ap (λ (l : List ℕ). get_or l (body_len c.config.result.now) 0) c.deref.ensures.value ∙ piece_zero c.config.result.now (prune_slot c.config.result.now c.args.block c.args.stamp.now) c.in_ok-piece.piece.items c.in_ok-piece.ensures.fits c.in_ok-piece.ensures.piece
+    ap (λ (l : List ℕ). get_or l (body_len c.config.result.now) 0) c.deref_mut.ensures.value ∙ piece_zero c.config.result.now (prune_slot c.config.result.now c.args.block c.args.stamp.now) c.in_ok-piece.piece.items c.in_ok-piece.ensures.fits c.in_ok-piece.ensures.piece
 
 pub returns-in_err-keep_slot-clause-any_moment : goal.returns-in_err-keep_slot-clause-any_moment
 returns-in_err-keep_slot-clause-any_moment g c =
@@ -31,7 +31,7 @@ returns-in_err-keep_slot-clause-any_moment g c =
     let same : c.config.result.now ≡ node.config = c.config.ensures in
     let same_number : c.number.result ≡ node.number = c.number.ensures ∙ ap (λ (n : SeenNode). n.number) c.prune.ensures in
     let fits : Fits node.config slot = subst (λ (k : Numbers). Fits k (prune_slot k c.args.block c.args.stamp.now)) same c.in_ok-piece.ensures.fits in
-    let piece : IsPieceOf slot c.deref.result.now = c.deref.ensures.value ∙ subst (λ (k : Numbers). IsPieceOf (prune_slot k c.args.block c.args.stamp.now) c.in_ok-piece.piece.items) same c.in_ok-piece.ensures.piece in
+    let piece : IsPieceOf slot c.deref_mut.result.now = c.deref_mut.ensures.value ∙ subst (λ (k : Numbers). IsPieceOf (prune_slot k c.args.block c.args.stamp.now) c.in_ok-piece.piece.items) same c.in_ok-piece.ensures.piece in
     let good = prune_good node.config node.number c.args.block c.args.stamp.now c.requires.there fits in
     deed_any_moment D.moment D.left_since D.pending D.seen node (Prunes c.args.block c.args.stamp.now) slot (refl) (refl) c.args.disk.now c.keep_slot.new.disk c.requires.kept.state c.config.result.now c.number.result same same_number good (λ here. c.keep_slot.ensures.any_moment slot here piece)
 
@@ -43,7 +43,7 @@ returns-clause-any_moment g c =
     let same : c.config.result.now ≡ node.config = c.config.ensures in
     let same_number : c.number.result ≡ node.number = c.number.ensures ∙ ap (λ (n : SeenNode). n.number) c.prune.ensures in
     let fits : Fits node.config slot = subst (λ (k : Numbers). Fits k (prune_slot k c.args.block c.args.stamp.now)) same c.in_ok-piece.ensures.fits in
-    let piece : IsPieceOf slot c.deref.result.now = c.deref.ensures.value ∙ subst (λ (k : Numbers). IsPieceOf (prune_slot k c.args.block c.args.stamp.now) c.in_ok-piece.piece.items) same c.in_ok-piece.ensures.piece in
+    let piece : IsPieceOf slot c.deref_mut.result.now = c.deref_mut.ensures.value ∙ subst (λ (k : Numbers). IsPieceOf (prune_slot k c.args.block c.args.stamp.now) c.in_ok-piece.piece.items) same c.in_ok-piece.ensures.piece in
     let good = prune_good node.config node.number c.args.block c.args.stamp.now c.requires.there fits in
     deed_any_moment D.moment D.left_since D.pending D.seen node (Prunes c.args.block c.args.stamp.now) slot (refl) (refl) c.args.disk.now c.keep_slot.new.disk c.requires.kept.state c.config.result.now c.number.result same same_number good (λ here. c.keep_slot.ensures.any_moment slot here piece)
 
@@ -55,7 +55,7 @@ returns-clause-kept g c =
     let same : c.config.result.now ≡ node.config = c.config.ensures in
     let same_number : c.number.result ≡ node.number = c.number.ensures ∙ ap (λ (n : SeenNode). n.number) c.prune.ensures in
     let fits : Fits node.config slot = subst (λ (k : Numbers). Fits k (prune_slot k c.args.block c.args.stamp.now)) same c.in_ok-piece.ensures.fits in
-    let piece : IsPieceOf slot c.deref.result.now = c.deref.ensures.value ∙ subst (λ (k : Numbers). IsPieceOf (prune_slot k c.args.block c.args.stamp.now) c.in_ok-piece.piece.items) same c.in_ok-piece.ensures.piece in
+    let piece : IsPieceOf slot c.deref_mut.result.now = c.deref_mut.ensures.value ∙ subst (λ (k : Numbers). IsPieceOf (prune_slot k c.args.block c.args.stamp.now) c.in_ok-piece.piece.items) same c.in_ok-piece.ensures.piece in
     let good = prune_good node.config node.number c.args.block c.args.stamp.now c.requires.there fits in
     subst (λ (n : SeenNode). IsKept D.pending D.seen node.config node.number n (c.args.count + 1) c.keep_slot.new.disk) (sym c.prune.ensures)
     (deed_kept D.moment D.left_since D.pending D.seen node (Prunes c.args.block c.args.stamp.now) slot (refl) (refl) c.args.disk.now c.keep_slot.new.disk c.requires.kept.state c.config.result.now c.number.result same same_number (c.args.count + 1) good (λ here. c.in_ok-keep_slot.ensures.kept slot here piece))
@@ -68,6 +68,6 @@ returns-clause-done g c =
     let same : c.config.result.now ≡ node.config = c.config.ensures in
     let same_number : c.number.result ≡ node.number = c.number.ensures ∙ ap (λ (n : SeenNode). n.number) c.prune.ensures in
     let fits : Fits node.config slot = subst (λ (k : Numbers). Fits k (prune_slot k c.args.block c.args.stamp.now)) same c.in_ok-piece.ensures.fits in
-    let piece : IsPieceOf slot c.deref.result.now = c.deref.ensures.value ∙ subst (λ (k : Numbers). IsPieceOf (prune_slot k c.args.block c.args.stamp.now) c.in_ok-piece.piece.items) same c.in_ok-piece.ensures.piece in
+    let piece : IsPieceOf slot c.deref_mut.result.now = c.deref_mut.ensures.value ∙ subst (λ (k : Numbers). IsPieceOf (prune_slot k c.args.block c.args.stamp.now) c.in_ok-piece.piece.items) same c.in_ok-piece.ensures.piece in
     let good = prune_good node.config node.number c.args.block c.args.stamp.now c.requires.there fits in
     deed_done D.moment D.left_since D.pending D.seen node (Prunes c.args.block c.args.stamp.now) slot (refl) (refl) c.args.disk.now c.keep_slot.new.disk c.requires.kept.state c.config.result.now c.number.result same same_number (c.args.count + 1) good (λ here. c.in_ok-keep_slot.ensures.kept slot here piece) (λ here. c.in_ok-keep_slot.ensures.slots slot here piece)

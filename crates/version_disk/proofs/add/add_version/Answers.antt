@@ -23,11 +23,11 @@ returns-in_err-commit-clause-any_moment g c =
 
 pub keep_slot-requires-clause-whole : goal.keep_slot-requires-clause-whole
 keep_slot-requires-clause-whole g c =
-    ap length c.deref.ensures.value ∙ piece_long c.config.result.now (version_slot c.args.ask.now.block c.args.version) c.in_ok-piece.piece.items c.in_ok-piece.ensures.fits c.in_ok-piece.ensures.piece
+    ap length c.deref_mut.ensures.value ∙ piece_long c.config.result.now (version_slot c.args.ask.now.block c.args.version) c.in_ok-piece.piece.items c.in_ok-piece.ensures.fits c.in_ok-piece.ensures.piece
 
 pub keep_slot-requires-clause-zero : goal.keep_slot-requires-clause-zero
 keep_slot-requires-clause-zero g c =
-    ap (λ (l : List ℕ). get_or l (body_len c.config.result.now) 0) c.deref.ensures.value ∙ piece_zero c.config.result.now (version_slot c.args.ask.now.block c.args.version) c.in_ok-piece.piece.items c.in_ok-piece.ensures.fits c.in_ok-piece.ensures.piece
+    ap (λ (l : List ℕ). get_or l (body_len c.config.result.now) 0) c.deref_mut.ensures.value ∙ piece_zero c.config.result.now (version_slot c.args.ask.now.block c.args.version) c.in_ok-piece.piece.items c.in_ok-piece.ensures.fits c.in_ok-piece.ensures.piece
 
 pub returns-in_err-keep_slot-clause-any_moment : goal.returns-in_err-keep_slot-clause-any_moment
 returns-in_err-keep_slot-clause-any_moment g c =
@@ -37,7 +37,7 @@ returns-in_err-keep_slot-clause-any_moment g c =
     let same : c.config.result.now ≡ node.config = c.config.ensures in
     let same_number : c.number.result ≡ node.number = c.number.ensures ∙ ap (λ (n : SeenNode). n.number) c.in_ok-commit.ensures.ok in
     let fits : Fits node.config slot = subst (λ (k : Numbers). Fits k (version_slot c.args.ask.now.block c.args.version)) same c.in_ok-piece.ensures.fits in
-    let piece : IsPieceOf slot c.deref.result.now = c.deref.ensures.value ∙ c.in_ok-piece.ensures.piece in
+    let piece : IsPieceOf slot c.deref_mut.result.now = c.deref_mut.ensures.value ∙ c.in_ok-piece.ensures.piece in
     let good = version_good node c.args.ask.now c.args.version c.requires.added fits in
     deed_any_moment D.moment D.left_since D.pending D.seen node (Answers c.args.ask.now) slot (version_after node c.args.ask.now c.args.version c.requires.added) (version_slots node c.args.ask.now c.args.version c.requires.added) c.args.disk.now c.keep_slot.new.disk c.requires.kept.state c.config.result.now c.number.result same same_number good (λ here. c.keep_slot.ensures.any_moment slot here piece)
 
@@ -49,7 +49,7 @@ returns-clause-any_moment g c =
     let same : c.config.result.now ≡ node.config = c.config.ensures in
     let same_number : c.number.result ≡ node.number = c.number.ensures ∙ ap (λ (n : SeenNode). n.number) c.in_ok-commit.ensures.ok in
     let fits : Fits node.config slot = subst (λ (k : Numbers). Fits k (version_slot c.args.ask.now.block c.args.version)) same c.in_ok-piece.ensures.fits in
-    let piece : IsPieceOf slot c.deref.result.now = c.deref.ensures.value ∙ c.in_ok-piece.ensures.piece in
+    let piece : IsPieceOf slot c.deref_mut.result.now = c.deref_mut.ensures.value ∙ c.in_ok-piece.ensures.piece in
     let good = version_good node c.args.ask.now c.args.version c.requires.added fits in
     deed_any_moment D.moment D.left_since D.pending D.seen node (Answers c.args.ask.now) slot (version_after node c.args.ask.now c.args.version c.requires.added) (version_slots node c.args.ask.now c.args.version c.requires.added) c.args.disk.now c.keep_slot.new.disk c.requires.kept.state c.config.result.now c.number.result same same_number good (λ here. c.keep_slot.ensures.any_moment slot here piece)
 
@@ -61,7 +61,7 @@ returns-clause-kept g c =
     let same : c.config.result.now ≡ node.config = c.config.ensures in
     let same_number : c.number.result ≡ node.number = c.number.ensures ∙ ap (λ (n : SeenNode). n.number) c.in_ok-commit.ensures.ok in
     let fits : Fits node.config slot = subst (λ (k : Numbers). Fits k (version_slot c.args.ask.now.block c.args.version)) same c.in_ok-piece.ensures.fits in
-    let piece : IsPieceOf slot c.deref.result.now = c.deref.ensures.value ∙ c.in_ok-piece.ensures.piece in
+    let piece : IsPieceOf slot c.deref_mut.result.now = c.deref_mut.ensures.value ∙ c.in_ok-piece.ensures.piece in
     let good = version_good node c.args.ask.now c.args.version c.requires.added fits in
     subst (λ (n : SeenNode). IsKept D.pending D.seen node.config node.number n (c.args.count + 1) c.keep_slot.new.disk) (sym c.in_ok-commit.ensures.ok)
     (deed_kept D.moment D.left_since D.pending D.seen node (Answers c.args.ask.now) slot (version_after node c.args.ask.now c.args.version c.requires.added) (version_slots node c.args.ask.now c.args.version c.requires.added) c.args.disk.now c.keep_slot.new.disk c.requires.kept.state c.config.result.now c.number.result same same_number (c.args.count + 1) good (λ here. c.in_ok-keep_slot.ensures.kept slot here piece))
@@ -74,6 +74,6 @@ returns-clause-done g c =
     let same : c.config.result.now ≡ node.config = c.config.ensures in
     let same_number : c.number.result ≡ node.number = c.number.ensures ∙ ap (λ (n : SeenNode). n.number) c.in_ok-commit.ensures.ok in
     let fits : Fits node.config slot = subst (λ (k : Numbers). Fits k (version_slot c.args.ask.now.block c.args.version)) same c.in_ok-piece.ensures.fits in
-    let piece : IsPieceOf slot c.deref.result.now = c.deref.ensures.value ∙ c.in_ok-piece.ensures.piece in
+    let piece : IsPieceOf slot c.deref_mut.result.now = c.deref_mut.ensures.value ∙ c.in_ok-piece.ensures.piece in
     let good = version_good node c.args.ask.now c.args.version c.requires.added fits in
     deed_done D.moment D.left_since D.pending D.seen node (Answers c.args.ask.now) slot (version_after node c.args.ask.now c.args.version c.requires.added) (version_slots node c.args.ask.now c.args.version c.requires.added) c.args.disk.now c.keep_slot.new.disk c.requires.kept.state c.config.result.now c.number.result same same_number (c.args.count + 1) good (λ here. c.in_ok-keep_slot.ensures.kept slot here piece) (λ here. c.in_ok-keep_slot.ensures.slots slot here piece)
