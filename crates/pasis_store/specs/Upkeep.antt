@@ -75,13 +75,9 @@ module _ {F : Type 0} where
 abbrev pub served_since : (since served : ℕ) → ℕ
 served_since since served = min (since + served) (2 ^ 64 - 1)
 
--- how many bytes the device has; no more than a word has
-abbrev pub device_len : Numbers → ℕ
-device_len c = min (c.size * c.blocks) (2 ^ 64 - 1)
-
 -- it is to be, where no request waits and so many bytes were: as many as the device has, and no fewer than 2^20
 abbrev pub is_due : Numbers → ℕ → Bool → Bool
-is_due c since is_ready = not is_ready && nat_le (max (2 ^ 20) (device_len c)) since
+is_due c since is_ready = not is_ready && nat_le (max (2 ^ 20) (c.size * c.blocks)) since
 
 -- how many were, behind that
 abbrev pub since_then : Numbers → ℕ → Bool → ℕ

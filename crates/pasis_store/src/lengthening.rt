@@ -3,7 +3,7 @@ ghost use Rattle.std.specs.Prelude.{◌≡◌, ◌<◌, true};
 ghost use Rattle.pasis_store.specs.Upkeep.{IsReseated, IsTended, IsUpAt};
 
 use crate::folder::{FileStore, path_in};
-use crate::upkeep::device_len;
+use block_device::device_len;
 use std::fs::{self, File};
 use std::io::{self, Write};
 

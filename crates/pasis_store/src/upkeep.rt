@@ -1,11 +1,12 @@
 //! What is done for a store between the rounds of a session.
 ghost use Rattle.std.specs.Prelude.{◌≡◌, true, false, OnOk};
-ghost use Rattle.pasis_store.specs.Upkeep.{IsPrunedFirst, IsTended, device_len, is_due, served_since, since_then};
+ghost use Rattle.pasis_store.specs.Upkeep.{IsPrunedFirst, IsTended, is_due, served_since, since_then};
 
 use crate::compacting::compact_due;
 use crate::folder::FileStore;
 use crate::lengthening::lengthen_all;
 use crate::telling::tell;
+use block_device::device_len;
 use lists::NoMemory;
 use quorum_rules::Config;
 use std::thread::Threads;
@@ -86,13 +87,6 @@ fn is_due(config: &Config, since: u64, is_ready: bool) -> bool
     ensures { result ≡ is_due config.now since is_ready }
 {
     !is_ready && since >= LEAST_BYTES.max(device_len(config))
-}
-
-/// How many bytes a cluster's device has.
-pub fn device_len(config: &Config) -> u64
-    ensures { result ≡ device_len config.now }
-{
-    u64::from(config.size()).saturating_mul(u64::from(config.blocks()))
 }
 
 // Prunes the blocks of which nodes keep many versions, writes the journals anew that are due, and lengthens journals.
