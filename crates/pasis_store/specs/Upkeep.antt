@@ -5,9 +5,10 @@ use Rattle.quorum_rules.specs.Limits.{Numbers}
 use Rattle.disk_model.specs.Past.{LeftSince}
 use Rattle.file_disk.specs.OnFile.{OnFile}
 use Rattle.nbd_front.specs.declared.ending.SessionEnd.{SessionEnd}
+use Rattle.version_disk.specs.Compacted.{IsJournalOf}
 use Rattle.version_disk.specs.Held.{held}
 use Rattle.version_disk.specs.Stored.{Stored}
-use Rattle.store_device.specs.Stores.{SeenStore, IsSound, seat_at}
+use Rattle.store_device.specs.Stores.{SeenStore, IsSound}
 use Rattle.store_device.specs.Seating.{with_seat, IsReseated as IsReseatedOn}
 use Rattle.store_device.specs.Steps.{IsTended as IsTendedOn}
 use Rattle.store_care.specs.Filling.{groups_of}
@@ -15,24 +16,18 @@ use Rattle.store_care.specs.Pruning.{HavePassed}
 use Rattle.store_care.specs.Settling.{IsTriedOut, Try, TriesLead as TriesLeadOn}
 use Rattle.store_front.specs.Sessions.{IsSession as IsSessionOn}
 
--- a node of this number sits there that is up, and these bytes hold it
-pub record Holds {D : Type 0} (c : Numbers) (number : ℕ) (bytes : List ℕ) (seat : Option (Stored D)) : Type 0 where
-  pub node : Stored D
-  pub there : seat ≡ Some node
-  pub up : node.broken ≡ false
-  pub same : held c number bytes ≡ node.node
-
--- the cluster's node of this number sits there, and is up
-pub record IsUpAt {D : Type 0} (store : SeenStore D) (number : ℕ) : Type 0 where
-  pub node : Stored D
-  pub there : seat_at store number ≡ Some node
-  pub up : node.broken ≡ false
-  pub config : node.node.config ≡ store.config
-  pub numbered : node.node.number ≡ number
-
 -- ---- a store whose disks are files
 
 module _ {F : Type 0} where
+  -- the cluster's node of this number sits there, and is up, and the disk has its shortest journal
+  pub record Holds (c : Numbers) (number : ℕ) (disk : OnFile F) (seat : Option (Stored (OnFile F))) : Type 0 where
+    pub node : Stored (OnFile F)
+    pub there : seat ≡ Some node
+    pub up : node.broken ≡ false
+    pub config : node.node.config ≡ c
+    pub numbered : node.node.number ≡ number
+    pub journal : IsJournalOf node.node disk.bytes disk.most
+
   -- the node that these bytes hold sits at the seat then, on a disk that has it, safe from a crash
   pub record IsSeated (number : ℕ) (bytes : List ℕ) (old new : SeenStore (OnFile F)) : Type 0 where
     pub node : Stored (OnFile F)

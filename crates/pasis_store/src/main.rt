@@ -7,7 +7,6 @@ mod folder;
 mod groups;
 mod help;
 mod keeping;
-mod lengthening;
 mod nodes;
 mod opening;
 mod renew;

@@ -4,7 +4,6 @@ ghost use Rattle.pasis_store.specs.Upkeep.{IsSession, IsTended};
 
 use crate::folder::FileStore;
 use crate::keeping::ByClosure;
-use crate::lengthening::lengthen_all;
 use crate::opening::open_store;
 use crate::settling::settle;
 use crate::upkeep::Upkeep;
@@ -14,7 +13,7 @@ use std::thread::{Threads, available_parallelism};
 use store_front::SessionEnd;
 use store_words::{Refusal, Status};
 
-/// Settles what a crash left, lengthens journals, and then serves the device over standard input and output.
+/// Settles what a crash left, and then serves the device over standard input and output.
 pub fn serve<T: Threads + Sync>(
     rt: &HostRuntime,
     threads: &T,
@@ -28,7 +27,6 @@ pub fn serve<T: Threads + Sync>(
     }
     settle(rt, threads, &mut store)?;
     let mut upkeep = Upkeep::new(rt, &store)?;
-    lengthen_all(rt, folders, &mut store);
     let mut source = StdSource::new(rt.stdin());
     let mut sink = StdSink::new(rt.stdout());
     match serve_store(

@@ -35,28 +35,27 @@ fn lines_of(
 ) -> Result<Vec<NodeLine>, NoMemory> {
     let mut lines = Vec::new(alloc);
     for (node, why) in down.iter().enumerate() {
-        lines.push(line_of(store, node, *why)?)?;
+        lines.push(line_of(store, node, *why))?;
     }
     Ok(lines)
 }
 
 // The line of a node that is down for this reason, or for none.
-fn line_of(store: &mut FileStore, node: usize, why: Option<Down>) -> Result<NodeLine, NoMemory>
+fn line_of(store: &mut FileStore, node: usize, why: Option<Down>) -> NodeLine
     ensures same { store.new ≡ store.old }
-    ensures line { IfOk result (IsLine store.old.config.blocks node why
-        (seat_at store.old node)) }
+    ensures line { IsLine store.old.config.blocks node why (seat_at store.old node) result }
 {
-    let versions = later_versions(store, node)?;
+    let versions = later_versions(store, node);
     match (why, store.node(node)) {
-        (Some(why), _) => Ok(NodeLine::Down { node, why }),
-        (None, Some(seated)) => Ok(NodeLine::Up {
+        (Some(why), _) => NodeLine::Down { node, why },
+        (None, Some(seated)) => NodeLine::Up {
             node,
             versions,
             bytes: seated.journal_len().now,
-        }),
-        (None, None) => Ok(NodeLine::Down {
+        },
+        (None, None) => NodeLine::Down {
             node,
             why: Down::Gone,
-        }),
+        },
     }
 }

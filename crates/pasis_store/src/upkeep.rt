@@ -4,7 +4,6 @@ ghost use Rattle.pasis_store.specs.Upkeep.{IsPrunedFirst, IsTended, is_due, serv
 
 use crate::compacting::compact_due;
 use crate::folder::FileStore;
-use crate::lengthening::lengthen_all;
 use crate::telling::tell;
 use block_device::device_len;
 use lists::NoMemory;
@@ -37,7 +36,7 @@ impl Upkeep {
     }
 
     /// So many bytes of requests were served since this was last called. Where enough were, and no request waits, the blocks are pruned of
-    /// which nodes keep many versions, the journals that are due are written anew, and journals are lengthened. Tells of each node whose disk has failed.
+    /// which nodes keep many versions, and the journals that are due are written anew. Tells of each node whose disk has failed.
     #[tactic(auto, using(crate::proofs::Journals::not_tended))]
     pub fn tend<T: Threads + Sync>(
         &mut self,
@@ -89,7 +88,7 @@ fn is_due(config: &Config, since: u64, is_ready: bool) -> bool
     !is_ready && since >= LEAST_BYTES.max(device_len(config))
 }
 
-// Prunes the blocks of which nodes keep many versions, writes the journals anew that are due, and lengthens journals.
+// Prunes the blocks of which nodes keep many versions, and writes the journals anew that are due.
 fn look_after<T: Threads + Sync>(
     rt: &HostRuntime,
     threads: &T,
@@ -101,7 +100,6 @@ fn look_after<T: Threads + Sync>(
     ensures config { store.new.config ≡ store.old.config }
 {
     prune_all(threads, rt.alloc(), store, MOST_VERSIONS)?;
-    compact_due(rt, folders, store);
-    lengthen_all(rt, folders, store);
+    compact_due(rt, threads, folders, store);
     Ok(())
 }

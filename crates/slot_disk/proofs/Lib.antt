@@ -1,7 +1,6 @@
 pub mod lemmas
 pub mod Adding
 pub mod Between
-pub mod Longer
 pub mod Order
 pub mod Rows
 pub mod Torn

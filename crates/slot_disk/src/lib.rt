@@ -6,5 +6,4 @@ pub mod body;
 pub mod close;
 pub mod laws;
 pub mod piece;
-pub mod room;
 pub mod slots;

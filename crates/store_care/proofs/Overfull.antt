@@ -1,15 +1,28 @@
 -- Blocks of which some node keeps many versions.
-use Rattle.std.proofs.Common.{◌≡◌, ℕ, ◌+◌, Bool, true, false, cond, List, [], ◌∷◌, ◌++◌, refl, ◌∙◌}
-use Rattle.std.specs.Prelude.{filter, map}
-use Rattle.std.specs.List.{AllByRecursion, range_with_len}
+use Rattle.std.proofs.Common.{◌≡◌, ℕ, ◌+◌, Bool, true, false, ◌||◌, cond, List, [], ◌∷◌, ◌++◌, refl, sym, ap, ◌∙◌, arith}
+use Rattle.std.specs.Prelude.{filter, map, nat_lt}
+use Rattle.std.specs.List.{AllByRecursion, list_any, range_with_len}
 use Rattle.std.proofs.lemmas.List.{append-nil}
-use Rattle.std.proofs.lemmas.List.FromFn.{filter_of_map_range_with_len_more}
+use Rattle.std.proofs.lemmas.List.Folds.{list_any-append}
+use Rattle.std.proofs.lemmas.List.FromFn.{filter_of_map_range_with_len_more, map-range_with_len_more}
 use Rattle.wire_forms.specs.declared.op.Op.{Op}
 use Rattle.wire_forms.specs.declared.op.Op.TheVariants.{Read}
 use Rattle.protocol.specs.Seen.{block_of}
 use Rattle.store_device.specs.Stores.{SeenStore}
 use Rattle.store_device.specs.Steps.{IsRead}
 use Rattle.store_care.specs.Pruning.{is_overfull, overfull}
+
+or_none : (b : Bool) → b ≡ (b || false)
+or_none true = refl
+or_none false = refl
+
+-- whether one of these counts is greater, and with one more of them
+pub any_more : (most : ℕ) (f : ℕ → ℕ) (k : ℕ) (full more : Bool) → full ≡ list_any (nat_lt most) (map f (range_with_len 0 k)) → more ≡ nat_lt most (f k)
+    → (full || more) ≡ list_any (nat_lt most) (map f (range_with_len 0 (k + 1)))
+any_more most f k full more was is =
+    ap (λ (b : Bool). b || more) was ∙ ap (λ (b : Bool). list_any (nat_lt most) (map f (range_with_len 0 k)) || b) (is ∙ or_none (nat_lt most (f k)))
+    ∙ sym (list_any-append (nat_lt most) (map f (range_with_len 0 k)) (f k ∷ []))
+    ∙ ap (list_any (nat_lt most)) (sym (map-range_with_len_more f 0 k k (omega arith)))
 
 module _ {D : Type 0} (store : SeenStore D) (most : ℕ) where
   one_more : (first count block : ℕ) → first + count ≡ block

@@ -1,11 +1,11 @@
-ghost use Rattle.std.specs.Prelude.{◌≡◌, ℕ, ◌+◌, ◌-◌, ◌^◌, ◌≤◌, ◌<◌, ◌++◌, List, length, min, nat_lt, option_copied, IfOk, OnOk};
+ghost use Rattle.std.specs.Prelude.{◌≡◌, ℕ, ◌+◌, ◌-◌, ◌^◌, ◌≤◌, ◌<◌, ◌++◌, List, length, min, nat_lt, option_copied, IfOk, OnOk, MatchOption};
 ghost use Rattle.store_device.specs.Stores.{seat_at};
 ghost use Rattle.store_device.specs.Calls.{Call, Leads};
 ghost use Rattle.store_device.specs.Steps.{IsTended};
 ghost use Rattle.store_care.specs.Batches.{AreBelow};
 ghost use Rattle.store_care.specs.Filling.{groups_of};
 ghost use Rattle.store_care.specs.Prunes.{prune_by, prunes_by};
-ghost use Rattle.store_care.specs.Pruning.{ArePruning, HavePassed, is_overfull, later_in, overfull, version_counts, versions_at};
+ghost use Rattle.store_care.specs.Pruning.{ArePruning, HavePassed, is_overfull, later_in, overfull, versions_at};
 
 use crate::blocks::{MOST_BLOCKS, add, block_of};
 use crate::calls::{outcome_at, perform};
@@ -120,14 +120,13 @@ fn overfull_reads<D: Disk>(
     let end = store.config().blocks().min(first + count);
     let mut reads = Vec::new(alloc);
     for block in first..end {
-        add_overfull(alloc, store, block, most, &mut reads)?;
+        add_overfull(store, block, most, &mut reads)?;
     }
     Ok(reads)
 }
 
 // Adds a read of a block if some node that is up keeps more than so many versions of it.
 fn add_overfull<D: Disk>(
-    alloc: Global,
     store: &mut Store<D>,
     block: u32,
     most: usize,
@@ -142,78 +141,63 @@ fn add_overfull<D: Disk>(
         → reads.old.items ≡ overfull store.old first count most
         → reads.new.items ≡ overfull store.old first (count + 1) most) }
 {
-    let full = is_overfull(alloc, store, block, most)?;
-    if full {
+    if is_overfull(store, block, most) {
         return add(reads, Op::Read { block });
     }
     Ok(())
 }
 
 // Whether some node that is up keeps more than so many versions of a block.
-fn is_overfull<D: Disk>(
-    alloc: Global,
-    store: &mut Store<D>,
-    block: u32,
-    most: usize,
-) -> Result<bool, NoMemory>
+fn is_overfull<D: Disk>(store: &mut Store<D>, block: u32, most: usize) -> bool
     requires { block < store.old.config.blocks }
     ensures same { store.new ≡ store.old }
-    ensures full { IfOk result (λ full. full ≡ is_overfull store.old most block) }
+    ensures full { result ≡ is_overfull store.old most block }
 {
-    let counts = version_counts(alloc, store, block)?;
-    Ok(counts.iter().any(|count| is_above(*count, most)))
-}
-
-// Whether a count is greater than so many.
-fn is_above(count: usize, most: usize) -> bool
-    ensures { result ≡ nat_lt most count }
-{
-    count > most
-}
-
-// How many versions each seat keeps of a block.
-fn version_counts<D: Disk>(
-    alloc: Global,
-    store: &mut Store<D>,
-    block: u32,
-) -> Result<Vec<usize>, NoMemory>
-    requires { block < store.old.config.blocks }
-    ensures same { store.new ≡ store.old }
-    ensures counts { IfOk result (λ counts. counts.items ≡ version_counts store.old block) }
-{
-    let mut counts = Vec::new(alloc);
+    let mut full = false;
     for seat in 0..store.config().n() as usize {
-        let count = versions_at(store, seat, block)?;
-        counts.push(count)?;
+        full |= is_full_at(store, seat, block, most);
     }
-    Ok(counts)
+    full
 }
 
-// How many versions the node of a seat keeps of a block; 0 where it isn't up.
-fn versions_at<D: Disk>(store: &mut Store<D>, seat: usize, block: u32) -> Result<usize, NoMemory>
+// Whether the node of a seat is up, and keeps more than so many versions of a block.
+fn is_full_at<D: Disk>(store: &mut Store<D>, seat: usize, block: u32, most: usize) -> bool
     requires { block < store.old.config.blocks }
     ensures same { store.new ≡ store.old }
-    ensures count { IfOk result (λ count. count ≡ versions_at (seat_at store.old seat) block) }
+    ensures full { result ≡ nat_lt most (versions_at (seat_at store.old seat) block) }
+{
+    match later_at(store, seat, block) {
+        Some(later) => later >= most,
+        None => false,
+    }
+}
+
+// How many versions of a block the node of a seat keeps beside the first one, if it is up.
+fn later_at<D: Disk>(store: &mut Store<D>, seat: usize, block: u32) -> Option<usize>
+    requires { block < store.old.config.blocks }
+    ensures same { store.new ≡ store.old }
+    ensures later { MatchOption result (versions_at (seat_at store.old seat) block ≡ 0)
+        (λ later. later + 1 ≡ versions_at (seat_at store.old seat) block) }
 {
     if !store.is_up(seat) {
-        return Ok(0);
+        return None;
     }
     match store.node(seat) {
-        Some(node) => Ok(node.versions(block)?.len()),
-        None => Ok(0),
+        Some(node) => Some(node.later_count(block)),
+        None => None,
     }
 }
 
 /// How many versions the node of a seat keeps beside the first ones, of all blocks; 0 where it isn't up.
-pub fn later_versions<D: Disk>(store: &mut Store<D>, seat: usize) -> Result<u64, NoMemory>
+pub fn later_versions<D: Disk>(store: &mut Store<D>, seat: usize) -> u64
     ensures same { store.new ≡ store.old }
-    ensures count { IfOk result (λ count. count
-        ≡ min (later_in (seat_at store.old seat) store.old.config.blocks) (2 ^ 64 - 1)) }
+    ensures count { result
+        ≡ min (later_in (seat_at store.old seat) store.old.config.blocks) (2 ^ 64 - 1) }
 {
     let mut count: u64 = 0;
     for block in 0..store.config().blocks() {
-        let versions = versions_at(store, seat, block)?;
-        count = count.saturating_add(versions.saturating_sub(1) as u64);
+        let later = later_at(store, seat, block).unwrap_or(0);
+        count = count.saturating_add(later as u64);
     }
-    Ok(count)
+    count
 }

@@ -1,9 +1,9 @@
 -- The bytes of the shortest journal of a node.
-use Rattle.std.proofs.Common.{◌≡◌, ℕ, zero, suc, ◌+◌, ◌*◌, ◌≤◌, ◌<◌, Bool, false, cond, ltb, List, [], ◌∷◌, ◌++◌, map, length, take, drop, Option, Some, None, refl, sym, ◌∙◌, ap, subst, arith, append_assoc, length-append}
+use Rattle.std.proofs.Common.{◌≡◌, ℕ, zero, suc, ◌+◌, ◌*◌, ◌≤◌, ◌<◌, Bool, false, cond, ltb, List, [], ◌∷◌, ◌++◌, map, length, get_or, take, drop, Option, Some, None, refl, sym, ◌∙◌, ap, subst, arith, append_assoc, length-append}
 use Rattle.std.specs.List.{AllByRecursion, slice_get, slice_index_or}
 use Rattle.std.specs.Option.{option_map}
 use Rattle.std.proofs.lemmas.Bool.{lt-ltb}
-use Rattle.std.proofs.lemmas.List.{append-nil, length-map, take_all, drop_all}
+use Rattle.std.proofs.lemmas.List.{append-nil, get_or_at, length-map, take_all, drop_all}
 use Rattle.disk_model.specs.Crash.{overwritten}
 use Rattle.std.proofs.lemmas.Option.{slice_get-map}
 use Rattle.quorum_rules.specs.Limits.{Numbers}
@@ -13,11 +13,11 @@ use Rattle.protocol.specs.Nodes.{first_version, refusal, acknowledged}
 use Rattle.wire_forms.specs.declared.Reply.TheVariants.{Refused}
 use Rattle.wire_forms.specs.declared.Reason.TheVariants.{BadBlock}
 use Rattle.node_core.specs.Seen.{SeenNode, new_node}
-use Rattle.slot_disk.specs.Bodies.{bodies}
+use Rattle.slot_disk.specs.Bodies.{bodies, IsClosedAt}
 use Rattle.slot_disk.specs.Slots.{Slot, version_slot, body_of, body_len, slot_of, Fits}
 use Rattle.version_disk.specs.Held.{played, held, slots_of, is_refusal, first_bad, first_bad_from}
 use Rattle.version_disk.specs.Kept.{IsGoodIn, AreGoodIn}
-use Rattle.version_disk.specs.Compacted.{slots_in, slots_from, kept_slots, open_slots, IsWhole, AreWhole, AreFitting}
+use Rattle.version_disk.specs.Compacted.{slots_in, slots_from, kept_slots, open_slots, compacted_len, IsWhole, AreWhole, AreFitting}
 use Rattle.version_disk.proofs.Accepting.{refusal_lengths}
 use Rattle.slot_disk.proofs.lemmas.Bodies.{chain, AreLong, bodies_closed}
 use Rattle.version_disk.proofs.Compacting.{Follow, IsGrown, IsGrownNode, held_grown, kept_played}
@@ -178,6 +178,25 @@ module _ (c : Numbers) where
 
       pub journal_good : first_bad c number bytes ≡ None
       journal_good = ap (first_bad_from c number 0) journal_slots ∙ all_good c number 0 (kept_slots node) good
+
+      -- the gate behind them is closed
+      pub journal_closed : IsClosedAt (body_len c) bytes (length (kept_slots node))
+      journal_closed =
+          let gate = length (kept_slots node) * (body_len c + 1) in
+          let zero : get_or bytes gate 0 ≡ 0 =
+          ap (λ (l : List ℕ). get_or l gate 0) journal ∙ get_or_at (open_slots (kept_slots node)) 0 [] 0 gate (length-open_slots (kept_slots node) fits) in
+          record {
+            counted = sym (ap length (journal_bodies (kept_slots node) bytes fits journal) ∙ length-map (kept_slots node) body_of);
+            there = omega (arith, length-journal (kept_slots node) bytes fits journal);
+            closed = λ one. let bad : 0 ≡ 1 = sym zero ∙ one in absurd (cc);
+          }
+
+-- a journal has no more slots than bytes
+pub few_slots : (node : SeenNode) → length (kept_slots node) < compacted_len node
+few_slots node =
+    let count = length (kept_slots node) in
+    let split : count * (body_len node.config + 1) ≡ count * body_len node.config + count = omega arith in
+    omega (arith, split)
 
 -- a node whose disk holds its state is one that can come about
 pub own_grown : (node : SeenNode) (bytes : List ℕ) → node ≡ held node.config node.number bytes → IsGrownNode node.config node.number node

@@ -4,7 +4,6 @@ pub mod Compacting
 pub mod Deeds
 pub mod Journals
 pub mod Keeping
-pub mod Lengthening
 pub mod Lives
 pub mod Many
 pub mod Opening

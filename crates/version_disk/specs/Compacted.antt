@@ -1,12 +1,12 @@
 -- The shortest journal of a node.
-use Rattle.std.specs.Prelude.{◌≡◌, ℕ, suc, ◌+◌, ◌*◌, List, [], ◌∷◌, ◌++◌, length, map, drop}
+use Rattle.std.specs.Prelude.{◌≡◌, ◌≤◌, ℕ, suc, ◌+◌, ◌*◌, List, [], ◌∷◌, ◌++◌, length, map, drop, None}
 use Rattle.std.specs.List.{AllByRecursion}
 use Rattle.quorum_rules.specs.Limits.{Numbers, share_of}
 use Rattle.protocol.specs.Messages.{Version, Ask}
 use Rattle.node_core.specs.Seen.{SeenNode}
-use Rattle.slot_disk.specs.Bodies.{bodies}
+use Rattle.slot_disk.specs.Bodies.{bodies, IsClosedAt}
 use Rattle.slot_disk.specs.Slots.{Slot, version_slot, body_of, body_len, Fits}
-use Rattle.version_disk.specs.Held.{held, slots_of}
+use Rattle.version_disk.specs.Held.{held, slots_of, first_bad}
 use Rattle.version_disk.specs.Deeds.{replies_of}
 
 -- the slots of a block's versions after the first one, in order of acceptance
@@ -37,6 +37,13 @@ compacted_len node = journal_len (body_len node.config) (length (kept_slots node
 -- how many bytes the open slots of a node's disk have, and the closed gate behind them
 abbrev pub slots_len : SeenNode → List ℕ → ℕ
 slots_len node bytes = journal_len (body_len node.config) (length (bodies (body_len node.config) bytes))
+
+-- these bytes of a disk that has so much room are the shortest journal of a node: they hold it in good slots, and the gate behind them is closed
+pub record IsJournalOf (node : SeenNode) (bytes : List ℕ) (most : ℕ) : Type 0 where
+  pub state : held node.config node.number bytes ≡ node
+  pub good : first_bad node.config node.number bytes ≡ None
+  pub closed : IsClosedAt (body_len node.config) bytes (length (kept_slots node))
+  pub fits : compacted_len node ≤ most
 
 -- Bytes whose slots are the versions that a disk's node keeps hold the same node, and that answers any asks alike.
 pub record IsAlike (c : Numbers) (number : ℕ) (old new : List ℕ) : Type 0 where

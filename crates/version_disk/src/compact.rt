@@ -68,12 +68,21 @@ pub(crate) fn compacted_size(node: &Node) -> u64
     ensures { length node.now.blocks ≡ node.now.config.blocks
         → result ≡ min (compacted_len node.now) (2 ^ 64 - 1) }
 {
+    kept_count(node)
+        .saturating_mul(body_size(node.config()) + 1)
+        .saturating_add(1)
+}
+
+/// How many slots the journal has, or the greatest word where they are more.
+pub(crate) fn kept_count(node: &Node) -> u64
+    ensures { length node.now.blocks ≡ node.now.config.blocks
+        → result ≡ min (length (kept_slots node.now)) (2 ^ 64 - 1) }
+{
     let mut kept: u64 = 0;
     for block in 0..node.config().blocks() {
         kept = kept.saturating_add(node.later_count(block) as u64);
     }
-    kept.saturating_mul(body_size(node.config()) + 1)
-        .saturating_add(1)
+    kept
 }
 
 // Writes the slots of all blocks. What is still ahead stands behind the disk's bytes.

@@ -13,7 +13,6 @@ pub mod laws;
 mod prune;
 pub mod refusal;
 mod replay;
-mod room;
 mod start;
 pub mod stored;
 

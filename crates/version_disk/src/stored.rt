@@ -11,12 +11,11 @@ ghost use Rattle.version_disk.specs.Deeds.Deed.{Answers, Prunes};
 
 use crate::add::{add_prune, add_version, has_place};
 use crate::batch::add_all;
-use crate::compact::{compacted_size, write_journal};
+use crate::compact::{compacted_size, kept_count, write_journal};
 use crate::compact_fault::{CompactFault, CompactRefusal};
 use crate::fault::OpenFault;
 use crate::prune::{Prune, prune_all};
 use crate::refusal::StoreRefusal;
-use crate::room::lengthen;
 use crate::start::start;
 use disk_model::Disk;
 use lists::{ItemList, NoMemory};
@@ -26,6 +25,7 @@ use slot_disk::body::body_size;
 use stamp_order::Stamp;
 use std::alloc::Global;
 use std::marker::Model;
+use std::mem::replace;
 use wire_forms::{Ask, Reply, Version};
 
 /// Answers, in the order of the asks.
@@ -83,7 +83,9 @@ impl<D: Disk> StoredNode<D> {
     ghost use Rattle.version_disk.specs.Opened.{IfSlotOf, IfFaultOf, disk_of};
     ghost use Rattle.version_disk.specs.Stored.{adds, has_place, has_places, has_room};
     ghost use Rattle.version_disk.specs.Refusals.{IfCalm, IfFailed};
-    ghost use Rattle.version_disk.specs.Compacted.{kept_slots, compacted_len, slots_len};
+    ghost use Rattle.version_disk.specs.Compacted.{kept_slots, compacted_len, slots_len, IsJournalOf};
+    ghost use Rattle.slot_disk.specs.Bodies.{IsClosedAt};
+    ghost use Rattle.slot_disk.specs.Slots.{body_len};
     ghost use Rattle.version_disk.specs.CompactFaults.{IfDiskFailed, given_back};
 
     /// Opens a disk that may be empty, or that a crash may have left. It begins with a sync, and closes the gate behind the
@@ -377,52 +379,6 @@ impl<D: Disk> StoredNode<D> {
         }
     }
 
-    /// Sees that the disk has so many bytes behind the node's slots, zero bytes where it had none, or as many as it may have. The node stays
-    /// as it is. A slot that is added there later doesn't lengthen a file, so its syncs take less time.
-    pub fn lengthen(&mut self, bytes: u64) -> Result<(), StoreRefusal>
-        ensures state { self.new.node ≡ self.old.node }
-        ensures slots { OnOk result (slots_of self.old.node.config (D.seen self.new.disk)
-            ≡ slots_of self.old.node.config (D.seen self.old.disk)) }
-        ensures there { OnOk result (min (slots_len self.old.node (D.seen self.old.disk) + bytes)
-            (D.most self.old.disk) ≤ length (D.seen self.new.disk)) }
-        // where it isn't broken then, the disk has it, safe from a crash
-        ensures held { self.new.broken ≡ false → held self.old.node.config self.old.node.number
-            (D.seen self.new.disk) ≡ self.old.node }
-        ensures durable { self.new.broken ≡ false
-            → D.pending self.new.disk ≡ settled (D.seen self.new.disk) }
-        ensures broken { IsErrOf result StoreRefusal.Broken ↔ (self.old.broken ≡ true) }
-        ensures not_full { IsErrOf result StoreRefusal.Full → ⊥ }
-        ensures breaks { IfErr result (IfFailed (self.new.broken ≡ true)) }
-        ensures stays { IfErr result (IfCalm (self.new.broken ≡ self.old.broken)) }
-        ensures whole { OnOk result (self.new.broken ≡ false) }
-        ensures room { D.most self.new.disk ≡ D.most self.old.disk }
-        // a crash at any moment of the call leaves the same slots
-        ensures any_moment { self.old.broken ≡ false
-            → LeavesOnly D.moment D.left_since self.old.disk self.new.disk
-            (λ c. slots_of self.old.node.config c
-            ≡ slots_of self.old.node.config (D.seen self.old.disk)) }
-        ensures later { D.faults self.old.disk ≤ D.faults self.new.disk }
-        ensures cause { IfErr result
-            (IfFailed (Rose D.last (D.faults self.old.disk) (D.faults self.new.disk))) }
-    {
-        if self.broken {
-            return Err(StoreRefusal::Broken);
-        }
-        let config = *self.node.config();
-        let number = self.node.number();
-        let wanted = self.journal_len().now.saturating_add(bytes);
-        let lengthened = lengthen(
-            self.alloc,
-            &config,
-            number,
-            &mut self.disk,
-            self.count,
-            wanted,
-        );
-        self.broken = matches!(lengthened, Err(StoreRefusal::DiskFault));
-        lengthened
-    }
-
     /// Whether a fault of the disk has broken the node.
     pub fn is_broken(&self) -> bool
         ensures { result ≡ self.now.broken }
@@ -444,6 +400,8 @@ impl<D: Disk> StoredNode<D> {
         ensures durable { IfOk result (λ disk. E.pending disk ≡ settled (E.seen disk)) }
         ensures len { IfOk result (λ disk.
             length (E.seen disk) ≡ compacted_len self.now.node) }
+        ensures closed { IfOk result (λ disk. IsClosedAt (body_len self.now.node.config)
+            (E.seen disk) (length (kept_slots self.now.node))) }
         // where the disk doesn't fail and memory is found, each of the others comes exactly where it has to
         ensures whole { OnOk result (self.now.broken ≡ false) }
         ensures broken { IfErr result
@@ -470,6 +428,22 @@ impl<D: Disk> StoredNode<D> {
             Ok(()) => Ok(disk),
             Err(why) => Err(CompactRefusal { why, disk }),
         }
+    }
+
+    /// Has the node go on on another disk, which has the shortest journal of it, as `compact` writes that. Gives the disk that it had.
+    /// Nothing is read, and the time is that of a step for each block.
+    pub fn go_on(&mut self, disk: D) -> D
+        requires whole { self.old.broken ≡ false }
+        requires journal { IsJournalOf self.old.node (D.seen disk) (D.most disk) }
+        requires durable { D.pending disk ≡ settled (D.seen disk) }
+        ensures state { self.new.node ≡ self.old.node }
+        ensures whole { self.new.broken ≡ false }
+        ensures disk { self.new.disk ≡ disk }
+        ensures given { result ≡ self.old.disk }
+    {
+        let _small = disk.room();
+        self.count = kept_count(&self.node);
+        replace(&mut self.disk, disk)
     }
 
     /// How long the journal is, and how long the shortest one of the node would be. Nothing is read, and the time is that of a step
@@ -512,6 +486,14 @@ impl<D: Disk> StoredNode<D> {
             stamps ≡ map (λ v. v.stamp) (versions_in self.now.node block)) }
     {
         self.node.versions(block)
+    }
+
+    /// How many versions of a block the node keeps beside the first one.
+    pub fn later_count(&self, block: u32) -> usize
+        requires { block < self.now.node.config.blocks }
+        ensures { result + 1 ≡ length (versions_in self.now.node block) }
+    {
+        self.node.later_count(block)
     }
 
     /// The greatest time of the versions that the node keeps of a block.

@@ -1,9 +1,11 @@
 use Rattle.std.proofs.Common.{◌≡◌, None, length, ap, subst}
 use Rattle.node_core.specs.Seen.{SeenNode}
+use Rattle.slot_disk.specs.Bodies.{IsClosedAt}
+use Rattle.slot_disk.specs.Slots.{body_len}
 use Rattle.version_disk.specs.Compacted.{kept_slots, compacted_len}
 use Rattle.version_disk.specs.Held.{held, slots_of, first_bad}
 use Rattle.version_disk.specs.Stored.{Stored}
-use Rattle.version_disk.proofs.Journals.{own_grown, kept_whole, journal_held, journal_slots, journal_good, length-journal}
+use Rattle.version_disk.proofs.Journals.{own_grown, kept_whole, journal_closed, journal_held, journal_slots, journal_good, length-journal}
 use Rattle.version_disk.proofs.stored.StoredNode.compact.Goals as goal
 
 pub write_journal-requires-clause-whole : goal.write_journal-requires-clause-whole
@@ -55,3 +57,13 @@ returns-in-Ok-clause-len g c =
     let bytes = E.seen c.write_journal.new.disk in
     let same : i.node ≡ c.args.self.now.node = ap (λ (t : Stored g.row.D.Denot). t.node) c.self.view_is in
     subst (λ (n : SeenNode). length bytes ≡ compacted_len n) same (length-journal i.node.config (kept_slots i.node) bytes c.in-Ok.ensures.fitting c.in-Ok.ensures.journal)
+
+pub returns-in-Ok-clause-closed : goal.returns-in-Ok-clause-closed
+returns-in-Ok-clause-closed g c =
+    let D = g.D.Disk in
+    let E = g.E.Disk in
+    let i = c.self.inside in
+    let bytes = E.seen c.write_journal.new.disk in
+    let same : i.node ≡ c.args.self.now.node = ap (λ (t : Stored g.row.D.Denot). t.node) c.self.view_is in
+    subst (λ (n : SeenNode). IsClosedAt (body_len n.config) bytes (length (kept_slots n))) same
+    (journal_closed i.node.config i.node.number i.node (own_grown i.node (D.seen i.disk) (c.self.invariant.0 c.if-self.false).state) c.in-Ok.ensures.fitting bytes c.in-Ok.ensures.journal)

@@ -3,7 +3,7 @@ use Rattle.quorum_rules.specs.Limits.{Numbers}
 use Rattle.node_core.specs.Seen.{versions_in}
 use Rattle.version_disk.specs.Compacted.{slots_in, slots_from}
 use Rattle.version_disk.proofs.Journals.{with_next, length-slots_in}
-use Rattle.version_disk.proofs.compact.compacted_size.Goals as goal
+use Rattle.version_disk.proofs.compact.kept_count.Goals as goal
 
 pub loop-block-preserved : goal.loop-block-preserved
 loop-block-preserved c count =
