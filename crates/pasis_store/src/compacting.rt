@@ -8,7 +8,6 @@ use crate::telling::tell;
 use file_disk::{FileDisk, Opening};
 use lists::NoMemory;
 use std::alloc::Global;
-use std::thread::{Threads, for_each_mut};
 use store_words::{Down, Notice};
 
 /// A journal that is longer than twice what it could be, and this many bytes, is written anew.
@@ -21,46 +20,19 @@ struct Places {
     beside: String,
 }
 
-/// Writes the journals anew that are due: the nodes go on on them as they are. The old ones are let go in threads, since a system takes long to
-/// close a long file that no path leads to any more.
-pub fn compact_due<T: Threads + Sync>(
-    rt: &HostRuntime,
-    threads: &T,
-    folders: &[String],
-    store: &mut FileStore,
-)
+/// Writes the journals anew that are due: the nodes go on on them as they are.
+pub fn compact_due(rt: &HostRuntime, folders: &[String], store: &mut FileStore)
     ensures tended { IsTended store.old store.new }
     ensures config { store.new.config ≡ store.old.config }
 {
-    let mut old = Vec::new(rt.alloc());
     for seat in 0..store.config().n() as u8 {
-        compact_one(rt, folders, seat, store, &mut old);
+        compact_one(rt, folders, seat, store);
     }
-    let_go(threads, old);
 }
 
-// Lets disks go, each in a thread.
-fn let_go<T: Threads + Sync>(threads: &T, mut disks: Vec<Option<Journal>>) {
-    let count = disks.len().max(1);
-    for_each_mut(
-        threads,
-        &mut disks,
-        count,
-        &|_, disk| {
-            let _ = disk.take();
-        },
-    );
-}
-
-// Writes the journal of one node anew, if it is due. Its old disk is kept with the others.
+// The same of one node.
 #[tactic(auto, using(crate::proofs::Journals::same_seats))]
-fn compact_one(
-    rt: &HostRuntime,
-    folders: &[String],
-    seat: u8,
-    store: &mut FileStore,
-    old: &mut Vec<Option<Journal>>,
-)
+fn compact_one(rt: &HostRuntime, folders: &[String], seat: u8, store: &mut FileStore)
     requires { seat < store.old.config.n }
     ensures { IsReseated store.old store.new }
 {
@@ -68,7 +40,7 @@ fn compact_one(
         return;
     };
     if is_due(store, usize::from(seat)) {
-        compact(rt, folder.as_str(), seat, store, old);
+        compact(rt, folder.as_str(), seat, store);
     }
 }
 
@@ -89,13 +61,7 @@ fn is_due(store: &FileStore, seat: usize) -> bool
 // the old one. Where it can't be put in its place, it isn't known which of the two stands there, so neither is to be written: the node is down
 // until the store is opened again.
 #[tactic(auto, using(crate::proofs::Journals::same_seats, crate::proofs::Reseating::taken_out))]
-fn compact(
-    rt: &HostRuntime,
-    folder: &str,
-    seat: u8,
-    store: &mut FileStore,
-    old: &mut Vec<Option<Journal>>,
-)
+fn compact(rt: &HostRuntime, folder: &str, seat: u8, store: &mut FileStore)
     requires { seat < store.old.config.n }
     ensures { IsReseated store.old store.new }
 {
@@ -105,20 +71,15 @@ fn compact(
     let Some(disk) = written_anew(rt, &places, store, usize::from(seat)) else {
         return;
     };
-    match go_on(rt, &places, seat, store, disk) {
-        Ok(was) => {
-            let _ = old.push(Some(was));
-        }
-        Err(why) => {
-            let _ = store.take_node(usize::from(seat));
-            tell(
-                rt,
-                &Notice::Down {
-                    node: usize::from(seat),
-                    why,
-                },
-            );
-        }
+    if let Err(why) = go_on(rt, &places, seat, store, disk) {
+        let _ = store.take_node(usize::from(seat));
+        tell(
+            rt,
+            &Notice::Down {
+                node: usize::from(seat),
+                why,
+            },
+        );
     }
 }
 
@@ -150,14 +111,14 @@ fn written_anew(
     }
 }
 
-// Puts a node's new journal in its place, and has the node go on on it. Gives its old disk.
+// Puts a node's new journal in its place, and has the node go on on it.
 fn go_on(
     rt: &HostRuntime,
     places: &Places,
     seat: u8,
     store: &mut FileStore,
     disk: Journal,
-) -> Result<Journal, Down>
+) -> Result<(), Down>
     requires there { seat < store.old.config.n }
     requires holds { Holds store.old.config seat disk (seat_at store.old seat) }
     ensures on { OnOk result (IsReseated store.old store.new) }
@@ -170,7 +131,7 @@ fn go_on(
     let Some(mut node) = store.take_node(usize::from(seat)) else {
         unreachable!();
     };
-    let was = node.go_on(disk);
+    let _was = node.go_on(disk);
     store.seat_node(usize::from(seat), node);
-    Ok(was)
+    Ok(())
 }

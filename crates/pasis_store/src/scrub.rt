@@ -30,7 +30,7 @@ pub fn scrub<T: Threads + Sync>(
     let before = lens(rt.alloc(), &store)?;
     let care = look_at_all(rt, threads, &mut store)?;
     settle(rt, threads, &mut store)?;
-    compact_due(rt, threads, folders, &mut store);
+    compact_due(rt, folders, &mut store);
     let lines = lines_of(rt.alloc(), &mut store, &before, &care)?;
     if write_scrubbed(&mut rt.stdout(), &lines).is_err() {
         return Ok(Status::Failed);

@@ -100,6 +100,6 @@ fn look_after<T: Threads + Sync>(
     ensures config { store.new.config ≡ store.old.config }
 {
     prune_all(threads, rt.alloc(), store, MOST_VERSIONS)?;
-    compact_due(rt, threads, folders, store);
+    compact_due(rt, folders, store);
     Ok(())
 }
