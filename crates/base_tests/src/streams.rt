@@ -6,7 +6,7 @@ use std::alloc::Global;
 use std::io;
 use std::io::{ErrorKind, Read, Write};
 
-fn input(alloc: Global) -> Result<Bytes, ReadRefusal> {
+fn input(alloc: Global) -> Result<Vec<u8>, ReadRefusal> {
     let mut source = CalmSource::new(Bytes::of(alloc, b"abcde")?, 2);
     read_all(alloc, &mut source)
 }

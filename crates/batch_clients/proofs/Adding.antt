@@ -13,7 +13,7 @@ use Rattle.protocol.specs.Instance.{setting}
 use Rattle.protocol.specs.Seen.{SeenTask, ops_of, block_of, work_of, seen_begun}
 use Rattle.operation_core.specs.Clients.{ClientView, started, with_started}
 use Rattle.client_core.specs.Clients.{idle_client}
-use Rattle.block_lives.specs.Phases.{after_phase}
+use Rattle.block_phases.specs.Phases.{after_phase}
 use Rattle.batch_clients.specs.declared.run.Run.{Run}
 use Rattle.batch_clients.specs.declared.run.Standing.TheVariants.{Asking}
 use Rattle.batch_clients.specs.Batches.{Stand, Running, how_many, reply_at, column, ask_by, asks_to, begun, stand_after, stand_heard, after_answers, AreAsksOf}

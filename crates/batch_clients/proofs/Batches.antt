@@ -14,8 +14,8 @@ use Rattle.protocol.specs.Operations.{Work, Decision, decide, answered}
 use Rattle.protocol.specs.Operations.Decision.{GoesOn, Ends}
 use Rattle.protocol.specs.Seen.{SeenTask, task_at, answers_of, seen_begun, seen_counted, is_counted, by_decision, hearing, block_of, work_of}
 use Rattle.protocol.specs.Seen.Hearing.{Ignored, Counted}
-use Rattle.block_lives.specs.Phases.{Progress, tag_of, ask_to, progress, heard_from, after_phase}
-use Rattle.block_lives.specs.Phases.Progress.{UnderWay, Over}
+use Rattle.block_phases.specs.Phases.{Progress, tag_of, ask_to, progress, heard_from, after_phase}
+use Rattle.block_phases.specs.Phases.Progress.{UnderWay, Over}
 use Rattle.batch_clients.specs.Batches.{Stand, Running, how_many, column, begun, asks_to, stand_after, stand_heard, after_answers}
 use Rattle.batch_clients.specs.Batches.Stand.{Asks, Ended, Lost}
 

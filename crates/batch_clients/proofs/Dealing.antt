@@ -10,7 +10,7 @@ use Rattle.wire_forms.specs.declared.Body.TheVariants.{Ask as Asks}
 use Rattle.protocol.specs.Setting.{Setting}
 use Rattle.protocol.specs.Operations.{outstanding, mail}
 use Rattle.protocol.specs.Seen.{SeenTask, task_at}
-use Rattle.block_lives.specs.Phases.{ask_to}
+use Rattle.block_phases.specs.Phases.{ask_to}
 use Rattle.batch_clients.specs.Batches.Stand.{Asks as AsksOne}
 use Rattle.batch_clients.specs.Parts.{AskMore, IsDealt}
 

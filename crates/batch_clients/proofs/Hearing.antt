@@ -14,8 +14,8 @@ use Rattle.client_core.specs.Clients.{IsHeard}
 use Rattle.client_core.specs.declared.heard.Heard.{Heard}
 use Rattle.client_core.specs.declared.heard.Heard.TheVariants.{Unchanged, More, Send, Ended as EndedWith}
 use Rattle.client_core.proofs.lemmas.AnswersHeard.{told_is}
-use Rattle.block_lives.specs.Phases.{tag_of, heard_from, progress, after_phase}
-use Rattle.block_lives.specs.Phases.Progress.{UnderWay, Over}
+use Rattle.block_phases.specs.Phases.{tag_of, heard_from, progress, after_phase}
+use Rattle.block_phases.specs.Phases.Progress.{UnderWay, Over}
 use Rattle.batch_clients.specs.Parts.{answer_from, IsHeardFrom, HasCome}
 
 old_tag : (a p n k w : Bool) → p ≡ false → a && p && n && k && w ≡ false

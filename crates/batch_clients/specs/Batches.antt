@@ -7,8 +7,8 @@ use Rattle.protocol.specs.Messages.{Ask, Reply}
 use Rattle.protocol.specs.Setting.{Setting}
 use Rattle.protocol.specs.Operations.{Outcome}
 use Rattle.protocol.specs.Seen.{SeenTask, block_of, work_of, seen_begun}
-use Rattle.block_lives.specs.Phases.{Progress, ask_to, after_phase}
-use Rattle.block_lives.specs.Phases.Progress.{UnderWay, Over}
+use Rattle.block_phases.specs.Phases.{Progress, ask_to, after_phase}
+use Rattle.block_phases.specs.Phases.Progress.{UnderWay, Over}
 
 -- where an operation stands between two phases
 pub data Stand : Type 0 where

@@ -12,8 +12,8 @@ use Rattle.operation_core.specs.Clients.{ClientView, with_task}
 use Rattle.client_core.specs.Clients.{mail_of, IsHeard}
 use Rattle.client_core.specs.declared.heard.Heard.{Heard}
 use Rattle.client_core.specs.declared.heard.Heard.TheVariants.{Unchanged, Send, Ended as EndedWith}
-use Rattle.block_lives.specs.Phases.{after_phase}
-use Rattle.block_lives.specs.Phases.Progress.{UnderWay, Over}
+use Rattle.block_phases.specs.Phases.{after_phase}
+use Rattle.block_phases.specs.Phases.Progress.{UnderWay, Over}
 use Rattle.batch_clients.specs.declared.run.Standing.{Standing}
 use Rattle.batch_clients.specs.declared.run.Standing.TheVariants.{Asking, Ended as HasEnded, Lost as IsLost}
 use Rattle.batch_clients.specs.declared.run.Run.{Run}

@@ -235,7 +235,7 @@ clients_few plan h =
     let n = starts_few 1000 (ascending (clients plan.rules plan.work)) (fold_ascends (clients plan.rules plan.work) [] tt) (λ y there. (client_there plan h y (from_ascending (clients plan.rules plan.work) y there)).1) in
     omega (arith, n)
 
-mapped : {X Y : Type 0} (f : X → Y) (xs : List X) → length (map f xs) ≡ length xs
+pub mapped : {X Y : Type 0} (f : X → Y) (xs : List X) → length (map f xs) ≡ length xs
 mapped f [] = refl
 mapped f (x ∷ xs) = let e = mapped f xs in omega (arith, e)
 

@@ -5,6 +5,7 @@ use Rattle.event_clock.specs.Passes.{ClockId, Holder}
 use Rattle.locked_nodes.specs.Cells.{CellView, new_cell}
 use Rattle.client_desks.specs.Desks.{first_desk}
 use Rattle.plan_words.specs.declared.plan.Plan.{Plan}
+use Rattle.plan_words.specs.Named.{clients, ascending}
 use Rattle.wire_forms.specs.Liars.{has_number}
 use Rattle.plan_followed.specs.Asked.{nature, crash_after}
 use Rattle.phase_threads.specs.Standing.{is_whole, HaveOwnShards}
@@ -25,6 +26,10 @@ shards_of plan shards i = if is_whole plan i then 1 else shards
 abbrev pub cell_count : Plan → ℕ → ℕ → ℕ
 cell_count plan shards zero = 0
 cell_count plan shards (suc n) = cell_count plan shards n + shards_of plan shards n
+
+-- how many passes a run's clock has: one for each cell, one for each client, and the one that meets all others
+abbrev pub pass_count : Plan → ℕ → ℕ
+pass_count plan shards = cell_count plan shards plan.config.n + length (ascending (clients plan.rules plan.work)) + 1
 
 -- the cell of a shard of node i, which has done nothing
 pub record IsNewCell (plan : Plan) (shards : ℕ) (clock : ClockId) (i shard : ℕ) (cell : CellView) : Type 0 where

@@ -27,6 +27,7 @@ pub(crate) fn close_phase(
     requires plan { plan_of run ≡ plan.now }
     ensures open { IfOk result (λ r. IsOpen r.0) }
     ensures plan { IfOk result (λ r. plan_of r.0 ≡ plan_of run) }
+    ensures clock { IfOk result (λ r. r.0.clock ≡ run.clock) }
     ensures closed { IfOk result (λ r.
         r.1 ≡ None → (k : ℕ) → IsWorked k run → IsBetween (k + 1) r.0) }
 {

@@ -48,6 +48,7 @@ pub(crate) fn close(alloc: Global, plan: &Plan, run: Run) -> Result<Closed, NoMe
     ensures records { IfOk result (λ r.
         map record_of r.records ≡ kept_records (desks_of run.clients.items)) }
     ensures drawn { IfOk result (λ r. IsDrawnOnce r.drawn.count (shares_of run)) }
+    ensures passes { IfOk result (λ r. length r.drawn.shares ≡ run.clock.passes) }
     ensures full { IfOk result (λ r. r.full ≡ true → HasFullPass r.drawn) }
     ensures cells { OnOk result (All KeptCell run.cells.items) }
     ensures kept { OnOk result (All KeptDesk (desks_of run.clients.items)) }

@@ -4,7 +4,7 @@ ghost use Rattle.plan_words.specs.Plans.{Fits};
 ghost use Rattle.client_duties.specs.Tasks.{IsTaskOf, client_of};
 ghost use Rattle.client_threads.specs.Running.{IsBetween, plan_of};
 ghost use Rattle.phase_threads.specs.Standing.{needs_whole};
-ghost use Rattle.client_threads.specs.Opened.{IsUnusedPass, AreNewCells, IsNewSeat, cell_count, shards_of};
+ghost use Rattle.client_threads.specs.Opened.{IsUnusedPass, AreNewCells, IsNewSeat, cell_count, pass_count, shards_of};
 
 use crate::state::Run;
 use client_desks::Desk;
@@ -24,6 +24,7 @@ pub(crate) fn open(alloc: Global, plan: &Plan, shards: u32) -> Result<Run, NoMem
     requires shards { (1 ≤ shards) × (shards ≤ 256) }
     ensures plan { IfOk result (λ run. plan_of run ≡ plan.now) }
     ensures stands { IfOk result (λ run. IsBetween 0 run) }
+    ensures passes { IfOk result (λ run. run.clock.passes ≡ pass_count plan.now shards) }
 {
     phases_close();
     let tasks = tasks_of(alloc, plan)?;

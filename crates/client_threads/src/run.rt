@@ -1,5 +1,5 @@
 //! A plan, run in threads.
-ghost use Rattle.std.specs.Prelude.{◌≡◌, ◌+◌, ◌≤◌, ℕ, IfOk, IfErr, Err, map};
+ghost use Rattle.std.specs.Prelude.{◌≡◌, ◌+◌, ◌≤◌, ℕ, IfOk, IfErr, Err, length, map};
 ghost use Rattle.std.specs.Thread.{IsSync};
 ghost use Rattle.event_clock.specs.Passes.{HasFullPass, Tally};
 ghost use Rattle.protocol.specs.Seen.{record_of};
@@ -9,6 +9,7 @@ ghost use Rattle.plan_followed.specs.Followed.{AreOfPlan};
 ghost use Rattle.phase_threads.specs.Phases.{MayPhase, HasPhased};
 ghost use Rattle.client_duties.specs.ClientDuty.{Ready, Done};
 ghost use Rattle.client_threads.specs.Phases.{DoesPhases};
+ghost use Rattle.client_threads.specs.Opened.{pass_count};
 ghost use Rattle.client_threads.specs.Running.{IsBetween, IsWorked, plan_of, cuts};
 
 use crate::between::close_phase;
@@ -49,7 +50,7 @@ const SHARDS: u32 = 4;
 ///
 /// Its journals are those of a run of the plan: each is kept, they agree in pairs, their numbers are those below the count of what was
 /// drawn, each once, and they follow the plan. Its records are those that the journals tell. `ClockFull` comes only where a pass has
-/// drawn 2^40 numbers.
+/// drawn 2^40 numbers. What was drawn shows how many cells there were: each had a pass of its own.
 pub fn run_plan<R: Threads + Wait + Sync, G: Gate + Sync>(
     rt: &R,
     alloc: Global,
@@ -59,6 +60,7 @@ pub fn run_plan<R: Threads + Wait + Sync, G: Gate + Sync>(
     requires { Fits plan.now }
     ensures followed { IfOk result (λ r. AreOfPlan plan.now r.journals r.drawn.count) }
     ensures records { IfOk result (λ r. AreTold r.journals (map record_of r.records)) }
+    ensures passes { IfOk result (λ r. length r.drawn.shares ≡ pass_count plan.now 4) }
     ensures full { (drawn : Tally) → result ≡ Err (RunRefusal.ClockFull drawn) → HasFullPass drawn }
 {
     let phase = |clock: Clock, cells: Vec<NodeCell>, seats: Vec<Seat<ClientDuty>>| -> Phased
@@ -71,7 +73,8 @@ pub fn run_plan<R: Threads + Wait + Sync, G: Gate + Sync>(
 }
 
 /// Runs a plan that fits as `run_plan` does, with phases of any kind: `phase` is called once for each. A node has so many cells, from 1
-/// to 256, but one alone where it is to crash or to hold asks back.
+/// to 256, but one alone where it is to crash or to hold asks back: the numbers were drawn by a pass for each cell, one for each
+/// client, and one more.
 pub fn run_by<R: Wait, F: Fn(Clock, Vec<NodeCell>, Vec<Seat<ClientDuty>>) -> Phased>(
     rt: &R,
     alloc: Global,
@@ -84,6 +87,7 @@ pub fn run_by<R: Wait, F: Fn(Clock, Vec<NodeCell>, Vec<Seat<ClientDuty>>) -> Pha
     requires shards { (1 ≤ shards) × (shards ≤ 256) }
     ensures followed { IfOk result (λ r. AreOfPlan plan.now r.journals r.drawn.count) }
     ensures records { IfOk result (λ r. AreTold r.journals (map record_of r.records)) }
+    ensures passes { IfOk result (λ r. length r.drawn.shares ≡ pass_count plan.now shards) }
     ensures full { (drawn : Tally) → result ≡ Err (RunRefusal.ClockFull drawn) → HasFullPass drawn }
 {
     let liars = liars_of(alloc, plan)?;
@@ -110,6 +114,7 @@ fn work_off<R: Wait, F: Fn(Clock, Vec<NodeCell>, Vec<Seat<ClientDuty>>) -> Phase
     requires between { (k : ℕ) × IsBetween k run × (k ≤ cuts (plan_of run)) }
     requires plan { plan_of run ≡ plan.now }
     ensures plan { IfOk result (λ r. plan_of r ≡ plan_of run) }
+    ensures clock { IfOk result (λ r. r.clock ≡ run.clock) }
     ensures worked { IfOk result (λ r. (k : ℕ) → IsBetween k run → IsWorked k r) }
     ensures full { (drawn : Tally) → result ≡ Err (RunRefusal.ClockFull drawn) → HasFullPass drawn }
 {
@@ -131,6 +136,7 @@ fn cut(alloc: Global, plan: &Plan, run: Run) -> Result<Run, RunRefusal>
     requires worked { (k : ℕ) × IsWorked k run }
     requires plan { plan_of run ≡ plan.now }
     ensures plan { IfOk result (λ r. plan_of r ≡ plan_of run) }
+    ensures clock { IfOk result (λ r. r.clock ≡ run.clock) }
     ensures closed { IfOk result (λ r. (k : ℕ) → IsWorked k run → IsBetween (k + 1) r) }
     ensures full { (drawn : Tally) → result ≡ Err (RunRefusal.ClockFull drawn) → HasFullPass drawn }
 {
@@ -149,6 +155,7 @@ fn finish(alloc: Global, plan: &Plan, liars: Liars, run: Run) -> Result<Ran, Run
     requires worked { IsWorked (cuts plan.now) run }
     ensures followed { IfOk result (λ r. AreOfPlan plan.now r.journals r.drawn.count) }
     ensures records { IfOk result (λ r. AreTold r.journals (map record_of r.records)) }
+    ensures passes { IfOk result (λ r. length r.drawn.shares ≡ run.clock.passes) }
     ensures memory { IfErr result (λ e. e ≡ RunRefusal.NoMemory) }
 {
     runs_end();

@@ -22,6 +22,7 @@ pub(crate) fn work<F: Fn(Clock, Vec<NodeCell>, Vec<Seat<ClientDuty>>) -> Phased>
     requires standing { (k : ℕ) × IsStanding k run × (k ≤ cuts (plan_of run)) }
     ensures open { IfOk result (λ r. IsOpen r.0) }
     ensures plan { IfOk result (λ r. plan_of r.0 ≡ plan_of run) }
+    ensures clock { IfOk result (λ r. r.0.clock ≡ run.clock) }
     ensures done { IfOk result (λ r.
         r.1 ≡ None → (k : ℕ) → IsStanding k run → HasDonePhase k run r.0) }
 {

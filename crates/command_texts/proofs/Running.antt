@@ -20,6 +20,7 @@ use Rattle.plan_followed.specs.Followed.{AreOfPlan}
 use Rattle.event_lines.specs.Lines.{IsEventLine}
 use Rattle.event_lines.specs.declared.line.ReplayLine.TheVariants.{Plain}
 use Rattle.script_text.specs.Replays.{AreAscendingLiars, replay_text}
+use Rattle.script_run.specs.Histories.{FitsHistory}
 use Rattle.journal_records.specs.Shown.{HistoriesAreComplete}
 use Rattle.journal_records.specs.Told.{IsTold, LinesAreTold}
 use Rattle.command_texts.specs.ScriptLiars.{HasScriptLiars}
@@ -42,11 +43,12 @@ leads_to runs law plan j drawn of lines w merged leads =
 
 -- ---- the run, its report
 
-abbrev pub runs_plan : HistoriesAreComplete → (plan : Plan) (j : Journals) → AreOfPlanRun plan j → (lines : List Line) (v : WorldView) → IsPlanRun plan j lines v → (text : List ℕ) → ReportsWorld v text → RunsPlan plan j text
-runs_plan complete plan j of lines v is text reports =
+abbrev pub runs_plan : HistoriesAreComplete → (plan : Plan) (j : Journals) → AreOfPlanRun plan j → (lines : List Line) (v : WorldView) → IsPlanRun plan j lines v → FitsHistory (world_in v)
+    → (text : List ℕ) → ReportsWorld v text → RunsPlan plan j text
+runs_plan complete plan j of lines v is fits text reports =
     let here : Reports (setting_for j) (world_in v) text = subst (λ (s : Setting). Reports s (world_in v) text) is.setting reports in
     record {
-      made = record { of_plan = of; lines = lines; merged = is.merged; world = world_in v; run = is.run };
+      made = record { of_plan = of; lines = lines; merged = is.merged; world = world_in v; run = is.run; fits = fits };
       reports = here;
       complete = complete plan j of.0 (placed 0 lines) (world_in v) here.of.history of.1 is.merged is.run (here.of.tells.history.sorted, here.of.tells.history.entries);
     }

@@ -53,20 +53,21 @@ module _ (runs : PlansRun) (there : LinesAreThere) (plan : Plan) (j : Journals) 
   same : placed 0 (lines_in has_run.lines) ≡ has_run.lines
   same = let m = has_run.merge in merged_placed (setting_for j) _ 0 _ has_run.lines m.2
 
-  abbrev made_run : PlanRun plan j
-  made_run = record {
+  abbrev made_run : FitsHistory has_run.last → PlanRun plan j
+  made_run fits = record {
     of_plan = (drawn, of);
     lines = lines_in has_run.lines;
     merged = subst (IsMerge j) (sym same) has_run.merge;
     world = has_run.last;
     run = subst (λ (ls : List (ℕ × Line)). IsRun (setting_for j) ls has_run.last) (sym same) has_run.run;
+    fits = fits;
   }
 
   abbrev pub last_world : World
   last_world = has_run.last
 
-  pub tells_plan : (book : Book) → TellsHistory (setting_for j) last_world book → TellsPlan plan j book
-  tells_plan book told = record { made = made_run; of = told }
+  pub tells_plan : FitsHistory last_world → (book : Book) → TellsHistory (setting_for j) last_world book → TellsPlan plan j book
+  tells_plan fits book told = record { made = made_run fits; of = told }
 
   module _ (counted : LastPlaceIsCount) (had : WorldsHaveAllRecords) (those : RecordsAreThose) (rare : RecordsFitHistory) (low : drawn ≤ 2 ^ 56) (records : List Record) (all : AreAllRecords j records) (first : Stamp) (begins : first ≡ (first_of j.config).stamp) where
     pub are_of_run : AreOfRun (setting_for j) last_world records first

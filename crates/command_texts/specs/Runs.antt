@@ -6,7 +6,7 @@ use Rattle.protocol.specs.Lines.{Line, IsRun}
 use Rattle.world_state.specs.Worlds.{WorldView, setting_in, world_in}
 use Rattle.history_making.specs.Books.{Book}
 use Rattle.history_book.specs.Reports.{report_text}
-use Rattle.script_run.specs.Histories.{TellsHistory}
+use Rattle.script_run.specs.Histories.{FitsHistory, TellsHistory}
 use Rattle.journals.specs.declared.whole.Journals.{Journals}
 use Rattle.journals.specs.Journals.{setting_for, IsMerge}
 use Rattle.merge_trace.specs.Traces.{placed}
@@ -33,13 +33,14 @@ pub record IsPlanRun (plan : Plan) (j : Journals) (lines : List Line) (v : World
   pub setting : setting_in v ≡ setting_for j
   pub run : IsRun (setting_for j) (placed 0 lines) (world_in v)
 
--- the run of the plan that the journals tell: their lines, and the world that these lead to
+-- the run of the plan that the journals tell: their lines, and the world that these lead to. Its places are numbers of 64 bits
 pub record PlanRun (plan : Plan) (j : Journals) : Type 0 where
   pub of_plan : AreOfPlanRun plan j
   pub lines : List Line
   pub merged : IsMerge j (placed 0 lines)
   pub world : World
   pub run : IsRun (setting_for j) (placed 0 lines) world
+  pub fits : FitsHistory world
 
 -- the book tells the history of the run of the plan that the journals tell
 pub record TellsPlan (plan : Plan) (j : Journals) (book : Book) : Type 0 where

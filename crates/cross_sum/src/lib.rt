@@ -2,6 +2,7 @@
 #![tactic(auto)]
 
 pub mod bytes;
+mod digests;
 pub mod part;
 pub mod sum;
 

@@ -4,6 +4,7 @@ ghost use Rattle.cross_sum.specs.Digest.{digest, verifier};
 ghost use Rattle.cross_sum.specs.HowKept.{HaveDigests, IsBeside};
 
 use crate::bytes::Bytes;
+use crate::digests::digests_of;
 use crate::part::{Part, Shares};
 use lists::{Copied, NoMemory};
 use sha2::{Digest, Sha256};
@@ -211,17 +212,6 @@ fn beside(digests: &[Hash], number: u8, fragment: &Bytes) -> Result<Option<Part>
         return Ok(Some(Part { number, bytes }));
     }
     Ok(None)
-}
-
-/// The digests of the strings, in order.
-fn digests_of(alloc: Global, strings: &[Bytes]) -> Result<Vec<Hash>, NoMemory>
-    ensures { IfOk result (λ v. v.items ≡ map digest strings.now) }
-{
-    let mut digests = Vec::with_capacity(alloc, strings.len())?;
-    for string in strings {
-        digests.push(sha(string.as_slice()))?;
-    }
-    Ok(digests)
 }
 
 /// Copies of the strings, in order.

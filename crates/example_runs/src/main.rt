@@ -90,7 +90,7 @@ fn is_legal(alloc: Global, report: &[u8]) -> io::Result<bool> {
 fn draws(alloc: Global, script: &[u8], picture: &[u8]) -> io::Result<bool> {
     let mut source = source_of(alloc, script)?;
     let mut sink = MemorySink::new(alloc, 4096, Calls::new(alloc));
-    let status = draw(alloc, &mut source, &mut sink);
+    let status = draw(alloc, &[], &mut source, &mut sink);
     Ok(status.is_done() && sink.taken() == picture)
 }
 

@@ -17,6 +17,10 @@ pub record InboxId (T P : Type 0) : Type 0 where
   pub keys : Badge (Key (Parcel T P))
   pub place : P
 
+-- how many items it holds at a time: its ring has a slot for each
+abbrev pub room_of : {T P : Type 0} → InboxId T P → ℕ
+room_of inbox = inbox.ring.slots
+
 -- a putter: its inbox, its number, and the items that it put. The same after its last word
 pub record Putting (T P : Type 0) : Type 0 where
   pub inbox : InboxId T P

@@ -3,7 +3,7 @@ ghost use Rattle.crossbeam_channel.specs.Claims.{view, IsSeatAt};
 ghost use Rattle.crossbeam_channel.specs.Ends.{sends_on, receives_on, ruled_capacity};
 ghost use Rattle.crossbeam_channel.specs.Fifo.{Pushes, Pops, Learns};
 ghost use Rattle.inboxes.specs.Parcels.{Keeps, taking, start, has_ended, words_of};
-ghost use Rattle.inboxes.specs.Sides.{inbox_of, new_putter, AreNew, put_more, took, items_from, was_last_taken, IsDone, TookNext, TookLasts, IsSettled, IsTaking, IsSameSeat, HeardNext, HeardLasts};
+ghost use Rattle.inboxes.specs.Sides.{inbox_of, room_of, new_putter, AreNew, put_more, took, items_from, was_last_taken, IsDone, TookNext, TookLasts, IsSettled, IsTaking, IsSameSeat, HeardNext, HeardLasts};
 
 use crate::InboxItem;
 use crate::rule::{
@@ -148,6 +148,7 @@ impl Inbox {
     ) -> Result<(Taker<T>, Putters<T>), NoMemory>
         requires room { 1 ≤ room }
         requires senders { (1 ≤ senders) × (senders ≤ 65536) }
+        ensures room { IfOk result (λ r. room_of r.0.inbox ≡ room) }
         ensures place { IfOk result (λ r. r.0.inbox.place ≡ place.now) }
         ensures senders { IfOk result (λ r. r.0.senders ≡ senders) }
         ensures heard { IfOk result (λ r. r.0.heard ≡ []) }

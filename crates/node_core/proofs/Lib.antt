@@ -4,3 +4,4 @@ pub mod Finding
 pub mod Last
 pub mod Refusals
 pub mod Firsts
+pub mod Undoing

@@ -1,3 +1,4 @@
 pub mod Index
 pub mod Lent
+pub mod Past
 pub mod Seen

@@ -4,8 +4,11 @@
 mod kept;
 pub mod lent;
 pub mod node;
+mod past;
 pub mod prepared;
+pub mod undo;
 
 pub use lent::LentVersion;
 pub use node::{Node, Stamps};
 pub use prepared::Prepared;
+pub use undo::UndoRecord;

@@ -1,12 +1,14 @@
-ghost use Rattle.std.specs.Prelude.{◌≡◌, ◌≤◌, ◌<◌, ◌+◌, length, map, slice_get, option_map, OnOk, OnErr, IfOk, None, is_some};
+ghost use Rattle.std.specs.Prelude.{◌≡◌, ◌≤◌, ◌<◌, ◌+◌, length, map, slice_get, option_map, OnOk, OnErr, IfOk, Some, None, is_some};
 ghost use Rattle.protocol.specs.Nodes.{refusal, acknowledged, found, greatest_in, greatest_time, pruned, added, keeps};
 ghost use Rattle.protocol.specs.Instance.{setting};
 ghost use Rattle.node_core.specs.Lent.{lent};
-ghost use Rattle.node_core.specs.Seen.{SeenNode, versions_in, with_versions, without, new_node, reply_of, after_of, accepts_of};
+ghost use Rattle.node_core.specs.Seen.{SeenNode, versions_in, with_versions, new_node, reply_of, after_of, accepts_of};
 
 use crate::kept::Kept;
 use crate::lent::LentVersion;
+use crate::past::NodePast;
 use crate::prepared::Prepared;
+use crate::undo::UndoRecord;
 use lists::{Copied, ItemList, NoMemory};
 use quorum_rules::Config;
 use stamp_order::{Bound, Stamp};
@@ -118,6 +120,36 @@ impl Node {
         Ok(())
     }
 
+    /// Adds a version that was prepared for the ask, as `commit` does. `undo` takes it back by the record.
+    pub fn add_version(&mut self, ask: &Ask, version: Version) -> Result<UndoRecord, NoMemory>
+        requires { Some version ≡ accepts_of self.old ask.now }
+        ensures ok { OnOk result
+            (self.new ≡ with_versions self.old ask.now.block (after_of self.old ask.now)) }
+        ensures before { IfOk result (λ undo. undo.before ≡ self.old) }
+        ensures after { IfOk result (λ undo. undo.after ≡ self.new) }
+        ensures err { OnErr result (self.new ≡ self.old) }
+    {
+        let before = NodePast::of(self);
+        let stamp = version.stamp;
+        self.commit(ask, Some(version))?;
+        Ok(UndoRecord {
+            block: ask.block,
+            stamp,
+            before,
+            after: NodePast::of(self),
+        })
+    }
+
+    /// Takes back the version that the node added last. The node is again what it was before `add_version`, and must be what it was
+    /// after it. It takes no memory.
+    pub fn undo(&mut self, undo: UndoRecord)
+        requires { self.old ≡ undo.after }
+        ensures { self.new ≡ undo.before }
+    {
+        let UndoRecord { block, stamp, .. } = undo;
+        self.blocks[block as usize].take_back(&stamp);
+    }
+
     /// Whether the node would add a version in answer to the ask.
     pub fn adds(&self, ask: &Ask) -> bool
         ensures { result ≡ is_some (accepts_of self.now ask.now) }
@@ -195,17 +227,6 @@ impl Node {
     {
         let (stamp, content) = self.blocks[block as usize].get(k)?;
         Some(content.lent(stamp))
-    }
-
-    /// Drops the version of this stamp of a block, as if it had not been accepted. It takes no memory. The first version, whose
-    /// time is 0, can't be dropped.
-    pub fn take_back(&mut self, block: u32, stamp: &Stamp)
-        requires there { block < self.old.config.blocks }
-        requires later { 1 ≤ stamp.now.time }
-        ensures { self.new ≡ with_versions self.old block
-            (without stamp.now (versions_in self.old block)) }
-    {
-        self.blocks[block as usize].take_back(stamp);
     }
 
     /// Why a version is refused: its lengths, its time, its verifier, or its fragment's digest.

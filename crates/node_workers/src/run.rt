@@ -1,5 +1,5 @@
 //! A plan, run with each node in a thread of its own.
-ghost use Rattle.std.specs.Prelude.{◌≡◌, Err, IfOk, map};
+ghost use Rattle.std.specs.Prelude.{◌≡◌, Err, IfOk, length, map};
 ghost use Rattle.std.specs.Thread.{IsSync};
 ghost use Rattle.event_clock.specs.Passes.{HasFullPass, Tally};
 ghost use Rattle.protocol.specs.Seen.{record_of};
@@ -8,6 +8,7 @@ ghost use Rattle.plan_words.specs.Plans.{Fits};
 ghost use Rattle.plan_followed.specs.Followed.{AreOfPlan};
 ghost use Rattle.phase_threads.specs.Phases.{MayPhase, HasPhased};
 ghost use Rattle.client_duties.specs.ClientDuty.{Ready, Done};
+ghost use Rattle.client_threads.specs.Opened.{pass_count};
 
 use crate::phase::run_mail_phase;
 use client_duties::ClientDuty;
@@ -29,7 +30,7 @@ const SHARDS: u32 = 1;
 ///
 /// Its journals are those of a run of the plan: each is kept, they agree in pairs, their numbers are those below the count of what was
 /// drawn, each once, and they follow the plan. Its records are those that the journals tell. `ClockFull` comes only where a pass has
-/// drawn 2^40 numbers.
+/// drawn 2^40 numbers. What was drawn shows how many cells there were: each had a pass of its own.
 pub fn run_workers<R: Threads + Wait + Sync, G: Gate + Sync>(
     rt: &R,
     alloc: Global,
@@ -39,6 +40,7 @@ pub fn run_workers<R: Threads + Wait + Sync, G: Gate + Sync>(
     requires { Fits plan.now }
     ensures followed { IfOk result (λ r. AreOfPlan plan.now r.journals r.drawn.count) }
     ensures records { IfOk result (λ r. AreTold r.journals (map record_of r.records)) }
+    ensures passes { IfOk result (λ r. length r.drawn.shares ≡ pass_count plan.now 1) }
     ensures full { (drawn : Tally) → result ≡ Err (RunRefusal.ClockFull drawn) → HasFullPass drawn }
 {
     let phase = |clock: Clock, cells: Vec<NodeCell>, seats: Vec<Seat<ClientDuty>>| -> Phased

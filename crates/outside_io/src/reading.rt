@@ -4,7 +4,6 @@ ghost use Rattle.outside_io.specs.Causes.{Rose, RoseByOne};
 ghost use Rattle.outside_io.specs.Given.{GaveAtMost, GaveExactly};
 
 use crate::source::Source;
-use cross_sum::Bytes;
 use lists::NoMemory;
 use std::alloc::{AllocError, Global};
 
@@ -55,11 +54,14 @@ fn wanted_at(have: usize) -> usize
     ROOM.min(LIMIT + 1 - have)
 }
 
-/// Reads a source to its end. It takes at most one byte more than the limit, and each turn takes at least one.
-pub fn read_all<S: Source>(alloc: Global, source: &mut S) -> Result<Bytes, ReadRefusal>
-    ensures bytes { IfOk result (λ input. Consumes (S.left source.old) (S.left source.new) input) }
+/// Reads a source to its end. It first takes memory for the longest input: where none is found, nothing is read. It takes at most
+/// one byte more than the limit, and each turn takes at least one.
+pub fn read_all<S: Source>(alloc: Global, source: &mut S) -> Result<Vec<u8>, ReadRefusal>
+    ensures bytes { IfOk result (λ input.
+        Consumes (S.left source.old) (S.left source.new) input.items) }
     ensures ended { OnOk result (IsAtEnd (S.left source.new)) }
-    ensures short { IfOk result (λ input. length input ≤ LIMIT) }
+    ensures short { IfOk result (λ input. length input.items ≤ LIMIT) }
+    ensures unread { IsErrOf result ReadRefusal.NoMemory → source.new ≡ source.old }
     // the last read is the one that failed, which came before the limit was passed
     ensures stopped { IsErrOf result ReadRefusal.ReadFault → S.failed source.new ≡ true }
     ensures counted { IsErrOf result ReadRefusal.ReadFault
@@ -74,15 +76,15 @@ pub fn read_all<S: Source>(alloc: Global, source: &mut S) -> Result<Bytes, ReadR
     ensures calm { result ≢ Err ReadRefusal.ReadFault → S.faults source.new ≡ S.faults source.old }
     ensures later { S.faults source.old ≤ S.faults source.new }
 {
-    let mut input = Vec::new(alloc);
+    let mut input = Vec::with_capacity(alloc, LIMIT + 1)?;
     let mut room = [0u8; ROOM];
     for _ in 0..LIMIT + 1 {
         let wanted = wanted_at(input.len());
         match source.read(&mut room[..wanted]) {
             Err(_) => return Err(ReadRefusal::ReadFault),
-            Ok(0) => return Ok(Bytes::shared(input)?),
+            Ok(0) => return Ok(input),
             Ok(count) => {
-                input.extend_from_slice(&room[..count])?;
+                let _ = input.extend_from_slice(&room[..count]);
                 if input.len() > LIMIT {
                     return Err(ReadRefusal::TooLong);
                 }

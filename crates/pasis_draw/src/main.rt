@@ -6,16 +6,33 @@ use command_texts::Status;
 use outside_io::{StdSink, StdSource};
 use run_pictures::{PictureStatus, draw};
 use std::env;
+use std::io::ErrorKind;
 use std::process::ExitCode;
 
+// The arguments after the program's name. Those that are no text are bad words.
+fn words_of(rt: &HostRuntime) -> Result<Vec<String>, PictureStatus> {
+    let mut arguments = match env::args(rt) {
+        Ok(arguments) => arguments,
+        Err(error) if error.kind() == ErrorKind::OutOfMemory => {
+            return Err(PictureStatus::Replay(Status::NoMemory));
+        }
+        Err(_) => return Err(PictureStatus::Replay(Status::BadWords)),
+    };
+    let _name = arguments.next();
+    match arguments.collect(rt.alloc()) {
+        Ok(words) => Ok(words),
+        Err(_) => Err(PictureStatus::Replay(Status::NoMemory)),
+    }
+}
+
 fn status_of(rt: &HostRuntime) -> PictureStatus {
-    match env::args(rt) {
-        Ok(words) if words.len() <= 1 => {
+    match words_of(rt) {
+        Ok(words) => {
             let mut source = StdSource::new(rt.stdin());
             let mut sink = StdSink::new(rt.stdout());
-            draw(rt.alloc(), &mut source, &mut sink)
+            draw(rt.alloc(), words.as_slice(), &mut source, &mut sink)
         }
-        _ => PictureStatus::Replay(Status::BadWords),
+        Err(status) => status,
     }
 }
 

@@ -50,7 +50,8 @@ pub fn plans_are_no_bad_scripts()
         → Fits plan → SpellsPlan input plan → HasFault (Command.Trace serving) input fault → ⊥ }
 {}
 
-/// What `replay` writes is a report that `check` finds legal, where no two different strings that were seen share a digest.
+/// Each verdict on what `replay` writes is `legal`, where no two different strings that were seen share a digest. `check` gives no
+/// verdict on a text of more than 4,194,304 bytes: it ends with `TooLong`.
 pub fn replays_are_legal()
     ensures { (input text verdict : List ℕ) (flaw : Option Flaw) → (r : Replays input text)
         → NoClash (cluster_of r.config r.liars) r.queues.world → Judges text verdict flaw

@@ -35,7 +35,10 @@ fn input_of<S: Source>(alloc: Global, command: Command, source: &mut S) -> Resul
         return Ok(Bytes::empty());
     }
     match read_all(alloc, source) {
-        Ok(input) => Ok(input),
+        Ok(input) => match Bytes::shared(input) {
+            Ok(input) => Ok(input),
+            Err(_) => Err(Status::NoMemory),
+        },
         Err(refusal) => Err(Status::of_read(refusal)),
     }
 }

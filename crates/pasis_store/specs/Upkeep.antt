@@ -42,13 +42,13 @@ module _ {F : Type 0} where
 
   -- it is only looked after
   abbrev pub IsTended : SeenStore (OnFile F) → SeenStore (OnFile F) → Type 0
-  IsTended old new = IsTendedOn (λ d. d.pending) (λ d. d.bytes) (λ d. length d.past) (λ d. LeftSince d.past d.pending) old new
+  IsTended old new = IsTendedOn (λ d. d.pending) (λ d. d.bytes) (λ d. d.most) (λ d. length d.past) (λ d. LeftSince d.past d.pending) old new
 
   -- group by group those of its blocks of which some node kept more than so many versions are read and pruned, and then it is only looked after
   abbrev pub IsPrunedFirst : (most : ℕ) → SeenStore (OnFile F) → SeenStore (OnFile F) → Type 0
   IsPrunedFirst most old new =
       (mid : SeenStore (OnFile F))
-      × HavePassed (λ d. d.pending) (λ d. d.bytes) (λ d. length d.past) (λ d. LeftSince d.past d.pending) most (groups_of old.config.blocks) old mid
+      × HavePassed (λ d. d.pending) (λ d. d.bytes) (λ d. d.most) (λ d. length d.past) (λ d. LeftSince d.past d.pending) most (groups_of old.config.blocks) old mid
       × IsTended mid new
 
   -- groups of its blocks are tried to be settled, one after the other, and nothing else is done; where that ends well, each block was
@@ -56,13 +56,13 @@ module _ {F : Type 0} where
   abbrev pub IsTried : {A E : Type 0} → Result A E → SeenStore (OnFile F) → SeenStore (OnFile F) → Type 0
   IsTried result old new =
       (tries : List (Try (OnFile F)))
-      × TriesLeadOn (λ d. d.pending) (λ d. d.bytes) (λ d. length d.past) (λ d. LeftSince d.past d.pending) old tries new
+      × TriesLeadOn (λ d. d.pending) (λ d. d.bytes) (λ d. d.most) (λ d. length d.past) (λ d. LeftSince d.past d.pending) old tries new
       × OnOk result ((block : ℕ) → block < old.config.blocks → IsTriedOut old tries block)
 
   -- a session in which it is only looked after between rounds
   abbrev pub IsSession : Numbers → (old new : SeenStore (OnFile F)) → Result (Unit {0}) SessionEnd → (left left_after taken taken_after : Option (List ℕ)) → Type 0
   IsSession c old new result left left_after taken taken_after =
-      IsSessionOn (λ d. d.pending) (λ d. d.bytes) (λ d. length d.past) (λ d. LeftSince d.past d.pending) IsTended c old new result left left_after taken taken_after
+      IsSessionOn (λ d. d.pending) (λ d. d.bytes) (λ d. d.most) (λ d. length d.past) (λ d. LeftSince d.past d.pending) IsTended c old new result left left_after taken taken_after
 
 -- ---- when a store is looked after
 

@@ -4,7 +4,7 @@ use crate::drawing::Drawing;
 use crate::layout::Layout;
 use crate::picture::{Actor, Arrow, Fate};
 use crate::px::{Point, Px, at};
-use crate::svg::Svg;
+use crate::shapes::Shapes;
 use lists::NoMemory;
 
 /// How far the messages of one row are above and below its middle.
@@ -90,26 +90,36 @@ impl<'p> Drawing<'p> {
             Actor::Node(_) => way_of_answer(self.layout, arrow),
         };
         let class = class_of(arrow);
-        let svg = &mut self.svg;
+        let shapes = &mut self.shapes;
         match arrow.fate {
-            Fate::NeverGiven => draw_unheard(svg, class, way.leave, way.unheard),
-            Fate::Lost => draw_lost(svg, class, way.start, way.lost),
+            Fate::NeverGiven => draw_unheard(shapes, class, way.leave, way.unheard),
+            Fate::Lost => draw_lost(shapes, class, way.start, way.lost),
             Fate::Arrived | Fate::Stale if arrow.sent == arrow.got => {
-                svg.line(class, way.start, way.end)
+                shapes.line(class, way.start, way.end)
             }
-            Fate::Arrived | Fate::Stale => svg.path(class, &[way.leave, way.bend, way.end]),
+            Fate::Arrived | Fate::Stale => shapes.bend(class, way.leave, way.bend, way.end),
         }
     }
 }
 
 /// Draws a message that was lost at a point.
-pub fn draw_lost(svg: &mut Svg, class: Class, from: Point, to: Point) -> Result<(), NoMemory> {
-    svg.line(class, from, to)?;
-    svg.cross(Class::Cross, to, Px(4))
+pub fn draw_lost(
+    shapes: &mut Shapes,
+    class: Class,
+    from: Point,
+    to: Point,
+) -> Result<(), NoMemory> {
+    shapes.line(class, from, to)?;
+    shapes.cross(Class::Cross, to, Px(4))
 }
 
 /// Draws a message that came to a point and was never given or heard.
-pub fn draw_unheard(svg: &mut Svg, class: Class, from: Point, to: Point) -> Result<(), NoMemory> {
-    svg.line(class, from, to)?;
-    svg.circle(Class::Ring, to, Px(3))
+pub fn draw_unheard(
+    shapes: &mut Shapes,
+    class: Class,
+    from: Point,
+    to: Point,
+) -> Result<(), NoMemory> {
+    shapes.line(class, from, to)?;
+    shapes.circle(Class::Ring, to, Px(3))
 }

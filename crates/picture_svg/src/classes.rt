@@ -1,15 +1,27 @@
-//! How the parts of a picture look: a class for each look, with its style and the head of its arrow.
-use lists::NoMemory;
-use std::collections::BTreeSet;
-use std::fmt::Write;
+//! How the parts of a picture look: a class for each look, with its style.
+ghost use Rattle.std.specs.Prelude.{◌≡◌, OnOk, IfOk};
+ghost use Rattle.text_lines.specs.Lines.{Lacks};
+ghost use Rattle.picture_svg.specs.Classes.{class_name};
 
-/// How a part of a picture looks. A message that a liar told has a class of its own, as a phase that never ended has.
-#[derive(Clone, Copy, PartialEq, Eq, PartialOrd, Ord)]
+use lists::NoMemory;
+use std::alloc::Global;
+use text_lines::Text;
+
+/// How a part of a picture looks, texts first. A message that a liar told has a class of its own, as a phase that never ended has.
+#[derive(Clone, Copy, PartialEq, Eq)]
 pub enum Class {
-    Strong,
-    Lying,
+    Caption,
+    Place,
+    Line,
+    Label,
+    Note,
+    Head,
+    Lies,
+    Title,
+    Report,
+    Legend,
     Stripe,
-    Heads,
+    Band,
     Life,
     Liar,
     Ask,
@@ -38,165 +50,191 @@ pub enum Class {
     Holds,
 }
 
+/// All classes.
+pub const CLASSES: [Class; 38] = [
+    Class::Caption,
+    Class::Place,
+    Class::Line,
+    Class::Label,
+    Class::Note,
+    Class::Head,
+    Class::Lies,
+    Class::Title,
+    Class::Report,
+    Class::Legend,
+    Class::Stripe,
+    Class::Band,
+    Class::Life,
+    Class::Liar,
+    Class::Ask,
+    Class::AskLie,
+    Class::Answer,
+    Class::AnswerLie,
+    Class::Stale,
+    Class::StaleLie,
+    Class::Lost,
+    Class::LostLie,
+    Class::Never,
+    Class::NeverLie,
+    Class::Ring,
+    Class::Cross,
+    Class::Times,
+    Class::TimesOpen,
+    Class::Store,
+    Class::StoreOpen,
+    Class::Round,
+    Class::RoundOpen,
+    Class::Repair,
+    Class::RepairOpen,
+    Class::Crash,
+    Class::Back,
+    Class::Prune,
+    Class::Holds,
+];
+
 impl Class {
     /// Its name.
-    pub fn name(self) -> &'static str {
+    pub fn name(self) -> &'static [u8]
+        ensures { result.now ≡ class_name self }
+    {
         match self {
-            Class::Strong => "strong",
-            Class::Lying => "lying",
-            Class::Stripe => "stripe",
-            Class::Heads => "heads",
-            Class::Life => "life",
-            Class::Liar => "liar",
-            Class::Ask => "ask",
-            Class::AskLie => "ask-lie",
-            Class::Answer => "answer",
-            Class::AnswerLie => "answer-lie",
-            Class::Stale => "stale",
-            Class::StaleLie => "stale-lie",
-            Class::Lost => "lost",
-            Class::LostLie => "lost-lie",
-            Class::Never => "never",
-            Class::NeverLie => "never-lie",
-            Class::Ring => "ring",
-            Class::Cross => "cross",
-            Class::Times => "times",
-            Class::TimesOpen => "times-open",
-            Class::Store => "store",
-            Class::StoreOpen => "store-open",
-            Class::Round => "round",
-            Class::RoundOpen => "round-open",
-            Class::Repair => "repair",
-            Class::RepairOpen => "repair-open",
-            Class::Crash => "crash",
-            Class::Back => "back",
-            Class::Prune => "prune",
-            Class::Holds => "holds",
+            Class::Caption => b"caption",
+            Class::Place => b"place",
+            Class::Line => b"line",
+            Class::Label => b"label",
+            Class::Note => b"note",
+            Class::Head => b"head",
+            Class::Lies => b"lies",
+            Class::Title => b"title",
+            Class::Report => b"report",
+            Class::Legend => b"legend",
+            Class::Stripe => b"stripe",
+            Class::Band => b"band",
+            Class::Life => b"life",
+            Class::Liar => b"liar",
+            Class::Ask => b"ask",
+            Class::AskLie => b"ask-lie",
+            Class::Answer => b"answer",
+            Class::AnswerLie => b"answer-lie",
+            Class::Stale => b"stale",
+            Class::StaleLie => b"stale-lie",
+            Class::Lost => b"lost",
+            Class::LostLie => b"lost-lie",
+            Class::Never => b"never",
+            Class::NeverLie => b"never-lie",
+            Class::Ring => b"ring",
+            Class::Cross => b"cross",
+            Class::Times => b"times",
+            Class::TimesOpen => b"times-open",
+            Class::Store => b"store",
+            Class::StoreOpen => b"store-open",
+            Class::Round => b"round",
+            Class::RoundOpen => b"round-open",
+            Class::Repair => b"repair",
+            Class::RepairOpen => b"repair-open",
+            Class::Crash => b"crash",
+            Class::Back => b"back",
+            Class::Prune => b"prune",
+            Class::Holds => b"holds",
         }
     }
 
-    /// Its style: what stands for its name between the braces.
-    fn style(self) -> &'static str {
+    /// Its style, a line; that of all texts stands for some.
+    fn style(self) -> &'static [u8]
+        ensures { Lacks 60 result.now }
+    {
         match self {
-            Class::Strong => "font-weight: bold;",
-            Class::Lying => "fill: #d1495b;",
-            Class::Stripe => "fill: #8c959f; fill-opacity: .1;",
-            Class::Heads => "fill: #8c959f; fill-opacity: .3;",
-            Class::Life => "stroke: #8c959f; stroke-width: 1;",
-            Class::Liar => "stroke: #d1495b; stroke-width: 1; stroke-dasharray: 6 3;",
-            Class::Ask => "fill: none; stroke: #4682b4; stroke-width: 2.2; marker-end: url(#ask);",
-            Class::AskLie => {
-                "fill: none; stroke: #d1495b; stroke-width: 2.2; marker-start: url(#lie); marker-end: url(#ask-lie);"
-            }
+            Class::Caption | Class::Line | Class::Note | Class::Report | Class::Legend => b"",
+            Class::Place => b".place { text-anchor: end; }\n",
+            Class::Label => b".label { font-weight: bold; text-anchor: end; }\n",
+            Class::Head => b".head { font-weight: bold; text-anchor: middle; }\n",
+            Class::Lies => b".lies { fill: #d1495b; text-anchor: middle; }\n",
+            Class::Title => b".title { font-weight: bold; }\n",
+            Class::Stripe => b".stripe { fill: #8c959f; fill-opacity: .1; }\n",
+            Class::Band => b".band { fill: #8c959f; fill-opacity: .3; }\n",
+            Class::Life => b".life { stroke: #8c959f; stroke-width: 1; }\n",
+            Class::Liar => b".liar { stroke: #d1495b; stroke-width: 1; stroke-dasharray: 6 3; }\n",
+            Class::Ask =>
+                b".ask { fill: none; stroke: #4682b4; stroke-width: 2.2; marker-end: url(#ask); }\n",
+            Class::AskLie =>
+                b".ask-lie { fill: none; stroke: #d1495b; stroke-width: 2.2; marker-start: url(#lie); marker-end: url(#ask-lie); }\n",
             Class::Answer =>
-                "fill: none; stroke: #4682b4; stroke-width: 1; marker-end: url(#answer);",
-            Class::AnswerLie => {
-                "fill: none; stroke: #d1495b; stroke-width: 1; marker-start: url(#lie); marker-end: url(#answer-lie);"
-            }
+                b".answer { fill: none; stroke: #4682b4; stroke-width: 1; marker-end: url(#answer); }\n",
+            Class::AnswerLie =>
+                b".answer-lie { fill: none; stroke: #d1495b; stroke-width: 1; marker-start: url(#lie); marker-end: url(#answer-lie); }\n",
             Class::Stale =>
-                "fill: none; stroke: #8c959f; stroke-width: 1; marker-end: url(#stale);",
-            Class::StaleLie => {
-                "fill: none; stroke: #d1495b; stroke-width: 1; marker-start: url(#lie); marker-end: url(#stale-lie);"
-            }
-            Class::Lost => "fill: none; stroke: #c2691c; stroke-width: 1.4; stroke-dasharray: 6 3;",
-            Class::LostLie => {
-                "fill: none; stroke: #d1495b; stroke-width: 1.4; stroke-dasharray: 6 3; marker-start: url(#lie);"
-            }
+                b".stale { fill: none; stroke: #8c959f; stroke-width: 1; marker-end: url(#stale); }\n",
+            Class::StaleLie =>
+                b".stale-lie { fill: none; stroke: #d1495b; stroke-width: 1; marker-start: url(#lie); marker-end: url(#stale-lie); }\n",
+            Class::Lost =>
+                b".lost { fill: none; stroke: #c2691c; stroke-width: 1.4; stroke-dasharray: 6 3; }\n",
+            Class::LostLie =>
+                b".lost-lie { fill: none; stroke: #d1495b; stroke-width: 1.4; stroke-dasharray: 6 3; marker-start: url(#lie); }\n",
             Class::Never =>
-                "fill: none; stroke: #8c959f; stroke-width: 1.4; stroke-dasharray: 1.5 3;",
-            Class::NeverLie => {
-                "fill: none; stroke: #d1495b; stroke-width: 1.4; stroke-dasharray: 1.5 3; marker-start: url(#lie);"
-            }
-            Class::Ring => "fill: none; stroke: #8c959f; stroke-width: 1.2;",
-            Class::Cross => "fill: none; stroke: #c2691c; stroke-width: 2;",
-            Class::Times => "fill: #d9a441; fill-opacity: .45; stroke: #d9a441;",
+                b".never { fill: none; stroke: #8c959f; stroke-width: 1.4; stroke-dasharray: 1.5 3; }\n",
+            Class::NeverLie =>
+                b".never-lie { fill: none; stroke: #d1495b; stroke-width: 1.4; stroke-dasharray: 1.5 3; marker-start: url(#lie); }\n",
+            Class::Ring => b".ring { fill: none; stroke: #8c959f; stroke-width: 1.2; }\n",
+            Class::Cross => b".cross { fill: none; stroke: #c2691c; stroke-width: 2; }\n",
+            Class::Times => b".times { fill: #d9a441; fill-opacity: .45; stroke: #d9a441; }\n",
             Class::TimesOpen =>
-                "fill: #d9a441; fill-opacity: .2; stroke: #d9a441; stroke-dasharray: 3 2;",
-            Class::Store => "fill: #d9a441; stroke: #d9a441;",
+                b".times-open { fill: #d9a441; fill-opacity: .2; stroke: #d9a441; stroke-dasharray: 3 2; }\n",
+            Class::Store => b".store { fill: #d9a441; stroke: #d9a441; }\n",
             Class::StoreOpen =>
-                "fill: #d9a441; fill-opacity: .2; stroke: #d9a441; stroke-dasharray: 3 2;",
-            Class::Round => "fill: #4fa3a5; fill-opacity: .45; stroke: #4fa3a5;",
+                b".store-open { fill: #d9a441; fill-opacity: .2; stroke: #d9a441; stroke-dasharray: 3 2; }\n",
+            Class::Round => b".round { fill: #4fa3a5; fill-opacity: .45; stroke: #4fa3a5; }\n",
             Class::RoundOpen =>
-                "fill: #4fa3a5; fill-opacity: .2; stroke: #4fa3a5; stroke-dasharray: 3 2;",
-            Class::Repair => "fill: #9b6bd6; stroke: #9b6bd6;",
+                b".round-open { fill: #4fa3a5; fill-opacity: .2; stroke: #4fa3a5; stroke-dasharray: 3 2; }\n",
+            Class::Repair => b".repair { fill: #9b6bd6; stroke: #9b6bd6; }\n",
             Class::RepairOpen =>
-                "fill: #9b6bd6; fill-opacity: .2; stroke: #9b6bd6; stroke-dasharray: 3 2;",
-            Class::Crash => "fill: none; stroke: #d1495b; stroke-width: 2.5;",
-            Class::Back => "fill: none; stroke: #2f9e5b; stroke-width: 2;",
-            Class::Prune => "fill: none; stroke: #9b6bd6; stroke-width: 2;",
-            Class::Holds => "fill: #2f9e5b;",
+                b".repair-open { fill: #9b6bd6; fill-opacity: .2; stroke: #9b6bd6; stroke-dasharray: 3 2; }\n",
+            Class::Crash => b".crash { fill: none; stroke: #d1495b; stroke-width: 2.5; }\n",
+            Class::Back => b".back { fill: none; stroke: #2f9e5b; stroke-width: 2; }\n",
+            Class::Prune => b".prune { fill: none; stroke: #9b6bd6; stroke-width: 2; }\n",
+            Class::Holds => b".holds { fill: #2f9e5b; }\n",
         }
-    }
-
-    /// The head of its arrow, if it has one that is drawn by the style.
-    fn marker(self) -> Option<&'static str> {
-        match self {
-            Class::Ask => Some(ASK),
-            Class::AskLie => Some(ASK_LIE),
-            Class::Answer => Some(ANSWER),
-            Class::AnswerLie => Some(ANSWER_LIE),
-            Class::Stale => Some(STALE),
-            Class::StaleLie => Some(STALE_LIE),
-            _ => None,
-        }
-    }
-
-    /// Whether it is that of a lie, which begins with a diamond.
-    fn is_lie(self) -> bool {
-        matches!(
-            self,
-            Class::AskLie | Class::AnswerLie | Class::StaleLie | Class::LostLie | Class::NeverLie
-        )
     }
 }
 
-const ASK: &str =
-    "<marker id=\"ask\" markerUnits=\"userSpaceOnUse\" markerWidth=\"10\" markerHeight=\"10\" refX=\"9\" refY=\"5\" orient=\"auto\"><path d=\"M0 1L10 5L0 9Z\" fill=\"#4682b4\"/></marker>
+/// The style of all texts: of a middle tone, which a light and a dark ground both let stand out.
+const TEXTS: &[u8] =
+    b"text { font: 12px ui-monospace, Menlo, Consolas, 'DejaVu Sans Mono', monospace; fill: #6e7781; white-space: pre; }
 ";
 
-const ASK_LIE: &str =
-    "<marker id=\"ask-lie\" markerUnits=\"userSpaceOnUse\" markerWidth=\"10\" markerHeight=\"10\" refX=\"9\" refY=\"5\" orient=\"auto\"><path d=\"M0 1L10 5L0 9Z\" fill=\"#d1495b\"/></marker>
+/// Texts that follow the reader's scheme.
+const TEXT_SCHEMES: &[u8] = b"@media (prefers-color-scheme: light) { text { fill: #24292f; } }
+@media (prefers-color-scheme: dark) { text { fill: #d0d7de; } }
 ";
 
-const ANSWER: &str =
-    "<marker id=\"answer\" markerUnits=\"userSpaceOnUse\" markerWidth=\"10\" markerHeight=\"10\" refX=\"9\" refY=\"5\" orient=\"auto\"><path d=\"M1 1L9 5L1 9\" fill=\"none\" stroke=\"#4682b4\"/></marker>
+/// The ground of heads that are drawn again, which follows it too and then hides what is below.
+const BAND_SCHEMES: &[u8] =
+    b"@media (prefers-color-scheme: light) { .band { fill: #eaeef2; fill-opacity: 1; } }
+@media (prefers-color-scheme: dark) { .band { fill: #21262d; fill-opacity: 1; } }
 ";
 
-const ANSWER_LIE: &str =
-    "<marker id=\"answer-lie\" markerUnits=\"userSpaceOnUse\" markerWidth=\"10\" markerHeight=\"10\" refX=\"9\" refY=\"5\" orient=\"auto\"><path d=\"M1 1L9 5L1 9\" fill=\"none\" stroke=\"#d1495b\"/></marker>
-";
-
-const STALE: &str =
-    "<marker id=\"stale\" markerUnits=\"userSpaceOnUse\" markerWidth=\"6\" markerHeight=\"14\" refX=\"3\" refY=\"7\" orient=\"auto\"><path d=\"M3 1L3 13\" fill=\"none\" stroke=\"#8c959f\" stroke-width=\"2\"/></marker>
-";
-
-const STALE_LIE: &str =
-    "<marker id=\"stale-lie\" markerUnits=\"userSpaceOnUse\" markerWidth=\"6\" markerHeight=\"14\" refX=\"3\" refY=\"7\" orient=\"auto\"><path d=\"M3 1L3 13\" fill=\"none\" stroke=\"#d1495b\" stroke-width=\"2\"/></marker>
-";
-
-const DIAMOND: &str =
-    "<marker id=\"lie\" markerUnits=\"userSpaceOnUse\" markerWidth=\"11\" markerHeight=\"11\" refX=\"5.5\" refY=\"5.5\" orient=\"auto\"><path d=\"M5.5 0L11 5.5L5.5 11L0 5.5Z\" fill=\"#d1495b\"/></marker>
-";
-
-/// Adds the styles of classes, a line each.
-pub fn add_styles(text: &mut String, classes: &BTreeSet<Class>) -> Result<(), NoMemory> {
-    for class in classes {
-        let name = class.name();
-        let style = class.style();
-        write!(text, ".{name} {{ {style} }}\n")?;
+/// The styles of all texts and of these classes.
+pub fn styles_of(alloc: Global, used: &[Class]) -> Result<Text, NoMemory>
+    ensures { IfOk result (λ styles. Lacks 60 styles) }
+{
+    let mut styles = Text::new(alloc);
+    styles.add(TEXTS)?;
+    add_styles(&mut styles, used)?;
+    styles.add(TEXT_SCHEMES)?;
+    if used.contains(&Class::Band) {
+        styles.add(BAND_SCHEMES)?;
     }
-    Ok(())
+    Ok(styles)
 }
 
-/// Adds the ends of arrows that the styles of classes name.
-pub fn add_markers(text: &mut String, classes: &BTreeSet<Class>) -> Result<(), NoMemory> {
-    for class in classes {
-        if let Some(marker) = class.marker() {
-            text.push_str(marker)?;
+/// Adds the styles of classes, in the order of all.
+fn add_styles(styles: &mut Text, used: &[Class]) -> Result<(), NoMemory>
+    requires { Lacks 60 styles.now }
+    ensures { OnOk result (Lacks 60 styles.new) }
+{
+    for class in &CLASSES {
+        if used.contains(class) {
+            styles.add(class.style())?;
         }
-    }
-    if classes.iter().any(|class| class.is_lie()) {
-        text.push_str(DIAMOND)?;
     }
     Ok(())
 }

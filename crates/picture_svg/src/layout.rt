@@ -1,11 +1,12 @@
 //! Where everything stands: columns by the widths of their texts, rows of one height.
 ghost use Rattle.std.specs.Prelude.{◌≡◌, ◌≢◌, ◌↔◌, ◌/◌, ◌%◌, IsTrue};
 
-use crate::picture::{Actor, Picture, Row};
+use crate::picture::{Actor, Picture, Remarks};
 use crate::px::{Px, width_of};
 use lists::NoMemory;
 use std::alloc::Global;
 use std::collections::BTreeMap;
+use text_lines::Text;
 
 /// How high a row is.
 pub const ROW: Px = Px(34);
@@ -23,8 +24,8 @@ pub const MARGIN: Px = Px(16);
 pub const LABEL_GAP: Px = Px(11);
 
 /// What a reader must know of stamps.
-pub const STAMPS: &str =
-    "a stamp is TIME.CLIENT.MARK as in the report, or ends with its verifier's first digits where the report hasn't it";
+pub const STAMPS: &[u8] =
+    b"a stamp is TIME.CLIENT.MARK as in the report, or ends with its verifier's first digits where the report hasn't it";
 
 /// How wide a node's column is.
 const NODE: Px = Px(58);
@@ -137,6 +138,11 @@ impl Layout {
         }
     }
 
+    /// Where the ground ends of the heads that stand between rows for this time, from 0.
+    pub fn band(&self, band: usize) -> Px {
+        self.y(band.saturating_add(1).saturating_mul(ROWS)) - ROW.half()
+    }
+
     /// The middle of a row.
     pub fn y(&self, row: usize) -> Px {
         let above = row.saturating_add(heads_above(row));
@@ -152,7 +158,7 @@ pub fn has_heads(row: usize) -> bool
 }
 
 /// How often the heads are drawn again between the first row and this one.
-fn heads_above(row: usize) -> usize
+pub fn heads_above(row: usize) -> usize
     ensures { result ≡ row / ROWS }
 {
     row / ROWS
@@ -170,17 +176,12 @@ fn width_of_lines(picture: &Picture) -> Px {
 }
 
 /// How wide the widest of these texts is.
-fn widest(texts: &[String]) -> Px {
+fn widest(texts: &[Text]) -> Px {
     let mut width = Px(0);
     for text in texts {
-        width = width.max(width_of_text(text));
+        width = width.max(width_of(text.len()));
     }
     width
-}
-
-/// How wide a text is.
-fn width_of_text(text: &String) -> Px {
-    width_of(text.chars().count())
 }
 
 /// How wide the widest line and the widest note of the rows are.
@@ -188,8 +189,8 @@ fn widest_of_rows(picture: &Picture) -> (Px, Px) {
     let mut line = Px(0);
     let mut note = Px(0);
     for row in &picture.rows {
-        line = line.max(width_of_text(&row.line));
-        note = note.max(width_of_text(&row.note));
+        line = line.max(width_of(row.line.len()));
+        note = note.max(width_of(row.remarks.note.len()));
     }
     (line, note)
 }
@@ -198,15 +199,15 @@ fn widest_of_rows(picture: &Picture) -> (Px, Px) {
 fn label_widths(alloc: Global, picture: &Picture) -> Result<BTreeMap<u32, Px>, NoMemory> {
     let mut widths = BTreeMap::new(alloc);
     for row in &picture.rows {
-        widen(&mut widths, row)?;
+        widen(&mut widths, &row.remarks)?;
     }
     Ok(widths)
 }
 
 /// Makes room for what is written in a row beside its client's bar.
-fn widen(widths: &mut BTreeMap<u32, Px>, row: &Row) -> Result<(), NoMemory> {
-    let before = widths.get(&row.client).copied().unwrap_or(Px(0));
-    let texts = width_of_text(&row.first).max(width_of_text(&row.second));
-    widths.insert(row.client, before.max(texts))?;
+fn widen(widths: &mut BTreeMap<u32, Px>, remarks: &Remarks) -> Result<(), NoMemory> {
+    let before = widths.get(&remarks.client).copied().unwrap_or(Px(0));
+    let texts = width_of(remarks.first.len().max(remarks.second.len()));
+    widths.insert(remarks.client, before.max(texts))?;
     Ok(())
 }

@@ -1,11 +1,17 @@
 //! The legend: what the signs of a picture mean, for those that it has.
+#![tactic(auto, using(crate::proofs::Joining::joining))]
+
+ghost use Rattle.std.specs.Prelude.{◌≡◌, ◌++◌, OnOk};
+ghost use Rattle.picture_svg.specs.Words.{legend_words};
+
 use crate::arrows::{draw_lost, draw_unheard};
 use crate::classes::Class;
 use crate::layout::{LINE, Layout, MARGIN};
 use crate::lives::{class_of_bar, draw_sign};
 use crate::picture::{Actor, Arrow, Fate, PhaseKind, Picture, Sign};
 use crate::px::{Point, Px, at, width_of};
-use crate::svg::Svg;
+use crate::shapes::Shapes;
+use crate::texts::Texts;
 use lists::NoMemory;
 use std::alloc::Global;
 
@@ -30,31 +36,31 @@ enum Item {
 }
 
 /// The items of a legend in their order, each with its words.
-const ITEMS: [(Item, &'static str); 15] = [
-    (Item::Ask, "asks"),
-    (Item::Answer, "answers"),
-    (Item::Lie, "told by a liar"),
-    (Item::Stale, "heard, changes nothing"),
-    (Item::Lost, "lost"),
-    (Item::NeverGiven, "sent, never given or heard"),
-    (Item::Phase(PhaseKind::Times), "a write asks for times"),
-    (Item::Phase(PhaseKind::Store), "a write stores"),
-    (Item::Phase(PhaseKind::Round), "a read asks for versions"),
-    (Item::Phase(PhaseKind::Repair), "a read repairs"),
-    (Item::Unended, "an operation that never ended"),
-    (Item::Sign(Sign::Holds), "holds the version"),
-    (Item::Sign(Sign::Prune), "drops old versions"),
-    (Item::Sign(Sign::Crash), "crashes"),
-    (Item::Sign(Sign::Back), "is back"),
+const ITEMS: [(Item, &'static [u8]); 15] = [
+    (Item::Ask, b"asks"),
+    (Item::Answer, b"answers"),
+    (Item::Lie, b"told by a liar"),
+    (Item::Stale, b"heard, changes nothing"),
+    (Item::Lost, b"lost"),
+    (Item::NeverGiven, b"sent, never given or heard"),
+    (Item::Phase(PhaseKind::Times), b"a write asks for times"),
+    (Item::Phase(PhaseKind::Store), b"a write stores"),
+    (Item::Phase(PhaseKind::Round), b"a read asks for versions"),
+    (Item::Phase(PhaseKind::Repair), b"a read repairs"),
+    (Item::Unended, b"an operation that never ended"),
+    (Item::Sign(Sign::Holds), b"holds the version"),
+    (Item::Sign(Sign::Prune), b"drops old versions"),
+    (Item::Sign(Sign::Crash), b"crashes"),
+    (Item::Sign(Sign::Back), b"is back"),
 ];
 
 /// Whether a picture has what the item explains.
 fn is_in(picture: &Picture, item: Item) -> bool {
     match item {
-        Item::Phase(work) => picture.stretches.iter().any(|it| it.work == work),
-        Item::Unended => picture.stretches.iter().any(|it| it.is_open),
-        Item::Sign(sign) => picture.marks.iter().any(|it| it.sign == sign),
-        _ => picture.arrows.iter().any(|it| explains(item, it)),
+        Item::Phase(work) => picture.deeds.stretches.iter().any(|it| it.work == work),
+        Item::Unended => picture.deeds.stretches.iter().any(|it| it.is_open),
+        Item::Sign(sign) => picture.deeds.marks.iter().any(|it| it.sign == sign),
+        _ => picture.deeds.arrows.iter().any(|it| explains(item, it)),
     }
 }
 
@@ -72,33 +78,33 @@ fn explains(item: Item, arrow: &Arrow) -> bool {
 }
 
 /// Draws what an item looks like, in so much room.
-fn draw_sample(svg: &mut Svg, item: Item, point: Point) -> Result<(), NoMemory> {
+fn draw_sample(shapes: &mut Shapes, item: Item, point: Point) -> Result<(), NoMemory> {
     let Point { x, y } = point;
     let right = at(x + Px(34), y);
     match item {
-        Item::Ask => svg.line(Class::Ask, point, right),
-        Item::Answer => svg.line(Class::Answer, right, point),
-        Item::Lie => svg.line(Class::AnswerLie, right, point),
-        Item::Stale => svg.line(Class::Stale, right, point),
-        Item::Lost => draw_lost(svg, Class::Lost, point, at(right.x - Px(4), y)),
-        Item::NeverGiven => draw_unheard(svg, Class::Never, point, at(right.x - Px(3), y)),
-        Item::Phase(work) => draw_bar(svg, class_of_bar(work, false), point),
-        Item::Unended => draw_bar(svg, Class::StoreOpen, point),
-        Item::Sign(sign) => draw_sign(svg, sign, at(x + Px(17), y)),
+        Item::Ask => shapes.line(Class::Ask, point, right),
+        Item::Answer => shapes.line(Class::Answer, right, point),
+        Item::Lie => shapes.line(Class::AnswerLie, right, point),
+        Item::Stale => shapes.line(Class::Stale, right, point),
+        Item::Lost => draw_lost(shapes, Class::Lost, point, at(right.x - Px(4), y)),
+        Item::NeverGiven => draw_unheard(shapes, Class::Never, point, at(right.x - Px(3), y)),
+        Item::Phase(work) => draw_bar(shapes, class_of_bar(work, false), point),
+        Item::Unended => draw_bar(shapes, Class::StoreOpen, point),
+        Item::Sign(sign) => draw_sign(shapes, sign, at(x + Px(17), y)),
     }
 }
 
 /// Draws a piece of a bar in the room of a sample.
-fn draw_bar(svg: &mut Svg, class: Class, point: Point) -> Result<(), NoMemory> {
+fn draw_bar(shapes: &mut Shapes, class: Class, point: Point) -> Result<(), NoMemory> {
     let Point { x, y } = point;
-    svg.rect(class, at(x + Px(12), y - Px(6)), at(x + Px(22), y + Px(6)))
+    shapes.rect(class, at(x + Px(12), y - Px(6)), at(x + Px(22), y + Px(6)))
 }
 
 /// An item where it stands.
 #[derive(Clone, Copy)]
 struct Entry {
     item: Item,
-    words: &'static str,
+    words: &'static [u8],
     point: Point,
 }
 
@@ -131,7 +137,7 @@ impl Legend {
         Ok(())
     }
 
-    fn add(&mut self, item: Item, words: &'static str, right: Px) -> Result<(), NoMemory> {
+    fn add(&mut self, item: Item, words: &'static [u8], right: Px) -> Result<(), NoMemory> {
         let width = SAMPLE + width_of(words.len()) + GAP;
         if self.next.x + width > right && self.next.x > MARGIN {
             self.next = at(MARGIN, self.next.y + LINE);
@@ -147,10 +153,21 @@ impl Legend {
         self.next.y
     }
 
-    pub fn draw(&self, svg: &mut Svg) -> Result<(), NoMemory> {
-        for Entry { item, words, point } in &self.entries {
-            draw_sample(svg, *item, at(point.x, point.y - Px(4)))?;
-            svg.plain(at(point.x + SAMPLE, point.y), *words)?;
+    /// Draws what its items look like.
+    pub fn draw(&self, shapes: &mut Shapes) -> Result<(), NoMemory> {
+        for Entry { item, point, .. } in &self.entries {
+            draw_sample(shapes, *item, at(point.x, point.y - Px(4)))?;
+        }
+        Ok(())
+    }
+
+    /// Writes what they mean.
+    pub fn write(&self, texts: &mut Texts) -> Result<(), NoMemory>
+        ensures { OnOk result (texts.new ≡ texts.old ++ legend_words self.now) }
+    {
+        for entry in self.entries.as_slice() {
+            let point = at(entry.point.x + SAMPLE, entry.point.y);
+            texts.add(Class::Legend, point, entry.words)?;
         }
         Ok(())
     }

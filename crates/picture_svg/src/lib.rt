@@ -3,17 +3,22 @@
 
 mod arrows;
 mod classes;
+mod document;
 mod drawing;
-mod head;
+mod elements;
 mod layout;
 mod legend;
 mod lives;
+mod markers;
 pub mod picture;
 mod px;
-mod svg;
-mod telling;
+mod shapes;
+mod texts;
+mod titles;
+mod writing;
 
-pub use drawing::svg_of;
+pub use document::svg_of;
 pub use picture::{
-    Actor, Arrow, Fate, Lifeline, Mark, Outcomes, PhaseKind, Picture, Row, Sign, Stretch,
+    Actor, Arrow, Deeds, Fate, Lifeline, Mark, Outcomes, PhaseKind, Picture, Remarks, Row, Sign,
+    Stretch,
 };

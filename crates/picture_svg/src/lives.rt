@@ -4,7 +4,7 @@ use crate::drawing::Drawing;
 use crate::layout::Layout;
 use crate::picture::{Actor, Lifeline, Mark, PhaseKind, Sign, Stretch};
 use crate::px::{Point, Px, at};
-use crate::svg::Svg;
+use crate::shapes::Shapes;
 use lists::NoMemory;
 use std::alloc::Global;
 use std::collections::BTreeMap;
@@ -35,7 +35,7 @@ impl<'p> Drawing<'p> {
 
     fn draw_lives(&mut self, alive: &mut Alive) -> Result<(), NoMemory> {
         self.begin_lives(alive)?;
-        for mark in &self.picture.marks {
+        for mark in &self.picture.deeds.marks {
             self.follow_mark(mark, alive)?;
         }
         let end = self.layout.end;
@@ -78,7 +78,7 @@ impl<'p> Drawing<'p> {
 
     fn draw_life(&mut self, class: Class, actor: Actor, from: Px, to: Px) -> Result<(), NoMemory> {
         let x = self.layout.x(actor);
-        self.svg.line(class, at(x, from), at(x, to))
+        self.shapes.line(class, at(x, from), at(x, to))
     }
 
     /// Draws a stretch of a client's bar. One that never ended reaches to the end, or to the crash.
@@ -92,28 +92,28 @@ impl<'p> Drawing<'p> {
             layout.end
         };
         let class = class_of_bar(stretch.work, stretch.is_open);
-        self.svg.rect(class, at(x, from), at(x + Px(10), to))
+        self.shapes.rect(class, at(x, from), at(x + Px(10), to))
     }
 
     /// Draws a sign on its lifeline.
     pub(crate) fn draw_mark(&mut self, mark: &Mark) -> Result<(), NoMemory> {
         let point = at(self.layout.x(mark.actor), self.layout.y(mark.row));
-        draw_sign(&mut self.svg, mark.sign, point)
+        draw_sign(&mut self.shapes, mark.sign, point)
     }
 }
 
 /// Draws a sign at a point.
-pub fn draw_sign(svg: &mut Svg, sign: Sign, point: Point) -> Result<(), NoMemory> {
+pub fn draw_sign(shapes: &mut Shapes, sign: Sign, point: Point) -> Result<(), NoMemory> {
     let Point { x, y } = point;
     match sign {
-        Sign::Crash => svg.cross(Class::Crash, point, Px(6)),
-        Sign::Back => svg.circle(Class::Back, point, Px(6)),
+        Sign::Crash => shapes.cross(Class::Crash, point, Px(6)),
+        Sign::Back => shapes.circle(Class::Back, point, Px(6)),
         Sign::Prune => {
             let left = x - Px(7);
-            svg.line(Class::Prune, at(left, y - Px(3)), at(x + Px(7), y - Px(3)))?;
-            svg.line(Class::Prune, at(left, y + Px(3)), at(x + Px(7), y + Px(3)))
+            shapes.line(Class::Prune, at(left, y - Px(3)), at(x + Px(7), y - Px(3)))?;
+            shapes.line(Class::Prune, at(left, y + Px(3)), at(x + Px(7), y + Px(3)))
         }
-        Sign::Holds => svg.rect(
+        Sign::Holds => shapes.rect(
             Class::Holds,
             at(x - Px(3), y - Px(3)),
             at(x + Px(4), y + Px(4)),

@@ -1,8 +1,13 @@
 //! What a picture shows, as data: who takes part, the places, and what takes place between them.
-ghost use Rattle.std.specs.Prelude.{◌≡◌, []};
+#![tactic(auto, using(crate::proofs::Joining::joining))]
 
+ghost use Rattle.std.specs.Prelude.{◌≡◌, ◌++◌, OnOk};
+ghost use Rattle.picture_svg.specs.Names.{actor_text};
+
+use lists::NoMemory;
 use std::alloc::Global;
 use std::fmt;
+use text_lines::Text;
 
 /// Who takes part in a run.
 #[derive(Clone, Copy, PartialEq, Eq, PartialOrd, Ord)]
@@ -20,6 +25,22 @@ impl fmt::Display for Actor {
     }
 }
 
+/// Adds the name of one who takes part, as `client 1` or `node 0`.
+pub fn add_actor(text: &mut Text, actor: Actor) -> Result<(), NoMemory>
+    ensures { OnOk result (text.new ≡ text.old ++ actor_text actor) }
+{
+    match actor {
+        Actor::Client(client) => {
+            text.add(b"client ")?;
+            text.add_number(u64::from(client))
+        }
+        Actor::Node(node) => {
+            text.add(b"node ")?;
+            text.add_number(u64::from(node))
+        }
+    }
+}
+
 /// The lifeline of one who takes part.
 #[derive(Clone, Copy)]
 pub struct Lifeline {
@@ -28,10 +49,8 @@ pub struct Lifeline {
     pub is_liar: bool,
 }
 
-/// A place of the run. Places count from 1, rows from 0.
-pub struct Row {
-    /// The line of the script.
-    pub line: String,
+/// What is written in a row beside its line.
+pub struct Remarks {
     /// The client beside whose bar it is written what its operation does or gives.
     pub client: u32,
     /// What is written there, if anything is: one line, or two.
@@ -41,15 +60,42 @@ pub struct Row {
     pub note: String,
 }
 
-// By hand, as that of a picture, since a derived drop is proved anew wherever one is let go.
-impl Drop for Row {
+impl Remarks {
+    /// Nothing is written.
+    pub fn none(alloc: Global) -> Remarks {
+        Remarks {
+            client: 0,
+            first: String::new(alloc),
+            second: String::new(alloc),
+            note: String::new(alloc),
+        }
+    }
+}
+
+// By hand, as those below, since a derived drop is proved anew wherever such a value is let go.
+impl Drop for Remarks {
     fn drop(self) {
-        let Row {
-            line: _line,
+        let Remarks {
             client: _client,
             first: _first,
             second: _second,
             note: _note,
+        } = self;
+    }
+}
+
+/// A line of the script. Rows count from 0, and the places that they show from 1.
+pub struct Row {
+    /// The line's text, as far as a picture shows it.
+    pub line: Text,
+    pub remarks: Remarks,
+}
+
+impl Drop for Row {
+    fn drop(self) {
+        let Row {
+            line: _line,
+            remarks: _remarks,
         } = self;
     }
 }
@@ -147,19 +193,48 @@ impl Outcomes {
     };
 }
 
-/// A picture of a run.
-pub struct Picture {
-    /// What the numbers of the cluster mean, a line each.
-    pub caption: Vec<String>,
-    /// The clients by number, and then the nodes.
-    pub lifelines: Vec<Lifeline>,
-    pub rows: Vec<Row>,
+/// What takes place between those who take part, and what became of it.
+pub struct Deeds {
     pub arrows: Vec<Arrow>,
     pub stretches: Vec<Stretch>,
     pub marks: Vec<Mark>,
     pub outcomes: Outcomes,
-    /// The lines of the run's report.
-    pub report: Vec<String>,
+}
+
+impl Drop for Deeds {
+    fn drop(self) {
+        let Deeds {
+            arrows: _arrows,
+            stretches: _stretches,
+            marks: _marks,
+            outcomes: _outcomes,
+        } = self;
+    }
+}
+
+impl Deeds {
+    /// Nothing takes place.
+    pub fn none(alloc: Global) -> Deeds {
+        Deeds {
+            arrows: Vec::new(alloc),
+            stretches: Vec::new(alloc),
+            marks: Vec::new(alloc),
+            outcomes: Outcomes::NONE,
+        }
+    }
+}
+
+/// A picture of a run.
+pub struct Picture {
+    /// What the numbers of the cluster mean, a line each.
+    pub caption: Vec<Text>,
+    /// The clients by number, and then the nodes.
+    pub lifelines: Vec<Lifeline>,
+    /// The lines of the script.
+    pub rows: Vec<Row>,
+    pub deeds: Deeds,
+    /// The lines of the run's report, as far as a picture shows them.
+    pub report: Vec<Text>,
 }
 
 impl Drop for Picture {
@@ -168,34 +243,8 @@ impl Drop for Picture {
             caption: _caption,
             lifelines: _lifelines,
             rows: _rows,
-            arrows: _arrows,
-            stretches: _stretches,
-            marks: _marks,
-            outcomes: _outcomes,
+            deeds: _deeds,
             report: _report,
         } = self;
-    }
-}
-
-impl Picture {
-    /// A picture of nothing.
-    pub fn new(alloc: Global) -> Picture
-        ensures lifelines { result.lifelines.items ≡ [] }
-        ensures rows { result.rows.items ≡ [] }
-        ensures arrows { result.arrows.items ≡ [] }
-        ensures stretches { result.stretches.items ≡ [] }
-        ensures marks { result.marks.items ≡ [] }
-        ensures texts { (result.caption.items ≡ []) × (result.report.items ≡ []) }
-    {
-        Picture {
-            caption: Vec::new(alloc),
-            lifelines: Vec::new(alloc),
-            rows: Vec::new(alloc),
-            arrows: Vec::new(alloc),
-            stretches: Vec::new(alloc),
-            marks: Vec::new(alloc),
-            outcomes: Outcomes::NONE,
-            report: Vec::new(alloc),
-        }
     }
 }

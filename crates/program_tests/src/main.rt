@@ -1,13 +1,16 @@
 //! Cases of the program, as data. Each file NAME.cases in the folder that this program runs in has cases, in the form that
-//! `case` says. Each case goes through the program's top call, with a source and a sink in memory. Writes for each file how
-//! many cases it has, and a line for each case in which something comes out otherwise.
+//! `case` says. Each case goes through the program's top call, with a source and a sink in memory; a script that `replay` refuses
+//! goes through that of the program that draws, too. Writes for each file how many cases it has, and a line for each case in which
+//! something comes out otherwise.
 #![tactic(auto)]
 
 mod case;
 mod outcome;
+mod picture;
 
 use case::{Case, cases_of};
 use outcome::{difference, tells_faults};
+use picture::is_drawn_otherwise;
 use std::alloc::Global;
 use std::rt::Files;
 use std::sync::Wait;
@@ -25,6 +28,9 @@ fn run<R: Print + AllocGlobal + Threads + Wait + Sync>(
 ) -> io::Result<()> {
     if let Some(what) = difference(rt, rt.alloc(), case)? {
         tell(rt, file, case, what)?;
+    }
+    if is_drawn_otherwise(rt.alloc(), case)? {
+        tell(rt, file, case, "it is drawn, or refused otherwise")?;
     }
     if tells_faults(rt, rt.alloc(), case)? {
         Ok(())

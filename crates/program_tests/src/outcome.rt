@@ -23,7 +23,8 @@ fn calls_of(alloc: Global, pace: Pace) -> io::Result<Calls> {
     Ok(calls)
 }
 
-fn source_of(alloc: Global, input: &[u8], pace: Pace) -> io::Result<MemorySource> {
+/// A source of an input, which gives it at this pace.
+pub fn source_of(alloc: Global, input: &[u8], pace: Pace) -> io::Result<MemorySource> {
     let calls = calls_of(alloc, pace)?;
     match Bytes::of(alloc, input) {
         Ok(bytes) => Ok(MemorySource::new(bytes, pace.most.max(1), calls)),
@@ -31,7 +32,8 @@ fn source_of(alloc: Global, input: &[u8], pace: Pace) -> io::Result<MemorySource
     }
 }
 
-fn sink_of(alloc: Global, pace: Pace) -> io::Result<MemorySink> {
+/// A sink that takes bytes at this pace.
+pub fn sink_of(alloc: Global, pace: Pace) -> io::Result<MemorySink> {
     Ok(MemorySink::new(alloc, pace.most.max(1), calls_of(alloc, pace)?))
 }
 

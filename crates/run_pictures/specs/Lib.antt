@@ -1,1 +1,3 @@
-pub mod Stops
+pub mod Calls
+pub mod Shown
+pub mod Statuses

@@ -48,7 +48,9 @@ impl Replayer {
 
     /// Plays the text of an event line at a place, and gives the line; none where the text is that of a device command, or
     /// of a line that can't take place.
-    pub fn play(&mut self, place: u64, text: &[u8]) -> Result<Option<Line>, NoMemory> {
+    pub fn start(&mut self, place: u64, text: &[u8]) -> Result<Option<Line>, NoMemory>
+        ensures { self.new.config ≡ self.old.config }
+    {
         let event = match self.event(text) {
             Ok(event) => event,
             Err(LineRefusal::NoMemory) => return Err(NoMemory),
@@ -67,8 +69,10 @@ impl Replayer {
         read_event(self.alloc, &self.config, text)
     }
 
-    fn takes_place(&mut self, place: u64, event: &ReplayLine) -> Result<bool, NoMemory>
+    /// Plays a line at a place, and tells whether it took place. A device command doesn't.
+    pub fn takes_place(&mut self, place: u64, event: &ReplayLine) -> Result<bool, NoMemory>
         requires { IsEventLine self.now.config event.now }
+        ensures { self.new.config ≡ self.old.config }
     {
         let ReplayLine::Plain(line) = event else {
             return Ok(false);

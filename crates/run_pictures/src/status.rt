@@ -1,6 +1,7 @@
 //! How a picture ends that isn't drawn, and its line on standard error.
 ghost use Rattle.std.specs.Prelude.{◌≡◌, ◌↔◌, IsTrue};
 ghost use Rattle.run_pictures.specs.declared.status.PictureRefusal.TheVariants as refusals;
+ghost use Rattle.run_pictures.specs.Statuses.{status_of};
 
 use command_texts::{Refusal, Status};
 use lists::NoMemory;
@@ -46,6 +47,16 @@ pub enum PictureStatus {
 }
 
 impl PictureStatus {
+    /// The status of a script of which no picture is drawn.
+    pub fn of(refusal: PictureRefusal) -> PictureStatus
+        ensures { result ≡ status_of refusal }
+    {
+        match refusal {
+            PictureRefusal::Replay(refusal) => PictureStatus::Replay(Status::of_refusal(refusal)),
+            PictureRefusal::TooManyLines(lines) => PictureStatus::TooManyLines(lines),
+        }
+    }
+
     /// Whether the picture was written whole.
     pub fn is_done(&self) -> bool
         ensures { IsTrue result ↔ (self.now ≡ PictureStatus.Replay Status.Done) }

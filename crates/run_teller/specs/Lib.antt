@@ -1,1 +1,4 @@
+pub mod Captions
+pub mod Columns
 pub mod Outcomes
+pub mod Short

@@ -3,7 +3,7 @@ use crate::run::{Run, block_of};
 use crate::teller::{Step, Teller};
 use crate::words::{add_value, add_words};
 use lists::NoMemory;
-use picture_svg::{PhaseKind, Row, Stretch};
+use picture_svg::{PhaseKind, Remarks, Stretch};
 use run_words::{How, Outcome, Record};
 use stamp_order::Bound;
 use std::collections::BTreeMap;
@@ -67,15 +67,19 @@ fn first_ask<'m>(sent: &'m [Message], liars: &Liars) -> Option<(&'m Message, &'m
 
 impl<'a> Teller<'a> {
     /// Begins the phase whose asks a line sends, and tells in its row what the phase does. Asks that are sent again begin none.
-    pub(crate) fn begin_phase(&mut self, row: &mut Row, step: &Step<'_>) -> Result<(), NoMemory> {
+    pub(crate) fn begin_phase(
+        &mut self,
+        remarks: &mut Remarks,
+        step: &Step<'_>,
+    ) -> Result<(), NoMemory> {
         let Some((message, ask)) = first_ask(step.sent(), self.run.liars) else {
             return Ok(());
         };
         let Some(phase) = self.begun(message, ask, step) else {
             return Ok(());
         };
-        row.client = message.client;
-        self.run.tell_phase(row, &phase, ask)?;
+        remarks.client = message.client;
+        self.run.tell_phase(remarks, &phase, ask)?;
         self.leave(message.client, phase.row, false)?;
         self.phases.insert(message.client, phase)?;
         Ok(())
@@ -101,21 +105,25 @@ impl<'a> Teller<'a> {
     fn leave(&mut self, client: u32, row: usize, is_open: bool) -> Result<(), NoMemory> {
         if let Some(phase) = self.phases.remove(&client) {
             let stretch = phase.stretch(client, row, is_open);
-            self.picture.stretches.push(stretch)?;
+            self.deeds.stretches.push(stretch)?;
         }
         Ok(())
     }
 
     /// Ends the operation that a line ends, and tells how in its row.
-    pub(crate) fn end_phase(&mut self, row: &mut Row, step: &Step<'_>) -> Result<(), NoMemory> {
+    pub(crate) fn end_phase(
+        &mut self,
+        remarks: &mut Remarks,
+        step: &Step<'_>,
+    ) -> Result<(), NoMemory> {
         let Some(record) = self.run.ended_at(step.place) else {
             return Ok(());
         };
         self.leave(record.client, step.row(), false)?;
-        row.client = record.client;
-        row.first.clear();
-        row.second.clear();
-        self.run.tell_end(row, record)
+        remarks.client = record.client;
+        remarks.first.clear();
+        remarks.second.clear();
+        self.run.tell_end(remarks, record)
     }
 
     /// Breaks off a client's operation, if one is under way.
@@ -125,8 +133,8 @@ impl<'a> Teller<'a> {
 
     /// Adds the stretches of the phases that are still under way.
     pub(crate) fn add_open_phases(&mut self) -> Result<(), NoMemory> {
-        let last = self.picture.rows.len();
-        add_open_stretches(&mut self.picture.stretches, &self.phases, last)
+        let last = self.rows;
+        add_open_stretches(&mut self.deeds.stretches, &self.phases, last)
     }
 }
 
@@ -144,28 +152,33 @@ fn add_open_stretches(
 
 impl<'a> Run<'a> {
     /// Tells what a phase that an ask begins does: the operation, for its first one.
-    fn tell_phase(&self, row: &mut Row, phase: &Phase<'_>, ask: &Ask) -> Result<(), NoMemory> {
+    fn tell_phase(
+        &self,
+        remarks: &mut Remarks,
+        phase: &Phase<'_>,
+        ask: &Ask,
+    ) -> Result<(), NoMemory> {
         let op = &phase.record.op;
         match &ask.request {
             Request::Read(bound) if phase.tag.phase > 1 => {
                 let round = phase.tag.phase;
-                write!(row.first, "round {round}")?;
-                self.add_bound(&mut row.second, ask.block, bound)
+                write!(remarks.first, "round {round}")?;
+                self.add_bound(&mut remarks.second, ask.block, bound)
             }
             Request::Write(version) => {
-                add_words(&mut row.first, store_words(op))?;
-                self.add_name(&mut row.second, ask.block, &version.stamp)
+                add_words(&mut remarks.first, store_words(op))?;
+                self.add_name(&mut remarks.second, ask.block, &version.stamp)
             }
-            Request::Time | Request::Read(_) => self.tell_op(row, op),
+            Request::Time | Request::Read(_) => self.tell_op(remarks, op),
         }
     }
 
     /// Tells an operation, with its value, and its block where the cluster has several.
-    fn tell_op(&self, row: &mut Row, op: &Op) -> Result<(), NoMemory> {
-        add_op(&mut row.first, op)?;
+    fn tell_op(&self, remarks: &mut Remarks, op: &Op) -> Result<(), NoMemory> {
+        add_op(&mut remarks.first, op)?;
         if self.config.blocks() > 1 {
             let block = block_of(op);
-            write!(row.second, "block {block}")?;
+            write!(remarks.second, "block {block}")?;
         }
         Ok(())
     }
@@ -182,15 +195,15 @@ impl<'a> Run<'a> {
     }
 
     /// Tells how an operation ended, under which stamp, and whether it repaired.
-    fn tell_end(&self, row: &mut Row, record: &Record) -> Result<(), NoMemory> {
+    fn tell_end(&self, remarks: &mut Remarks, record: &Record) -> Result<(), NoMemory> {
         let block = block_of(&record.op);
         let Some(outcome) = &record.outcome else {
             return Ok(());
         };
         match outcome {
             Outcome::Wrote(stamp) => {
-                add_words(&mut row.first, "wrote")?;
-                self.add_name(&mut row.second, block, stamp)
+                add_words(&mut remarks.first, "wrote")?;
+                self.add_name(&mut remarks.second, block, stamp)
             }
             Outcome::Gave {
                 stamp,
@@ -198,16 +211,16 @@ impl<'a> Run<'a> {
                 how,
                 ..
             } => {
-                add_words(&mut row.first, "gives ")?;
-                add_value(&mut row.first, value.as_slice())?;
-                self.add_name(&mut row.second, block, stamp)?;
-                add_words(&mut row.second, how_words(*how))
+                add_words(&mut remarks.first, "gives ")?;
+                add_value(&mut remarks.first, value.as_slice())?;
+                self.add_name(&mut remarks.second, block, stamp)?;
+                add_words(&mut remarks.second, how_words(*how))
             }
             Outcome::Spent => {
-                add_words(&mut row.first, "spent")?;
-                add_words(&mut row.second, "no time is left")
+                add_words(&mut remarks.first, "spent")?;
+                add_words(&mut remarks.second, "no time is left")
             }
-            Outcome::Outvoted(_) => add_words(&mut row.first, "outvoted"),
+            Outcome::Outvoted(_) => add_words(&mut remarks.first, "outvoted"),
         }
     }
 }

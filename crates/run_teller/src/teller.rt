@@ -1,26 +1,22 @@
 //! A run, told line by line.
 use crate::answers::is_store;
-use crate::caption::caption_of;
 use crate::phases::Phase;
 use crate::run::Run;
 use crate::sent::{Pair, SentMessages, pair_of};
-use crate::words::{add_words, short_line};
+use crate::words::add_words;
 use lists::NoMemory;
-use picture_svg::{Actor, Arrow, Fate, Lifeline, Mark, Picture, Row, Sign};
-use quorum_rules::Config;
+use picture_svg::{Actor, Arrow, Deeds, Fate, Mark, Remarks, Sign};
 use run_words::{Line, Record};
-use std::collections::{BTreeMap, BTreeSet};
+use std::collections::BTreeMap;
 use std::fmt::Write;
 use std::mem::replace;
-use wire_forms::{Body, Liars, Message, Reply, Tag};
+use wire_forms::{Body, Message, Reply, Tag};
 
 /// A line that took place.
 #[derive(Clone, Copy)]
 pub struct Step<'s> {
     /// The place at which it took place.
     pub place: u64,
-    /// The text of the line in its script.
-    pub text: &'s str,
     /// What took place; none for a command of the device.
     pub line: Option<&'s Line>,
     /// Every message that was sent, up to the line.
@@ -54,9 +50,9 @@ pub struct Teller<'a> {
     pub(crate) phases: BTreeMap<u32, Phase<'a>>,
     /// The phase in which the last answer counted, by client and node.
     pub(crate) counted: BTreeMap<Pair, Tag>,
-    /// The clients that took part.
-    pub(crate) clients: BTreeSet<u32>,
-    pub(crate) picture: Picture,
+    /// How many lines were told.
+    pub(crate) rows: usize,
+    pub(crate) deeds: Deeds,
 }
 
 // By hand, since a derived drop is proved anew wherever a teller is let go.
@@ -67,8 +63,8 @@ impl<'a> Drop for Teller<'a> {
             sent_messages: _post,
             phases: _phases,
             counted: _counted,
-            clients: _clients,
-            picture: _picture,
+            rows: _rows,
+            deeds: _deeds,
         } = self;
     }
 }
@@ -82,8 +78,8 @@ impl<'a> Teller<'a> {
             sent_messages: SentMessages::new(alloc),
             phases: BTreeMap::new(alloc),
             counted: BTreeMap::new(alloc),
-            clients: BTreeSet::new(alloc),
-            picture: Picture::new(alloc),
+            rows: 0,
+            deeds: Deeds::none(alloc),
         }
     }
 
@@ -92,62 +88,40 @@ impl<'a> Teller<'a> {
         self.run.started_at(place)
     }
 
-    /// Tells the next line of the script.
-    pub fn tell(&mut self, step: &Step<'_>) -> Result<(), NoMemory> {
-        let alloc = self.run.alloc;
-        let mut row = Row {
-            line: short_line(alloc, step.text)?,
-            client: 0,
-            first: String::new(alloc),
-            second: String::new(alloc),
-            note: String::new(alloc),
-        };
-        self.tell_row(&mut row, step)?;
-        self.picture.rows.push(row)?;
-        Ok(())
+    /// Tells the next line of the script: what is written beside it.
+    pub fn tell(&mut self, step: &Step<'_>) -> Result<Remarks, NoMemory> {
+        let mut remarks = Remarks::none(self.run.alloc);
+        self.add_remarks(&mut remarks, step)?;
+        self.rows = self.rows.saturating_add(1);
+        Ok(remarks)
     }
 
-    /// Tells in its row what a line does and what came of it.
-    fn tell_row(&mut self, row: &mut Row, step: &Step<'_>) -> Result<(), NoMemory> {
+    /// Tells what a line does and what came of it.
+    fn add_remarks(&mut self, remarks: &mut Remarks, step: &Step<'_>) -> Result<(), NoMemory> {
         self.add_sent(step)?;
         if let Some(line) = step.line {
-            self.add_note(&mut row.note, step, line)?;
+            self.add_note(&mut remarks.note, step, line)?;
         }
-        self.begin_phase(row, step)?;
-        self.end_phase(row, step)
+        self.begin_phase(remarks, step)?;
+        self.end_phase(remarks, step)
     }
 
-    /// The whole picture but for the report, when all lines are told.
-    pub fn end(mut self) -> Result<Picture, NoMemory> {
+    /// All that took place between those who take part, when all lines are told.
+    pub fn end(mut self) -> Result<Deeds, NoMemory> {
         self.finish()
     }
 
-    /// Adds what is known only when all lines are told, and gives the picture away.
-    fn finish(&mut self) -> Result<Picture, NoMemory> {
+    /// Adds what is known only when all lines are told, and gives it all away.
+    fn finish(&mut self) -> Result<Deeds, NoMemory> {
         self.add_open_phases()?;
-        self.add_under_way()?;
-        self.add_lifelines()?;
-        self.picture.outcomes = self.run.outcomes();
-        self.picture.caption = caption_of(self.run.alloc, self.run.config)?;
-        Ok(replace(&mut self.picture, Picture::new(self.run.alloc)))
-    }
-
-    /// Adds the messages that were never given or heard.
-    fn add_under_way(&mut self) -> Result<(), NoMemory> {
-        self.sent_messages.add_rest(&mut self.picture.arrows)
-    }
-
-    /// Adds the clients that took part or are declared lying, and the nodes.
-    fn add_lifelines(&mut self) -> Result<(), NoMemory> {
-        let lifelines = &mut self.picture.lifelines;
-        add_clients(lifelines, &self.clients, self.run.liars)?;
-        add_nodes(lifelines, self.run.config, self.run.liars)
+        self.sent_messages.add_rest(&mut self.deeds.arrows)?;
+        self.deeds.outcomes = self.run.outcomes();
+        Ok(replace(&mut self.deeds, Deeds::none(self.run.alloc)))
     }
 
     /// Adds the messages that a line sends.
     fn add_sent(&mut self, step: &Step<'_>) -> Result<(), NoMemory> {
         for message in step.sent() {
-            self.clients.insert(message.client)?;
             self.sent_messages.add(message, step.row(), self.run.liars)?;
         }
         Ok(())
@@ -190,7 +164,7 @@ impl<'a> Teller<'a> {
         };
         if let Some(ask) = ask {
             let arrow = self.sent_messages.settle_call(ask, step.row());
-            add_arrow(&mut self.picture.arrows, arrow)?;
+            add_arrow(&mut self.deeds.arrows, arrow)?;
             self.hold(step, ask, answer)?;
         }
         self.hear(note, step, answer)
@@ -205,7 +179,7 @@ impl<'a> Teller<'a> {
         answer: usize,
     ) -> Result<(), NoMemory> {
         let arrow = self.sent_messages.settle(ask, step.row(), Fate::Arrived);
-        add_arrow(&mut self.picture.arrows, arrow)?;
+        add_arrow(&mut self.deeds.arrows, arrow)?;
         self.hold(step, ask, answer)?;
         match step.message(answer) {
             Some(message) => self.add_answer(note, step, message, true),
@@ -224,7 +198,7 @@ impl<'a> Teller<'a> {
         }
         let fate = if counts { Fate::Arrived } else { Fate::Stale };
         let arrow = self.sent_messages.settle(answer, step.row(), fate);
-        add_arrow(&mut self.picture.arrows, arrow)?;
+        add_arrow(&mut self.deeds.arrows, arrow)?;
         self.add_answer(note, step, message, counts)
     }
 
@@ -261,8 +235,7 @@ impl<'a> Teller<'a> {
         node: u8,
     ) -> Result<(), NoMemory> {
         let arrow = self.sent_messages.lose(Pair { client, node }, step.row());
-        self.clients.insert(client)?;
-        self.picture.arrows.push(arrow)?;
+        self.deeds.arrows.push(arrow)?;
         add_words(note, "lost")
     }
 
@@ -274,9 +247,6 @@ impl<'a> Teller<'a> {
         actor: Actor,
         sign: Sign,
     ) -> Result<(), NoMemory> {
-        if let Actor::Client(client) = actor {
-            self.clients.insert(client)?;
-        }
         self.add_mark(step, actor, sign)?;
         let what = sign_words(sign);
         Ok(write!(note, "{actor} {what}")?)
@@ -284,7 +254,7 @@ impl<'a> Teller<'a> {
 
     fn add_mark(&mut self, step: &Step<'_>, actor: Actor, sign: Sign) -> Result<(), NoMemory> {
         let row = step.row();
-        self.picture.marks.push(Mark { actor, row, sign })?;
+        self.deeds.marks.push(Mark { actor, row, sign })?;
         Ok(())
     }
 
@@ -297,41 +267,6 @@ impl<'a> Teller<'a> {
         self.break_off(client, step.row())?;
         self.mark(note, step, Actor::Client(client), Sign::Crash)
     }
-}
-
-/// Adds the clients that took part or are declared lying.
-fn add_clients(
-    lifelines: &mut Vec<Lifeline>,
-    clients: &BTreeSet<u32>,
-    liars: &Liars,
-) -> Result<(), NoMemory> {
-    for client in 1..1001 {
-        let is_liar = liars.client(client);
-        if is_liar || clients.contains(&client) {
-            lifelines.push(Lifeline {
-                actor: Actor::Client(client),
-                is_liar,
-            })?;
-        }
-    }
-    Ok(())
-}
-
-/// Adds the nodes of a cluster.
-fn add_nodes(
-    lifelines: &mut Vec<Lifeline>,
-    config: &Config,
-    liars: &Liars,
-) -> Result<(), NoMemory> {
-    for node in 0..16 {
-        if u32::from(node) < config.n() {
-            lifelines.push(Lifeline {
-                actor: Actor::Node(node),
-                is_liar: liars.node(node),
-            })?;
-        }
-    }
-    Ok(())
 }
 
 /// Adds an arrow, if there is one.

@@ -1,4 +1,4 @@
-//! Texts that are short enough for a picture.
+//! Words of what is told, and the line that starts an operation.
 use cross_sum::Bytes;
 use lists::NoMemory;
 use run_words::Record;
@@ -6,15 +6,6 @@ use std::alloc::Global;
 use std::fmt::Write;
 use text_lines::Text;
 use wire_forms::Op;
-
-/// How many characters a value has at most: those of its first bytes.
-const VALUE: usize = 1 + 2 * BYTES;
-
-/// How many characters another field has at most.
-const FIELD: usize = 28;
-
-/// How many characters a line has at most.
-const LINE: usize = 60;
 
 /// How many bytes of a value are shown.
 const BYTES: usize = 6;
@@ -25,44 +16,6 @@ pub fn add_words(text: &mut String, words: &str) -> Result<(), NoMemory> {
     Ok(())
 }
 
-/// Adds the first so many characters of a text, and an ellipsis where it has more.
-fn add_shortened(short: &mut String, text: &str, most: usize) -> Result<(), NoMemory> {
-    for (i, letter) in text.chars().enumerate() {
-        if i >= most {
-            short.push('…')?;
-            break;
-        }
-        short.push(letter)?;
-    }
-    Ok(())
-}
-
-/// Adds a line with each long field shortened.
-fn add_short_fields(short: &mut String, line: &str) -> Result<(), NoMemory> {
-    for (i, field) in line.split(' ').enumerate() {
-        if i > 0 {
-            short.push(' ')?;
-        }
-        let most = if field.starts_with('x') { VALUE } else { FIELD };
-        add_shortened(short, field, most)?;
-    }
-    Ok(())
-}
-
-/// A line of a script or a report, with each long field shortened, and then the line.
-pub fn short_line(alloc: Global, line: &str) -> Result<String, NoMemory> {
-    let mut fields = String::new(alloc);
-    add_short_fields(&mut fields, line)?;
-    first_of(alloc, fields.as_str())
-}
-
-/// As much of a text as a line has at most.
-fn first_of(alloc: Global, text: &str) -> Result<String, NoMemory> {
-    let mut line = String::new(alloc);
-    add_shortened(&mut line, text, LINE)?;
-    Ok(line)
-}
-
 /// Adds a value: `x` and the first of its bytes in hexadecimal digits.
 pub fn add_value(words: &mut String, bytes: &[u8]) -> Result<(), NoMemory> {
     words.push('x')?;
@@ -70,7 +23,7 @@ pub fn add_value(words: &mut String, bytes: &[u8]) -> Result<(), NoMemory> {
         write!(words, "{byte:02x}")?;
     }
     if bytes.len() > BYTES {
-        words.push('…')?;
+        words.push_str("...")?;
     }
     Ok(())
 }

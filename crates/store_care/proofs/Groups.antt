@@ -14,10 +14,10 @@ if_err P (Ok x) h = absurd (false≢true h)
 if_err P (Err e) h = tt
 
 module _ {D : Type 0} where
-  module _ (pending : D → Pending) (seen : D → List ℕ) (moment : D → ℕ) (left_since : D → ℕ → List ℕ → Type 0) where
-    pub leads_then : (calls more : List (Call D)) (old mid new : SeenStore D) → Leads pending seen moment left_since old calls mid → Leads pending seen moment left_since mid more new
-        → Leads pending seen moment left_since old (calls ++ more) new
-    leads_then [] more old mid new same h = subst (λ (s : SeenStore D). Leads pending seen moment left_since s more new) same h
+  module _ (pending : D → Pending) (seen : D → List ℕ) (capacity : D → ℕ) (moment : D → ℕ) (left_since : D → ℕ → List ℕ → Type 0) where
+    pub leads_then : (calls more : List (Call D)) (old mid new : SeenStore D) → Leads pending seen capacity moment left_since old calls mid → Leads pending seen capacity moment left_since mid more new
+        → Leads pending seen capacity moment left_since old (calls ++ more) new
+    leads_then [] more old mid new same h = subst (λ (s : SeenStore D). Leads pending seen capacity moment left_since s more new) same h
     leads_then (call ∷ calls) more old mid new are h = (are.0, leads_then calls more call.store mid new are.1 h)
 
   pub groups_then : (blocks group : ℕ) (calls more : List (Call D)) → AreGroups blocks group calls → AreGroups blocks (group + length calls) more → AreGroups blocks group (calls ++ more)

@@ -52,13 +52,13 @@ module _ {D : Type 0} (first count : ℕ) (outcomes : List (Option Outcome)) (la
         failed = h.failed ∙ ap (failed_writes told (length ops)) looked.failed;
       }
 
-module _ {D : Type 0} (pending : D → Pending) (seen : D → List ℕ) (moment : D → ℕ) (left_since : D → ℕ → List ℕ → Type 0) (first count : ℕ) where
+module _ {D : Type 0} (pending : D → Pending) (seen : D → List ℕ) (capacity : D → ℕ) (moment : D → ℕ) (left_since : D → ℕ → List ℕ → Type 0) (first count : ℕ) where
   -- what calls of a look did, and more of them
   abbrev pub DidLook : SeenStore D → SeenStore D → (List (Call D) → Type 0) → Type 0
-  DidLook old new More = (calls : List (Call D)) × Leads pending seen moment left_since old calls new × AreLook first count calls × More calls
+  DidLook old new More = (calls : List (Call D)) × Leads pending seen capacity moment left_since old calls new × AreLook first count calls × More calls
 
   abbrev pub Performed : List Op → Option (List (Option Outcome)) → SeenStore D → SeenStore D → Type 0
-  Performed ops told old new = HasPerformed pending seen moment left_since ops told old new
+  Performed ops told old new = HasPerformed pending seen capacity moment left_since ops told old new
 
   pub did_nothing : (old new : SeenStore D) (More : List (Call D) → Type 0) → new ≡ old → More [] → DidLook old new More
   did_nothing old new More same more = ([], same, tt, more)

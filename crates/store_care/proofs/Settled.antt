@@ -123,10 +123,10 @@ module _ {D : Type 0} (store : SeenStore D) where
           ap (λ (l : List Op). write_at x (Some o) ++ l) (at reads outcomes k op is)
           ∙ sym (append_assoc (write_at x (Some o)) (writes_by store (take k reads) outcomes) (write_at op (slice_get outcomes k)))
 
-module _ {D : Type 0} (pending : D → Pending) (seen : D → List ℕ) (moment : D → ℕ) (left_since : D → ℕ → List ℕ → Type 0) where
+module _ {D : Type 0} (pending : D → Pending) (seen : D → List ℕ) (capacity : D → ℕ) (moment : D → ℕ) (left_since : D → ℕ → List ℕ → Type 0) where
   -- tries after tries
   pub tries_then : (tries more : List (Try D)) (old mid new : SeenStore D)
-      → TriesLead pending seen moment left_since old tries mid → TriesLead pending seen moment left_since mid more new
-      → TriesLead pending seen moment left_since old (tries ++ more) new
-  tries_then [] more old mid new same h = subst (λ (s : SeenStore D). TriesLead pending seen moment left_since s more new) same h
+      → TriesLead pending seen capacity moment left_since old tries mid → TriesLead pending seen capacity moment left_since mid more new
+      → TriesLead pending seen capacity moment left_since old (tries ++ more) new
+  tries_then [] more old mid new same h = subst (λ (s : SeenStore D). TriesLead pending seen capacity moment left_since s more new) same h
   tries_then (one ∷ tries) more old mid new are h = (are.0, are.1, tries_then tries more one.store mid new are.2 h)

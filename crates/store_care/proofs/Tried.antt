@@ -63,19 +63,19 @@ module _ {D : Type 0} where
   tried_out_before store tries more block (inl h) = inl (was_settled_before store tries more block h)
   tried_out_before store tries more block (inr h) = inr (let all = tries_of-append block tries more in omega (arith, all, h))
 
-module _ {D : Type 0} (pending : D → Pending) (seen : D → List ℕ) (moment : D → ℕ) (left_since : D → ℕ → List ℕ → Type 0) where
-  was_settled_behind : (tries more : List (Try D)) (old mid : SeenStore D) (block : ℕ) → TriesLead pending seen moment left_since old tries mid
+module _ {D : Type 0} (pending : D → Pending) (seen : D → List ℕ) (capacity : D → ℕ) (moment : D → ℕ) (left_since : D → ℕ → List ℕ → Type 0) where
+  was_settled_behind : (tries more : List (Try D)) (old mid : SeenStore D) (block : ℕ) → TriesLead pending seen capacity moment left_since old tries mid
       → WasSettled mid more block → WasSettled old (tries ++ more) block
   was_settled_behind [] more old mid block same h = subst (λ (s : SeenStore D). WasSettled s more block) same h
   was_settled_behind (one ∷ tries) more old mid block are h = inr (was_settled_behind tries more one.store mid block are.2 h)
 
-  pub tried_out_behind : (tries more : List (Try D)) (old mid : SeenStore D) (block : ℕ) → TriesLead pending seen moment left_since old tries mid
+  pub tried_out_behind : (tries more : List (Try D)) (old mid : SeenStore D) (block : ℕ) → TriesLead pending seen capacity moment left_since old tries mid
       → IsTriedOut mid more block → IsTriedOut old (tries ++ more) block
   tried_out_behind tries more old mid block led (inl h) = inl (was_settled_behind tries more old mid block led h)
   tried_out_behind tries more old mid block led (inr h) = inr (let all = tries_of-append block tries more in omega (arith, all, h))
 
   -- where the blocks are settled behind tries, each of them was
-  pub settled_at_last : (tries : List (Try D)) (old new : SeenStore D) (first count : ℕ) → TriesLead pending seen moment left_since old tries new
+  pub settled_at_last : (tries : List (Try D)) (old new : SeenStore D) (first count : ℕ) → TriesLead pending seen capacity moment left_since old tries new
       → length (unsettled new first count) ≡ 0 → (block : ℕ) → first ≤ block → block < first + count → WasSettled old tries block
   settled_at_last [] old new first count same none block low high =
       subst (λ (s : SeenStore D). is_settled s block ≡ true) same (settled_within new first count none block low high)
@@ -84,21 +84,21 @@ module _ {D : Type 0} (pending : D → Pending) (seen : D → List ℕ) (moment 
   -- so many tries of blocks, from one on, and no others, that lead from the one store to the other
   pub record AreTried (first count turns : ℕ) (old new : SeenStore D) : Type 0 where
     pub tries : List (Try D)
-    pub lead : TriesLead pending seen moment left_since old tries new
+    pub lead : TriesLead pending seen capacity moment left_since old tries new
     pub often : (block : ℕ) → first ≤ block → block < first + count → turns ≤ tries_of block tries
 
   -- one try more
   pub one_more_try : (first count turns : ℕ) (calls : List (Call D)) (old mid same new : SeenStore D)
       → AreTried first count turns old mid → same ≡ mid
-      → Leads pending seen moment left_since same calls new → AreSettling first count same calls
+      → Leads pending seen capacity moment left_since same calls new → AreSettling first count same calls
       → AreTried first count (turns + 1) old new
   one_more_try first count turns calls old mid same new before is leads are =
       let one : Try D = record { first = first; count = count; calls = calls; store = new } in
       record {
         tries = before.tries ++ one ∷ [];
         lead =
-            tries_then pending seen moment left_since before.tries (one ∷ []) old mid new before.lead
-            (subst (λ (s : SeenStore D). Leads pending seen moment left_since s calls new) is leads, subst (λ (s : SeenStore D). AreSettling first count s calls) is are, refl);
+            tries_then pending seen capacity moment left_since before.tries (one ∷ []) old mid new before.lead
+            (subst (λ (s : SeenStore D). Leads pending seen capacity moment left_since s calls new) is leads, subst (λ (s : SeenStore D). AreSettling first count s calls) is are, refl);
         often = λ block low high.
             let all = tries_of-append block before.tries (one ∷ []) in
             let this = tries_of-one first count block calls new low high in

@@ -57,11 +57,11 @@ module _ {D : Type 0} where
     ArePruning (read ∷ prune ∷ []) = IsPruning read prune
     ArePruning _ = ⊥
 
-module _ {D : Type 0} (pending : D → Pending) (seen : D → List ℕ) (moment : D → ℕ) (left_since : D → ℕ → List ℕ → Type 0) (most : ℕ) where
+module _ {D : Type 0} (pending : D → Pending) (seen : D → List ℕ) (capacity : D → ℕ) (moment : D → ℕ) (left_since : D → ℕ → List ℕ → Type 0) (most : ℕ) where
   -- of the 64 blocks of this group, or as many as there are, those of which some node kept more were read and pruned
   pub record HasPassed (group : ℕ) (old new : SeenStore D) : Type 0 where
     pub calls : List (Call D)
-    pub led : Leads pending seen moment left_since old calls new
+    pub led : Leads pending seen capacity moment left_since old calls new
     pub pruning : ArePruning (group * 64) (min 64 (old.config.blocks - group * 64)) most old calls
     pub both : length calls ≡ 2
 

@@ -83,12 +83,12 @@ pub record Try (D : Type 0) : Type 0 where
   pub calls : List (Call D)
   pub store : SeenStore D
 
-module _ {D : Type 0} (pending : D → Pending) (seen : D → List ℕ) (moment : D → ℕ) (left_since : D → ℕ → List ℕ → Type 0) where
+module _ {D : Type 0} (pending : D → Pending) (seen : D → List ℕ) (capacity : D → ℕ) (moment : D → ℕ) (left_since : D → ℕ → List ℕ → Type 0) where
   -- tries, one after the other, lead from the one store to the other
   abbrev pub TriesLead : SeenStore D → List (Try D) → SeenStore D → Type 0
   TriesLead old [] new = new ≡ old
   TriesLead old (one ∷ tries) new =
-      Leads pending seen moment left_since old one.calls one.store × AreSettling one.first one.count old one.calls × TriesLead one.store tries new
+      Leads pending seen capacity moment left_since old one.calls one.store × AreSettling one.first one.count old one.calls × TriesLead one.store tries new
 
 -- ---- what tries come to for a block
 

@@ -21,9 +21,9 @@ pub(crate) fn perform<D: Disk + Send, R: Threads + Sync>(
 ) -> Result<Vec<Option<Outcome>>, NoMemory>
     requires batch { AreBelow store.old.config store.old.config.blocks ops.now }
     requires few { length ops.now ≤ 64 }
-    ensures ok { IfOk result (λ outcomes. HasPerformed D.pending D.seen D.moment D.left_since ops.now
+    ensures ok { IfOk result (λ outcomes. HasPerformed D.pending D.seen D.most D.moment D.left_since ops.now
         (Some outcomes.items) store.old store.new) }
-    ensures err { IfErr result (λ _. HasPerformed D.pending D.seen D.moment D.left_since ops.now None
+    ensures err { IfErr result (λ _. HasPerformed D.pending D.seen D.most D.moment D.left_since ops.now None
         store.old store.new) }
     ensures config { store.new.config ≡ store.old.config }
 {

@@ -69,7 +69,7 @@ impl Care {
         ensures seats { length self.new.tallies.items ≡ length self.old.tallies.items }
         // what it did to the store, and what it counted
         ensures calls { (calls : List (Call D))
-            × Leads D.pending D.seen D.moment D.left_since store.old calls store.new
+            × Leads D.pending D.seen D.most D.moment D.left_since store.old calls store.new
             × AreLook first count calls
             × OnOk result (HasCounted first count self.old self.new store.old calls) }
     {
@@ -185,7 +185,7 @@ impl Care {
         ensures config { store.new.config ≡ store.old.config }
         ensures seats { length self.new.tallies.items ≡ length self.old.tallies.items }
         ensures calls { (told : Option (List (Option AnyOutcome)))
-            × HasPerformed D.pending D.seen D.moment D.left_since lacking.now.again.items told store.old store.new
+            × HasPerformed D.pending D.seen D.most D.moment D.left_since lacking.now.again.items told store.old store.new
             × OnOk result ((outcomes : List (Option AnyOutcome)) × (told ≡ Some outcomes)
             × IsRestored store.old.config.n store.new lacking.now outcomes (length lacking.now.again.items) self.old self.new) }
     {

@@ -44,7 +44,7 @@ pub fn fill_disk<D: Disk + Send, E: Disk + Drop, R: Threads + Sync>(
     ensures config { store.new.config ≡ store.old.config }
     // what it did to the store, and what the disk holds of that
     ensures calls { (calls : List (Call D))
-        × Leads D.pending D.seen D.moment D.left_since store.old calls store.new
+        × Leads D.pending D.seen D.most D.moment D.left_since store.old calls store.new
         × AreGroups store.old.config.blocks 0 calls
         × IfOk result (λ done. HasFilledBy E.pending E.seen store.old.config number (E.seen disk) calls
         done.filled done.node) }
@@ -74,7 +74,7 @@ fn fill_all<D: Disk + Send, E: Disk, R: Threads + Sync>(
 ) -> Result<Filled, NoMemory>
     ensures config { store.new.config ≡ store.old.config }
     ensures calls { (calls : List (Call D))
-        × Leads D.pending D.seen D.moment D.left_since store.old calls store.new
+        × Leads D.pending D.seen D.most D.moment D.left_since store.old calls store.new
         × AreGroups store.old.config.blocks 0 calls
         × IfOk result (λ filled. (length calls ≡ groups_of store.old.config.blocks)
         × AreFilling E.pending E.seen store.old.config number calls nothing filled node.old node.new) }
@@ -123,7 +123,7 @@ impl Filled {
         ensures config { store.new.config ≡ store.old.config }
         // what it did to the store, and what the node keeps of that
         ensures calls { (calls : List (Call D))
-            × Leads D.pending D.seen D.moment D.left_since store.old calls store.new
+            × Leads D.pending D.seen D.most D.moment D.left_since store.old calls store.new
             × AreFill first count calls
             × OnOk result ((length calls ≡ 1)
             × AreFilling E.pending E.seen store.old.config number calls self.old self.new node.old node.new) }

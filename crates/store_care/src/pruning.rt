@@ -33,16 +33,16 @@ pub fn prune_due<D: Disk + Send, R: Threads + Sync>(
     ensures config { store.new.config ≡ store.old.config }
     // what it did to the store
     ensures calls { (calls : List (Call D))
-        × Leads D.pending D.seen D.moment D.left_since store.old calls store.new
+        × Leads D.pending D.seen D.most D.moment D.left_since store.old calls store.new
         × ArePruning first count most store.old calls
         × OnOk result (length calls ≡ 2) }
     // so the store is looked after: nothing is written, and each prune is by the stamp of the block's latest read
-    ensures tended { IsTended D.pending D.seen D.moment D.left_since store.old store.new }
+    ensures tended { IsTended D.pending D.seen D.most D.moment D.left_since store.old store.new }
 {
     let reads = overfull_reads(alloc, store, first, count, most)?;
     let outcomes = perform(rt, store, &reads)?;
     let prunes = prunes_by(alloc, &reads, &outcomes)?;
-    store.prune_all(rt, &prunes);
+    let _starved = store.prune_all(rt, &prunes);
     Ok(())
 }
 
@@ -54,9 +54,9 @@ pub fn prune_all<D: Disk + Send, R: Threads + Sync>(
     most: usize,
 ) -> Result<(), NoMemory>
     ensures config { store.new.config ≡ store.old.config }
-    ensures passed { OnOk result (HavePassed D.pending D.seen D.moment D.left_since most
+    ensures passed { OnOk result (HavePassed D.pending D.seen D.most D.moment D.left_since most
         (groups_of store.old.config.blocks) store.old store.new) }
-    ensures tended { IsTended D.pending D.seen D.moment D.left_since store.old store.new }
+    ensures tended { IsTended D.pending D.seen D.most D.moment D.left_since store.old store.new }
 {
     let blocks = store.config().blocks();
     for group in 0..blocks.div_ceil(MOST_BLOCKS) {

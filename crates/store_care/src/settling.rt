@@ -33,7 +33,7 @@ pub fn settle_all<D: Disk + Send, R: Threads + Sync>(
 ) -> Result<u32, NoMemory>
     ensures config { store.new.config ≡ store.old.config }
     ensures tries { (tries : List (Try D))
-        × TriesLead D.pending D.seen D.moment D.left_since store.old tries store.new
+        × TriesLead D.pending D.seen D.most D.moment D.left_since store.old tries store.new
         × OnOk result ((block : ℕ) → block < store.old.config.blocks
         → IsTriedOut store.old tries block) }
     ensures unsettled { IfOk result (λ count. count
@@ -60,7 +60,7 @@ fn settle_group<D: Disk + Send, R: Threads + Sync>(
     requires there { first + count ≤ store.old.config.blocks }
     ensures config { store.new.config ≡ store.old.config }
     ensures tries { (tries : List (Try D))
-        × TriesLead D.pending D.seen D.moment D.left_since store.old tries store.new
+        × TriesLead D.pending D.seen D.most D.moment D.left_since store.old tries store.new
         × OnOk result ((block : ℕ) → first ≤ block → block < first + count
         → IsTriedOut store.old tries block) }
 {
@@ -87,7 +87,7 @@ pub fn settle<D: Disk + Send, R: Threads + Sync>(
     requires there { first + count ≤ store.old.config.blocks }
     ensures config { store.new.config ≡ store.old.config }
     ensures calls { (calls : List (Call D))
-        × Leads D.pending D.seen D.moment D.left_since store.old calls store.new
+        × Leads D.pending D.seen D.most D.moment D.left_since store.old calls store.new
         × AreSettling first count store.old calls
         × OnOk result (length calls ≡ 2) }
 {

@@ -4,19 +4,21 @@ use Rattle.std.specs.List.{All, AllByRecursion, cons_option, slice_get}
 use Rattle.quorum_rules.specs.Limits.{Numbers}
 use Rattle.wire_forms.specs.declared.op.Op.{Op}
 use Rattle.protocol.specs.Messages.{Ask, Reply}
-use Rattle.protocol.specs.Instance.{setting, IsCluster}
+use Rattle.protocol.specs.Instance.{setting}
 use Rattle.protocol.specs.Seen.{block_of, work_of}
 use Rattle.disk_model.specs.Crash.{Pending, MayLeave}
 use Rattle.node_core.specs.Seen.{versions_in}
-use Rattle.block_lives.specs.Phases.{ask_to, after_phase}
+use Rattle.block_phases.specs.Phases.{ask_to, after_phase}
+use Rattle.block_phases.specs.Executions.{StampedValue, value_stored}
+use Rattle.block_phases.proofs.lemmas.Executing.{operations_begin, operations_cut_off}
 use Rattle.batch_clients.specs.Batches.{Stand, Running, how_many, end_of, column, ask_by, asks_to, begun, stand_heard, after_answers}
 use Rattle.batch_clients.specs.Batches.Stand.{Asks, Ended, Lost}
-use Rattle.store_device.specs.Stores.{SeenStore, Nodes, IsFound, IsLeft, IsStore, kept_in, seat_at}
+use Rattle.store_device.specs.Stores.{SeenStore, Nodes, IsFound, IsLeft, IsStore, kept_in, seat_at, down_in}
 use Rattle.store_device.specs.Told.{kept_of, AreApart, AreDone, IsTold, untold}
 use Rattle.store_device.specs.Going.{IsUntouched, HasCome, StandsAt, AreGoing, IsGoing, MayBegin}
 use Rattle.store_device.proofs.Asked.{AreForOwn, AreNotFor}
 use Rattle.store_device.proofs.Seats.{found_is_left, has_begun, left_at_first}
-use Rattle.store_device.proofs.Turns.{AreLaws, IsTurn, gone_on, stays_untouched, cut_stays, end_stays, stands}
+use Rattle.store_device.proofs.Turns.{IsTurn, gone_on, stays_untouched, lost_stays, end_stays, stands}
 
 -- the operations are on blocks of their own, by recursion
 abbrev pub AreOwn : List Op → Type 0
@@ -83,7 +85,7 @@ module _ {D : Type 0} (pending : D → Pending) (seen : D → List ℕ) (moment 
 
   module _ (counts_now : (disk : D) (t : ℕ) (bytes : List ℕ) → t ≤ moment disk → MayLeave (pending disk) bytes → left_since disk t bytes)
       (then : SeenStore D) (asks : ℕ → List Ask) (answers : List (Option (List Reply)))
-      (turn : IsTurn pending seen moment left_since counts_now start now then asks answers) (laws : AreLaws c) where
+      (turn : IsTurn pending seen moment left_since counts_now start now then asks answers) where
     -- what the operations from this one on ask has its place behind j others
     abbrev pub IsPlaced : ℕ → List Running → Type 0
     IsPlaced j runs = (i k : ℕ) (ask : Ask) → slice_get (asked_of i runs) k ≡ Some ask → slice_get (asks i) (j + k) ≡ Some ask
@@ -119,13 +121,13 @@ module _ {D : Type 0} (pending : D → Pending) (seen : D → List ℕ) (moment 
         → ((i : ℕ) → AreNotFor (block_of op) (asked_of i runs))
         → StandsAt pending seen moment left_since start then op client (stand_heard (setting c) j answers client stand)
     one_heard op client j (Asks task) runs asking placed alone none =
-        stands pending seen moment left_since counts_now start now then asks answers turn laws op client task asking j
+        stands pending seen moment left_since counts_now start now then asks answers turn op client task asking j
         (λ i. subst (λ (m : ℕ). slice_get (asks i) m ≡ Some (ask_to (setting c) task i)) (omega arith)
         (placed i 0 (ask_to (setting c) task i) refl))
         (after_phase (setting c) client task (column j answers)) refl
     one_heard op client j (Ended outcome) runs ended placed alone none = end_stays pending seen moment left_since counts_now start now
         then asks answers turn op client (λ i. alone i (none i)) outcome ended
-    one_heard op client j Lost runs lost placed alone none = cut_stays pending seen moment left_since counts_now start now then asks
+    one_heard op client j Lost runs lost placed alone none = lost_stays pending seen moment left_since counts_now start now then asks
         answers turn op client (λ i. alone i (none i)) lost
 
     -- where all operations stand when the answers are heard
@@ -169,30 +171,44 @@ module _ {D : Type 0} (pending : D → Pending) (seen : D → List ℕ) (moment 
         turned block [] others = tt
         turned block (o ∷ os) others = (λ (e : block ≡ block_of o). others.0 (sym e), turned block os others.1)
 
-  -- what is told of operations that stand there
-  module _ (counts_now : (disk : D) (t : ℕ) (bytes : List ℕ) → t ≤ moment disk → MayLeave (pending disk) bytes → left_since disk t bytes)
-      (laws : AreLaws c)
-      (lying : ℕ → Bool) (gone kept : Nodes) (is : IsCluster c lying) where
-    cut_now : (op : Op) (client : ℕ) (stand : Stand) → IsLeft moment left_since start now gone kept
-        → StandsAt pending seen moment left_since start now op client stand
-        → HasCome pending seen moment left_since start now op client lying None gone kept
-    cut_now op client (Asks task) left asking =
-        laws.cut_off lying is (block_of op) client (work_of op) task (kept_of (kept_in start gone) (block_of op))
-        (kept_of (kept_in start gone) (block_of op)) (kept_of kept (block_of op))
-        (asking.goes lying gone is) (λ i l. inl (asking.untouched i (gone i) (kept i) l (left i l)))
-    cut_now op client (Ended outcome) left ended = ended.left lying gone kept is left
-    cut_now op client Lost left lost = lost lying gone kept is left
+  -- ---- what is told of operations that stand there
 
-    all_cut : (client : ℕ) (ops : List Op) (runs : List Running) → IsLeft moment left_since start now gone kept → Going client ops runs
-        → AreDone c lying client ops (untold ops) (kept_in start gone) kept
+  -- what the last phase of each stores
+  abbrev stored_one : (op : Op) (client : ℕ) (stand : Stand) → StandsAt pending seen moment left_since start now op client stand → Option StampedValue
+  stored_one op client (Asks task) asking = value_stored task.stage
+  stored_one op client (Ended outcome) ended = ended.stored
+  stored_one op client Lost lost = lost.stored
+
+  abbrev pub stored_all : (client : ℕ) (ops : List Op) (runs : List Running) → Going client ops runs → List (Option StampedValue)
+  stored_all client [] [] going = []
+  stored_all client [] (r ∷ runs) going = []
+  stored_all client (op ∷ ops) [] going = []
+  stored_all client (op ∷ ops) (r ∷ runs) going = stored_one op client r.stand going.1 ∷ stored_all (suc client) ops runs going.2
+
+  module _ (counts_now : (disk : D) (t : ℕ) (bytes : List ℕ) → t ≤ moment disk → MayLeave (pending disk) bytes → left_since disk t bytes)
+      (gone kept : Nodes) where
+    cut_now : (op : Op) (client : ℕ) (stand : Stand) → IsLeft moment left_since start now gone kept
+        → (stands : StandsAt pending seen moment left_since start now op client stand)
+        → HasCome pending seen moment left_since start now op client None (stored_one op client stand stands) gone kept
+    cut_now op client (Asks task) left asking =
+        operations_cut_off (setting c) (down_in start) (block_of op) client (work_of op) task (kept_of (kept_in start gone) (block_of op))
+        (kept_of (kept_in start gone) (block_of op)) (kept_of kept (block_of op))
+        (asking.goes gone) (λ i l. inl (asking.untouched i (gone i) (kept i) l (left i l)))
+    cut_now op client (Ended outcome) left ended = ended.left gone kept left
+    cut_now op client Lost left lost = lost.left gone kept left
+
+    all_cut : (client : ℕ) (ops : List Op) (runs : List Running) → IsLeft moment left_since start now gone kept
+        → (going : Going client ops runs)
+        → AreDone c (down_in start) client ops (untold ops) (stored_all client ops runs going) (kept_in start gone) kept
     all_cut client [] [] left going = tt
     all_cut client [] (r ∷ runs) left going = absurd going
     all_cut client (op ∷ ops) [] left going = absurd going
     all_cut client (op ∷ ops) (r ∷ runs) left going = (cut_now op client r.stand left going.1, all_cut (suc client) ops runs left going.2)
 
     -- a crash leaves operations that weren't told of
-    pub cut_off_now : (ops : List Op) (runs : List Running) → IsGoing pending seen moment left_since start now ops runs
-        → IsLeft moment left_since start now gone kept → IsTold c lying ops (untold ops) (kept_in start gone) kept
+    pub cut_off_now : (ops : List Op) (runs : List Running) (going : IsGoing pending seen moment left_since start now ops runs)
+        → IsLeft moment left_since start now gone kept
+        → IsTold c (down_in start) ops (untold ops) (stored_all 1 ops runs going.operations) (kept_in start gone) kept
     cut_off_now ops runs going left = record {
       done = all_cut 1 ops runs left going.operations;
       others = λ block i others l. going.others
@@ -200,15 +216,16 @@ module _ {D : Type 0} (pending : D → Pending) (seen : D → List ℕ) (moment 
     }
 
     told_now : (op : Op) (client : ℕ) (stand : Stand) → IsFound pending start now gone kept → IsLeft moment left_since start now gone kept
-        → StandsAt pending seen moment left_since start now op client stand
-        → HasCome pending seen moment left_since start now op client lying (end_of stand) gone kept
+        → (stands : StandsAt pending seen moment left_since start now op client stand)
+        → HasCome pending seen moment left_since start now op client (end_of stand) (stored_one op client stand stands) gone kept
     told_now op client (Asks task) found left asking = cut_now op client (Asks task) left asking
-    told_now op client (Ended outcome) found left ended = ended.found lying gone kept is found
+    told_now op client (Ended outcome) found left ended = ended.found gone kept found
     told_now op client Lost found left lost = cut_now op client Lost left lost
 
     all_told : (client : ℕ) (ops : List Op) (runs : List Running) → IsFound pending start now gone kept
-        → IsLeft moment left_since start now gone kept → Going client ops runs
-        → AreDone c lying client ops (map (λ (r : Running). end_of r.stand) runs) (kept_in start gone) kept
+        → IsLeft moment left_since start now gone kept → (going : Going client ops runs)
+        → AreDone c (down_in start) client ops (map (λ (r : Running). end_of r.stand) runs) (stored_all client ops runs going)
+        (kept_in start gone) kept
     all_told client [] [] found left going = tt
     all_told client [] (r ∷ runs) found left going = absurd going
     all_told client (op ∷ ops) [] found left going = absurd going
@@ -219,9 +236,10 @@ module _ {D : Type 0} (pending : D → Pending) (seen : D → List ℕ) (moment 
     )
 
     -- and the operations are told as they ended
-    pub told_as_ended : (ops : List Op) (runs : List Running) → IsGoing pending seen moment left_since start now ops runs
+    pub told_as_ended : (ops : List Op) (runs : List Running) (going : IsGoing pending seen moment left_since start now ops runs)
         → IsFound pending start now gone kept
-        → IsTold c lying ops (map (λ (r : Running). end_of r.stand) runs) (kept_in start gone) kept
+        → IsTold c (down_in start) ops (map (λ (r : Running). end_of r.stand) runs) (stored_all 1 ops runs going.operations)
+        (kept_in start gone) kept
     told_as_ended ops runs going found =
         let left : IsLeft moment left_since start now gone kept = λ i l. found_is_left pending seen moment left_since c i counts_now
         (seat_at start i) (seat_at now i) (gone i) (kept i) (going.seats i l) (found i l) in
@@ -234,7 +252,7 @@ module _ {D : Type 0} (pending : D → Pending) (seen : D → List ℕ) (moment 
 -- a call begins
 module _ {D : Type 0} (pending : D → Pending) (seen : D → List ℕ) (moment : D → ℕ) (left_since : D → ℕ → List ℕ → Type 0)
     (only_now : (disk : D) (bytes : List ℕ) → left_since disk (moment disk) bytes → MayLeave (pending disk) bytes)
-    (start : SeenStore D) (store : IsStore pending seen start) (laws : AreLaws start.config) where
+    (start : SeenStore D) (store : IsStore pending seen start) where
   untouched : (block : ℕ) → IsUntouched pending seen moment left_since start start block
   untouched block i gone kept l left =
       ap (λ n. versions_in n block) (left_at_first pending seen moment left_since start.config i only_now (seat_at start i) gone kept
@@ -248,8 +266,8 @@ module _ {D : Type 0} (pending : D → Pending) (seen : D → List ℕ) (moment 
     record {
       block = refl;
       there = may.0.there;
-      goes = λ lying gone is. laws.begin lying is (block_of op) client 1 (work_of op) (kept_of (kept_in start gone) (block_of op))
-          (first, omega arith) may.0.fits;
+      goes = λ gone. operations_begin (setting start.config) (down_in start) (block_of op) client 1 (work_of op)
+          (kept_of (kept_in start gone) (block_of op));
       untouched = untouched (block_of op);
     },
     all_begin (suc client) ops (omega arith) (omega arith) may.1,

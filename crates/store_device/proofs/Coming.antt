@@ -22,10 +22,10 @@ use Rattle.protocol.specs.Seen.{SeenTask, block_of, work_of}
 use Rattle.protocol.proofs.lemmas.Counting.{count_within, nobody_counts}
 use Rattle.disk_model.specs.Crash.{Pending, MayLeave}
 use Rattle.version_disk.specs.Stored.{Stored}
-use Rattle.block_lives.specs.Operating.{Keeps}
-use Rattle.block_lives.specs.Phases.{Progress, ask_to, after_phase}
-use Rattle.block_lives.specs.Phases.Progress.{UnderWay, Over}
-use Rattle.block_lives.specs.Endings.{OperationsAreAsked, PhasesEnd, IsNearer, phases_left, answers_given}
+use Rattle.block_phases.specs.Phases.{Keeps}
+use Rattle.block_phases.specs.Phases.{Progress, ask_to, after_phase}
+use Rattle.block_phases.specs.Phases.Progress.{UnderWay, Over}
+use Rattle.block_phases.specs.Endings.{OperationsAreAsked, PhasesEnd, IsNearer, phases_left, answers_given}
 use Rattle.batch_clients.specs.Batches.{Stand, Running, how_many, end_of, stand_after, reply_at, column, ask_by, asks_to, begun, stand_heard, after_answers}
 use Rattle.batch_clients.specs.Batches.Stand.{Asks, Ended, Lost}
 use Rattle.store_device.specs.Stores.{SeenStore, kept_in, seat_at}
@@ -34,7 +34,7 @@ use Rattle.store_device.specs.Lives.{first_nodes}
 use Rattle.store_device.specs.Working.{AreHanded, WorksIn}
 use Rattle.store_device.specs.Going.{StandsAt, AreGoing, IsGoing, MayBegin, store_of}
 use Rattle.store_device.specs.Answered.{AllCome, AreFew, ComesAt, HaveReplied, IsComing, IsEnough, RepliesIn, has_room, phases_on}
-use Rattle.store_device.proofs.Turns.{AreLaws, IsTurn, are_answers}
+use Rattle.store_device.proofs.Turns.{IsTurn, are_answers}
 use Rattle.store_device.proofs.Batches.{IsPlaced, placed_one, are_own, own_asks}
 use Rattle.store_device.proofs.Handing.{each_answered}
 use Rattle.store_device.proofs.Carrying.{GoFrom}
@@ -135,7 +135,7 @@ module _ {D : Type 0} (pending : D → Pending) (seen : D → List ℕ) (moment 
     (counts_now : (disk : D) (t : ℕ) (bytes : List ℕ) → t ≤ moment disk → MayLeave (pending disk) bytes → left_since disk t bytes) where
   module _ (start now then : SeenStore D) (asks : ℕ → List Ask) (answers : List (Option (List Reply)))
       (turn : IsTurn pending seen moment left_since counts_now start now then asks answers)
-      (laws : AreLaws start.config) (ends : Endings start.config) (more : ℕ)
+      (ends : Endings start.config) (more : ℕ)
       (few : (i : ℕ) → i < start.config.n → length (asks i) ≤ more)
       (replied : (i : ℕ) → i < start.config.n → (answer : Option (List Reply)) × (slice_get answers i ≡ Some answer)
       × RepliesIn seen most (length (asks i)) (is_some answer) (seat_at now i) (seat_at then i))
@@ -169,7 +169,7 @@ module _ {D : Type 0} (pending : D → Pending) (seen : D → List ℕ) (moment 
     asked_of i runs = asks_to (setting c) i runs
 
     abbrev Placed : ℕ → List Running → Type 0
-    Placed = IsPlaced pending seen moment left_since start now counts_now then asks answers turn laws
+    Placed = IsPlaced pending seen moment left_since start now counts_now then asks answers turn
 
     one_comes : (phases : ℕ) (op : Op) (client j : ℕ) (stand : Stand) (runs : List Running)
         → StandsAt pending seen moment left_since start now op client stand
@@ -181,7 +181,7 @@ module _ {D : Type 0} (pending : D → Pending) (seen : D → List ℕ) (moment 
         (placed i 0 (ask_to (setting c) task i) refl) in
         nearer start phases op task come (after_phase (setting c) client task (column j answers))
         (ends.phases client task (kept_first start op) (column j answers) come.asked
-        (are_answers pending seen moment left_since counts_now start now then asks answers turn laws op client task asking j asked nobody
+        (are_answers pending seen moment left_since counts_now start now then asks answers turn op client task asking j asked
         (first_nodes c))
         (given j (λ i. ask_to (setting c) task i) asked))
     one_comes phases op client j (Ended outcome) runs ended placed come = tt
@@ -197,7 +197,7 @@ module _ {D : Type 0} (pending : D → Pending) (seen : D → List ℕ) (moment 
       subst (λ (k : ℕ). ComesAt start (phases + 1) op (stand_heard (setting c) j answers k r.stand)) (sym going.0)
           (one_comes phases op client j r.stand runs going.1 placed come.0),
       all_come phases (suc client) ops runs (j + how_many r.stand) going.2
-          (placed_one pending seen moment left_since start now counts_now then asks answers turn laws j r.stand runs placed) come.1,
+          (placed_one pending seen moment left_since start now counts_now then asks answers turn j r.stand runs placed) come.1,
     )
 
   -- operations ask no more than there are of them
@@ -214,7 +214,7 @@ module _ {D : Type 0} (pending : D → Pending) (seen : D → List ℕ) (moment 
       at (Ended outcome) l = omega (arith, l)
       at Lost l = omega (arith, l)
 
-  module _ (laws : (c : Numbers) → AreLaws c) (ends : (c : Numbers) → IsValid c → Endings c) where
+  module _ (ends : (c : Numbers) → IsValid c → Endings c) where
     pub come_more : (c : Numbers) (first mid last : List (Option (Stored D))) (runs now : List Running) (phases later then : ℕ)
         (answers : List (Option (List Reply))) → GoFrom pending seen moment left_since c first runs mid now
         → ComeFrom pending seen moment left_since most c first runs phases mid now later
@@ -225,7 +225,7 @@ module _ {D : Type 0} (pending : D → Pending) (seen : D → List ℕ) (moment 
         come enough =
         subst (λ (n : ℕ). AllCome start n ops (after_answers (setting c) 0 answers now)) (sym next)
         (subst (λ (d : Numbers). AllCome start (later + 1) ops (after_answers (setting d) 0 answers now)) (sym same)
-        (all_come start (store_of c mid) (store_of c last) asks answers turn (laws start.config) (ends start.config valid) more
+        (all_come start (store_of c mid) (store_of c last) asks answers turn (ends start.config valid) more
         (λ i l. let a = few_asks start (store_of c mid) 1 i ops now so_far.operations in omega (arith, a, few))
         (λ i l. replied_there i (subst (λ (d : Numbers). i < d.n) (sym same) l))
         (subst (λ (d : Numbers). d.n ≤ count d.n (λ i. has_room seen most more (seat_at (store_of c last) i)) + d.t) same enough)

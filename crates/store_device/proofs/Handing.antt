@@ -21,7 +21,7 @@ use Rattle.store_device.specs.Answered.{HaveReplied, RepliesIn}
 use Rattle.store_device.specs.Going.{IsGoing, store_of}
 use Rattle.store_device.proofs.Asked.{count_replies}
 use Rattle.store_device.proofs.Seats.{when_true, when_false}
-use Rattle.store_device.proofs.Turns.{AreLaws, IsTurn}
+use Rattle.store_device.proofs.Turns.{IsTurn}
 use Rattle.store_device.proofs.Batches.{are_own, own_asks, goes_on}
 
 module _ {D : Type 0} (pending : D → Pending) (seen : D → List ℕ) (moment : D → ℕ) (left_since : D → ℕ → List ℕ → Type 0) where
@@ -161,12 +161,12 @@ module _ {D : Type 0} (pending : D → Pending) (seen : D → List ℕ) (moment 
 
   -- a phase of a store, as its operations go on
   pub phase_goes_on : (counts_now : (disk : D) (t : ℕ) (bytes : List ℕ) → t ≤ moment disk → MayLeave (pending disk) bytes
-      → left_since disk t bytes) (laws : (c : Numbers) → AreLaws c)
+      → left_since disk t bytes)
       (c : Numbers) (start now then : SeenStore D) (ops : List Op) (runs : List Running) (answers : List (Option (List Reply)))
       → now.config ≡ c → AreApart ops → IsGoing pending seen moment left_since start now ops runs
       → AreHanded pending seen moment left_since (λ i. asks_to (setting c) i runs) answers now then
       → IsGoing pending seen moment left_since start then ops (after_answers (setting c) 0 answers runs)
-  phase_goes_on counts_now laws c start now then ops runs answers is apart going handed =
+  phase_goes_on counts_now c start now then ops runs answers is apart going handed =
       let same : c ≡ start.config = sym is ∙ going.config in
       let asks = λ (i : ℕ). asks_to (setting start.config) i runs in
       let there : AreHanded pending seen moment left_since asks answers now then = subst
@@ -178,5 +178,5 @@ module _ {D : Type 0} (pending : D → Pending) (seen : D → List ℕ) (moment 
         own = λ i l. own_asks pending seen moment left_since start now 1 ops runs going.operations (are_own ops apart) i;
       } in
       subst (λ (d : Numbers). IsGoing pending seen moment left_since start then ops (after_answers (setting d) 0 answers runs)) (sym same)
-      (goes_on pending seen moment left_since start now counts_now then asks answers turn (laws start.config) ops runs going apart
+      (goes_on pending seen moment left_since start now counts_now then asks answers turn ops runs going apart
       (λ i. refl) there.config)

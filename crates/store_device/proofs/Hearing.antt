@@ -1,44 +1,16 @@
 -- What a phase leaves of an operation.
 use Rattle.std.proofs.Common.{◌≡◌, ℕ, suc, ◌<◌, Bool, true, false, cond, ltb, List, [], ◌∷◌, Option, Some, None, refl, sym, ◌∙◌, subst}
-use Rattle.quorum_rules.specs.Limits.{Numbers}
 use Rattle.protocol.specs.Count.{one_more}
 use Rattle.protocol.specs.Messages.{Version, Reply, Tag}
 use Rattle.protocol.specs.Setting.{Setting}
-use Rattle.protocol.specs.Instance.{setting, setting_of, nobody}
 use Rattle.protocol.specs.Nodes.{after}
 use Rattle.protocol.specs.Operations.{Work, Stage, Decision, Outcome, request_of, decide, awaits_more}
 use Rattle.protocol.specs.Operations.Stage.{Times, Versions, Storing}
 use Rattle.protocol.specs.Operations.Decision.{GoesOn, Ends}
 use Rattle.protocol.specs.Seen.{SeenTask, task_at, hearing, is_counted, seen_counted, by_decision, after_counting}
 use Rattle.protocol.specs.Seen.Hearing.{Ignored, Counted}
-use Rattle.block_lives.specs.Operating.{Keeps, Does, IsOver}
-use Rattle.block_lives.specs.Phases.{Progress, tag_of, ask_to, progress, heard_from, after_phase}
-use Rattle.block_lives.specs.Phases.Progress.{UnderWay, Over}
-
--- who lies doesn't matter to what is asked, and to what is heard
-pub same_ask : (c : Numbers) (lying : ℕ → Bool) (task : SeenTask) (i : ℕ)
-    → ask_to (setting c) task i ≡ ask_to (setting_of c lying nobody) task i
-same_ask c lying task i = refl
-
-pub same_phase : (c : Numbers) (lying : ℕ → Bool) (client : ℕ) (task : SeenTask) (replies : List (Option Reply))
-    → after_phase (setting c) client task replies ≡ after_phase (setting_of c lying nobody) client task replies
-same_phase c lying client task replies = refl
-
--- what nodes keep counts up to their number alone
-pub does_same : (s : Setting) (block client : ℕ) (work : Work) (outcome : Option Outcome) (old new then : Keeps)
-    → Does s block client work outcome old new → ((i : ℕ) → i < s.n → then i ≡ new i) → Does s block client work outcome old then
-does_same s block client work outcome old new then does same st k at =
-    let over : IsOver s block client work outcome new st k = does st k at in
-    record {
-      steps = over.steps;
-      may = over.may;
-      one = over.one;
-      few = over.few;
-      told = over.told;
-      of_this = over.of_this;
-      records = over.records;
-      at = record { idle = over.at.idle; versions = λ i l. over.at.versions i l ∙ sym (same i l); earlier = over.at.earlier };
-    }
+use Rattle.block_phases.specs.Phases.{Progress, tag_of, ask_to, progress, heard_from, after_phase}
+use Rattle.block_phases.specs.Phases.Progress.{UnderWay, Over}
 
 -- the stage has nodes store something
 abbrev pub is_storing : Stage → Bool

@@ -13,10 +13,10 @@ pub mod LifeOperations
 pub mod LifeTelling
 pub mod LifeLaws
 pub mod LifeReads
-pub mod LifeCalls
+pub mod LifeDone
 pub mod Calling
 pub mod Rooms
 pub mod Coming
 pub mod LifeArrays
-pub mod LifeSteps
+pub mod Sessions
 pub mod lemmas

@@ -14,14 +14,13 @@ use Rattle.protocol.specs.Instance.{setting}
 use Rattle.protocol.specs.Operations.{Outcome, How}
 use Rattle.protocol.specs.Seen.{block_of}
 use Rattle.run_words.specs.declared.outcome.Outcome.TheVariants.{Wrote, Spent, Gave, Outvoted}
-use Rattle.linear_runs.specs.Linear.{Operation, on_block}
+use Rattle.linear_runs.specs.Linear.{Operation, IsLinear, on_block}
 use Rattle.linear_runs.specs.Linear.Act.{Read}
 use Rattle.linear_runs.specs.Meaning.{IsSource, ReadsAreWritten}
-use Rattle.store_device.specs.Stores.{Nodes}
-use Rattle.store_device.specs.Told.{AreDone}
-use Rattle.store_device.specs.Lives.{Turn, Moment, told, told_one, prunable_after, turn_on, TakesAll, IsLife, IsToldOn, NoneClash, WasTold, AcknowledgedWritesAreRead, first_nodes}
-use Rattle.store_device.specs.Lives.Turn.{Performed, Pruned, Changed}
-use Rattle.store_device.specs.Arrays.{Contents, contents_after, IsAnswered, AreAnswered, with_outcomes, operations_in, operations_of, WasDone, LivesAreArrays}
+use Rattle.block_phases.specs.Executions.{StampedValue}
+use Rattle.store_device.specs.Lives.{Turn, Moment, told, told_one, IsWhole, IsLife, IsReadAfter, NoneClash, WasTold, LivesAreLinearizable, AcknowledgedWritesAreRead}
+use Rattle.store_device.specs.Lives.Turn.{Performed, Pruned, Changed, Gone, Back, Lost, Damaged, Failed, Renewed}
+use Rattle.store_device.specs.Arrays.{Contents, contents_after, IsAnswered, AreAnswered, with_outcomes, operations_in, operations_of, IsTold, WasDone, AcknowledgedAreDone, LivesAreArrays}
 use Rattle.store_device.proofs.Batches.{AreOwn, are_own}
 use Rattle.store_device.proofs.LifeTelling.{IsFrom, from_life, to_life, one_each}
 use Rattle.store_device.proofs.LifeReads.{only_there}
@@ -137,20 +136,14 @@ after_batch (op ∷ ops) (outcome ∷ outcomes) a block long done =
       )
     ]
 
-as_long : (c : Numbers) (lying : ℕ → Bool) (client : ℕ) (ops : List Op) (outcomes : List (Option Outcome)) (old new : Nodes)
-    → AreDone c lying client ops outcomes old new → length ops ≡ length outcomes
-as_long c lying client [] [] old new done = refl
-as_long c lying client [] (x ∷ outcomes) old new done = absurd done
-as_long c lying client (op ∷ ops) [] old new done = absurd done
-as_long c lying client (op ∷ ops) (x ∷ outcomes) old new done = let e = as_long c lying (suc client) ops outcomes old new done.1 in omega (arith, e)
-
 -- ---- a life
 
-module _ (written : (zeros : List ℕ) (ops : List Operation) → ReadsAreWritten zeros ops) (c : Numbers) (lying : ℕ → Bool)
-    (acknowledged : AcknowledgedWritesAreRead c lying) (life : List Moment) (lived : IsLife c lying life)
+module _ (written : (zeros : List ℕ) (ops : List Operation) → ReadsAreWritten zeros ops) (c : Numbers)
+    (life : List Moment) (lived : IsLife c life)
     (done : (k : ℕ) (op : Op) (outcome : Option Outcome) → WasTold life k op outcome → WasDone op outcome)
-    (each : (block : ℕ) → block < c.blocks → IsToldOn c lying block life)
-    (apart : (block : ℕ) (there : block < c.blocks) → NoneClash c lying block life (each block there)) where
+    (linear_on : (block : ℕ) → block < c.blocks → IsLinear (zeros (setting c)) (on_block block (told life)))
+    (acknowledged : (block : ℕ) → block < c.blocks → (write read : ℕ) (value given : List ℕ)
+    → IsReadAfter life block write read value given → given ≡ value) where
   -- a write of the block at a turn
   abbrev Writes : ℕ → ℕ → Type 0
   Writes block k = (value : List ℕ) × (outcome : Option Outcome) × WasTold life k (WriteOp block value) outcome
@@ -202,13 +195,13 @@ module _ (written : (zeros : List ℕ) (ops : List Operation) → ReadsAreWritte
         not_then : from.turn ≡ k → ⊥
         not_then e =
             absurd (
-            let q = one_each c lying life lived k (WriteOp block value) (ReadOp block) from.outcome (Some (Gave stamp value how rounds))
+            let q = one_each c life lived k (WriteOp block value) (ReadOp block) from.outcome (Some (Gave stamp value how rounds))
             (subst (λ (j : ℕ). WasTold life j (WriteOp block value) from.outcome) e was) gave refl in
             cc)
 
     gives_zeros : value ≡ zeros (setting c)
     gives_zeros =
-        let linear = (each block there).linear (apart block there) in
+        let linear = linear_on block there in
         elim (written (zeros (setting c)) (on_block block (told life)) r value (only_there (zeros (setting c)) block (told life) linear)
         (record {
           there = filter_has (λ (p : Operation). eqb p.block block) (told life) r (reading.1 r (Contains-head r [])) (eq-eqb block block refl);
@@ -234,7 +227,7 @@ module _ (written : (zeros : List ℕ) (ops : List Operation) → ReadsAreWritte
   answer k a holds (WriteOp block written) (Some (Outvoted nodes)) there was is = absurd is
   answer k a holds (ReadOp block) (Some (Gave stamp value how rounds)) there was is = elim (holds block) [
     | inl first ↦ gives_zeros block k there stamp value how rounds was first.1 ∙ sym first.0
-    | inr last ↦ acknowledged life lived block (each block there) (apart block there) last.turn k (a block) value (record {
+    | inr last ↦ acknowledged block there last.turn k (a block) value (record {
       later = last.before;
       chosen = last.stamp;
       wrote = last.was;
@@ -252,20 +245,21 @@ module _ (written : (zeros : List ℕ) (ops : List Operation) → ReadsAreWritte
     })
   ]
 
-  module _ (k : ℕ) (ops : List Op) (outcomes : List (Option Outcome))
-      (turn : slice_get (map (λ (m : Moment). m.turn) life) k ≡ Some (Performed ops outcomes)) where
+  module _ (k : ℕ) (ops : List Op) (outcomes : List (Option Outcome)) (stored : List (Option StampedValue))
+      (turn : slice_get (map (λ (m : Moment). m.turn) life) k ≡ Some (Performed ops outcomes stored)) where
     was_told : (place : ℕ) (op : Op) (outcome : Option Outcome) → slice_get ops place ≡ Some op → slice_get outcomes place ≡ Some outcome
         → WasTold life k op outcome
-    was_told place op outcome asked told = record { ops = ops; outcomes = outcomes; turn = turn; place = place; asked = asked; told = told }
+    was_told place op outcome asked told = record { ops = ops; outcomes = outcomes; stored = stored; turn = turn; place = place; asked = asked; told = told }
 
     none_writes : (block : ℕ) → NoneWrites ops block → Writes block k → ⊥
     none_writes block none w =
-        let q : Some (Performed w.2.ops w.2.outcomes) ≡ Some (Performed ops outcomes) = sym w.2.turn ∙ turn in
-        let same : w.2.ops ≡ ops = performed_is w.2.ops w.2.outcomes q in
+        let q : Some (Performed w.2.ops w.2.outcomes w.2.stored) ≡ Some (Performed ops outcomes stored) = sym w.2.turn ∙ turn in
+        let same : w.2.ops ≡ ops = performed_is w.2.ops w.2.outcomes w.2.stored q in
         none w.2.place w.0 (ap (λ (l : List Op). slice_get l w.2.place) (sym same) ∙ w.2.asked)
       where
-        performed_is : (os : List Op) (xs : List (Option Outcome)) → Some (Performed os xs) ≡ Some (Performed ops outcomes) → os ≡ ops
-        performed_is os xs e = cc
+        performed_is : (os : List Op) (xs : List (Option Outcome)) (ys : List (Option StampedValue))
+            → Some (Performed os xs ys) ≡ Some (Performed ops outcomes stored) → os ≡ ops
+        performed_is os xs ys e = cc
 
     -- and so does the array when the batch was done
     holds_then : length ops ≡ length outcomes → (a : Contents) → ((block : ℕ) → Holds block k (a block)) → (block : ℕ)
@@ -302,7 +296,7 @@ module _ (written : (zeros : List ℕ) (ops : List Operation) → ReadsAreWritte
         })
 
   holds_still : (k : ℕ) (turn : Turn) → slice_get (map (λ (m : Moment). m.turn) life) k ≡ Some turn
-      → ((ops : List Op) (outcomes : List (Option Outcome)) → turn ≢ Performed ops outcomes) → (block : ℕ) (value : List ℕ) → Holds block k value
+      → ((ops : List Op) (outcomes : List (Option Outcome)) (stored : List (Option StampedValue)) → turn ≢ Performed ops outcomes stored) → (block : ℕ) (value : List ℕ) → Holds block k value
       → Holds block (suc k) value
   holds_still k turn is other block value (inl first) = inl (
     first.0,
@@ -310,8 +304,8 @@ module _ (written : (zeros : List ℕ) (ops : List Operation) → ReadsAreWritte
       | inl below ↦ first.1 j below w
       | inr past ↦ (
           let e : k ≡ j = omega (arith, l, past) in
-          let q : Some turn ≡ Some (Performed w.2.ops w.2.outcomes) = sym is ∙ ap (slice_get (map (λ (m : Moment). m.turn) life)) e ∙ w.2.turn in
-          other w.2.ops w.2.outcomes (cc))
+          let q : Some turn ≡ Some (Performed w.2.ops w.2.outcomes w.2.stored) = sym is ∙ ap (slice_get (map (λ (m : Moment). m.turn) life)) e ∙ w.2.turn in
+          other w.2.ops w.2.outcomes w.2.stored (cc))
     ],
   )
   holds_still k turn is other block value (inr last) = inr (record {
@@ -323,8 +317,8 @@ module _ (written : (zeros : List ℕ) (ops : List Operation) → ReadsAreWritte
       | inl below ↦ last.none j l below w
       | inr past ↦ (
           let e : k ≡ j = omega (arith, m, past) in
-          let q : Some turn ≡ Some (Performed w.2.ops w.2.outcomes) = sym is ∙ ap (slice_get (map (λ (x : Moment). x.turn) life)) e ∙ w.2.turn in
-          other w.2.ops w.2.outcomes (cc))
+          let q : Some turn ≡ Some (Performed w.2.ops w.2.outcomes w.2.stored) = sym is ∙ ap (slice_get (map (λ (x : Moment). x.turn) life)) e ∙ w.2.turn in
+          other w.2.ops w.2.outcomes w.2.stored (cc))
     ];
   })
 
@@ -332,38 +326,51 @@ module _ (written : (zeros : List ℕ) (ops : List Operation) → ReadsAreWritte
   turns rest = map (λ (m : Moment). m.turn) rest
 
   -- turn by turn
-  from_turn : (rest : List Moment) (k : ℕ) (last : ℕ → Option Stamp) (old : Nodes) (a : Contents) → TakesAll c lying last old rest
+  from_turn : (rest : List Moment) (k : ℕ) (a : Contents) → AllByRecursion (λ (m : Moment). IsWhole c m.turn) rest
       → ((j : ℕ) → slice_get (turns rest) j ≡ slice_get (turns life) (k + j)) → ((block : ℕ) → Holds block k (a block))
       → AreAnswered a (operations_of rest)
-  from_turn [] k last old a takes at holds = tt
-  from_turn (m ∷ rest) k last old a takes at holds =
-      by m.turn takes.0 (sym (at 0 ∙ ap (slice_get (turns life)) (omega arith)))
-      (λ d more. from_turn rest (suc k) (λ block. prunable_after (last block) (turn_on block m.turn)) m.nodes d takes.1
-      (λ j. at (suc j) ∙ ap (slice_get (turns life)) (omega arith)) more)
+  from_turn [] k a whole at holds = tt
+  from_turn (m ∷ rest) k a whole at holds =
+      by m.turn whole.0 (sym (at 0 ∙ ap (slice_get (turns life)) (omega arith)))
+      (λ d more. from_turn rest (suc k) d whole.1 (λ j. at (suc j) ∙ ap (slice_get (turns life)) (omega arith)) more)
     where
-      by : (turn : Turn) → Rattle.store_device.specs.Lives.Takes c lying last old turn m.nodes
+      still : (turn : Turn) → slice_get (map (λ (x : Moment). x.turn) life) k ≡ Some turn
+          → ((ops : List Op) (outcomes : List (Option Outcome)) (stored : List (Option StampedValue)) → turn ≢ Performed ops outcomes stored)
+          → ((d : Contents) → ((block : ℕ) → Holds block (suc k) (d block)) → AreAnswered d (operations_of rest)) → AreAnswered a (operations_of rest)
+      still turn here other more = more a (λ b. holds_still k turn here other b (a b) (holds b))
+
+      by : (turn : Turn) → IsWhole c turn
           → slice_get (map (λ (x : Moment). x.turn) life) k ≡ Some turn
           → ((d : Contents) → ((block : ℕ) → Holds block (suc k) (d block)) → AreAnswered d (operations_of rest))
           → AreAnswered a (operations_in turn ++ operations_of rest)
-      by (Performed ops outcomes) is here more =
-          let told_each = was_told k ops outcomes here in
+      by (Performed ops outcomes stored) is here more =
+          let told_each = was_told k ops outcomes stored here in
           answered_append (with_outcomes ops outcomes) (operations_of rest) a
           (one_by_one ops outcomes a a (are_own ops is.0.apart) (all_same ops)
           (λ place op outcome p q. answer k a holds op outcome (member_of_all _ ops is.0.fit op (Contains-slice_get ops place op p)).0
           (told_each place op outcome p q) (done k op outcome (told_each place op outcome p q))))
-          (more (all_after (with_outcomes ops outcomes) a)
-          (holds_then k ops outcomes here (as_long c lying 1 ops outcomes old m.nodes is.1.done) a holds))
+          (more (all_after (with_outcomes ops outcomes) a) (holds_then k ops outcomes stored here (sym is.1) a holds))
         where
           all_same : (os : List Op) → AllByRecursion (λ (op : Op). a (block_of op) ≡ a (block_of op)) os
           all_same [] = tt
           all_same (o ∷ os) = (refl, all_same os)
-      by (Pruned prunes) is here more = more a (λ b. holds_still k (Pruned prunes) here (λ ops outcomes e. absurd cc) b (a b) (holds b))
-      by Changed is here more = more a (λ b. holds_still k Changed here (λ ops outcomes e. absurd cc) b (a b) (holds b))
+      by (Pruned prunes) is here more = still (Pruned prunes) here (λ ops outcomes stored e. absurd cc) more
+      by Changed is here more = still Changed here (λ ops outcomes stored e. absurd cc) more
+      by (Gone node) is here more = still (Gone node) here (λ ops outcomes stored e. absurd cc) more
+      by (Back node) is here more = still (Back node) here (λ ops outcomes stored e. absurd cc) more
+      by (Lost node) is here more = still (Lost node) here (λ ops outcomes stored e. absurd cc) more
+      by (Damaged block node) is here more = still (Damaged block node) here (λ ops outcomes stored e. absurd cc) more
+      by (Failed block node) is here more = still (Failed block node) here (λ ops outcomes stored e. absurd cc) more
+      by (Renewed block node) is here more = still (Renewed block node) here (λ ops outcomes stored e. absurd cc) more
 
   all_answered : AreAnswered (λ block. zeros (setting c)) (operations_of life)
-  all_answered = from_turn life 0 (λ block. None) (first_nodes c) (λ block. zeros (setting c)) lived.takes
+  all_answered = from_turn life 0 (λ block. zeros (setting c)) lived.whole
       (λ j. ap (slice_get (turns life)) (omega arith)) (λ block. inl (refl, λ j l w. absurd (omega (arith, l))))
 
-pub lives_are_arrays : ((zeros : List ℕ) (ops : List Operation) → ReadsAreWritten zeros ops) → (c : Numbers) (lying : ℕ → Bool)
-    → AcknowledgedWritesAreRead c lying → LivesAreArrays c lying
-lives_are_arrays written c lying acknowledged life lived done each apart = all_answered written c lying acknowledged life lived done each apart
+pub lives_are_arrays : ((zeros : List ℕ) (ops : List Operation) → ReadsAreWritten zeros ops) → (c : Numbers)
+    → LivesAreLinearizable c → AcknowledgedWritesAreRead c → AcknowledgedAreDone c → LivesAreArrays c
+lives_are_arrays written c linear acknowledged all_done valid life lived few apart told_all =
+    all_answered written c life lived
+    (λ k op outcome was. all_done valid life lived few apart k op outcome was (told_all k op outcome was))
+    (λ block there. linear valid life lived block there (apart block there))
+    (λ block there. acknowledged valid life lived block there (apart block there))

@@ -1,22 +1,22 @@
--- The operations of a store's life are linearizable, by the law of a block's life.
-use Rattle.std.proofs.Common.{◌≡◌, ◌≢◌, ℕ, Bool, eqb, List, [], sym, subst, inl, inr, arith}
+-- The operations of a store's life are linearizable, by the laws of the lives of blocks.
+use Rattle.std.proofs.Common.{◌≡◌, ◌≢◌, ℕ, suc, ◌<◌, ◌≤◌, Bool, eqb, List, [], ◌∷◌, ◌++◌, refl, sym, ap, subst, ◌∙◌, arith}
 use Rattle.std.specs.List.{Contains}
-use Rattle.std.proofs.lemmas.Bool.{cases_lt, eqb-true}
+use Rattle.std.proofs.lemmas.Bool.{eqb-true}
 use Rattle.std.proofs.lemmas.List.Sorted.{IsPermutation-refl}
-use Rattle.quorum_rules.specs.Limits.{Numbers}
+use Rattle.quorum_rules.specs.Limits.{Numbers, IsValid}
+use Rattle.protocol.specs.Count.{count}
 use Rattle.protocol.specs.Setting.{zeros}
-use Rattle.protocol.specs.Instance.{setting, nobody}
+use Rattle.protocol.specs.Instance.{setting, nobody, IsCluster}
 use Rattle.protocol.specs.Laws.{InEachCluster}
-use Rattle.linear_runs.specs.Linear.{Operation, IsLinear, Linearizable, on_block}
-use Rattle.linear_runs.specs.Meaning.{BlocksComeTogether}
+use Rattle.protocol.proofs.lemmas.Counting.{nobody_counts}
+use Rattle.linear_runs.specs.Linear.{Operation, IsLinear, on_block}
 use Rattle.linear_runs.proofs.lemmas.Matching.{filter_none}
-use Rattle.block_lives.specs.Lives.{IsToldBy}
-use Rattle.block_lives.specs.Laws.{LivesAreLinearizable as BlocksAreLinearizable}
-use Rattle.store_device.specs.Told.{cluster}
-use Rattle.store_device.specs.Lives.{life_on, told, LivesAreLinearizable, LivesAreLinearizableAsOne}
-use Rattle.store_device.proofs.LifeOnBlocks.{life_there}
-use Rattle.store_device.proofs.LifeOperations.{linear_on}
-use Rattle.store_device.proofs.LifeTelling.{takes_time, on_blocks}
+use Rattle.block_turns.specs.Turns.{Turn as BlockTurn, told_by as told_there, told as told_of, turns_of}
+use Rattle.block_turns.specs.Laws.{LivesAreLinearizable as BlocksAreLinearizable}
+use Rattle.block_turns.specs.AllBlocks.{AreLives, LivesAreLinearAsOne, LivesAreDurable as BlocksAreDurable, told_as}
+use Rattle.store_device.specs.Lives.{Moment, IsLife, NoneClash, life_on, told, LivesAreLinearizable, LivesAreLinearizableAsOne, LivesAreDurable}
+use Rattle.store_device.proofs.LifeOperations.{told_on}
+use Rattle.store_device.proofs.LifeTelling.{on_blocks}
 
 -- no operation at all
 pub linear_none : (zeros : List ℕ) (ops : List Operation) → ops ≡ [] → IsLinear zeros ops
@@ -32,21 +32,38 @@ linear_none zeros ops none =
 pub none_on : (block : ℕ) (ops : List Operation) → ((o : Operation) → Contains ops o → o.block ≢ block) → on_block block ops ≡ []
 none_on block ops apart = filter_none (λ (o : Operation). eqb o.block block) ops (λ o there e. apart o there (eqb-true o.block block e))
 
-module _ (c : Numbers) (lying : ℕ → Bool) where
-  pub by_block : InEachCluster BlocksAreLinearizable → LivesAreLinearizable c lying
-  by_block lives good life lived block there =
-      record { told_by = is; linear = λ apart. linear_on block c lying life lived (zeros (setting c)) (is.linear apart) }
-    where
-      is : IsToldBy (cluster c lying) block (life_on block life)
-      is = lives c lying nobody good block (life_on block life) (life_there c lying block life lived there)
+-- a cluster in which nobody lies at first
+pub calm : (c : Numbers) → IsValid c → IsCluster c nobody
+calm c valid = record { config = valid; few = (let e = nobody_counts c.n in omega (arith, e)) }
 
-  pub as_one : ((zeros : List ℕ) (ops : List Operation) → BlocksComeTogether zeros ops) → LivesAreLinearizableAsOne c lying
-  as_one together good life lived each apart = together (zeros (setting c)) (told life) (takes_time (zeros (setting c)) life) linear
-    where
-      linear : Linearizable (zeros (setting c)) (told life)
-      linear block = elim (cases_lt block c.blocks) [
-        | inl there ↦ (each block there).linear (apart block there)
-        | inr past ↦
-            linear_none (zeros (setting c)) (on_block block (told life))
-            (none_on block (told life) (λ o k e. let l = on_blocks c lying life lived o k in omega (arith, l, e, past)))
-      ]
+-- turns under their own numbers
+same_told : (block k : ℕ) (turns : List BlockTurn) → told_of block k turns ≡ told_as (λ j. j) block k turns
+same_told block k [] = refl
+same_told block k (turn ∷ turns) = ap (λ (os : List Operation). told_there block k turn ++ os) (same_told block (suc k) turns)
+
+module _ (c : Numbers) where
+  pub by_block : InEachCluster BlocksAreLinearizable → LivesAreLinearizable c
+  by_block lives valid life lived block there apart =
+      subst (IsLinear (zeros (setting c))) (sym (told_on block c life lived))
+      (lives c nobody nobody (calm c valid) block (life_on block life) (lived.each block there) apart)
+
+  are_lives : IsValid c → (life : List Moment) → IsLife c life → ((block : ℕ) → block < c.blocks → NoneClash c block life)
+      → AreLives (setting c) (λ block. nobody) (λ block. life_on block life) (λ block k. k) (told life)
+  are_lives valid life lived apart = record {
+    few = λ block there. (let e = nobody_counts c.n in omega (arith, e));
+    each = λ block there. record { there = (lived.each block there).there; takes = (lived.each block there).takes };
+    apart = λ block there. apart block there;
+    rises = λ block j k there less. less;
+    inside = λ o there. on_blocks c life lived o there;
+    of_lives = λ block there. told_on block c life lived ∙ same_told block 0 (turns_of (life_on block life));
+  }
+
+  pub as_one : InEachCluster LivesAreLinearAsOne → LivesAreLinearizableAsOne c
+  as_one together valid life lived apart =
+      together c nobody nobody (calm c valid) (λ block. nobody) (λ block. life_on block life) (λ block k. k) (told life)
+      (are_lives valid life lived apart)
+
+  pub durable : InEachCluster BlocksAreDurable → LivesAreDurable c
+  durable together valid life crashes lived apart =
+      together c nobody nobody (calm c valid) (λ block. nobody) (λ block. life_on block life) (λ block k. k) (told life) crashes
+      (are_lives valid life lived apart)

@@ -15,7 +15,7 @@ use Rattle.run_words.specs.declared.outcome.Outcome.TheVariants.{Wrote, Gave}
 use Rattle.linear_runs.specs.Linear.{Operation, IsBefore, IsLinear, Linearizable, on_block}
 use Rattle.linear_runs.specs.Linear.Act.{Read, Write}
 use Rattle.linear_runs.specs.Meaning.{IsSource, ReadsAreFresh}
-use Rattle.store_device.specs.Lives.{Moment, told, told_one, IsLife, WasTold, IsReadAfter, AcknowledgedWritesAreRead}
+use Rattle.store_device.specs.Lives.{Moment, told, told_one, IsLife, WasTold, IsReadAfter, LivesAreLinearizable, AcknowledgedWritesAreRead}
 use Rattle.store_device.proofs.LifeTelling.{IsFrom, end_at, from_life, to_life, one_each}
 use Rattle.store_device.proofs.LifeLaws.{linear_none, none_on}
 
@@ -46,8 +46,8 @@ ended : (k : ℕ) (outcome : Option Outcome) → outcome ≢ None → end_at k o
 ended k None is = absurd (is refl)
 ended k (Some outcome) is = refl
 
-module _ (fresh : (zeros : List ℕ) (ops : List Operation) → ReadsAreFresh zeros ops) (c : Numbers) (lying : ℕ → Bool) where
-  module _ (life : List Moment) (lived : IsLife c lying life) (block : ℕ)
+module _ (fresh : (zeros : List ℕ) (ops : List Operation) → ReadsAreFresh zeros ops) (c : Numbers) where
+  module _ (life : List Moment) (lived : IsLife c life) (block : ℕ)
       (linear : IsLinear (zeros (setting c)) (on_block block (told life)))
       (write read : ℕ) (value given : List ℕ) (h : IsReadAfter life block write read value given) where
     stands : (o : Operation) → Contains (told life) o → o.block ≡ block → Contains (on_block block (told life)) o
@@ -87,7 +87,7 @@ module _ (fresh : (zeros : List ℕ) (ops : List Operation) → ReadsAreFresh ze
       one_there : (op : Op) (outcome : Option Outcome) (turn : ℕ) → from.turn ≡ turn → WasTold life turn op outcome
           → block ≡ block_of op → WriteOp block given ≡ op
       one_there op outcome turn e told same =
-          one_each c lying life lived turn (WriteOp block given) op from.outcome outcome
+          one_each c life lived turn (WriteOp block given) op from.outcome outcome
           (subst (λ (k : ℕ). WasTold life k (WriteOp block given) from.outcome) e was) told same
 
       -- it began before the read
@@ -138,6 +138,6 @@ module _ (fresh : (zeros : List ℕ) (ops : List Operation) → ReadsAreFresh ze
           | inr x ↦ same x.0 x.1 x.2
         ]
 
-  pub reads_give : AcknowledgedWritesAreRead c lying
-  reads_give life lived block is apart write read value given h =
-      gives life lived block (is.linear apart) write read value given h
+  pub reads_give : LivesAreLinearizable c → AcknowledgedWritesAreRead c
+  reads_give lives valid life lived block there apart write read value given h =
+      gives life lived block (lives valid life lived block there apart) write read value given h

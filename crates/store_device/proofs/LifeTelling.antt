@@ -2,13 +2,12 @@
 use Rattle.std.proofs.Common.{◌≡◌, ◌≢◌, ◌⊎◌, ℕ, zero, suc, ◌+◌, ◌<◌, ◌≤◌, Bool, map, List, [], ◌∷◌, Option, refl, sym, ap, subst, ◌∙◌, inl, inr, arith}
 use Rattle.std.specs.Prelude.{slice_get}
 use Rattle.std.specs.declared.option.Option.TheVariants.{None, Some}
-use Rattle.std.specs.List.{Contains}
+use Rattle.std.specs.List.{AllByRecursion, Contains}
 use Rattle.std.proofs.lemmas.Bool.{cases_lt}
 use Rattle.std.proofs.lemmas.Option.{slice_get_within, get_or_from_slice_get}
 use Rattle.std.proofs.lemmas.List.Elements.{Contains-append_cases, Contains-append_left, Contains-append_right}
 use Rattle.lists.proofs.lemmas.Members.{Contains-none, Contains-one, Contains-slice_get, member_of_all}
 use Rattle.quorum_rules.specs.Limits.{Numbers}
-use Rattle.stamp_order.specs.declared.Stamp.{Stamp}
 use Rattle.wire_forms.specs.declared.op.Op.{Op}
 use Rattle.wire_forms.specs.declared.op.Op.TheVariants.{Read as ReadOp, Write as WriteOp}
 use Rattle.protocol.specs.Instance.{setting}
@@ -20,10 +19,10 @@ use Rattle.run_words.specs.declared.outcome.Outcome.TheVariants.{Wrote, Spent, G
 use Rattle.linear_runs.specs.Linear.{Act, Operation}
 use Rattle.linear_runs.specs.Linear.Act.{Read, Write}
 use Rattle.linear_runs.specs.Meaning.{EachTakesTime}
-use Rattle.block_lives.specs.Lives.{operation, act_of, act_left}
-use Rattle.store_device.specs.Stores.{Nodes}
-use Rattle.store_device.specs.Lives.{Turn, Moment, turn_on, prunable_after, told_one, told_by, told_at, told_from, told, first_nodes, IsBatch, Takes, TakesAll, IsLife, WasTold}
-use Rattle.store_device.specs.Lives.Turn.{Performed, Pruned, Changed}
+use Rattle.block_phases.specs.Executions.{StampedValue}
+use Rattle.block_turns.specs.Turns.{operation, act_of, act_left}
+use Rattle.store_device.specs.Lives.{Turn, Moment, told_one, told_by, told_at, told_from, told, IsBatch, IsWhole, IsLife, WasTold}
+use Rattle.store_device.specs.Lives.Turn.{Performed, Pruned, Changed, Gone, Back, Lost, Damaged, Failed, Renewed}
 
 -- ---- one operation
 
@@ -138,12 +137,12 @@ pub record IsFrom (k : ℕ) (life : List Moment) (o : Operation) : Type 0 where
 later : (m : Moment) (life : List Moment) (turn : ℕ) (op : Op) (outcome : Option Outcome) → WasTold life turn op outcome
     → WasTold (m ∷ life) (suc turn) op outcome
 later m life turn op outcome was =
-    record { ops = was.ops; outcomes = was.outcomes; turn = was.turn; place = was.place; asked = was.asked; told = was.told }
+    record { ops = was.ops; outcomes = was.outcomes; stored = was.stored; turn = was.turn; place = was.place; asked = was.asked; told = was.told }
 
 earlier : (m : Moment) (life : List Moment) (turn : ℕ) (op : Op) (outcome : Option Outcome) → WasTold (m ∷ life) (suc turn) op outcome
     → WasTold life turn op outcome
 earlier m life turn op outcome was =
-    record { ops = was.ops; outcomes = was.outcomes; turn = was.turn; place = was.place; asked = was.asked; told = was.told }
+    record { ops = was.ops; outcomes = was.outcomes; stored = was.stored; turn = was.turn; place = was.place; asked = was.asked; told = was.told }
 
 pub from_life : (k : ℕ) (life : List Moment) (o : Operation) → Contains (told_from k life) o → IsFrom k life o
 from_life k [] o there = absurd (Contains-none o there)
@@ -164,7 +163,7 @@ from_life k (m ∷ life) o there =
     ]
   where
     at : (t : Turn) → m.turn ≡ t → Contains (told_at k t) o → IsFrom k (m ∷ life) o
-    at (Performed ops outcomes) e a =
+    at (Performed ops outcomes stored) e a =
         let b = from_batch k 1 ops outcomes o a in
         let number : k ≡ k + 0 = omega arith in
         record {
@@ -174,6 +173,7 @@ from_life k (m ∷ life) o there =
           was = record {
             ops = ops;
             outcomes = outcomes;
+            stored = stored;
             turn = ap (λ (x : Turn). Some x) e;
             place = b.place;
             asked = b.asked;
@@ -183,12 +183,18 @@ from_life k (m ∷ life) o there =
         }
     at (Pruned prunes) e a = absurd (Contains-none o a)
     at Changed e a = absurd (Contains-none o a)
+    at (Gone node) e a = absurd (Contains-none o a)
+    at (Back node) e a = absurd (Contains-none o a)
+    at (Lost node) e a = absurd (Contains-none o a)
+    at (Damaged block node) e a = absurd (Contains-none o a)
+    at (Failed block node) e a = absurd (Contains-none o a)
+    at (Renewed block node) e a = absurd (Contains-none o a)
 
 pub to_life : (k : ℕ) (life : List Moment) (turn : ℕ) (op : Op) (outcome : Option Outcome) → WasTold life turn op outcome
     → (client : ℕ) × ((o : Operation) → Contains (told_one (k + turn) client op outcome) o → Contains (told_from k life) o)
 to_life k [] turn op outcome was = absurd (let e = was.turn in cc)
 to_life k (m ∷ life) zero op outcome was =
-    let is : m.turn ≡ Performed was.ops was.outcomes = (let e = was.turn in cc) in
+    let is : m.turn ≡ Performed was.ops was.outcomes was.stored = (let e = was.turn in cc) in
     let b = to_batch k 1 was.ops was.outcomes was.place op outcome was.asked was.told in
     let number : k + 0 ≡ k = omega arith in (
       b.0,
@@ -214,23 +220,22 @@ takes_time zeros life o start end there began ended =
     at None b e = absurd (cc)
     at {k} (Some outcome) b e = let p : k ≡ start = cc in let q : k ≡ end = cc in omega (arith, p, q)
 
-module _ (c : Numbers) (lying : ℕ → Bool) where
-  batch_of : (last : ℕ → Option Stamp) (old : Nodes) (life : List Moment) (k : ℕ) (ops : List Op) (outcomes : List (Option Outcome))
-      → TakesAll c lying last old life → slice_get (map (λ (m : Moment). m.turn) life) k ≡ Some (Performed ops outcomes) → IsBatch c ops
-  batch_of last old [] k ops outcomes takes e = absurd (cc)
-  batch_of last old (m ∷ life) zero ops outcomes takes e = performed.0
+module _ (c : Numbers) where
+  batch_of : (life : List Moment) (k : ℕ) (ops : List Op) (outcomes : List (Option Outcome)) (stored : List (Option StampedValue))
+      → AllByRecursion (λ (m : Moment). IsWhole c m.turn) life
+      → slice_get (map (λ (m : Moment). m.turn) life) k ≡ Some (Performed ops outcomes stored) → IsBatch c ops
+  batch_of [] k ops outcomes stored whole e = absurd (cc)
+  batch_of (m ∷ life) zero ops outcomes stored whole e = performed.0
     where
-      performed : Takes c lying last old (Performed ops outcomes) m.nodes
-      performed =
-          let is : m.turn ≡ Performed ops outcomes = cc in subst (λ (t : Turn). Takes c lying last old t m.nodes) is takes.0
-  batch_of last old (m ∷ life) (suc k) ops outcomes takes e =
-      batch_of (λ b. prunable_after (last b) (turn_on b m.turn)) m.nodes life k ops outcomes takes.1 e
+      performed : IsWhole c (Performed ops outcomes stored)
+      performed = let is : m.turn ≡ Performed ops outcomes stored = cc in subst (IsWhole c) is whole.0
+  batch_of (m ∷ life) (suc k) ops outcomes stored whole e = batch_of life k ops outcomes stored whole.1 e
 
-  module _ (life : List Moment) (lived : IsLife c lying life) where
+  module _ (life : List Moment) (lived : IsLife c life) where
     batch_at : (k : ℕ) (op : Op) (outcome : Option Outcome) (was : WasTold life k op outcome) → IsBatch c was.ops
-    batch_at k op outcome was = batch_of (λ b. None) (first_nodes c) life k was.ops was.outcomes lived.takes was.turn
+    batch_at k op outcome was = batch_of life k was.ops was.outcomes was.stored lived.whole was.turn
 
-    fits : (k : ℕ) (op : Op) (outcome : Option Outcome) → WasTold life k op outcome
+    pub fits : (k : ℕ) (op : Op) (outcome : Option Outcome) → WasTold life k op outcome
         → (block_of op < c.blocks) × Fits (setting c) (work_of op)
     fits k op outcome was =
         member_of_all (λ (x : Op). (block_of x < c.blocks) × Fits (setting c) (work_of x)) was.ops (batch_at k op outcome was).fit op
@@ -248,7 +253,7 @@ module _ (c : Numbers) (lying : ℕ → Bool) where
     one_each k op other outcome told a b same = at (cases_lt a.place b.place) (cases_lt b.place a.place)
       where
         ops_same : b.ops ≡ a.ops
-        ops_same = let p = sym b.turn ∙ a.turn in let q : Performed b.ops b.outcomes ≡ Performed a.ops a.outcomes = cc in cc
+        ops_same = let p = sym b.turn ∙ a.turn in let q : Performed b.ops b.outcomes b.stored ≡ Performed a.ops a.outcomes a.stored = cc in cc
 
         asked : slice_get a.ops b.place ≡ Some other
         asked = subst (λ (ops : List Op). slice_get ops b.place ≡ Some other) ops_same b.asked

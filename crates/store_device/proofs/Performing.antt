@@ -1,6 +1,6 @@
 -- What a call leaves of a store.
-use Rattle.std.proofs.Common.{◌≡◌, inl, inr, ℕ, ◌<◌, ◌≤◌, Bool, false, List, [], ◌∷◌, length, map, Option, Some, None, Ok, Err, Result, sym, ◌∙◌, ap, subst, arith}
-use Rattle.std.specs.Prelude.{All, IfOk}
+use Rattle.std.proofs.Common.{◌≡◌, inl, inr, ℕ, ◌<◌, ◌≤◌, Bool, true, false, List, [], ◌∷◌, length, map, Option, Some, None, Ok, Err, Result, sym, ◌∙◌, ap, subst, arith}
+use Rattle.std.specs.Prelude.{All, IfOk, is_some}
 use Rattle.std.specs.List.{AllByRecursion}
 use Rattle.std.specs.Option.{option_map}
 use Rattle.std.specs.Result.{result_ok}
@@ -9,18 +9,20 @@ use Rattle.std.proofs.lemmas.List.{get_or_past}
 use Rattle.std.proofs.lemmas.List.Elements.{recursion_from_All}
 use Rattle.quorum_rules.specs.Limits.{Numbers, IsValid}
 use Rattle.wire_forms.specs.declared.op.Op.{Op}
-use Rattle.protocol.specs.Instance.{setting, IsCluster}
+use Rattle.protocol.specs.Instance.{setting}
 use Rattle.protocol.specs.World.{Fits}
 use Rattle.protocol.specs.Operations.{Outcome}
 use Rattle.protocol.specs.Seen.{block_of, work_of}
 use Rattle.disk_model.specs.Crash.{Pending, MayLeave}
-use Rattle.batch_clients.specs.Batches.{Running, end_of}
-use Rattle.store_device.specs.Stores.{SeenStore, Nodes, IsSound, IsStore, IsFound, kept_in, seat_at, is_up}
+use Rattle.batch_clients.specs.Batches.{Running, begun, end_of}
+use Rattle.store_device.specs.Stores.{SeenStore, Nodes, IsSound, IsStore, IsFound, kept_in, seat_at, down_in, is_up}
 use Rattle.store_device.specs.Told.{AreApart, IsTold}
 use Rattle.store_device.specs.Going.{IsGoing, MayBegin}
-use Rattle.store_device.specs.Calls.{HasPerformed, StaysStore, told_each}
+use Rattle.store_device.specs.Calls.{HasPerformed, HaveEnded, HaveEndedIf, StaysStore, told_each}
+use Rattle.store_device.specs.Answered.{AreFew, IsEnough}
+use Rattle.store_device.specs.Phased.{GoThrough}
 use Rattle.store_device.proofs.Seats.{found_is_left}
-use Rattle.store_device.proofs.Turns.{AreLaws}
+use Rattle.store_device.proofs.Batches.{stored_all}
 use Rattle.store_device.proofs.Carrying.{all_is_told, none_is_told}
 
 module _ {D : Type 0} (pending : D → Pending) (seen : D → List ℕ) (moment : D → ℕ) (left_since : D → ℕ → List ℕ → Type 0)
@@ -56,25 +58,49 @@ module _ {D : Type 0} (pending : D → Pending) (seen : D → List ℕ) (moment 
   all_fit (op ∷ l) may = ((may.0.there, may.0.fits), all_fit l may.1)
 
   module _ (counts_now : (disk : D) (t : ℕ) (bytes : List ℕ) → t ≤ moment disk → MayLeave (pending disk) bytes → left_since disk t bytes)
-      (laws : (c : Numbers) → AreLaws c) (few : length ops ≤ 64) (may : All (MayBegin old.config) ops) (apart : AreApart ops) where
+      (few : length ops ≤ 64) (may : All (MayBegin old.config) ops) (apart : AreApart ops) where
     -- where nothing is told, no operation is
     tells : {V E : Type 0} (items : V → List (Option Outcome)) (result : Result V E)
         → IfOk result (λ v. items v ≡ map (λ (r : Running). end_of r.stand) runs)
-        → (lying : ℕ → Bool) (gone kept : Nodes) → IsCluster old.config lying → IsFound pending old new gone kept
-        → IsTold old.config lying ops (told_each ops (option_map items (result_ok result))) (kept_in old gone) kept
-    tells items (Ok v) are lying gone kept is found =
-        all_is_told pending seen moment left_since counts_now laws old new ops runs (items v) going are lying gone kept is found
-    tells items (Err e) are lying gone kept is found =
-        none_is_told pending seen moment left_since counts_now laws old new ops runs going lying gone kept is
+        → (gone kept : Nodes) → IsFound pending old new gone kept
+        → IsTold old.config (down_in old) ops (told_each ops (option_map items (result_ok result)))
+        (stored_all pending seen moment left_since old new 1 ops runs going.operations) (kept_in old gone) kept
+    tells items (Ok v) are gone kept found =
+        all_is_told pending seen moment left_since counts_now old new ops runs (items v) going are gone kept found
+    tells items (Err e) are gone kept found =
+        none_is_told pending seen moment left_since counts_now old new ops runs going gone kept
         (λ i l. found_is_left pending seen moment left_since old.config i counts_now (seat_at old i) (seat_at new i) (gone i) (kept i)
         (going.seats i l) (found i l))
 
-    pub has_performed : {V E : Type 0} (items : V → List (Option Outcome)) (result : Result V E)
-        → IfOk result (λ v. items v ≡ map (λ (r : Running). end_of r.stand) runs)
-        → HasPerformed pending seen moment left_since ops (option_map items (result_ok result)) old new
-    has_performed items result are = record {
-      batch = record { few = few; fit = all_fit ops (recursion_from_All (MayBegin old.config) ops may); apart = apart };
-      told = tells items result are;
-      any_moment = none_is_told pending seen moment left_since counts_now laws old new ops runs going;
-      stays = stays;
-    }
+    module _ (most : D → ℕ) where
+      have_ended : {V E : Type 0} (items : V → List (Option Outcome)) (result : Result V E)
+          → IfOk result (λ v. (after : List Running)
+          × GoThrough pending seen most moment left_since old (begun (setting old.config) 1 ops) new after
+          × (items v ≡ map (λ (r : Running). end_of r.stand) after))
+          → IfOk result (λ v. AreFew old ops → IsEnough seen most (length ops) new
+          → AllByRecursion (λ (o : Option Outcome). is_some o ≡ true) (items v))
+          → HaveEndedIf pending seen most moment left_since ops (option_map items (result_ok result)) old new
+      have_ended items (Ok v) gone_through answered = record {
+        runs = gone_through.0;
+        phases = gone_through.1;
+        ends = gone_through.2;
+        answered = answered;
+      }
+      have_ended items (Err e) gone_through answered = tt
+
+      pub has_performed : {V E : Type 0} (items : V → List (Option Outcome)) (result : Result V E)
+          → IfOk result (λ v. items v ≡ map (λ (r : Running). end_of r.stand) runs)
+          → IfOk result (λ v. (after : List Running)
+          × GoThrough pending seen most moment left_since old (begun (setting old.config) 1 ops) new after
+          × (items v ≡ map (λ (r : Running). end_of r.stand) after))
+          → IfOk result (λ v. AreFew old ops → IsEnough seen most (length ops) new
+          → AllByRecursion (λ (o : Option Outcome). is_some o ≡ true) (items v))
+          → HasPerformed pending seen most moment left_since ops (option_map items (result_ok result)) old new
+      has_performed items result are gone_through answered = record {
+        batch = record { few = few; fit = all_fit ops (recursion_from_All (MayBegin old.config) ops may); apart = apart };
+        stored = stored_all pending seen moment left_since old new 1 ops runs going.operations;
+        told = tells items result are;
+        any_moment = none_is_told pending seen moment left_since counts_now old new ops runs going;
+        ended = have_ended items result gone_through answered;
+        stays = stays;
+      }

@@ -20,10 +20,11 @@ use Rattle.version_disk.specs.declared.prune.Prune.{Prune}
 use Rattle.version_disk.proofs.lemmas.Answering.{deeds_config}
 use Rattle.store_device.specs.Stores.{SeenStore, Nodes, IsSound, IsStore, IsLeft, IsLeftAt, kept_at, kept_in, seat_at, is_up}
 use Rattle.store_device.specs.Going.{store_of}
-use Rattle.store_device.specs.Lives.{ArePruned}
+use Rattle.store_device.specs.Calls.{ArePruned}
 use Rattle.store_device.specs.Working.{HasGoneOn}
+use Rattle.store_device.specs.Answered.{has_room}
 use Rattle.store_device.specs.Calls.{HasPruned as HasPrunedBlocks}
-use Rattle.store_device.specs.Seating.{with_seat, HasBlocks, ArePrunesApart, HasPruned, PrunesIn, HasTried, TriesIn}
+use Rattle.store_device.specs.Seating.{with_seat, HasBlocks, ArePrunesApart, HasPruned, PrunesIn, PrunesWholly, HasTried, TriesIn}
 use Rattle.store_device.proofs.Asked.{IsNodeOf}
 use Rattle.store_device.proofs.LifeOperations.{apart_first, apart_rest}
 use Rattle.store_device.proofs.Seats.{held_is_node, found_is_left, when_true, when_false, at_true, at_false, not_false, not_true}
@@ -253,11 +254,11 @@ module _ {D : Type 0} (pending : D → Pending) (seen : D → List ℕ) where
           }
 
       -- what the call was
-      pub has_pruned : All (λ (p : Prune). p.block < old.config.blocks) prunes
+      pub has_pruned : (most : D → ℕ) → All (λ (p : Prune). p.block < old.config.blocks) prunes
           → ArePrunesApart prunes
           → ((disk : D) (t : ℕ) (bytes : List ℕ) → t ≤ moment disk → MayLeave (pending disk) bytes → left_since disk t bytes)
-          → HasPrunedBlocks pending seen moment left_since prunes old new
-      has_pruned there apart counts_now = record {
+          → HasPrunedBlocks pending seen most moment left_since prunes old new
+      has_pruned most there apart counts_now = record {
         done = λ gone kept found. left_pruned there apart gone kept (λ i l. found_is_left pending seen moment left_since old.config i counts_now
             (seat_at old i) (seat_at new i) (gone i) (kept i) (gone_on old.config i (seat_at old i) (seat_at new i) (has.sound i) (tried i))
             (found i l));
@@ -290,6 +291,29 @@ module _ {D : Type 0} (pending : D → Pending) (seen : D → List ℕ) where
                 let old_is : seat_at value i ≡ None = seat_past node c value items is i (omega arith) in
                 let new_is : seat_at (store_of c (map node back)) i ≡ None = seat_past node c (store_of c (map node back)) new now i (let n = count in omega arith) in
                 subst (λ (s : Option (Stored D)). Tries s (seat_at (store_of c (map node back)) i)) (sym old_is) new_is)
+          ]
+
+      -- and each node that is up and has room has pruned
+      pub wholly_back : (most : D → ℕ)
+          → ((i : ℕ) (d : X) → i < length first
+          → PrunesWholly pending seen most prunes false (node (get_or first i d)) (node (get_or new i d))) → (i : ℕ)
+          → PrunesWholly pending seen most prunes false (seat_at value i) (seat_at (store_of c (map node back)) i)
+      wholly_back most each i =
+          let m : length items ≡ length first = ap length (sym lent) in
+          let now : store_of c (map node new) ≡ store_of c (map node back) = ap (λ (l : List X). store_of c (map node l)) (sym back_is) in
+          elim (cases_lt i (length first)) [
+            | inl l ↦ (
+                let d = (at_place first i l).0 in
+                let old_is : node (get_or first i d) ≡ seat_at value i = ap (λ (l : List X). node (get_or l i d)) lent ∙ sym (seat_there node c value items is i d (omega arith)) in
+                let new_is : node (get_or new i d) ≡ seat_at (store_of c (map node back)) i = sym (seat_there node c (store_of c (map node back)) new now i d (let n = count in omega arith)) in
+                subst (λ (s : Option (Stored D)). PrunesWholly pending seen most prunes false s (seat_at (store_of c (map node back)) i)) old_is
+                (subst (PrunesWholly pending seen most prunes false (node (get_or first i d))) new_is (each i d l)))
+            | inr l ↦ record {
+              wholly = λ fed room. (
+                  let new_is : seat_at (store_of c (map node back)) i ≡ None = seat_past node c (store_of c (map node back)) new now i (let n = count in omega arith) in
+                  let e : has_room seen most (length prunes) (seat_at (store_of c (map node back)) i) ≡ false = ap (has_room seen most (length prunes)) new_is in
+                  absurd cc);
+            }
           ]
 
       -- each node that is up has the block

@@ -15,6 +15,9 @@ use Rattle.version_disk.specs.Held.{slots_of}
 use Rattle.version_disk.specs.Deeds.{after_deed, added_slots, slots_by, slots_by_all}
 use Rattle.version_disk.specs.Deeds.Deed.{Answers}
 use Rattle.version_disk.specs.Stored.{Stored, all_fit, has_places}
+use Rattle.version_disk.specs.declared.prune.Prune.{Prune}
+use Rattle.disk_model.specs.Crash.{Pending}
+use Rattle.store_device.specs.Seating.{HasPruned, PrunesWholly}
 use Rattle.store_device.specs.Answered.{has_room, RepliesIn, gave, is_memory}
 
 -- fewer slots fit behind fewer
@@ -117,3 +120,11 @@ module _ {D : Type 0} (seen : D → List ℕ) (most : D → ℕ) (was is : Store
   calm_or_broken DiskFault calm breaks = inr breaks
   calm_or_broken Broken calm breaks = inl calm
   calm_or_broken Full calm breaks = inl calm
+
+  -- ---- prunes
+
+  module _ (pending : D → Pending) (prunes : List Prune) where
+    -- a node that pruned
+    pub pruned_wholly : (starved : Bool) → HasPruned pending seen prunes was is
+        → PrunesWholly pending seen most prunes starved (Some was) (Some is)
+    pruned_wholly starved done = record { wholly = λ fed room. (was, is, refl, refl, done) }

@@ -331,6 +331,15 @@ module _ {D : Type 0} (pending : D → Pending) (seen : D → List ℕ) (moment 
             ))
       ]
 
+      -- a node that answers was up when the call began
+      pub answered_up : (asks : List Ask) (replies : List Reply) (start now then : Option (Stored D))
+          → HasGoneOn pending seen moment left_since c i start now → WorksIn pending seen moment left_since asks (Some replies) now then
+          → is_up start ≡ true
+      answered_up asks replies start now then gone_on works = elim (up_or_down now) [
+        | inr down ↦ absurd (let h = down_works asks (Some replies) now then down works in let e : Some replies ≡ None = h.1 in cc)
+        | inl up ↦ (let b = both_up start now gone_on up in ap is_up b.began ∙ ap not b.was_whole)
+      ]
+
   sound_same : (asks : List Ask) (n s : Stored D) → IsSound pending seen c i n → (answer : Option (List Reply))
       → HasDone pending seen asks answer n s → s.broken ≡ false → IsSound pending seen c i s
   sound_same asks n s sound None done whole = elim done [

@@ -1,5 +1,5 @@
 -- One phase of all operations of a call: what a crash leaves in it, and where they stand after it.
-use Rattle.std.proofs.Common.{◌≡◌, ◌≢◌, ◌⊎◌, inl, inr, ℕ, ◌<◌, ◌≤◌, Bool, true, false, cond, eqb, List, [], ◌∷◌, length, take, Option, Some, None, refl, sym, ◌∙◌, ap, subst, arith}
+use Rattle.std.proofs.Common.{◌≡◌, ◌≢◌, ◌⊎◌, inl, inr, ℕ, ◌<◌, ◌≤◌, Bool, true, false, cond, not, eqb, List, [], ◌∷◌, length, take, Option, Some, None, refl, sym, ◌∙◌, ap, subst, arith}
 use Rattle.std.specs.List.{slice_get}
 use Rattle.std.specs.Option.{option_map}
 use Rattle.std.proofs.lemmas.Bool.{cases_Bool, cases_lt}
@@ -9,26 +9,28 @@ use Rattle.std.proofs.lemmas.List.{length-map}
 use Rattle.quorum_rules.specs.Limits.{Numbers}
 use Rattle.wire_forms.specs.declared.op.Op.{Op}
 use Rattle.protocol.specs.Messages.{Ask, Reply, IsFormedReply}
-use Rattle.protocol.specs.Instance.{setting, IsCluster}
+use Rattle.protocol.specs.Instance.{setting}
 use Rattle.protocol.specs.Nodes.{after, reply}
 use Rattle.protocol.specs.Operations.{Outcome}
 use Rattle.protocol.specs.Seen.{SeenTask, block_of, work_of}
 use Rattle.disk_model.specs.Crash.{Pending, MayLeave}
 use Rattle.node_core.specs.Seen.{SeenNode, versions_in, after_of, reply_of}
-use Rattle.block_lives.specs.Operating.{Keeps}
-use Rattle.block_lives.specs.Phases.{Progress, ask_to, after_phase, AreAnswers, IsAfterPhase, HasDone}
-use Rattle.block_lives.specs.Phases.Progress.{UnderWay, Over}
-use Rattle.block_lives.specs.Laws.{OperationsBegin, PhasesGoOn, OperationsAreCutOff, GoesOnAs}
+use Rattle.block_phases.specs.Phases.{Keeps, Progress, ask_to, after_phase, AreAnswers, IsAfterPhase, HasDone}
+use Rattle.block_phases.specs.Phases.Progress.{UnderWay, Over}
+use Rattle.block_phases.specs.Executions.{StampedValue, OnlyPresentAnswer, value_stored}
+use Rattle.block_phases.specs.Laws.{ContinuesAs}
+use Rattle.block_phases.proofs.lemmas.Executing.{operations_go_on, operations_cut_off}
+use Rattle.block_phases.proofs.lemmas.Alike.{completed_alike, given_up_alike}
 use Rattle.version_disk.specs.Deeds.{after_asks}
 use Rattle.batch_clients.specs.Batches.{stand_after, reply_at, column}
 use Rattle.batch_clients.specs.Batches.Stand.{Asks, Lost}
-use Rattle.store_device.specs.Stores.{SeenStore, Nodes, IsFound, IsFoundAt, IsLeft, IsLeftAt, kept_in, seat_at}
-use Rattle.store_device.specs.Told.{cluster, kept_of}
+use Rattle.store_device.specs.Stores.{SeenStore, Nodes, IsFound, IsFoundAt, IsLeft, IsLeftAt, kept_in, seat_at, down_in, is_up}
+use Rattle.store_device.specs.Told.{kept_of}
 use Rattle.store_device.specs.Working.{WorksIn, HasGoneOn}
-use Rattle.store_device.specs.Going.{IsUntouched, MayBeCutOff, IsAsking, HasEnded, StandsAt}
+use Rattle.store_device.specs.Going.{IsUntouched, MayBeCutOff, IsAsking, HasEnded, WasGivenUp, StandsAt}
 use Rattle.store_device.proofs.Asked.{AreForOwn, AreNotFor, IsNodeOf, all_take, all_get, stays, reply_among, done_among, few_among}
-use Rattle.store_device.proofs.Hearing.{does_same, is_storing, quiet, phase_on, storing_stays}
-use Rattle.store_device.proofs.Seats.{IsWholly, IsInPart, IsTaken, left_at, found_at, found_is_left, answered_at, goes_on}
+use Rattle.store_device.proofs.Hearing.{is_storing, quiet, phase_on, storing_stays}
+use Rattle.store_device.proofs.Seats.{IsWholly, IsInPart, IsTaken, left_at, found_at, found_is_left, answered_at, answered_up, goes_on}
 
 -- what there is below a number for each is there for all at once
 choose : {A : Type 0} (n : ℕ) (d : ℕ → A) (P : ℕ → A → Type 0) → ((i : ℕ) → i < n → (a : A) × P i a)
@@ -46,12 +48,6 @@ choose {A = A} n d P each = (λ i. pick i (cases_lt i n), λ i l. is i l (cases_
 pub take_all : {X : Type 0} (xs : List X) → take (length xs) xs ≡ xs
 take_all [] = refl
 take_all {X = X} (x ∷ xs) = ap (λ (l : List X). x ∷ l) (take_all xs)
-
--- what is said of each cluster of these numbers
-pub record AreLaws (c : Numbers) : Type 0 where
-  pub begin : (lying : ℕ → Bool) → IsCluster c lying → OperationsBegin (cluster c lying)
-  pub go_on : (lying : ℕ → Bool) → IsCluster c lying → PhasesGoOn (cluster c lying)
-  pub cut_off : (lying : ℕ → Bool) → IsCluster c lying → OperationsAreCutOff (cluster c lying)
 
 -- an answer in a column is one of a node that answered
 pub in_column : (j : ℕ) (answers : List (Option (List Reply))) (i : ℕ) (given : Option Reply) → slice_get (column j answers) i ≡ Some given
@@ -164,29 +160,35 @@ module _ {D : Type 0} (pending : D → Pending) (seen : D → List ℕ) (moment 
 
     -- an operation that asks nothing
     module _ (op : Op) (client : ℕ) (none : (i : ℕ) → AreNotFor (block_of op) (asks i)) where
-      pub cut_stays : MayBeCutOff pending seen moment left_since start now op client
-          → MayBeCutOff pending seen moment left_since start then op client
-      cut_stays cut lying gone kept is left =
+      pub cut_stays : (stored : Option StampedValue) → MayBeCutOff pending seen moment left_since start now op client stored
+          → MayBeCutOff pending seen moment left_since start then op client stored
+      cut_stays stored cut gone kept left =
           let h = left_before gone kept left in
-          does_same (cluster c lying) (block_of op) client (work_of op) None (kept_of (kept_in start gone) (block_of op))
-          (kept_of h.0 (block_of op)) (kept_of kept (block_of op))
-          (cut lying gone h.0 is (λ i l. (h.1 i l).0)) (λ i l. same_in (block_of op) i (h.0 i) (kept i) (none i) (h.1 i l).1)
+          given_up_alike (setting c) (down_in start) (block_of op) client (work_of op) stored (kept_of (kept_in start gone) (block_of op))
+          (kept_of (kept_in start gone) (block_of op)) (kept_of h.0 (block_of op)) (kept_of kept (block_of op)) (λ i l. refl)
+          (λ i l. same_in (block_of op) i (h.0 i) (kept i) (none i) (h.1 i l).1) (cut gone h.0 (λ i l. (h.1 i l).0))
+
+      pub lost_stays : WasGivenUp pending seen moment left_since start now op client
+          → WasGivenUp pending seen moment left_since start then op client
+      lost_stays lost = record { stored = lost.stored; left = cut_stays lost.stored lost.left }
 
       pub end_stays : (outcome : Outcome) → HasEnded pending seen moment left_since start now op client outcome
           → HasEnded pending seen moment left_since start then op client outcome
       end_stays outcome ended = record {
-        found = λ lying gone kept is found. (
+        stored = ended.stored;
+        found = λ gone kept found. (
             let h = found_before gone kept found in
-            does_same (cluster c lying) (block_of op) client (work_of op) (Some outcome) (kept_of (kept_in start gone) (block_of op))
-            (kept_of h.0 (block_of op)) (kept_of kept (block_of op))
-            (ended.found lying gone h.0 is (λ i l. (h.1 i l).0))
+            completed_alike (setting c) (down_in start) (block_of op) client (work_of op) outcome
+            (kept_of (kept_in start gone) (block_of op)) (kept_of (kept_in start gone) (block_of op)) (kept_of h.0 (block_of op))
+            (kept_of kept (block_of op)) (λ i l. refl)
             (λ i l. let e = turn.each i l in same_in (block_of op) i (h.0 i) (kept i) (none i)
-            (in_part i (h.0 i) (kept i) e.0 ((h.1 i l).1 e.0 e.1))));
-        left = cut_stays ended.left;
+            (in_part i (h.0 i) (kept i) e.0 ((h.1 i l).1 e.0 e.1)))
+            (ended.found gone h.0 (λ i l. (h.1 i l).0)));
+        left = cut_stays ended.stored ended.left;
       }
 
     -- an operation that asks
-    module _ (laws : AreLaws c) (op : Op) (client : ℕ) (task : SeenTask)
+    module _ (op : Op) (client : ℕ) (task : SeenTask)
         (asking : IsAsking pending seen moment left_since start now op client task)
         (j : ℕ) (asked : (i : ℕ) → slice_get (asks i) j ≡ Some (ask_to (setting c) task i)) where
       abbrev b : ℕ
@@ -202,49 +204,49 @@ module _ {D : Type 0} (pending : D → Pending) (seen : D → List ℕ) (moment 
           → IsLeftAt moment left_since c i (seat_at start i) (seat_at now i) (gone i) node → versions_in node task.block ≡ old gone i
       as_first gone i node l left = sym (at_block node) ∙ asking.untouched i (gone i) node l left
 
-      told_is : (lying : ℕ → Bool) (gone : Nodes) (i : ℕ) (node : SeenNode) → i < c.n → IsNodeOf c i node
+      told_is : (gone : Nodes) (i : ℕ) (node : SeenNode) → i < c.n → IsNodeOf c i node
           → IsLeftAt moment left_since c i (seat_at start i) (seat_at now i) (gone i) node
-          → reply_of node (ask_to (setting c) task i) ≡ reply (cluster c lying) i (old gone i) (ask_to (cluster c lying) task i)
-      told_is lying gone i node l of left = let e = as_first gone i node l left in λ x. reply (setting (of.config x)) (of.numbered x)
+          → reply_of node (ask_to (setting c) task i) ≡ reply (setting c) i (old gone i) (ask_to (setting c) task i)
+      told_is gone i node l of left = let e = as_first gone i node l left in λ x. reply (setting (of.config x)) (of.numbered x)
           (e x) (ask_to (setting c) task i)
 
-      done_is : (lying : ℕ → Bool) (gone : Nodes) (i : ℕ) (node : SeenNode) → i < c.n → IsNodeOf c i node
+      done_is : (gone : Nodes) (i : ℕ) (node : SeenNode) → i < c.n → IsNodeOf c i node
           → IsLeftAt moment left_since c i (seat_at start i) (seat_at now i) (gone i) node
-          → after_of node (ask_to (setting c) task i) ≡ after (cluster c lying) i (old gone i) (ask_to (cluster c lying) task i)
-      done_is lying gone i node l of left = let e = as_first gone i node l left in λ x. after (setting (of.config x)) (of.numbered x)
+          → after_of node (ask_to (setting c) task i) ≡ after (setting c) i (old gone i) (ask_to (setting c) task i)
+      done_is gone i node l of left = let e = as_first gone i node l left in λ x. after (setting (of.config x)) (of.numbered x)
           (e x) (ask_to (setting c) task i)
 
       there : (i : ℕ) (node : SeenNode) → IsNodeOf c i node → task.block < length node.blocks
       there i node of = let block = asking.block in let inside = asking.there in let count = of.count in omega arith
 
       -- a node of which a crash leaves this has done the ask, or hasn't
-      one_done : (lying : ℕ → Bool) (gone : Nodes) (i : ℕ) (before kept : SeenNode) → i < c.n
+      one_done : (gone : Nodes) (i : ℕ) (before kept : SeenNode) → i < c.n
           → IsLeftAt moment left_since c i (seat_at start i) (seat_at now i) (gone i) before → IsInPart c i (asks i) before kept
-          → (versions_in kept b ≡ old gone i) ⊎ HasDone (cluster c lying) task i (old gone i) (versions_in kept b)
-      one_done lying gone i before kept l left part = elim part [
+          → (versions_in kept b ≡ old gone i) ⊎ HasDone (setting c) task i (old gone i) (versions_in kept b)
+      one_done gone i before kept l left part = elim part [
         | inl same ↦ inl (ap (λ (n : SeenNode). versions_in n b) same ∙ asking.untouched i (gone i) before l left)
         | inr few ↦ elim (few_among few.k (asks i) before j (ask_to (setting c) task i) (turn.own i l) (asked i)
             (there i before few.node)) [
               | inl same ↦ inl (at_block kept ∙ ap (λ (n : SeenNode). versions_in n task.block) few.few ∙ same
                   ∙ as_first gone i before l left)
               | inr done ↦ inr (at_block kept ∙ ap (λ (n : SeenNode). versions_in n task.block) few.few ∙ done
-                  ∙ done_is lying gone i before l few.node left)
+                  ∙ done_is gone i before l few.node left)
             ]
       ]
 
-      whole_done : (lying : ℕ → Bool) (gone : Nodes) (i : ℕ) (before kept : SeenNode) (replies : List Reply) → i < c.n
+      whole_done : (gone : Nodes) (i : ℕ) (before kept : SeenNode) (replies : List Reply) → i < c.n
           → IsLeftAt moment left_since c i (seat_at start i) (seat_at now i) (gone i) before
-          → IsWholly c i (asks i) replies before kept → HasDone (cluster c lying) task i (old gone i) (versions_in kept b)
-      whole_done lying gone i before kept replies l left whole =
+          → IsWholly c i (asks i) replies before kept → HasDone (setting c) task i (old gone i) (versions_in kept b)
+      whole_done gone i before kept replies l left whole =
           at_block kept ∙ ap (λ (n : SeenNode). versions_in n task.block) whole.all
           ∙ done_among (asks i) before j (ask_to (setting c) task i) (turn.own i l) (asked i) (there i before whole.node)
-          ∙ done_is lying gone i before l whole.node left
+          ∙ done_is gone i before l whole.node left
 
-      pub cut_off : MayBeCutOff pending seen moment left_since start then op client
-      cut_off lying gone kept is left =
+      pub cut_off : MayBeCutOff pending seen moment left_since start then op client (value_stored task.stage)
+      cut_off gone kept left =
           let h = left_before gone kept left in
-          laws.cut_off lying is b client (work_of op) task (old gone) (old gone) (kept_of kept b) (asking.goes lying gone is)
-          (λ i l. one_done lying gone i (h.0 i) (kept i) l (h.1 i l).0 (h.1 i l).1)
+          operations_cut_off (setting c) (down_in start) b client (work_of op) task (old gone) (old gone) (kept_of kept b) (asking.goes gone)
+          (λ i l. one_done gone i (h.0 i) (kept i) l (h.1 i l).0 (h.1 i l).1)
 
       pub untouched_still : is_storing task.stage ≡ false → UntouchedThen b
       untouched_still calm i gone kept l left =
@@ -279,8 +281,8 @@ module _ {D : Type 0} (pending : D → Pending) (seen : D → List ℕ) (moment 
           at None e f = absurd cc
           at (Some replies) e f = record { replies = replies; answered = e; at = f; below = below_n i (Some replies) e }
 
-      pub are_answers : (lying : ℕ → Bool) (gone : Nodes) → AreAnswers (cluster c lying) task (old gone) (column j answers)
-      are_answers lying gone = record {
+      pub are_answers : (gone : Nodes) → AreAnswers (setting c) task (old gone) (column j answers)
+      are_answers gone = record {
         count = length-map answers (reply_at j) ∙ turn.count;
         formed = λ i given is. (
             let h = of_node i given is in
@@ -295,31 +297,41 @@ module _ {D : Type 0} (pending : D → Pending) (seen : D → List ℕ) (moment 
             sym h.at ∙ ap (λ (rs : List Reply). slice_get rs j) a.3
             ∙ reply_among (asks i) a.0 j (ask_to (setting c) task i) (turn.own i h.below) (asked i) in
             let same : given ≡ reply_of a.0 (ask_to (setting c) task i) = cc in
-            same ∙ told_is lying gone i a.0 h.below a.1 a.2);
+            same ∙ told_is gone i a.0 h.below a.1 a.2);
       }
 
-      is_after : (lying : ℕ → Bool) (gone kept : Nodes) → IsFound pending start then gone kept
-          → IsAfterPhase (cluster c lying) task (old gone) (column j answers) (kept_of kept b)
-      is_after lying gone kept found =
+      -- who wasn't up when the call began answers nothing
+      up_at_first : (i : ℕ) (given : Reply) → slice_get (column j answers) i ≡ Some (Some given) → is_up (seat_at start i) ≡ true
+      up_at_first i given is =
+          let h = of_node i given is in
+          answered_up pending seen moment left_since c i counts_now (asks i) h.replies (seat_at start i) (seat_at now i) (seat_at then i)
+          (turn.seats i h.below) (works_as i h.below (Some h.replies) h.answered)
+
+      only_present : OnlyPresentAnswer (down_in start) (column j answers)
+      only_present i given is = ap not (up_at_first i given is)
+
+      is_after : (gone kept : Nodes) → IsFound pending start then gone kept
+          → IsAfterPhase (setting c) task (old gone) (column j answers) (kept_of kept b)
+      is_after gone kept found =
           let h = found_before gone kept found in
           record {
             answered = λ i given is. (
                 let r = of_node i given is in
                 let n = h.1 i r.below in
-                whole_done lying gone i (h.0 i) (kept i) r.replies r.below (left_now i (gone i) (h.0 i) r.below n.0)
+                whole_done gone i (h.0 i) (kept i) r.replies r.below (left_now i (gone i) (h.0 i) r.below n.0)
                 (n.1 (Some r.replies) r.answered));
             silent = λ i is. (
                 let r = in_column j answers i None is in
                 let l = below_n i r.0 r.1 in
                 let n = h.1 i l in
-                one_done lying gone i (h.0 i) (kept i) l (left_now i (gone i) (h.0 i) l n.0)
+                one_done gone i (h.0 i) (kept i) l (left_now i (gone i) (h.0 i) l n.0)
                 (in_part i (h.0 i) (kept i) r.0 (n.1 r.0 r.1)));
           }
 
-      is_after_calm : (lying : ℕ → Bool) (gone : Nodes) → is_storing task.stage ≡ false
-          → IsAfterPhase (cluster c lying) task (old gone) (column j answers) (old gone)
-      is_after_calm lying gone calm = record {
-        answered = λ i given is. sym (quiet (cluster c lying) (cluster c lying) task.stage i i task.block (old gone i) calm);
+      is_after_calm : (gone : Nodes) → is_storing task.stage ≡ false
+          → IsAfterPhase (setting c) task (old gone) (column j answers) (old gone)
+      is_after_calm gone calm = record {
+        answered = λ i given is. sym (quiet (setting c) (setting c) task.stage i i task.block (old gone i) calm);
         silent = λ i is. inl refl;
       }
 
@@ -327,10 +339,11 @@ module _ {D : Type 0} (pending : D → Pending) (seen : D → List ℕ) (moment 
       pub stands : (p : Progress) → after_phase (setting c) client task (column j answers) ≡ p
           → StandsAt pending seen moment left_since start then op client (stand_after task p)
       stands (Over outcome) e = record {
-        found = λ lying gone kept is found.
-            subst (λ (q : Progress). GoesOnAs (cluster c lying) b client (work_of op) q (old gone) (kept_of kept b)) e
-            (laws.go_on lying is b client (work_of op) task (column j answers) (old gone) (old gone) (kept_of kept b)
-            (asking.goes lying gone is) (are_answers lying gone) (is_after lying gone kept found));
+        stored = value_stored task.stage;
+        found = λ gone kept found.
+            subst (λ (q : Progress). ContinuesAs (setting c) (down_in start) b client (work_of op) q (old gone) (kept_of kept b)) e
+            (operations_go_on (setting c) (down_in start) b client (work_of op) task (column j answers) (old gone) (old gone) (kept_of kept b)
+            (asking.goes gone) (are_answers gone) only_present (is_after gone kept found));
         left = cut_off;
       }
       stands (UnderWay next) e = at (eqb next.phase task.phase) refl
@@ -339,16 +352,16 @@ module _ {D : Type 0} (pending : D → Pending) (seen : D → List ℕ) (moment 
           goes_on_calm calm = record {
             block = phase_on (setting c) client task (column j answers) next e ∙ asking.block;
             there = asking.there;
-            goes = λ lying gone is.
-                subst (λ (q : Progress). GoesOnAs (cluster c lying) b client (work_of op) q (old gone) (old gone)) e
-                (laws.go_on lying is b client (work_of op) task (column j answers) (old gone) (old gone) (old gone)
-                (asking.goes lying gone is) (are_answers lying gone) (is_after_calm lying gone calm));
+            goes = λ gone.
+                subst (λ (q : Progress). ContinuesAs (setting c) (down_in start) b client (work_of op) q (old gone) (old gone)) e
+                (operations_go_on (setting c) (down_in start) b client (work_of op) task (column j answers) (old gone) (old gone) (old gone)
+                (asking.goes gone) (are_answers gone) only_present (is_after_calm gone calm));
             untouched = untouched_still calm;
           }
 
           at : (t : Bool) → eqb next.phase task.phase ≡ t
               → StandsAt pending seen moment left_since start then op client (cond t Lost (Asks next))
-          at true same = cut_off
+          at true same = record { stored = value_stored task.stage; left = cut_off }
           at false other = elim (cases_Bool (is_storing task.stage)) [
             | inl storing ↦ absurd (let same = storing_stays (setting c) client task (column j answers) next storing e in grind
                 (arith, nat_tests))

@@ -13,7 +13,7 @@ use Rattle.slot_disk.specs.Slots.{body_len}
 use Rattle.version_disk.specs.Stored.{Stored, all_fit}
 use Rattle.version_disk.specs.declared.refusal.StoreRefusal.{StoreRefusal}
 use Rattle.version_disk.specs.declared.refusal.StoreRefusal.TheVariants.{NoMemory}
-use Rattle.block_lives.specs.Endings.{IsAsked, kept_within, phases_left}
+use Rattle.block_phases.specs.Endings.{IsAsked, kept_within, phases_left}
 use Rattle.batch_clients.specs.Batches.{Stand, Running}
 use Rattle.batch_clients.specs.Batches.Stand.{Asks, Ended, Lost}
 use Rattle.store_device.specs.Stores.{SeenStore, kept_in, seat_at}

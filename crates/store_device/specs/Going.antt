@@ -1,21 +1,21 @@
 -- How the operations of a call stand between two phases, and what nodes keep then.
-use Rattle.std.specs.Prelude.{◌≡◌, ◌≢◌, ℕ, suc, ◌<◌, ⊤, Bool, List, [], ◌∷◌, Option}
+use Rattle.std.specs.Prelude.{◌≡◌, ◌≢◌, ℕ, suc, ◌<◌, ⊤, List, [], ◌∷◌, Option}
 use Rattle.std.specs.declared.option.Option.TheVariants.{None, Some}
 use Rattle.std.specs.List.{AllByRecursion}
 use Rattle.quorum_rules.specs.Limits.{Numbers}
 use Rattle.wire_forms.specs.declared.op.Op.{Op}
-use Rattle.protocol.specs.Instance.{setting, IsCluster}
+use Rattle.protocol.specs.Instance.{setting}
 use Rattle.protocol.specs.World.{Fits}
 use Rattle.protocol.specs.Operations.{Outcome}
 use Rattle.protocol.specs.Seen.{SeenTask, block_of, work_of}
 use Rattle.disk_model.specs.Crash.{Pending}
 use Rattle.node_core.specs.Seen.{SeenNode, versions_in}
 use Rattle.version_disk.specs.Stored.{Stored}
-use Rattle.block_lives.specs.Operating.{Goes, Does}
+use Rattle.block_phases.specs.Executions.{StampedValue, IsRunning}
 use Rattle.batch_clients.specs.Batches.{Stand, Running}
 use Rattle.batch_clients.specs.Batches.Stand.{Asks, Ended, Lost}
-use Rattle.store_device.specs.Stores.{SeenStore, Nodes, IsFound, IsLeft, IsLeftAt, kept_at, kept_in, seat_at}
-use Rattle.store_device.specs.Told.{cluster, kept_of}
+use Rattle.store_device.specs.Stores.{SeenStore, Nodes, IsFound, IsLeft, IsLeftAt, kept_at, kept_in, seat_at, down_in}
+use Rattle.store_device.specs.Told.{IsDone, kept_of}
 use Rattle.store_device.specs.Working.{HasGoneOn}
 
 -- the block is there, and a value that is written is a block
@@ -38,36 +38,38 @@ module _ {D : Type 0} (pending : D → Pending) (seen : D → List ℕ) (moment 
       → versions_in kept block ≡ versions_in (kept_at (seat_at start i) gone) block
 
   module _ (op : Op) (client : ℕ) where
-    -- the client's operation may have come to this, or have been given up, since the call began, when nodes keep this
-    abbrev pub HasCome : (ℕ → Bool) → Option Outcome → Nodes → Nodes → Type 0
-    HasCome lying outcome gone kept =
-        Does (cluster start.config lying) (block_of op) client (work_of op) outcome (kept_of (kept_in start gone) (block_of op))
-        (kept_of kept (block_of op))
+    -- since the call began, the operation may have come to this outcome, or been given up, when nodes keep this
+    abbrev pub HasCome : Option Outcome → Option StampedValue → Nodes → Nodes → Type 0
+    HasCome outcome stored gone kept = IsDone start.config (down_in start) client op outcome stored (kept_in start gone) kept
 
-    -- a crash at any moment since then leaves it given up
-    abbrev pub MayBeCutOff : Type 0
-    MayBeCutOff = (lying : ℕ → Bool) (gone kept : Nodes) → IsCluster start.config lying → IsLeft moment left_since start now gone kept
-        → HasCome lying None gone kept
+    -- a crash at any moment since then leaves it given up, in a phase that stores this
+    abbrev pub MayBeCutOff : Option StampedValue → Type 0
+    MayBeCutOff stored = (gone kept : Nodes) → IsLeft moment left_since start now gone kept → HasCome None stored gone kept
 
-    -- it is under way, and has changed nothing yet
+    -- it is running, and has changed nothing yet
     pub record IsAsking (task : SeenTask) : Type 0 where
       pub block : task.block ≡ block_of op
       pub there : block_of op < start.config.blocks
-      pub goes : (lying : ℕ → Bool) (gone : Nodes) → IsCluster start.config lying
-          → Goes (cluster start.config lying) (block_of op) client (work_of op) task (kept_of (kept_in start gone) (block_of op))
-          (kept_of (kept_in start gone) (block_of op))
+      pub goes : (gone : Nodes)
+          → IsRunning (setting start.config) (down_in start) (block_of op) client (work_of op) task
+          (kept_of (kept_in start gone) (block_of op)) (kept_of (kept_in start gone) (block_of op))
       pub untouched : IsUntouched (block_of op)
 
-    -- it has ended so
+    -- it has come to this outcome
     pub record HasEnded (outcome : Outcome) : Type 0 where
-      pub found : (lying : ℕ → Bool) (gone kept : Nodes) → IsCluster start.config lying → IsFound pending start now gone kept
-          → HasCome lying (Some outcome) gone kept
-      pub left : MayBeCutOff
+      pub stored : Option StampedValue
+      pub found : (gone kept : Nodes) → IsFound pending start now gone kept → HasCome (Some outcome) stored gone kept
+      pub left : MayBeCutOff stored
+
+    -- it was given up
+    pub record WasGivenUp : Type 0 where
+      pub stored : Option StampedValue
+      pub left : MayBeCutOff stored
 
     abbrev pub StandsAt : Stand → Type 0
     StandsAt (Asks task) = IsAsking task
     StandsAt (Ended outcome) = HasEnded outcome
-    StandsAt Lost = MayBeCutOff
+    StandsAt Lost = WasGivenUp
 
   -- each operation stands there, the first as that of this client
   abbrev pub AreGoing : ℕ → List Op → List Running → Type 0

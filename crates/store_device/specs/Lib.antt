@@ -8,3 +8,5 @@ pub mod Calls
 pub mod Answered
 pub mod Arrays
 pub mod Steps
+pub mod Phased
+pub mod Sessions

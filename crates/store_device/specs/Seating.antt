@@ -1,13 +1,15 @@
 -- Who sits on a store's seats, and what prunes leave of a node.
-use Rattle.std.specs.Prelude.{◌≡◌, ◌≢◌, ◌<◌, ◌⊎◌, ℕ, ⊤, true, false, cond, All, List, length, Option, Some, None, slice_set}
+use Rattle.std.specs.Prelude.{◌≡◌, ◌≢◌, ◌<◌, ◌⊎◌, ℕ, ⊤, Bool, true, false, cond, All, List, length, Option, Some, None, slice_set}
 use Rattle.std.specs.List.{AllPairs}
 use Rattle.quorum_rules.specs.Limits.{Numbers}
 use Rattle.disk_model.specs.Crash.{Pending, LeavesOnly, settled}
-use Rattle.version_disk.specs.Held.{held}
+use Rattle.version_disk.specs.Held.{held, slots_of, first_bad}
+use Rattle.version_disk.specs.Reopened.{IsStillThere}
 use Rattle.version_disk.specs.Deeds.{pruning, after_prunes, AreDoneInPart}
 use Rattle.version_disk.specs.Stored.{Stored}
 use Rattle.version_disk.specs.declared.prune.Prune.{Prune}
 use Rattle.store_device.specs.Stores.{SeenStore, IsSound, seat_at}
+use Rattle.store_device.specs.Answered.{has_room}
 
 -- the prunes are of blocks of their own
 abbrev pub ArePrunesApart : List Prune → Type 0
@@ -47,6 +49,22 @@ module _ {D : Type 0} where
       abbrev pub TriesIn : (old new : Option (Stored D)) → Type 0
       TriesIn None new = new ≡ None
       TriesIn (Some was) new = cond was.broken (new ≡ Some was) ((is : Stored D) × (new ≡ Some is) × HasTried was is)
+
+  -- If it found no want of memory, a node that is up then and has room for a slot for each prune has pruned the blocks.
+  pub record PrunesWholly (pending : D → Pending) (seen : D → List ℕ) (most : D → ℕ) (prunes : List Prune) (starved : Bool)
+      (old new : Option (Stored D)) : Type 0 where
+    pub wholly : starved ≡ false → has_room seen most (length prunes) new ≡ true
+        → (was : Stored D) × (is : Stored D) × (old ≡ Some was) × (new ≡ Some is) × HasPruned pending seen prunes was is
+
+  -- A disk was opened as this node: it has the slots that it had, all of them good, and the same room. A crash meanwhile left what a crash
+  -- might have left before, or these slots.
+  pub record IsOpened (pending : D → Pending) (seen : D → List ℕ) (most : D → ℕ) (moment : D → ℕ) (left_since : D → ℕ → List ℕ → Type 0)
+      (c : Numbers) (number : ℕ) (disk : D) (node : Stored D) : Type 0 where
+    pub state : node.node ≡ held c number (seen disk)
+    pub slots : slots_of c (seen node.disk) ≡ slots_of c (seen disk)
+    pub good : first_bad c number (seen disk) ≡ None
+    pub room : most node.disk ≡ most disk
+    pub any_moment : LeavesOnly moment left_since disk node.disk (IsStillThere c (pending disk) (seen disk))
 
   module _ (pending : D → Pending) (seen : D → List ℕ) where
     -- a node that is up goes on as it is, on another disk, which has it, safe from a crash

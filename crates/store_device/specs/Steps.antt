@@ -1,14 +1,11 @@
--- What is done with a store over a session: calls, and between them nodes that go on on other disks, or are taken out.
-use Rattle.std.specs.Prelude.{◌≡◌, ℕ, ◌+◌, ◌<◌, ◌^◌, ⊤, Bool, List, [], ◌∷◌, ◌++◌, length, Option}
+-- What is done with a store in a session: calls, and between them nodes that go on on other disks, or are taken out.
+use Rattle.std.specs.Prelude.{◌≡◌, ⊤, List, [], ◌∷◌, ◌++◌, ℕ}
 use Rattle.std.specs.List.{AllByRecursion}
-use Rattle.stamp_order.specs.declared.Stamp.{Stamp}
 use Rattle.wire_forms.specs.declared.op.Op.{Op}
 use Rattle.wire_forms.specs.declared.op.Op.TheVariants.{Read, Write}
-use Rattle.protocol.specs.Instance.{IsCluster}
 use Rattle.disk_model.specs.Crash.{Pending}
-use Rattle.store_device.specs.Stores.{SeenStore, Nodes, IsStore, IsFound, kept_in}
-use Rattle.store_device.specs.Lives.{Moment, IsLife, KeepAlike}
-use Rattle.store_device.specs.Calls.{Deed, Call, IsCall, MayDoAll, latest_reads, nodes_of, turn_by}
+use Rattle.store_device.specs.Stores.{SeenStore, Nodes, IsFound, kept_in}
+use Rattle.store_device.specs.Calls.{Deed, Call, Acknowledged, IsCall, MayDoAll}
 use Rattle.store_device.specs.Calls.Deed.{Performs, Prunes}
 use Rattle.store_device.specs.Seating.{IsReseated}
 
@@ -39,28 +36,12 @@ module _ {D : Type 0} where
   called [] = []
   called (call ∷ calls) = Called call ∷ called calls
 
-  -- The moments that the calls are, by what nodes are found to keep after each: a node that is up keeps what it tells then, and each other
-  -- one what it is found to keep.
-  abbrev pub moments_in : List (Step D) → List Nodes → List Moment
-  moments_in [] found = []
-  moments_in (Called call ∷ steps) [] = []
-  moments_in (Called call ∷ steps) (kept ∷ found) = record { turn = turn_by call.deed; nodes = kept_in call.store kept } ∷ moments_in steps found
-  moments_in (Reseated store ∷ steps) found = moments_in steps found
-
   -- What nodes that aren't up keep behind the steps, where they kept this before: one that is taken out what it told then.
   abbrev pub gone_after : SeenStore D → Nodes → List (Step D) → List Nodes → Nodes
   gone_after old gone [] found = gone
   gone_after old gone (Called call ∷ steps) [] = gone
   gone_after old gone (Called call ∷ steps) (kept ∷ found) = gone_after call.store kept steps found
   gone_after old gone (Reseated store ∷ steps) found = gone_after store (kept_in old gone) steps found
-
-  module _ (pending : D → Pending) (seen : D → List ℕ) where
-    -- A life of a cluster has come to what the store's nodes keep, where those that aren't up keep this.
-    pub record HasComeTo (lying : ℕ → Bool) (life : List Moment) (store : SeenStore D) (gone : Nodes) : Type 0 where
-      pub cluster : IsCluster store.config lying
-      pub lived : IsLife store.config lying life
-      pub alike : KeepAlike store.config (nodes_of store.config life) (kept_in store gone)
-      pub sound : IsStore pending seen store
 
   module _ (pending : D → Pending) where
     -- What nodes are found to keep after each of the calls, where those that aren't up at first keep this.
@@ -71,23 +52,12 @@ module _ {D : Type 0} where
     AreFound old gone (Called call ∷ steps) (kept ∷ found) = IsFound pending old call.store gone kept × AreFound call.store kept steps found
     AreFound old gone (Reseated store ∷ steps) found = AreFound store (kept_in old gone) steps found
 
-  module _ (pending : D → Pending) (seen : D → List ℕ) (moment : D → ℕ) (left_since : D → ℕ → List ℕ → Type 0) where
+  module _ (pending : D → Pending) (seen : D → List ℕ) (most : D → ℕ) (moment : D → ℕ) (left_since : D → ℕ → List ℕ → Type 0) where
     -- steps, one after the other, lead from the one store to the other
     abbrev pub StepsLead : SeenStore D → List (Step D) → SeenStore D → Type 0
     StepsLead old [] new = new ≡ old
-    StepsLead old (Called call ∷ steps) new = IsCall pending seen moment left_since old call × StepsLead call.store steps new
+    StepsLead old (Called call ∷ steps) new = IsCall pending seen most moment left_since old call × StepsLead call.store steps new
     StepsLead old (Reseated store ∷ steps) new = IsReseated pending seen old store × StepsLead store steps new
-
-    -- A life that has come to a store goes on over steps.
-    abbrev pub StepsAreLives : Type 0
-    StepsAreLives =
-        (lying : ℕ → Bool) (life : List Moment) (steps : List (Step D)) (old new : SeenStore D) (gone : Nodes) (found : List Nodes)
-        → HasComeTo pending seen lying life old gone
-        → StepsLead old steps new
-        → MayDoAll (latest_reads life) (calls_among steps)
-        → length life + length (calls_among steps) < 2 ^ 31
-        → AreFound pending old gone steps found
-        → HasComeTo pending seen lying (life ++ moments_in steps found) new (gone_after old gone steps found)
 
     -- steps after steps
     abbrev pub StepsGoOn : Type 0
@@ -97,15 +67,15 @@ module _ {D : Type 0} where
         → StepsLead mid more new
         → StepsLead old (steps ++ more) new
 
-    -- The one store became the other by steps that may be taken at any time: each block is pruned by no other stamp than that of its latest
-    -- read among them.
+    -- The one store became the other by steps that may be taken at any time: whatever was acknowledged before, each block is pruned by the
+    -- stamp of an operation that was acknowledged among them.
     pub record TakesSteps (old new : SeenStore D) : Type 0 where
       pub steps : List (Step D)
       pub lead : StepsLead old steps new
-      pub may : (last : ℕ → Option Stamp) → MayDoAll last (calls_among steps)
+      pub may : (given : Acknowledged) → MayDoAll given (calls_among steps)
 
-    -- The store was looked after: blocks were read, and pruned by the stamps that their reads gave, and nodes went on on other disks, or
-    -- were taken out. Nothing was written to blocks.
+    -- The store was looked after: blocks were read and pruned, and nodes went on on other disks, or were taken out. Nothing was written to
+    -- blocks.
     pub record IsTended (old new : SeenStore D) : Type 0 where
       pub taken : TakesSteps old new
       pub none : AllByRecursion (λ (call : Call D). WritesNone call.deed) (calls_among taken.steps)

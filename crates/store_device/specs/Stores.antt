@@ -26,6 +26,10 @@ module _ {D : Type 0} where
   is_up None = false
   is_up (Some node) = not node.broken
 
+  -- which nodes aren't up: no node sits there, or its disk has failed
+  abbrev pub down_in : SeenStore D → ℕ → Bool
+  down_in store i = not (is_up (seat_at store i))
+
   -- what the node of a seat keeps: what it tells where it is up, and this otherwise
   abbrev pub kept_at : Option (Stored D) → SeenNode → SeenNode
   kept_at None gone = gone

@@ -1,63 +1,71 @@
 //! The laws of a store's life, each the contract of a function that does nothing.
-ghost use Rattle.std.specs.Prelude.{ℕ, Bool};
+ghost use Rattle.std.specs.Prelude.{ℕ};
 ghost use Rattle.quorum_rules.specs.Limits.{Numbers};
-ghost use Rattle.store_device.specs.Lives.{LivesAreLinearizable, LivesAreLinearizableAsOne};
-ghost use Rattle.store_device.specs.Lives.{AcknowledgedWritesAreRead, TellsAlike, FoundIsKept};
-ghost use Rattle.store_device.specs.Arrays.{LivesAreArrays};
-ghost use Rattle.store_device.specs.Calls.{CallsAreLives, CrashedCallsAreLives, CallsGoOn, CallsKeepStores};
-ghost use Rattle.store_device.specs.Steps.{StepsAreLives, StepsGoOn};
+ghost use Rattle.store_device.specs.Lives.{LivesAreLinearizable, LivesAreLinearizableAsOne, LivesAreDurable};
+ghost use Rattle.store_device.specs.Lives.{AcknowledgedWritesAreRead};
+ghost use Rattle.store_device.specs.Arrays.{LivesAreArrays, AcknowledgedAreDone};
+ghost use Rattle.store_device.specs.Calls.{CallsGoOn, CallsKeepStores};
+ghost use Rattle.store_device.specs.Steps.{StepsGoOn};
+ghost use Rattle.store_device.specs.Sessions.{LivesBegin, NodesAreLost, NodesAreRebuilt, StoresOpen};
+ghost use Rattle.store_device.specs.Sessions.{StepsAreLives, StoresAreLeft, CrashesAreLives, CallsKeepPresent};
 
 use disk_model::Disk;
 
-/// Whatever is done with a store's nodes, over all sessions and crashes, one turn after the other: batches are performed, nodes
-/// prune, and others change at most `b` nodes. What was told of the operations is linearizable, block by block and as one order
-/// of all blocks, where no two different strings that are seen share a digest: each that was told of takes place at its turn, and
-/// a write that was not takes place at its turn, later, or not at all.
+/// A store's operations are linearizable over all its sessions: block by block, in one order of all blocks, and durably so. No two
+/// different strings of a block's life may share a digest. At any one time nodes may be missing, and of each block at most `b` may lie.
+/// A node whose blocks were rebuilt counts as correct again, so disks may be replaced for ever.
 pub fn stores_are_linearizable()
-    ensures by_block { (c : Numbers) (lying : ℕ → Bool) → LivesAreLinearizable c lying }
-    ensures as_one { (c : Numbers) (lying : ℕ → Bool) → LivesAreLinearizableAsOne c lying }
+    ensures by_block { (c : Numbers) → LivesAreLinearizable c }
+    ensures as_one { (c : Numbers) → LivesAreLinearizableAsOne c }
+    ensures durable { (c : Numbers) → LivesAreDurable c }
 {
-    block_lives::lives_are_linearizable();
-    linear_runs::laws::together();
+    block_turns::lives_are_linearizable();
+    block_turns::lives_together();
 }
 
-/// A read that was told of after a write of its block was gives what was written, if of the block's writes that were begun before
-/// the read none was begun after this one, and each was told of; a write that wasn't told of may take place later.
+/// A read that follows an acknowledged write of its block returns what was written, if every other write of the block that began before
+/// the read was acknowledged and didn't begin after that write. A write that wasn't acknowledged may take effect later.
 pub fn acknowledged_writes_are_read()
-    ensures { (c : Numbers) (lying : ℕ → Bool) → AcknowledgedWritesAreRead c lying }
+    ensures { (c : Numbers) → AcknowledgedWritesAreRead c }
 {
+    stores_are_linearizable();
     linear_runs::laws::reads();
 }
 
-/// Where each operation of a life was told of, reads as giving a value and writes as written, the values are those of a plain array
-/// of blocks that holds zeros first, where no two different strings that are seen share a digest.
+/// Every acknowledged operation was done: a read returned a value, and a write wrote. If all operations of a life were acknowledged, reads
+/// return what a plain array of blocks holds, which holds zeros at first.
 pub fn lives_are_arrays()
-    ensures { (c : Numbers) (lying : ℕ → Bool) → LivesAreArrays c lying }
+    ensures done { (c : Numbers) → AcknowledgedAreDone c }
+    ensures arrays { (c : Numbers) → LivesAreArrays c }
 {
+    block_turns::lives_are_linearizable();
+    stores_are_linearizable();
     acknowledged_writes_are_read();
     linear_runs::laws::reads();
 }
 
-/// Calls make a life, one after the other: what a store's nodes are found to keep after a call is what the next call begins with,
-/// whether they are still up, or their disks are opened again, and what is told of a call depends on nothing else that nodes keep.
+/// Calls after calls are calls, and leave a store of the same cluster. Steps after steps are steps.
 pub fn calls_follow<D: Disk>()
-    ensures found { FoundIsKept D.pending D.seen }
-    ensures alike { (c : Numbers) (lying : ℕ → Bool) → TellsAlike c lying }
+    ensures calls { CallsGoOn D.pending D.seen D.most D.moment D.left_since }
+    ensures keep { CallsKeepStores D.pending D.seen D.most D.moment D.left_since }
+    ensures steps { StepsGoOn D.pending D.seen D.most D.moment D.left_since }
 {}
 
-/// A life goes on over calls of a store, one after the other, to what its nodes are found to keep after them; each block is pruned
-/// by no other stamp than that of its latest read. After a crash at any moment of a call it goes on over the calls before that one,
-/// and that one untold of. Calls after calls are calls, and leave a store of the same cluster.
-pub fn calls_are_lives<D: Disk>()
-    ensures lives { CallsAreLives D.pending D.seen D.moment D.left_since }
-    ensures crashed { CrashedCallsAreLives D.pending D.seen D.moment D.left_since }
-    ensures go_on { CallsGoOn D.pending D.seen D.moment D.left_since }
-    ensures keep { CallsKeepStores D.pending D.seen D.moment D.left_since }
+/// A store's life goes on over calls, and between them over nodes that go on on other disks or are taken out; and over a crash at any
+/// moment of a call. What a session, or its crash, leaves on disks can be opened again: a node that is up must keep what it is known to
+/// keep, and be present; every other node answers nothing.
+pub fn sessions_are_lives<D: Disk>()
+    ensures opens { StoresOpen D.pending D.seen }
+    ensures steps { StepsAreLives D.pending D.seen D.most D.moment D.left_since }
+    ensures left { StoresAreLeft D.pending D.seen }
+    ensures crashed { CrashesAreLives D.pending D.seen D.most D.moment D.left_since }
+    ensures present { CallsKeepPresent D.pending D.seen }
 {}
 
-/// A life goes on over calls of a store between which nodes go on on other disks that have them, or are taken out: such a node keeps
-/// what it told then. Steps after steps are steps.
-pub fn steps_are_lives<D: Disk>()
-    ensures lives { StepsAreLives D.pending D.seen D.moment D.left_since }
-    ensures go_on { StepsGoOn D.pending D.seen D.moment D.left_since }
+/// A life begins with nodes that keep the first version of each block. A node may be lost at any time, and may keep anything then. It is
+/// present again on each block for which it keeps the first version and that of the latest acknowledged operation.
+pub fn nodes_are_rebuilt()
+    ensures begin { (c : Numbers) → LivesBegin c }
+    ensures lost { (c : Numbers) → NodesAreLost c }
+    ensures rebuilt { (c : Numbers) → NodesAreRebuilt c }
 {}

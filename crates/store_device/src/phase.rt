@@ -4,18 +4,19 @@ ghost use Rattle.quorum_rules.specs.Limits.{IsValid};
 ghost use Rattle.protocol.specs.Instance.{setting};
 ghost use Rattle.protocol.specs.Messages.{Reply as AnyReply};
 ghost use Rattle.wire_forms.specs.declared.op.Op.{Op as AnyOp};
-ghost use Rattle.batch_clients.specs.Batches.{Running, AreAsksOf, asks_to, after_answers, end_of};
+ghost use Rattle.batch_clients.specs.Batches.{Running, AreAsksOf, asks_to, after_answers, begun, end_of};
 ghost use Rattle.wire_forms.specs.Ops.{Fits};
 ghost use Rattle.store_device.specs.Stores.{SeenStore, IsStore};
 ghost use Rattle.store_device.specs.Told.{AreApart};
 ghost use Rattle.store_device.specs.Working.{AreHanded};
 ghost use Rattle.store_device.specs.Answered.{AllCome, AreFew, HaveReplied, IsEnough};
 ghost use Rattle.store_device.specs.Going.{IsGoing, MayBegin, store_of};
+ghost use Rattle.store_device.specs.Phased.{GoThrough};
 
 use crate::forms::form_ops;
 use crate::seat::{Seat, gather, hand_out, none_starved, work};
 use batch_clients::{Asks, Batch};
-use block_lives::{endings, operations};
+use block_phases::endings;
 use client_core::{Client, Outcome};
 use disk_model::Disk;
 use lists::NoMemory;
@@ -55,6 +56,10 @@ pub(crate) fn go_on<D: Disk + Send, R: Threads + Sync>(
         × IsGoing D.pending D.seen D.moment D.left_since start
         (store_of batch.old.config (map (λ seat. seat.node) seats.new)) ops runs
         × OnOk result (batch.new.runs ≡ runs) }
+    // phase by phase each node was handed what they ask
+    ensures phases { OnOk result (GoThrough D.pending D.seen D.most D.moment D.left_since
+        (store_of batch.old.config (map (λ seat. seat.node) seats.old)) batch.old.runs
+        (store_of batch.old.config (map (λ seat. seat.node) seats.new)) batch.new.runs) }
     // and where enough nodes are up then and have room, each of them has ended
     ensures ended { (start : SeenStore D) (ops : List AnyOp) (more : ℕ) → IsValid start.config
         → AreApart ops
@@ -65,7 +70,6 @@ pub(crate) fn go_on<D: Disk + Send, R: Threads + Sync>(
         (store_of batch.old.config (map (λ seat. seat.node) seats.new))
         → AllByRecursion (λ r. is_some (end_of r.stand) ≡ true) batch.new.runs) }
 {
-    operations();
     endings();
     let mut asks = asks;
     while batch.asking() > 0 && batch.phases() < MOST_PHASES {
@@ -134,13 +138,18 @@ pub(crate) fn carry_out<D: Disk + Send, R: Threads + Sync>(
         (store_of config.now (map (λ seat. seat.node) seats.old))
         (store_of config.now (map (λ seat. seat.node) seats.new)) ops.now runs
         × IfOk result (λ ends. ends.items ≡ map (λ r. end_of r.stand) runs) }
+    ensures phases { IfOk result (λ ends. (runs : List Running)
+        × GoThrough D.pending D.seen D.most D.moment D.left_since
+        (store_of config.now (map (λ seat. seat.node) seats.old))
+        (begun (setting config.now) 1 ops.now)
+        (store_of config.now (map (λ seat. seat.node) seats.new)) runs
+        × (ends.items ≡ map (λ r. end_of r.stand) runs)) }
     ensures answered { IfOk result (λ ends.
         AreFew (store_of config.now (map (λ seat. seat.node) seats.old)) ops.now
         → IsEnough D.seen D.most (length ops.now)
         (store_of config.now (map (λ seat. seat.node) seats.new))
         → AllByRecursion (λ outcome. is_some outcome ≡ true) ends.items) }
 {
-    operations();
     endings();
     form_ops(config, ops);
     let (mut batch, asks) = Batch::begin(alloc, config, idle, ops)?;

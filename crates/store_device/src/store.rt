@@ -1,5 +1,4 @@
 ghost use Rattle.std.specs.Prelude.{◌≡◌, ◌≤◌, true, is_some, All, length, IfOk};
-ghost use Rattle.std.specs.List.{AllByRecursion};
 ghost use Rattle.std.specs.Option.{option_map};
 ghost use Rattle.std.specs.Result.{result_ok};
 ghost use Rattle.wire_forms.specs.Ops.{Fits};
@@ -7,11 +6,9 @@ ghost use Rattle.store_device.specs.Stores.{IsStore};
 ghost use Rattle.store_device.specs.Told.{AreApart};
 ghost use Rattle.store_device.specs.Going.{store_of};
 ghost use Rattle.store_device.specs.Calls.{HasPerformed};
-ghost use Rattle.store_device.specs.Answered.{AreFew, IsEnough};
 
 use crate::phase::{ThreadCounts, carry_out};
 use crate::seat::{Seat, seat_all};
-use block_lives::operations;
 use client_core::{Client, Outcome};
 use disk_model::Disk;
 use lists::NoMemory;
@@ -99,15 +96,12 @@ impl<D: Disk> Store<D> {
         requires few { length ops.now ≤ 64 }
         requires fits { All (Fits self.old.config) ops.now }
         requires apart { AreApart ops.now }
-        // What the call was in a store's life, after it and at any moment of it: each operation is one of the protocol, and ends as it is
-        // told; the store is still one of its cluster, on disks that have what its nodes keep.
-        ensures performed { HasPerformed D.pending D.seen D.moment D.left_since ops.now
+        // What the call was in a store's life, after it and at any moment of it. Each operation was completed or given up as it is told.
+        // Every node that is up was handed what all operations ask, phase by phase. All of them have an outcome if at least n-t nodes are
+        // up in the end and have room for a slot for each operation, and nodes keep fewer than some 499,000 versions of each block. The
+        // store is still one of its cluster, on disks that have what its nodes keep.
+        ensures performed { HasPerformed D.pending D.seen D.most D.moment D.left_since ops.now
             (option_map (λ outcomes. outcomes.items) (result_ok result)) self.old self.new }
-        // Where at least n-t nodes are up then and have room for a slot for each operation, and nodes keep fewer than some 499,000 versions
-        // of each block, every operation came to its end.
-        ensures answered { IfOk result (λ outcomes. AreFew self.old ops.now
-            → IsEnough D.seen D.most (length ops.now) self.new
-            → AllByRecursion (λ outcome. is_some outcome ≡ true) outcomes.items) }
         ensures config { self.new.config ≡ self.old.config }
     {
         let Store {
@@ -117,7 +111,6 @@ impl<D: Disk> Store<D> {
             seats,
             threads,
         } = self;
-        operations();
         carry_out(rt, *alloc, *threads, config, idle, seats, ops)
     }
 }

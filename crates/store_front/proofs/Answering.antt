@@ -28,31 +28,31 @@ wholes (one ∷ asked) h = (h.0.whole, wholes asked h.1)
 pub together_of : (c : Numbers) (asked : List Asked) → All IsAsked asked → AllPairs (AreSeparate c) (requests_of asked) → AreTogether c (requests_of asked)
 together_of c asked h apart = record { whole = All-from_recursion IsRequest (requests_of asked) (wholes asked (recursion_from_All IsAsked asked h)); apart = apart }
 
-module _ {D : Type 0} (pending : D → Pending) (seen : D → List ℕ) (moment : D → ℕ) (left_since : D → ℕ → List ℕ → Type 0)
+module _ {D : Type 0} (pending : D → Pending) (seen : D → List ℕ) (capacity : D → ℕ) (moment : D → ℕ) (left_since : D → ℕ → List ℕ → Type 0)
     (c : Numbers) (requests : List (List ℕ)) (together : AreTogether c requests) where
   -- what was begun for these requests, or done
   abbrev pub Begun : SeenStore D → SeenStore D → Type 0
-  Begun old new = (begun : Exchange D) × (begun.requests ≡ requests) × IsBegun c begun × Leads pending seen moment left_since old (calls_of begun) new
+  Begun old new = (begun : Exchange D) × (begun.requests ≡ requests) × IsBegun c begun × Leads pending seen capacity moment left_since old (calls_of begun) new
 
   abbrev pub DoneSo : List ℕ → SeenStore D → SeenStore D → Type 0
-  DoneSo text old new = (e : Exchange D) × (e.requests ≡ requests) × IsExchange c e × Leads pending seen moment left_since old (calls_of e) new × (text ≡ text_of c e)
+  DoneSo text old new = (e : Exchange D) × (e.requests ≡ requests) × IsExchange c e × Leads pending seen capacity moment left_since old (calls_of e) new × (text ≡ text_of c e)
 
-  module _ (reads : List (Call D)) (old mid : SeenStore D) (leads : Leads pending seen moment left_since old reads mid) where
+  module _ (reads : List (Call D)) (old mid : SeenStore D) (leads : Leads pending seen capacity moment left_since old reads mid) where
     pub reads_begun : AreAsked (reads_for c requests) reads → Begun old mid
     reads_begun asked = (
       record { requests = requests; reads = reads; writes = [] },
       refl,
       record { together = together; reads = asked; writes = record { front = (writes_for c (given_by c reads) requests, refl); only = tt }; order = inl refl },
-      subst (λ z. Leads pending seen moment left_since old z mid) (sym (append-nil reads)) leads,
+      subst (λ z. Leads pending seen capacity moment left_since old z mid) (sym (append-nil reads)) leads,
     )
 
-    module _ (all : AreHeard (reads_for c requests) reads) (writes : List (Call D)) (new : SeenStore D) (writing : Leads pending seen moment left_since mid writes new) where
+    module _ (all : AreHeard (reads_for c requests) reads) (writes : List (Call D)) (new : SeenStore D) (writing : Leads pending seen capacity moment left_since mid writes new) where
       pub writes_begun : AreAsked (writes_for c (given_by c reads) requests) writes → Begun old new
       writes_begun asked = (
         record { requests = requests; reads = reads; writes = writes },
         refl,
         record { together = together; reads = heard_asked (reads_for c requests) reads all; writes = asked; order = inr all },
-        leads_then pending seen moment left_since reads writes old mid new leads writing,
+        leads_then pending seen capacity moment left_since reads writes old mid new leads writing,
       )
 
       pub all_done : (text : List ℕ) → AreHeard (writes_for c (given_by c reads) requests) writes → (found : List (ℕ × List ℕ)) (written : List ℕ)
@@ -61,6 +61,6 @@ module _ {D : Type 0} (pending : D → Pending) (seen : D → List ℕ) (moment 
         record { requests = requests; reads = reads; writes = writes },
         refl,
         record { together = together; reads = all; writes = asked },
-        leads_then pending seen moment left_since reads writes old mid new leads writing,
+        leads_then pending seen capacity moment left_since reads writes old mid new leads writing,
         is ∙ ap (λ z. replies_of c (value_at z) (is_in written) requests) gave ∙ ap (λ z. replies_of c (given_by c reads) (is_in z) requests) wrote,
       )

@@ -134,16 +134,16 @@ module _ {D : Type 0} where
   heard_asked ops calls h = record { front = subst (IsFront (asked_in calls)) h.all (front_of (asked_in calls)); only = heard_only calls h.heard }
 
 -- ---- calls that go on
-module _ {D : Type 0} (pending : D → Pending) (seen : D → List ℕ) (moment : D → ℕ) (left_since : D → ℕ → List ℕ → Type 0) where
+module _ {D : Type 0} (pending : D → Pending) (seen : D → List ℕ) (capacity : D → ℕ) (moment : D → ℕ) (left_since : D → ℕ → List ℕ → Type 0) where
   abbrev leads : SeenStore D → List (Call D) → SeenStore D → Type 0
-  leads = Leads pending seen moment left_since
+  leads = Leads pending seen capacity moment left_since
 
   pub leads_then : (calls more : List (Call D)) (old mid new : SeenStore D) → leads old calls mid → leads mid more new → leads old (calls ++ more) new
   leads_then [] more old mid new h k = subst (λ s. leads s more new) h k
   leads_then (call ∷ calls) more old mid new h k = (h.0, leads_then calls more call.store mid new h.1 k)
 
   -- a call more
-  pub leads_on : (calls : List (Call D)) (old mid : SeenStore D) (call : Call D) → leads old calls mid → IsCall pending seen moment left_since mid call → leads old (calls ++ call ∷ []) call.store
+  pub leads_on : (calls : List (Call D)) (old mid : SeenStore D) (call : Call D) → leads old calls mid → IsCall pending seen capacity moment left_since mid call → leads old (calls ++ call ∷ []) call.store
   leads_on calls old mid call h k = leads_then calls (call ∷ []) old mid call.store h (k, refl)
 
   -- these operations were performed, up to so many, and what was told of them was heard
@@ -169,7 +169,7 @@ module _ {D : Type 0} (pending : D → Pending) (seen : D → List ℕ) (moment 
 
     -- a batch more
     pub goes_on : (outcomes : List (Option Outcome)) (new : SeenStore D) (found_next : List (ℕ × List ℕ)) (written_next : List ℕ)
-        → IsCall pending seen moment left_since now (record { deed = Performs batch (Some outcomes); store = new })
+        → IsCall pending seen capacity moment left_since now (record { deed = Performs batch (Some outcomes); store = new })
         → found_next ≡ found_in c found_now (zip batch outcomes) → written_next ≡ written_in written_now (zip batch outcomes)
         → HasGone c old new ops end found found_next written written_next
     goes_on outcomes new found_next written_next is_call finds writes =
@@ -186,7 +186,7 @@ module _ {D : Type 0} (pending : D → Pending) (seen : D → List ℕ) (moment 
         }
 
     -- a batch of which nothing is told, or heard
-    pub cut_off : (told : Option (List (Option Outcome))) (new : SeenStore D) → IsCall pending seen moment left_since now (record { deed = Performs batch told; store = new })
+    pub cut_off : (told : Option (List (Option Outcome))) (new : SeenStore D) → IsCall pending seen capacity moment left_since now (record { deed = Performs batch told; store = new })
         → (calls : List (Call D)) × leads old calls new × AreAsked ops calls
     cut_off told new is_call =
         let call : Call D = record { deed = Performs batch told; store = new } in (

@@ -238,9 +238,9 @@ whole_in : {D : Type 0} (c : Numbers) (rounds : List (Exchange D)) → AllByRecu
 whole_in c [] h = All-nil IsRequest
 whole_in c (e ∷ rounds) h = All-append IsRequest e.requests (requests_in rounds) h.0.together.whole (whole_in c rounds h.1)
 
-module _ {D : Type 0} (pending : D → Pending) (seen : D → List ℕ) (moment : D → ℕ) (left_since : D → ℕ → List ℕ → Type 0)
+module _ {D : Type 0} (pending : D → Pending) (seen : D → List ℕ) (capacity : D → ℕ) (moment : D → ℕ) (left_since : D → ℕ → List ℕ → Type 0)
     (keeps : SeenStore D → SeenStore D → Type 0) (c : Numbers) (old new : SeenStore D) (input : List ℕ) (left left_after taken taken_after : Option (List ℕ)) (told : left ≡ Some input) where
-  ends_so : (end : Result Unit SessionEnd) → IsCalm end → IsSession pending seen moment left_since keeps c old new end left left_after taken taken_after → EndsSo end input
+  ends_so : (end : Result Unit SessionEnd) → IsCalm end → IsSession pending seen capacity moment left_since keeps c old new end left left_after taken taken_after → EndsSo end input
   ends_so end calm s =
       let bytes = concat (requests_in s.rounds) in
       let after = gave input (bytes ++ s.rest) left left_after told s.gave in
@@ -253,7 +253,7 @@ module _ {D : Type 0} (pending : D → Pending) (seen : D → List ℕ) (moment 
       }
 
   -- it ends as the input does, or for want of memory, or after as many rounds as are counted
-  pub completes : (end result : Result Unit SessionEnd) → EndsSo end input → IsSession pending seen moment left_since keeps c old new result left left_after taken taken_after
+  pub completes : (end result : Result Unit SessionEnd) → EndsSo end input → IsSession pending seen capacity moment left_since keeps c old new result left left_after taken taken_after
       → (result ≡ Err ReadFault → ⊥) → (result ≡ Err WriteFault → ⊥) → (result ≡ end) ⊎ ((result ≡ Err NoMemory) ⊎ (result ≡ Err TooManyRequests))
   completes end (Ok done) is s r w = inl (one_end input (Ok done) end (ends_so (Ok done) (λ e. cc, λ e. cc, λ e. cc, λ e. cc) s) is)
   completes end (Err NoMemory) is s r w = inr (inl refl)

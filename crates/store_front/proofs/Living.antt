@@ -1,14 +1,12 @@
 -- What is done in a session, in the life of its store.
 use Rattle.std.proofs.Common.{inl, inr, ℕ, List, [], ◌∷◌, ◌++◌, Option, Result, Ok, Err, sym, subst}
 use Rattle.std.specs.List.{AllByRecursion}
-use Rattle.stamp_order.specs.declared.Stamp.{Stamp}
 use Rattle.quorum_rules.specs.Limits.{Numbers}
 use Rattle.disk_model.specs.Crash.{Pending}
 use Rattle.nbd_front.specs.declared.ending.SessionEnd.{SessionEnd}
 use Rattle.nbd_front.specs.declared.ending.SessionEnd.TheVariants.{NoMemory, ReadFault, WriteFault, BadMagic, CutRequest, TooManyRequests}
 use Rattle.store_device.specs.Stores.{SeenStore}
-use Rattle.store_device.specs.Lives.{prunable_after, turn_on}
-use Rattle.store_device.specs.Calls.{Deed, Call, MayDo, MayDoAll, turn_by}
+use Rattle.store_device.specs.Calls.{Acknowledged, Deed, Call, MayDo, MayDoAll, given_after}
 use Rattle.store_device.specs.Calls.Deed.{Performs}
 use Rattle.store_device.specs.Steps.{Step, called, calls_among, StepsLead, IsTended}
 use Rattle.store_device.proofs.lemmas.Steps.{among_called, calls_lead, calls_then, lead_then, may_then}
@@ -17,15 +15,15 @@ use Rattle.store_front.specs.Rounds.{Exchange, IsExchange, IsBegun, calls_of}
 use Rattle.store_front.specs.Sessions.{RoundsLead, LeavesStore, steps_in, steps_left, IsTendedSession, steps_of}
 use Rattle.store_front.proofs.Asking.{Performed, all_then, heard_only}
 
-may_do : (last : ℕ → Option Stamp) (deed : Deed) → IsPerformed deed → MayDo last deed
-may_do last (Performs ops told) h = tt
-may_do last deed h = absurd h
+may_do : (given : Acknowledged) (deed : Deed) → IsPerformed deed → MayDo given deed
+may_do given (Performs ops told) h = tt
+may_do given deed h = absurd h
 
 module _ {D : Type 0} where
   -- operations may be performed at any time
-  may_do_all : (last : ℕ → Option Stamp) (calls : List (Call D)) → AllByRecursion Performed calls → MayDoAll last calls
-  may_do_all last [] h = tt
-  may_do_all last (call ∷ calls) h = (may_do last call.deed h.0, may_do_all (λ block. prunable_after (last block) (turn_on block (turn_by call.deed))) calls h.1)
+  may_do_all : (given : Acknowledged) (calls : List (Call D)) → AllByRecursion Performed calls → MayDoAll given calls
+  may_do_all given [] h = tt
+  may_do_all given (call ∷ calls) h = (may_do given call.deed h.0, may_do_all (given_after given call.deed) calls h.1)
 
   -- those of a round, and of one that was cut off
   performed : (c : Numbers) (e : Exchange D) → IsExchange c e → AllByRecursion Performed (calls_of e)
@@ -35,50 +33,50 @@ module _ {D : Type 0} where
   begun c e h = all_then Performed e.reads e.writes h.reads.only h.writes.only
 
   abbrev May : List (Step D) → Type 0
-  May steps = (last : ℕ → Option Stamp) → MayDoAll last (calls_among steps)
+  May steps = (given : Acknowledged) → MayDoAll given (calls_among steps)
 
   may_both : (steps more : List (Step D)) → May steps → May more → May (steps ++ more)
-  may_both steps more may then last =
-      subst (MayDoAll last) (sym (calls_then steps more)) (may_then last (calls_among steps) (calls_among more) (may last) then)
+  may_both steps more may then given =
+      subst (MayDoAll given) (sym (calls_then steps more)) (may_then given (calls_among steps) (calls_among more) (may given) then)
 
   may_called : (calls : List (Call D)) → AllByRecursion Performed calls → May (called calls)
-  may_called calls all last = subst (MayDoAll last) (sym (among_called calls)) (may_do_all last calls all)
+  may_called calls all given = subst (MayDoAll given) (sym (among_called calls)) (may_do_all given calls all)
 
-  module _ (pending : D → Pending) (seen : D → List ℕ) (moment : D → ℕ) (left_since : D → ℕ → List ℕ → Type 0) where
+  module _ (pending : D → Pending) (seen : D → List ℕ) (capacity : D → ℕ) (moment : D → ℕ) (left_since : D → ℕ → List ℕ → Type 0) where
     abbrev Tends : SeenStore D → SeenStore D → Type 0
-    Tends old new = IsTended pending seen moment left_since old new
+    Tends old new = IsTended pending seen capacity moment left_since old new
 
     abbrev Lead : SeenStore D → List (Step D) → SeenStore D → Type 0
-    Lead old steps new = StepsLead pending seen moment left_since old steps new
+    Lead old steps new = StepsLead pending seen capacity moment left_since old steps new
 
     -- ---- rounds
 
-    rounds_lead : (rounds : List (Exchange D)) (old new : SeenStore D) (led : RoundsLead pending seen moment left_since Tends old rounds new)
-        → Lead old (steps_in pending seen moment left_since rounds old new led) new
+    rounds_lead : (rounds : List (Exchange D)) (old new : SeenStore D) (led : RoundsLead pending seen capacity moment left_since Tends old rounds new)
+        → Lead old (steps_in pending seen capacity moment left_since rounds old new led) new
     rounds_lead [] old new led = led
     rounds_lead (round ∷ rounds) old new led =
-        let rest : List (Step D) = steps_in pending seen moment left_since rounds led.1 new led.4 in
-        lead_then pending seen moment left_since led.2.taken.steps (called (calls_of round) ++ rest) old led.0 new led.2.taken.lead
-        (lead_then pending seen moment left_since (called (calls_of round)) rest led.0 led.1 new
-        (calls_lead pending seen moment left_since (calls_of round) led.0 led.1 led.3)
+        let rest : List (Step D) = steps_in pending seen capacity moment left_since rounds led.1 new led.4 in
+        lead_then pending seen capacity moment left_since led.2.taken.steps (called (calls_of round) ++ rest) old led.0 new led.2.taken.lead
+        (lead_then pending seen capacity moment left_since (called (calls_of round)) rest led.0 led.1 new
+        (calls_lead pending seen capacity moment left_since (calls_of round) led.0 led.1 led.3)
         (rounds_lead rounds led.1 new led.4))
 
-    rounds_may : (c : Numbers) (rounds : List (Exchange D)) → AllByRecursion (IsExchange c) rounds → (old new : SeenStore D) (led : RoundsLead pending seen moment left_since Tends old rounds new)
-        → May (steps_in pending seen moment left_since rounds old new led)
-    rounds_may c [] done old new led = λ last. tt
+    rounds_may : (c : Numbers) (rounds : List (Exchange D)) → AllByRecursion (IsExchange c) rounds → (old new : SeenStore D) (led : RoundsLead pending seen capacity moment left_since Tends old rounds new)
+        → May (steps_in pending seen capacity moment left_since rounds old new led)
+    rounds_may c [] done old new led = λ given. tt
     rounds_may c (round ∷ rounds) done old new led =
-        let rest : List (Step D) = steps_in pending seen moment left_since rounds led.1 new led.4 in
+        let rest : List (Step D) = steps_in pending seen capacity moment left_since rounds led.1 new led.4 in
         may_both led.2.taken.steps (called (calls_of round) ++ rest) led.2.taken.may
         (may_both (called (calls_of round)) rest (may_called (calls_of round) (performed c round done.0)) (rounds_may c rounds done.1 led.1 new led.4))
 
     -- ---- what is behind them
 
-    left_lead : (result : Result Unit SessionEnd) (c : Numbers) (rest : List ℕ) (old new : SeenStore D) (left : LeavesStore pending seen moment left_since Tends result c rest old new)
-        → Lead old (steps_left pending seen moment left_since result c rest old new left) new
+    left_lead : (result : Result Unit SessionEnd) (c : Numbers) (rest : List ℕ) (old new : SeenStore D) (left : LeavesStore pending seen capacity moment left_since Tends result c rest old new)
+        → Lead old (steps_left pending seen capacity moment left_since result c rest old new left) new
     left_lead (Err NoMemory) c rest old new (inl same) = same
     left_lead (Err NoMemory) c rest old new (inr cut) =
-        lead_then pending seen moment left_since cut.2.taken.steps (called (calls_of cut.1)) old cut.0 new cut.2.taken.lead
-        (calls_lead pending seen moment left_since (calls_of cut.1) cut.0 new cut.3.calls)
+        lead_then pending seen capacity moment left_since cut.2.taken.steps (called (calls_of cut.1)) old cut.0 new cut.2.taken.lead
+        (calls_lead pending seen capacity moment left_since (calls_of cut.1) cut.0 new cut.3.calls)
     left_lead (Err WriteFault) c rest old new left = left
     left_lead (Err TooManyRequests) c rest old new left = left
     left_lead (Err ReadFault) c rest old new left = left.taken.lead
@@ -86,13 +84,13 @@ module _ {D : Type 0} where
     left_lead (Err (CutRequest at)) c rest old new left = left.taken.lead
     left_lead (Ok done) c rest old new left = left.taken.lead
 
-    left_may : (result : Result Unit SessionEnd) (c : Numbers) (rest : List ℕ) (old new : SeenStore D) (left : LeavesStore pending seen moment left_since Tends result c rest old new)
-        → May (steps_left pending seen moment left_since result c rest old new left)
-    left_may (Err NoMemory) c rest old new (inl same) = λ last. tt
+    left_may : (result : Result Unit SessionEnd) (c : Numbers) (rest : List ℕ) (old new : SeenStore D) (left : LeavesStore pending seen capacity moment left_since Tends result c rest old new)
+        → May (steps_left pending seen capacity moment left_since result c rest old new left)
+    left_may (Err NoMemory) c rest old new (inl same) = λ given. tt
     left_may (Err NoMemory) c rest old new (inr cut) =
         may_both cut.2.taken.steps (called (calls_of cut.1)) cut.2.taken.may (may_called (calls_of cut.1) (begun c cut.1 cut.3.is))
-    left_may (Err WriteFault) c rest old new left = λ last. tt
-    left_may (Err TooManyRequests) c rest old new left = λ last. tt
+    left_may (Err WriteFault) c rest old new left = λ given. tt
+    left_may (Err TooManyRequests) c rest old new left = λ given. tt
     left_may (Err ReadFault) c rest old new left = left.taken.may
     left_may (Err (BadMagic at)) c rest old new left = left.taken.may
     left_may (Err (CutRequest at)) c rest old new left = left.taken.may
@@ -101,20 +99,20 @@ module _ {D : Type 0} where
     -- ---- the session
 
     module _ (c : Numbers) (old new : SeenStore D) (result : Result Unit SessionEnd) (left left_after taken taken_after : Option (List ℕ))
-        (session : IsTendedSession pending seen moment left_since c old new result left left_after taken taken_after) where
+        (session : IsTendedSession pending seen capacity moment left_since c old new result left left_after taken taken_after) where
       abbrev steps : List (Step D)
-      steps = steps_of pending seen moment left_since c old new result left left_after taken taken_after session
+      steps = steps_of pending seen capacity moment left_since c old new result left left_after taken taken_after session
 
       pub session_leads : Lead old steps new
       session_leads =
-          lead_then pending seen moment left_since (steps_in pending seen moment left_since session.rounds old session.store session.calls)
-          (steps_left pending seen moment left_since result c session.rest session.store new session.left_store) old session.store new
+          lead_then pending seen capacity moment left_since (steps_in pending seen capacity moment left_since session.rounds old session.store session.calls)
+          (steps_left pending seen capacity moment left_since result c session.rest session.store new session.left_store) old session.store new
           (rounds_lead session.rounds old session.store session.calls)
           (left_lead result c session.rest session.store new session.left_store)
 
       pub session_may : May steps
       session_may =
-          may_both (steps_in pending seen moment left_since session.rounds old session.store session.calls)
-          (steps_left pending seen moment left_since result c session.rest session.store new session.left_store)
+          may_both (steps_in pending seen capacity moment left_since session.rounds old session.store session.calls)
+          (steps_left pending seen capacity moment left_since result c session.rest session.store new session.left_store)
           (rounds_may c session.rounds session.done old session.store session.calls)
           (left_may result c session.rest session.store new session.left_store)

@@ -60,12 +60,12 @@ all_more : {X : Type 0} (P : X → Type 0) (xs : List X) (x : X) → AllByRecurs
 all_more P [] x h k = (k, tt)
 all_more P (y ∷ ys) x h k = (h.0, all_more P ys x h.1 k)
 
-module _ {D : Type 0} (pending : D → Pending) (seen : D → List ℕ) (moment : D → ℕ) (left_since : D → ℕ → List ℕ → Type 0) (c : Numbers) where
+module _ {D : Type 0} (pending : D → Pending) (seen : D → List ℕ) (capacity : D → ℕ) (moment : D → ℕ) (left_since : D → ℕ → List ℕ → Type 0) (c : Numbers) where
   abbrev words : List ℕ
   words = greeting (c.size * c.blocks)
 
   -- nothing was asked of the store for no request
-  pub none_cut : (rest : List ℕ) (store : SeenStore D) → (round : Exchange D) × IsCutOff pending seen moment left_since c rest store store round
+  pub none_cut : (rest : List ℕ) (store : SeenStore D) → (round : Exchange D) × IsCutOff pending seen capacity moment left_since c rest store store round
   none_cut rest store = (
     record { requests = []; reads = []; writes = [] },
     record {
@@ -83,8 +83,8 @@ module _ {D : Type 0} (pending : D → Pending) (seen : D → List ℕ) (moment 
   -- ---- one round
   module _ (input : List ℕ) (old new : SeenStore D) (requests : List (List ℕ)) (len : ℕ) (fits : len ≤ length input) (front : take len input ≡ concat requests) where
     -- memory was wanting for it
-    pub begun_cut : (round : Exchange D) → round.requests ≡ requests → IsBegun c round → Leads pending seen moment left_since old (calls_of round) new
-        → IsCutOff pending seen moment left_since c input old new round
+    pub begun_cut : (round : Exchange D) → round.requests ≡ requests → IsBegun c round → Leads pending seen capacity moment left_since old (calls_of round) new
+        → IsCutOff pending seen capacity moment left_since c input old new round
     begun_cut round same is calls = record {
       is = is;
       front = (drop len input, sym (take-append-drop len input) ∙ ap (λ z. z ++ drop len input) (front ∙ ap concat (sym same)));
@@ -97,26 +97,26 @@ module _ {D : Type 0} (pending : D → Pending) (seen : D → List ℕ) (moment 
     not_empty (r ∷ rs) e some = omega arith
 
     -- it was done
-    pub all_done : (some : BeginsWithRequest input → 0 < len) (round : Exchange D) → round.requests ≡ requests → IsExchange c round → Leads pending seen moment left_since old (calls_of round) new
-        → IsDone pending seen moment left_since c input len old new round
+    pub all_done : (some : BeginsWithRequest input → 0 < len) (round : Exchange D) → round.requests ≡ requests → IsExchange c round → Leads pending seen capacity moment left_since old (calls_of round) new
+        → IsDone pending seen capacity moment left_since c input len old new round
     all_done some round same is calls = record { is = is; some = λ there. not_empty round.requests (front ∙ ap concat (sym same)) (some there); fits = fits; front = front ∙ ap concat (sym same); calls = calls }
 
   module _ (input : List ℕ) (old new : SeenStore D) (taken taken_after : Option (List ℕ)) (result : Result ℕ SessionEnd) where
     abbrev Serves : Type 0
-    Serves = ServesRound pending seen moment left_since c input old new taken taken_after result
+    Serves = ServesRound pending seen capacity moment left_since c input old new taken taken_after result
 
-    pub no_memory : result ≡ Err NoMemory → (round : Exchange D) → IsCutOff pending seen moment left_since c input old new round → taken_after ≡ taken → Serves
+    pub no_memory : result ≡ Err NoMemory → (round : Exchange D) → IsCutOff pending seen capacity moment left_since c input old new round → taken_after ≡ taken → Serves
     no_memory is round cut same = rw is (round, cut, adds_same taken taken taken_after [] (adds_none taken) same)
 
-    pub no_sink : result ≡ Err WriteFault → (round : Exchange D) (len : ℕ) → IsDone pending seen moment left_since c input len old new round → TakesPrefix taken taken_after (text_of c round) → Serves
+    pub no_sink : result ≡ Err WriteFault → (round : Exchange D) (len : ℕ) → IsDone pending seen capacity moment left_since c input len old new round → TakesPrefix taken taken_after (text_of c round) → Serves
     no_sink is round len done prefix = rw is (round, len, done, prefix)
 
   -- ---- a session with a keeper
   module _ (keeps : SeenStore D → SeenStore D → Type 0) where
     -- and one round more
-    rounds_then : (rounds : List (Exchange D)) (old now : SeenStore D) → RoundsLead pending seen moment left_since keeps old rounds now
-        → (round : Exchange D) (kept new : SeenStore D) → keeps now kept → Leads pending seen moment left_since kept (calls_of round) new
-        → RoundsLead pending seen moment left_since keeps old (rounds ++ round ∷ []) new
+    rounds_then : (rounds : List (Exchange D)) (old now : SeenStore D) → RoundsLead pending seen capacity moment left_since keeps old rounds now
+        → (round : Exchange D) (kept new : SeenStore D) → keeps now kept → Leads pending seen capacity moment left_since kept (calls_of round) new
+        → RoundsLead pending seen capacity moment left_since keeps old (rounds ++ round ∷ []) new
     rounds_then [] old now is round kept new work calls = (kept, new, subst (λ s. keeps s kept) is work, calls, refl)
     rounds_then (first ∷ rounds) old now h round kept new work calls =
         (h.0, h.1, h.2, h.3, rounds_then rounds h.1 now h.4 round kept new work calls)
@@ -129,7 +129,7 @@ module _ {D : Type 0} (pending : D → Pending) (seen : D → List ℕ) (moment 
       pub gave : Consumes left left_now (concat (requests_in rounds) ++ input)
       pub count_is : count ≡ length rounds
       pub place_is : place ≡ told_place (length (concat (requests_in rounds)))
-      pub calls : RoundsLead pending seen moment left_since keeps old rounds now
+      pub calls : RoundsLead pending seen capacity moment left_since keeps old rounds now
       pub said : Adds taken taken_now (words ++ replies_in c rounds)
 
     pub greeted : (store : SeenStore D) (left taken taken_now : Option (List ℕ)) → Adds taken taken_now words → HasServed store store 0 0 [] left left taken taken_now
@@ -168,7 +168,7 @@ module _ {D : Type 0} (pending : D → Pending) (seen : D → List ℕ) (moment 
       }
 
       -- a round was done, after the store was looked after
-      module _ (there : BeginsWithRequest input) (kept : SeenStore D) (work : keeps now kept) (new : SeenStore D) (len : ℕ) (round : Exchange D) (done : IsDone pending seen moment left_since c input len kept new round) where
+      module _ (there : BeginsWithRequest input) (kept : SeenStore D) (work : keeps now kept) (new : SeenStore D) (len : ℕ) (round : Exchange D) (done : IsDone pending seen capacity moment left_since c input len kept new round) where
         abbrev more : List (Exchange D)
         more = h.rounds ++ round ∷ []
 
@@ -179,7 +179,7 @@ module _ {D : Type 0} (pending : D → Pending) (seen : D → List ℕ) (moment 
             (ap (λ z. bytes ++ z) parts ∙ sym (append_assoc bytes (concat round.requests) (drop len input)) ∙ ap (λ z. z ++ drop len input) (sym (requests_more h.rounds round)))
             h.gave
 
-        done_calls : RoundsLead pending seen moment left_since keeps old more new
+        done_calls : RoundsLead pending seen capacity moment left_since keeps old more new
         done_calls = rounds_then h.rounds old now h.calls round kept new work done.calls
 
         done_all : AllByRecursion (IsExchange c) more
@@ -209,7 +209,7 @@ module _ {D : Type 0} (pending : D → Pending) (seen : D → List ℕ) (moment 
 
         -- the sink failed in the midst of its replies
         pub write_failed : (taken_after : Option (List ℕ)) → TakesPrefix taken_now taken_after (text_of c round)
-            → IsSession pending seen moment left_since keeps c old new (Err WriteFault) left left_now taken taken_after
+            → IsSession pending seen capacity moment left_since keeps c old new (Err WriteFault) left left_now taken taken_after
         write_failed taken_after prefix = record {
           rounds = more;
           done = done_all;
@@ -224,8 +224,8 @@ module _ {D : Type 0} (pending : D → Pending) (seen : D → List ℕ) (moment 
         }
 
       -- a round ended the session
-      pub ends_round : (there : BeginsWithRequest input) (kept : SeenStore D) (work : keeps now kept) (end : SessionEnd) (new : SeenStore D) (taken_after : Option (List ℕ)) → ServesRound pending seen moment left_since c input kept new taken_now taken_after (Err end)
-          → IsSession pending seen moment left_since keeps c old new (Err end) left left_now taken taken_after
+      pub ends_round : (there : BeginsWithRequest input) (kept : SeenStore D) (work : keeps now kept) (end : SessionEnd) (new : SeenStore D) (taken_after : Option (List ℕ)) → ServesRound pending seen capacity moment left_since c input kept new taken_now taken_after (Err end)
+          → IsSession pending seen capacity moment left_since keeps c old new (Err end) left left_now taken taken_after
       ends_round there kept work WriteFault new taken_after r = write_failed there kept work new r.1 r.0 r.2 taken_after r.3
       ends_round there kept work NoMemory new taken_after r = record {
         rounds = h.rounds;
@@ -250,7 +250,7 @@ module _ {D : Type 0} (pending : D → Pending) (seen : D → List ℕ) (moment 
 
       -- a wait ended the session
       pub leaves : (kept : SeenStore D) (work : keeps now kept) (new : List ℕ) (left_after : Option (List ℕ)) → EndsWait (Ok false) place input new left_now left_after
-          → IsSession pending seen moment left_since keeps c old kept (Ok tt) left left_after taken taken_now
+          → IsSession pending seen capacity moment left_since keeps c old kept (Ok tt) left left_after taken taken_now
       leaves kept work new left_after w = record {
         rounds = h.rounds;
         done = h.done;
@@ -265,7 +265,7 @@ module _ {D : Type 0} (pending : D → Pending) (seen : D → List ℕ) (moment 
       }
 
       pub ends_wait : (kept : SeenStore D) (work : keeps now kept) (end : SessionEnd) (new : List ℕ) (left_after : Option (List ℕ)) → EndsWait (Err end) place input new left_now left_after
-          → IsSession pending seen moment left_since keeps c old kept (Err end) left left_after taken taken_now
+          → IsSession pending seen capacity moment left_since keeps c old kept (Err end) left left_after taken taken_now
       ends_wait kept work (BadMagic at) new left_after w = record {
         rounds = h.rounds;
         done = h.done;
@@ -319,7 +319,7 @@ module _ {D : Type 0} (pending : D → Pending) (seen : D → List ℕ) (moment 
 
       -- memory was wanting for its keeper
       pub ends_keep : (kept : SeenStore D) (work : keeps now kept)
-          → IsSession pending seen moment left_since keeps c old kept (Err NoMemory) left left_now taken taken_now
+          → IsSession pending seen capacity moment left_since keeps c old kept (Err NoMemory) left left_now taken taken_now
       ends_keep kept work = record {
         rounds = h.rounds;
         done = h.done;
@@ -334,7 +334,7 @@ module _ {D : Type 0} (pending : D → Pending) (seen : D → List ℕ) (moment 
       }
 
       -- no more rounds than these are counted
-      pub many : count ≡ 2 ^ 64 - 1 → IsSession pending seen moment left_since keeps c old now (Err TooManyRequests) left left_now taken taken_now
+      pub many : count ≡ 2 ^ 64 - 1 → IsSession pending seen capacity moment left_since keeps c old now (Err TooManyRequests) left left_now taken taken_now
       many all = record {
         rounds = h.rounds;
         done = h.done;
@@ -353,7 +353,7 @@ module _ {D : Type 0} (pending : D → Pending) (seen : D → List ℕ) (moment 
         (h : HasServed old now count place input left left_now taken taken_now) (kept : SeenStore D) (work : keeps now kept)
         (came : Bool) (read : List ℕ) (left_after : Option (List ℕ)) (waited : EndsWait (Ok came) place input read left_now left_after) where
       -- the client leaves, or the input has ended
-      pub none_came : came ≡ false → IsSession pending seen moment left_since keeps c old kept (Ok tt) left left_after taken taken_now
+      pub none_came : came ≡ false → IsSession pending seen capacity moment left_since keeps c old kept (Ok tt) left left_after taken taken_now
       none_came is = leaves old now count place input left left_now taken taken_now h kept work read left_after (subst (λ b. EndsWait (Ok b) place input read left_now left_after) is waited)
 
       module _ (is : came ≡ true) (config : Numbers) (same : config ≡ c) (new : SeenStore D) (taken_after : Option (List ℕ)) where
@@ -364,25 +364,25 @@ module _ {D : Type 0} (pending : D → Pending) (seen : D → List ℕ) (moment 
         one_came = reads_on old now count place input left left_now taken taken_now h read left_after it_came.0
 
         -- its round was served
-        pub turn : (len : ℕ) → ServesRound pending seen moment left_since config read kept new taken_now taken_after (Ok len)
+        pub turn : (len : ℕ) → ServesRound pending seen capacity moment left_since config read kept new taken_now taken_after (Ok len)
             → (input_next : List ℕ) (place_next : ℕ) → input_next ≡ drop len read → place_next ≡ told_place (place + len)
             → HasServed old new (count + 1) place_next input_next left left_after taken taken_after
         turn len r input_next place_next rest further =
-            let done = subst (λ (k : Numbers). ServesRound pending seen moment left_since k read kept new taken_now taken_after (Ok len)) same r in
+            let done = subst (λ (k : Numbers). ServesRound pending seen capacity moment left_since k read kept new taken_now taken_after (Ok len)) same r in
             let next = serves_on old now count place read left left_after taken taken_now one_came it_came.1 kept work new len done.0 done.1 taken_after done.2 in
             subst (λ z. HasServed old new (count + 1) place_next z left left_after taken taken_after) (sym rest)
             (subst (λ n. HasServed old new (count + 1) n (drop len read) left left_after taken taken_after) (sym further) next)
 
         -- its round ended the session
-        pub cut_short : (end : SessionEnd) → ServesRound pending seen moment left_since config read kept new taken_now taken_after (Err end)
-            → IsSession pending seen moment left_since keeps c old new (Err end) left left_after taken taken_after
+        pub cut_short : (end : SessionEnd) → ServesRound pending seen capacity moment left_since config read kept new taken_now taken_after (Err end)
+            → IsSession pending seen capacity moment left_since keeps c old new (Err end) left left_after taken taken_after
         cut_short end r =
             ends_round old now count place read left left_after taken taken_now one_came it_came.1 kept work end new taken_after
-            (subst (λ (k : Numbers). ServesRound pending seen moment left_since k read kept new taken_now taken_after (Err end)) same r)
+            (subst (λ (k : Numbers). ServesRound pending seen capacity moment left_since k read kept new taken_now taken_after (Err end)) same r)
 
     -- the session ended with its greeting
     pub not_begun : (end : SessionEnd) (store : SeenStore D) (left taken taken_after : Option (List ℕ)) → (end ≡ WriteFault) ⊎ (end ≡ NoMemory) → TakesPrefix taken taken_after words
-        → IsSession pending seen moment left_since keeps c store store (Err end) left left taken taken_after
+        → IsSession pending seen capacity moment left_since keeps c store store (Err end) left left taken taken_after
     not_begun end store left taken taken_after (inl is) prefix = rw is (record {
       rounds = [];
       done = tt;

@@ -53,20 +53,20 @@ module _ (c : Numbers) (read : ℕ → Option (List ℕ)) (wrote : ℕ → Bool)
 abbrev pub text_of : {D : Type 0} → Numbers → Exchange D → List ℕ
 text_of c e = replies_of c (given_by c e.reads) (wrote_by e.writes) e.requests
 
-module _ {D : Type 0} (pending : D → Pending) (seen : D → List ℕ) (moment : D → ℕ) (left_since : D → ℕ → List ℕ → Type 0) where
+module _ {D : Type 0} (pending : D → Pending) (seen : D → List ℕ) (capacity : D → ℕ) (moment : D → ℕ) (left_since : D → ℕ → List ℕ → Type 0) where
   -- a round was done whose requests are the first bytes of the input, so many, and its calls lead from the one store to the other
   pub record IsDone (c : Numbers) (input : List ℕ) (len : ℕ) (old new : SeenStore D) (round : Exchange D) : Type 0 where
     pub is : IsExchange c round
     pub some : BeginsWithRequest input → 0 < length round.requests
     pub fits : len ≤ length input
     pub front : take len input ≡ concat round.requests
-    pub calls : Leads pending seen moment left_since old (calls_of round) new
+    pub calls : Leads pending seen capacity moment left_since old (calls_of round) new
 
   -- a round was begun whose requests are the first of the input's, and nothing was told of it
   pub record IsCutOff (c : Numbers) (input : List ℕ) (old new : SeenStore D) (round : Exchange D) : Type 0 where
     pub is : IsBegun c round
     pub front : IsFront (concat round.requests) input
-    pub calls : Leads pending seen moment left_since old (calls_of round) new
+    pub calls : Leads pending seen capacity moment left_since old (calls_of round) new
 
   -- What became of a round: the sink took the replies to requests of so many bytes, or a beginning of them where it failed; where memory
   -- was wanting, it took none.

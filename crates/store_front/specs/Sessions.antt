@@ -4,7 +4,6 @@ use Rattle.std.proofs.Common.{inl, inr}
 use Rattle.std.specs.Io.KnownBytes.{Consumes, IsAtEnd}
 use Rattle.std.specs.List.{All, AllByRecursion, concat, flat_map}
 use Rattle.quorum_rules.specs.Limits.{Numbers}
-use Rattle.stamp_order.specs.declared.Stamp.{Stamp}
 use Rattle.disk_model.specs.Crash.{Pending}
 use Rattle.nbd_front.specs.Requests.{request_magic, magic_of}
 use Rattle.nbd_front.specs.Replies.{greeting}
@@ -13,8 +12,9 @@ use Rattle.nbd_front.specs.declared.ending.SessionEnd.{SessionEnd}
 use Rattle.nbd_front.specs.declared.ending.SessionEnd.TheVariants.{NoMemory, ReadFault, WriteFault, BadMagic, CutRequest, TooManyRequests}
 use Rattle.store_device.specs.Stores.{SeenStore, Nodes}
 use Rattle.store_device.specs.Lives.{Moment}
-use Rattle.store_device.specs.Calls.{Leads, MayDoAll}
-use Rattle.store_device.specs.Steps.{Step, called, calls_among, moments_in, gone_after, HasComeTo, AreFound, StepsLead, IsTended}
+use Rattle.store_device.specs.Calls.{Acknowledged, Leads, MayDoAll, AreTurnsBy}
+use Rattle.store_device.specs.Steps.{Step, called, calls_among, gone_after, AreFound, StepsLead, IsTended}
+use Rattle.store_device.specs.Sessions.{HasComeTo}
 use Rattle.store_front.specs.Asking.{IsFront}
 use Rattle.store_front.specs.Rounds.{BeginsWithRequest, Exchange, IsExchange, calls_of}
 use Rattle.store_front.specs.Replies.{text_of, IsCutOff}
@@ -86,19 +86,19 @@ module _ {D : Type 0} where
   abbrev pub replies_in : Numbers → List (Exchange D) → List ℕ
   replies_in c rounds = flat_map (text_of c) rounds
 
-  module _ (pending : D → Pending) (seen : D → List ℕ) (moment : D → ℕ) (left_since : D → ℕ → List ℕ → Type 0)
+  module _ (pending : D → Pending) (seen : D → List ℕ) (capacity : D → ℕ) (moment : D → ℕ) (left_since : D → ℕ → List ℕ → Type 0)
       (keeps : SeenStore D → SeenStore D → Type 0) where
     -- Rounds lead from the one store to the other: before each the store is looked after, and its calls go on from there.
     abbrev pub RoundsLead : SeenStore D → List (Exchange D) → SeenStore D → Type 0
     RoundsLead old [] new = new ≡ old
     RoundsLead old (round ∷ rounds) new =
-        (kept : SeenStore D) × (mid : SeenStore D) × keeps old kept × Leads pending seen moment left_since kept (calls_of round) mid × RoundsLead mid rounds new
+        (kept : SeenStore D) × (mid : SeenStore D) × keeps old kept × Leads pending seen capacity moment left_since kept (calls_of round) mid × RoundsLead mid rounds new
 
     -- What was done behind the last round that was done: the store was looked after before the last wait. Where memory was wanting, it may
     -- have been in the midst of a round behind it.
     abbrev pub LeavesStore : Result Unit SessionEnd → Numbers → List ℕ → SeenStore D → SeenStore D → Type 0
     LeavesStore (Err NoMemory) c rest old new =
-        (new ≡ old) ⊎ ((kept : SeenStore D) × (round : Exchange D) × keeps old kept × IsCutOff pending seen moment left_since c rest kept new round)
+        (new ≡ old) ⊎ ((kept : SeenStore D) × (round : Exchange D) × keeps old kept × IsCutOff pending seen capacity moment left_since c rest kept new round)
     LeavesStore (Err WriteFault) c rest old new = new ≡ old
     LeavesStore (Err TooManyRequests) c rest old new = new ≡ old
     LeavesStore result c rest old new = keeps old new
@@ -123,19 +123,19 @@ module _ {D : Type 0} where
 
 -- ---- a session in a store's life
 
-module _ {D : Type 0} (pending : D → Pending) (seen : D → List ℕ) (moment : D → ℕ) (left_since : D → ℕ → List ℕ → Type 0) where
+module _ {D : Type 0} (pending : D → Pending) (seen : D → List ℕ) (capacity : D → ℕ) (moment : D → ℕ) (left_since : D → ℕ → List ℕ → Type 0) where
   -- the store is only looked after
   abbrev Tends : SeenStore D → SeenStore D → Type 0
-  Tends old new = IsTended pending seen moment left_since old new
+  Tends old new = IsTended pending seen capacity moment left_since old new
 
   -- What is done in rounds, in order: before the calls of each the steps by which the store was looked after.
-  abbrev pub steps_in : (rounds : List (Exchange D)) (old new : SeenStore D) → RoundsLead pending seen moment left_since Tends old rounds new → List (Step D)
+  abbrev pub steps_in : (rounds : List (Exchange D)) (old new : SeenStore D) → RoundsLead pending seen capacity moment left_since Tends old rounds new → List (Step D)
   steps_in [] old new led = []
   steps_in (round ∷ rounds) old new led = led.2.taken.steps ++ (called (calls_of round) ++ steps_in rounds led.1 new led.4)
 
   -- and behind them
   abbrev pub steps_left : (result : Result Unit SessionEnd) (c : Numbers) (rest : List ℕ) (old new : SeenStore D)
-      → LeavesStore pending seen moment left_since Tends result c rest old new → List (Step D)
+      → LeavesStore pending seen capacity moment left_since Tends result c rest old new → List (Step D)
   steps_left (Err NoMemory) c rest old new (inl same) = []
   steps_left (Err NoMemory) c rest old new (inr cut) = cut.2.taken.steps ++ called (calls_of cut.1)
   steps_left (Err WriteFault) c rest old new left = []
@@ -148,7 +148,7 @@ module _ {D : Type 0} (pending : D → Pending) (seen : D → List ℕ) (moment 
   module _ (c : Numbers) (old new : SeenStore D) (result : Result Unit SessionEnd) (left left_after taken taken_after : Option (List ℕ)) where
     -- a session in which the store is only looked after
     abbrev pub IsTendedSession : Type 0
-    IsTendedSession = IsSession pending seen moment left_since Tends c old new result left left_after taken taken_after
+    IsTendedSession = IsSession pending seen capacity moment left_since Tends c old new result left left_after taken taken_after
 
     -- all that is done in it, in order
     abbrev pub steps_of : IsTendedSession → List (Step D)
@@ -160,19 +160,20 @@ module _ {D : Type 0} (pending : D → Pending) (seen : D → List ℕ) (moment 
   SessionsAreSteps =
       (c : Numbers) (old new : SeenStore D) (result : Result Unit SessionEnd) (left left_after taken taken_after : Option (List ℕ))
       (session : IsTendedSession c old new result left left_after taken taken_after)
-      → StepsLead pending seen moment left_since old (steps_of c old new result left left_after taken taken_after session) new
-      × ((last : ℕ → Option Stamp) → MayDoAll last (calls_among (steps_of c old new result left left_after taken taken_after session)))
+      → StepsLead pending seen capacity moment left_since old (steps_of c old new result left left_after taken taken_after session) new
+      × ((given : Acknowledged) → MayDoAll given (calls_among (steps_of c old new result left left_after taken taken_after session)))
 
   -- A life that has come to the store when a session begins goes on over all that is done in it, to the store when it ends.
   abbrev pub SessionsAreLives : Type 0
   SessionsAreLives =
-      (lying : ℕ → Bool) (life : List Moment) (gone : Nodes) (found : List Nodes)
+      (life : List Moment) (gone : Nodes) (found : List Nodes)
       (c : Numbers) (old new : SeenStore D) (result : Result Unit SessionEnd) (left left_after taken taken_after : Option (List ℕ))
       (session : IsTendedSession c old new result left left_after taken taken_after)
-      → HasComeTo pending seen lying life old gone
-      → length life + length (calls_among (steps_of c old new result left left_after taken taken_after session)) < 2 ^ 31
+      → HasComeTo pending seen life old gone
       → AreFound pending old gone (steps_of c old new result left left_after taken taken_after session) found
-      → HasComeTo pending seen lying (life ++ moments_in (steps_of c old new result left left_after taken taken_after session) found) new
+      → (more : List Moment)
+      × AreTurnsBy (calls_among (steps_of c old new result left left_after taken taken_after session)) more
+      × HasComeTo pending seen (life ++ more) new
       (gone_after old gone (steps_of c old new result left left_after taken taken_after session) found)
 
 -- ---- what an input says of its end

@@ -30,13 +30,13 @@ pub(crate) fn answer<D: Disk + Send, R: Threads + Sync>(
     ensures answered { IfOk result (λ text. (round_done : Exchange D)
         × (round_done.requests ≡ requests_of round.now.asked.items)
         × IsExchange store.old.config round_done
-        × Leads D.pending D.seen D.moment D.left_since store.old (calls_of round_done) store.new
+        × Leads D.pending D.seen D.most D.moment D.left_since store.old (calls_of round_done) store.new
         × (text.items ≡ text_of store.old.config round_done)) }
     // where memory was wanting, a part of it was done
     ensures cut { OnErr result ((begun : Exchange D)
         × (begun.requests ≡ requests_of round.now.asked.items)
         × IsBegun store.old.config begun
-        × Leads D.pending D.seen D.moment D.left_since store.old (calls_of begun) store.new) }
+        × Leads D.pending D.seen D.most D.moment D.left_since store.old (calls_of begun) store.new) }
 {
     let mut done = read_blocks(rt, alloc, store, &round.read)?;
     let values = values_of(alloc, store.config(), &round.asked, &done.found)?;

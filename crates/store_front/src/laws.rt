@@ -17,8 +17,8 @@ pub fn each_input_has_one_end()
 /// them, in order, over nodes that go on on other disks, or are taken out. So what it told is linearizable as the life is, over all
 /// sessions and crashes, and the replies are made of that.
 pub fn sessions_are_lives<D: Disk>()
-    ensures steps { SessionsAreSteps D.pending D.seen D.moment D.left_since }
-    ensures lives { SessionsAreLives D.pending D.seen D.moment D.left_since }
+    ensures steps { SessionsAreSteps D.pending D.seen D.most D.moment D.left_since }
+    ensures lives { SessionsAreLives D.pending D.seen D.most D.moment D.left_since }
 {
-    store_device::laws::steps_are_lives::<D>();
+    store_device::laws::sessions_are_lives::<D>();
 }

@@ -144,7 +144,7 @@ fn perform_all<D: Disk + Send, R: Threads + Sync>(
     ensures config { store.new.config ≡ store.old.config }
     ensures blocks { OnOk result (AreBlocks store.old.config done.new.found) }
     ensures calls { (calls : List (Call D))
-        × Leads D.pending D.seen D.moment D.left_since store.old calls store.new
+        × Leads D.pending D.seen D.most D.moment D.left_since store.old calls store.new
         × AreAsked ops.now calls
         × OnOk result (AreHeard ops.now calls
         × (done.new.found.entries
@@ -173,7 +173,7 @@ pub(crate) fn read_blocks<D: Disk + Send, R: Threads + Sync>(
     ensures config { store.new.config ≡ store.old.config }
     ensures blocks { IfOk result (λ done. AreBlocks store.old.config done.found) }
     ensures calls { (calls : List (Call D))
-        × Leads D.pending D.seen D.moment D.left_since store.old calls store.new
+        × Leads D.pending D.seen D.most D.moment D.left_since store.old calls store.new
         × AreAsked (map Op.Read blocks.now.keys) calls
         × IfOk result (λ done. AreHeard (map Op.Read blocks.now.keys) calls
         × (done.found.entries ≡ found_in store.old.config [] (told_in calls))
@@ -199,7 +199,7 @@ pub(crate) fn write_blocks<D: Disk + Send, R: Threads + Sync>(
     ensures found { OnOk result (done.new.found.entries ≡ done.old.found.entries) }
     ensures blocks { OnOk result (AreBlocks store.old.config done.new.found) }
     ensures calls { (calls : List (Call D))
-        × Leads D.pending D.seen D.moment D.left_since store.old calls store.new
+        × Leads D.pending D.seen D.most D.moment D.left_since store.old calls store.new
         × AreAsked (map write_of values.entries) calls
         × OnOk result (AreHeard (map write_of values.entries) calls
         × (done.new.written.keys ≡ written_in done.old.written.keys (told_in calls))) }

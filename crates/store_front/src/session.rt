@@ -94,7 +94,7 @@ impl Session {
     ) -> Result<usize, SessionEnd>
         ensures config { store.new.config ≡ store.old.config }
         // the replies to these requests, by what the store told of the calls that were made for them
-        ensures round { ServesRound D.pending D.seen D.moment D.left_since store.old.config
+        ensures round { ServesRound D.pending D.seen D.most D.moment D.left_since store.old.config
             self.old.input store.old store.new (K.taken sink.old) (K.taken sink.new) result }
         // they are served
         ensures served { IfOk result (λ len. self.new.input ≡ drop len self.old.input) }
@@ -122,7 +122,7 @@ pub fn serve<D: Disk + Send, U: Keeper<D>, S: Source, K: Sink, R: Threads + Sync
     sink: &mut K,
 ) -> Result<(), SessionEnd>
     requires ready { U.ready keeper.old }
-    ensures session { IsSession D.pending D.seen D.moment D.left_since U.keeps store.old.config
+    ensures session { IsSession D.pending D.seen D.most D.moment D.left_since U.keeps store.old.config
         store.old store.new result (S.left source.old) (S.left source.new) (K.taken sink.old)
         (K.taken sink.new) }
     ensures config { store.new.config ≡ store.old.config }
@@ -197,7 +197,7 @@ fn serve_round<D: Disk + Send, K: Sink, R: Threads + Sync>(
 ) -> Result<usize, SessionEnd>
     ensures len { IfOk result (λ len. len ≤ length at_hand.now) }
     ensures config { store.new.config ≡ store.old.config }
-    ensures round { ServesRound D.pending D.seen D.moment D.left_since store.old.config at_hand.now
+    ensures round { ServesRound D.pending D.seen D.most D.moment D.left_since store.old.config at_hand.now
         store.old store.new (K.taken sink.old) (K.taken sink.new) result }
     ensures flushed { OnOk result (AllFlushed (K.taken sink.new) (K.flushed sink.new)) }
     ensures fault { IsErrOf result SessionEnd.WriteFault

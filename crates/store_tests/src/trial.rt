@@ -370,7 +370,7 @@ impl Trial {
     fn prune<R: Threads + Sync>(&mut self, rt: &R, store: &mut Device) -> Result<(), Unmade> {
         let first = self.draws.below(self.config.blocks());
         let prunes = prunes_of(self.alloc, &self.blocks, first, store.config().blocks())?;
-        store.prune_all(rt, &prunes);
+        let _starved = store.prune_all(rt, &prunes);
         Ok(())
     }
 

@@ -11,32 +11,24 @@ ghost use Rattle.version_disk.specs.Kept.{IsKept};
 ghost use Rattle.version_disk.specs.Refusals.{IfFailed, IfCalm};
 ghost use Rattle.slot_disk.specs.Slots.{body_len, body_of, version_slot, Fits};
 ghost use Rattle.version_disk.specs.Stored.{all_fit};
-ghost use Rattle.version_disk.specs.Undone.{undone, AreLater};
+ghost use Rattle.version_disk.specs.Undone.{undone, LeadTo};
 
 use crate::add::have_places;
 use crate::keep::keep_deeds;
 use crate::refusal::StoreRefusal;
 use disk_model::Disk;
 use lists::{ItemList, NoMemory};
-use node_core::{Node, Prepared};
+use node_core::{Node, Prepared, UndoRecord};
 use slot_disk::piece::write_version;
-use stamp_order::Stamp;
 use std::alloc::Global;
 use wire_forms::{Ask, Reply, Version};
 
-/// Where a version stands that was added.
-#[derive(Clone, Copy)]
-pub(crate) struct Added {
-    pub(crate) block: u32,
-    pub(crate) stamp: Stamp,
-}
-
-/// What is told, the pieces of the slots that are written, and which versions were added, all in order.
+/// What is told, the pieces of the slots that are written, and the undo records of the versions that were added, all in order.
 #[derive(Drop)]
 pub(crate) struct Batch {
     pub(crate) replies: ItemList<Reply>,
     pub(crate) pieces: Vec<u8>,
-    pub(crate) added: Vec<Added>,
+    pub(crate) added: Vec<UndoRecord>,
 }
 
 /// Answers asks, one after the other, and writes the slots of the versions that are added to a disk, as many for two syncs. Also
@@ -98,7 +90,7 @@ pub(crate) fn add_all<D: Disk>(
 fn answer_all(alloc: Global, node: &mut Node, asks: &[Ask]) -> Result<Batch, NoMemory>
     ensures batch { IfOk result (λ batch. IsBatchOf node.old asks.now node.new batch) }
     ensures undone { IfOk result (λ batch. undone node.new batch.added.items ≡ node.old) }
-    ensures later { IfOk result (λ batch. AreLater node.new.config batch.added.items) }
+    ensures led { IfOk result (λ batch. LeadTo node.new batch.added.items) }
     ensures config { node.new.config ≡ node.old.config }
     ensures number { node.new.number ≡ node.old.number }
     ensures err { OnErr result (node.new ≡ node.old) }
@@ -123,7 +115,7 @@ fn answer_each(node: &mut Node, batch: &mut Batch, asks: &[Ask]) -> Result<(), N
     requires none { batch.old.added.items ≡ [] }
     ensures batch { OnOk result (IsBatchOf node.old asks.now node.new batch.new) }
     ensures undone { undone node.new batch.new.added.items ≡ node.old }
-    ensures later { AreLater node.new.config batch.new.added.items }
+    ensures led { LeadTo node.new batch.new.added.items }
     ensures config { node.new.config ≡ node.old.config }
     ensures number { node.new.number ≡ node.old.number }
 {
@@ -135,11 +127,11 @@ fn answer_each(node: &mut Node, batch: &mut Batch, asks: &[Ask]) -> Result<(), N
 
 // Answers one ask more.
 fn answer(node: &mut Node, batch: &mut Batch, ask: &Ask) -> Result<(), NoMemory>
-    requires later { AreLater node.old.config batch.old.added.items }
+    requires led { LeadTo node.old batch.old.added.items }
     ensures batch { OnOk result (IsOneMore node.old batch.old ask.now node.new batch.new) }
     ensures undone { undone node.new batch.new.added.items
         ≡ undone node.old batch.old.added.items }
-    ensures later { AreLater node.new.config batch.new.added.items }
+    ensures led { LeadTo node.new batch.new.added.items }
     ensures config { node.new.config ≡ node.old.config }
     ensures number { node.new.number ≡ node.old.number }
 {
@@ -154,7 +146,7 @@ fn answer(node: &mut Node, batch: &mut Batch, ask: &Ask) -> Result<(), NoMemory>
 // Adds a version that a node prepared for an ask, and writes its piece.
 fn add(node: &mut Node, batch: &mut Batch, ask: &Ask, version: Version) -> Result<(), NoMemory>
     requires added { Some version ≡ accepts_of node.old ask.now }
-    requires later { AreLater node.old.config batch.old.added.items }
+    requires led { LeadTo node.old batch.old.added.items }
     ensures state { OnOk result (node.new ≡ after_deed node.old (Answers ask.now)) }
     ensures replies { batch.new.replies ≡ batch.old.replies }
     ensures pieces { OnOk result (batch.new.pieces.items ≡ batch.old.pieces.items
@@ -164,35 +156,31 @@ fn add(node: &mut Node, batch: &mut Batch, ask: &Ask, version: Version) -> Resul
         (length batch.new.added.items ≡ length batch.old.added.items + 1) }
     ensures undone { undone node.new batch.new.added.items
         ≡ undone node.old batch.old.added.items }
-    ensures later { AreLater node.new.config batch.new.added.items }
+    ensures led { LeadTo node.new batch.new.added.items }
     ensures config { node.new.config ≡ node.old.config }
     ensures number { node.new.number ≡ node.old.number }
 {
     batch.added.reserve(1)?;
     write_version(&mut batch.pieces, node.config(), ask.block, &version)?;
-    let added = Added {
-        block: ask.block,
-        stamp: version.stamp,
-    };
-    node.commit(ask, Some(version))?;
-    note(&mut batch.added, added);
+    let undo = node.add_version(ask, version)?;
+    note(&mut batch.added, undo);
     Ok(())
 }
 
 // Notes one more, where there is room.
-fn note(list: &mut Vec<Added>, added: Added)
+fn note(list: &mut Vec<UndoRecord>, undo: UndoRecord)
     requires { vec_len list.old < vec_capacity list.old }
-    ensures { list.new.items ≡ list.old.items ++ added ∷ [] }
+    ensures { list.new.items ≡ list.old.items ++ undo ∷ [] }
 {
-    let _ = list.push(added);
+    let _ = list.push(undo);
 }
 
-/// Takes back what was added last.
-fn take_back(node: &mut Node, added: &mut Vec<Added>)
-    requires { AreLater node.old.config added.old.items }
+/// Takes back all that was added, the last version first.
+fn take_back(node: &mut Node, added: &mut Vec<UndoRecord>)
+    requires { LeadTo node.old added.old.items }
     ensures { node.new ≡ undone node.old added.old.items }
 {
     while let Some(last) = added.pop() {
-        node.take_back(last.block, &last.stamp);
+        node.undo(last);
     }
 }

@@ -6,7 +6,7 @@ ghost use Rattle.protocol.specs.Instance.{setting};
 ghost use Rattle.node_core.specs.Seen.{versions_in, with_versions, reply_of, after_of, accepts_of};
 ghost use Rattle.version_disk.specs.Held.{held, slots_of, first_bad};
 ghost use Rattle.version_disk.specs.Reopened.{IsStillThere};
-ghost use Rattle.version_disk.specs.Deeds.{IsDone, IsDoneOrNot, answering, after_asks, replies_of, slots_by_all, pruning, after_prunes, slots_by_prunes, AreDone, AreDoneInPart};
+ghost use Rattle.version_disk.specs.Deeds.{IsDone, IsDoneOrNot, slots_by, answering, after_asks, replies_of, slots_by_all, pruning, after_prunes, slots_by_prunes, AreDone, AreDoneInPart};
 ghost use Rattle.version_disk.specs.Deeds.Deed.{Answers, Prunes};
 
 use crate::add::{add_prune, add_version, has_place};
@@ -134,14 +134,16 @@ impl<D: Disk> StoredNode<D> {
         }
     }
 
-    /// Answers an ask. A version that is added is written as a slot, and safe at the return. Memory is taken before the disk is
-    /// written.
+    /// Answers an ask. A version that is added is written as a slot, and safe at the return; where none is added, the disk is not
+    /// touched. Memory is taken before the disk is written.
     pub fn handle(&mut self, ask: &Ask) -> Result<Reply, StoreRefusal>
         ensures reply { IfOk result (λ reply. reply ≡ reply_of self.old.node ask.now) }
         ensures state { OnOk result (self.new.node ≡ with_versions self.old.node ask.now.block
             (after_of self.old.node ask.now)) }
         ensures done { OnOk result (IsDone self.old.node.config self.old.node.number self.old.node
             (Answers ask.now) (D.seen self.old.disk) (D.seen self.new.disk)) }
+        ensures untouched { OnOk result
+            (slots_by self.old.node (Answers ask.now) ≡ [] → self.new.disk ≡ self.old.disk) }
         ensures durable { OnOk result (D.pending self.new.disk ≡ settled (D.seen self.new.disk)) }
         ensures broken { IsErrOf result StoreRefusal.Broken ↔ (self.old.broken ≡ true) }
         ensures full { IsErrOf result StoreRefusal.Full
@@ -235,6 +237,8 @@ impl<D: Disk> StoredNode<D> {
             (after_of self.old.node ask.now)) }
         ensures done { OnOk result (IsDone self.old.node.config self.old.node.number self.old.node
             (Answers ask.now) (D.seen self.old.disk) (D.seen self.new.disk)) }
+        ensures untouched { OnOk result
+            (slots_by self.old.node (Answers ask.now) ≡ [] → self.new.disk ≡ self.old.disk) }
         ensures durable { OnOk result (D.pending self.new.disk ≡ settled (D.seen self.new.disk)) }
         ensures broken { IsErrOf result StoreRefusal.Broken ↔ (self.old.broken ≡ true) }
         ensures full { IsErrOf result StoreRefusal.Full

@@ -4,12 +4,10 @@ use Rattle.std.specs.Prelude.{slice_index_or}
 use Rattle.std.specs.List.{AllByRecursion}
 use Rattle.std.proofs.lemmas.Bool.{cases_lt, cases_eq}
 use Rattle.std.proofs.lemmas.List.{length-set, get_or-set_same, get_or-set_other, set_past}
-use Rattle.stamp_order.specs.declared.Stamp.{Stamp}
 use Rattle.disk_model.specs.Crash.{Pending}
 use Rattle.version_disk.specs.Stored.{Stored}
 use Rattle.store_device.specs.Stores.{SeenStore, seat_at}
-use Rattle.store_device.specs.Lives.{prunable_after, turn_on}
-use Rattle.store_device.specs.Calls.{Call, Leads, MayDoAll, turn_by}
+use Rattle.store_device.specs.Calls.{Acknowledged, Call, Leads, MayDoAll, given_after}
 use Rattle.store_device.specs.Seating.{with_seat, IsReseatedAt, IsReseated}
 use Rattle.store_device.specs.Steps.{Step, WritesNone, called, calls_among, StepsLead, TakesSteps, IsTended}
 use Rattle.store_device.specs.Steps.Step.{Called, Reseated}
@@ -29,55 +27,55 @@ module _ {D : Type 0} where
   among_called (call ∷ calls) = ap (λ (more : List (Call D)). call ∷ more) (among_called calls)
 
   -- what may be done, and then what may be done at any time
-  pub may_then : (last : ℕ → Option Stamp) (calls more : List (Call D)) → MayDoAll last calls → ((last : ℕ → Option Stamp) → MayDoAll last more) → MayDoAll last (calls ++ more)
-  may_then last [] more may then = then last
-  may_then last (call ∷ calls) more may then = (may.0, may_then (λ block. prunable_after (last block) (turn_on block (turn_by call.deed))) calls more may.1 then)
+  pub may_then : (given : Acknowledged) (calls more : List (Call D)) → MayDoAll given calls → ((given : Acknowledged) → MayDoAll given more) → MayDoAll given (calls ++ more)
+  may_then given [] more may then = then given
+  may_then given (call ∷ calls) more may then = (may.0, may_then (given_after given call.deed) calls more may.1 then)
 
   abbrev WritesNot : Call D → Type 0
   WritesNot call = WritesNone call.deed
 
-  module _ (pending : D → Pending) (seen : D → List ℕ) (moment : D → ℕ) (left_since : D → ℕ → List ℕ → Type 0) where
+  module _ (pending : D → Pending) (seen : D → List ℕ) (most : D → ℕ) (moment : D → ℕ) (left_since : D → ℕ → List ℕ → Type 0) where
     abbrev Lead : SeenStore D → List (Step D) → SeenStore D → Type 0
-    Lead old steps new = StepsLead pending seen moment left_since old steps new
+    Lead old steps new = StepsLead pending seen most moment left_since old steps new
 
     abbrev Takes : SeenStore D → SeenStore D → Type 0
-    Takes old new = TakesSteps pending seen moment left_since old new
+    Takes old new = TakesSteps pending seen most moment left_since old new
 
     abbrev Tends : SeenStore D → SeenStore D → Type 0
-    Tends old new = IsTended pending seen moment left_since old new
+    Tends old new = IsTended pending seen most moment left_since old new
 
     pub lead_then : (steps more : List (Step D)) (old mid new : SeenStore D) → Lead old steps mid → Lead mid more new → Lead old (steps ++ more) new
     lead_then [] more old mid new first then = subst (λ (s : SeenStore D). Lead s more new) first then
     lead_then (Called call ∷ steps) more old mid new first then = (first.0, lead_then steps more call.store mid new first.1 then)
     lead_then (Reseated store ∷ steps) more old mid new first then = (first.0, lead_then steps more store mid new first.1 then)
 
-    pub calls_lead : (calls : List (Call D)) (old new : SeenStore D) → Leads pending seen moment left_since old calls new → Lead old (called calls) new
+    pub calls_lead : (calls : List (Call D)) (old new : SeenStore D) → Leads pending seen most moment left_since old calls new → Lead old (called calls) new
     calls_lead [] old new led = led
     calls_lead (call ∷ calls) old new led = (led.0, calls_lead calls call.store new led.1)
 
     -- none
     pub none_taken : (old new : SeenStore D) → new ≡ old → Takes old new
-    none_taken old new same = record { steps = []; lead = same; may = λ last. tt }
+    none_taken old new same = record { steps = []; lead = same; may = λ given. tt }
 
     -- some, and then others
     pub taken_then : (old mid new : SeenStore D) → Takes old mid → Takes mid new → Takes old new
     taken_then old mid new first then = record {
       steps = first.steps ++ then.steps;
       lead = lead_then first.steps then.steps old mid new first.lead then.lead;
-      may = λ last. subst (MayDoAll last) (sym (calls_then first.steps then.steps)) (may_then last (calls_among first.steps) (calls_among then.steps) (first.may last) then.may);
+      may = λ given. subst (MayDoAll given) (sym (calls_then first.steps then.steps)) (may_then given (calls_among first.steps) (calls_among then.steps) (first.may given) then.may);
     }
 
     -- calls that may be made at any time
-    pub calls_taken : (old new : SeenStore D) (calls : List (Call D)) → Leads pending seen moment left_since old calls new → ((last : ℕ → Option Stamp) → MayDoAll last calls) → Takes old new
+    pub calls_taken : (old new : SeenStore D) (calls : List (Call D)) → Leads pending seen most moment left_since old calls new → ((given : Acknowledged) → MayDoAll given calls) → Takes old new
     calls_taken old new calls led may = record {
       steps = called calls;
       lead = calls_lead calls old new led;
-      may = λ last. subst (MayDoAll last) (sym (among_called calls)) (may last);
+      may = λ given. subst (MayDoAll given) (sym (among_called calls)) (may given);
     }
 
     -- others sit on the seats
     pub seats_taken : (old new : SeenStore D) → IsReseated pending seen old new → Takes old new
-    seats_taken old new is = record { steps = Reseated new ∷ []; lead = (is, refl); may = λ last. tt }
+    seats_taken old new is = record { steps = Reseated new ∷ []; lead = (is, refl); may = λ given. tt }
 
     -- ---- what a store's upkeep is
 
@@ -93,7 +91,7 @@ module _ {D : Type 0} where
           (all_then WritesNot (calls_among first.taken.steps) (calls_among then.taken.steps) first.none then.none);
     }
 
-    pub calls_tend : (old new : SeenStore D) (calls : List (Call D)) → Leads pending seen moment left_since old calls new → ((last : ℕ → Option Stamp) → MayDoAll last calls)
+    pub calls_tend : (old new : SeenStore D) (calls : List (Call D)) → Leads pending seen most moment left_since old calls new → ((given : Acknowledged) → MayDoAll given calls)
         → AllByRecursion WritesNot calls → Tends old new
     unfolding calls_taken
     calls_tend old new calls led may none = record {

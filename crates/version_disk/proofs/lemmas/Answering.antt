@@ -1,27 +1,18 @@
 -- Asks that are answered one after the other, and what they add.
-use Rattle.std.proofs.Common.{◌≡◌, inl, inr, ℕ, zero, suc, ◌+◌, Bool, true, false, cond, not, ◌||◌, ◌⊎◌, List, [], ◌∷◌, ◌++◌, length, Option, Some, None, refl, sym, ◌∙◌, ap, subst, arith, append_assoc, length-append}
+use Rattle.std.proofs.Common.{◌≡◌, ℕ, ◌+◌, List, [], ◌∷◌, ◌++◌, length, Option, Some, None, refl, sym, ◌∙◌, ap, subst, arith, append_assoc, length-append}
 use Rattle.std.specs.Prelude.{Result, Ok, Err, OnOk}
-use Rattle.std.proofs.lemmas.Bool.{cases_lt}
-use Rattle.std.proofs.lemmas.List.{append-nil, map-append, get_or-set_same, set_past}
-use Rattle.std.proofs.lemmas.List.Elements.{filter-append}
-use Rattle.std.specs.List.{slice_set, AllByRecursion}
-use Rattle.stamp_order.specs.declared.Stamp.{Stamp}
-use Rattle.stamp_order.specs.Stamps.{same_stamp}
+use Rattle.std.proofs.lemmas.List.{append-nil, map-append}
 use Rattle.quorum_rules.specs.Limits.{Numbers}
 use Rattle.protocol.specs.Count.{one_more}
 use Rattle.protocol.specs.Messages.{Version, Ask, Reply}
-use Rattle.protocol.specs.Nodes.{keeps}
-use Rattle.protocol.specs.Instance.{setting}
-use Rattle.protocol.proofs.lemmas.Order.{same_stamp-≡, same_stamp-refl}
-use Rattle.node_core.specs.Seen.{SeenNode, versions_in, with_versions, without, reply_of, accepts_of}
-use Rattle.node_core.proofs.lemmas.Accepting.{IsNewIn, accepted_is_new}
+use Rattle.node_core.specs.Seen.{SeenNode, versions_in, with_versions, reply_of, accepts_of}
+use Rattle.node_core.specs.Past.{Addition}
 use Rattle.node_core.proofs.lemmas.Blocks.{node_same}
 use Rattle.slot_disk.specs.Slots.{Slot, version_slot, pieces_of, body_of, Fits}
 use Rattle.version_disk.specs.Kept.{IsGoodIn, AreGoodIn}
 use Rattle.version_disk.specs.Deeds.{Deed, Answers, Prunes, after_deed, slots_by, added_slots, slots_among, after_deeds, slots_by_deeds, answering, after_asks, replies_of, slots_by_all}
-use Rattle.version_disk.specs.Undone.{taken_back, undone, IsLater}
+use Rattle.version_disk.specs.Undone.{undone, LeadTo}
 use Rattle.version_disk.specs.Batches.{IsBatchOf}
-use Rattle.version_disk.specs.declared.batch.Added.{Added}
 use Rattle.version_disk.specs.declared.batch.Batch.{Batch}
 use Rattle.version_disk.proofs.Accepting.{version_slots, version_good}
 
@@ -122,79 +113,16 @@ on_ok_four (Err e) f p q s u = tt
 pub empty_batch : (node : SeenNode) (batch : Batch) → batch.replies ≡ [] → batch.pieces.items ≡ [] → batch.added.items ≡ [] → IsBatchOf node [] node batch
 empty_batch node batch replies pieces added = record { state = refl; replies = replies; pieces = pieces; count = ap length added; good = tt }
 
--- one more is taken back first
-pub undone_push : (node : SeenNode) (added : List Added) (a : Added) → undone node (added ++ a ∷ []) ≡ undone (taken_back node a) added
+-- one addition more
+pub undone_push : (node : SeenNode) (added : List Addition) (a : Addition) → undone node (added ++ a ∷ []) ≡ undone a.before added
 undone_push node [] a = refl
-undone_push node (x ∷ added) a = ap (λ (n : SeenNode). taken_back n x) (undone_push node added a)
+undone_push node (x ∷ added) a = refl
 
--- without a stamp that isn't there
-without_none : (stamp : Stamp) (vs : List Version) → keeps vs stamp ≡ false → without stamp vs ≡ vs
-without_none stamp [] none = refl
-without_none stamp (v ∷ vs) none =
-    let h = or_false_both (same_stamp v.stamp stamp) (keeps vs stamp) none in
-    ap (λ (b : Bool). cond (not b) (v ∷ without stamp vs) (without stamp vs)) (other (same_stamp stamp v.stamp) refl h.0)
-    ∙ ap (λ (l : List Version). v ∷ l) (without_none stamp vs h.1)
-  where
-    or_false_both : (a b : Bool) → (a || b) ≡ false → (a ≡ false) × (b ≡ false)
-    or_false_both true b e = absurd (cc)
-    or_false_both false b e = (refl, e)
+pub led_push : (node : SeenNode) (added : List Addition) (a : Addition) → LeadTo a.before added → a.after ≡ node → LeadTo node (added ++ a ∷ [])
+led_push node [] a led is = (is, tt)
+led_push node (x ∷ added) a led is = (led.0 ∙ sym (undone_push node added a), led_push node added a led.1 is)
 
-    other : (b : Bool) → same_stamp stamp v.stamp ≡ b → same_stamp v.stamp stamp ≡ false → same_stamp stamp v.stamp ≡ false
-    other false e f = e
-    other true e f =
-        let same : stamp ≡ v.stamp = same_stamp-≡ stamp v.stamp e in
-        let here : same_stamp v.stamp stamp ≡ true = subst (λ (t : Stamp). same_stamp v.stamp t ≡ true) (sym same) (same_stamp-refl v.stamp) in
-        absurd (cc)
-
-without_last : (v : Version) (vs : List Version) → keeps vs v.stamp ≡ false → without v.stamp (vs ++ v ∷ []) ≡ vs
-without_last v vs none =
-    filter-append (λ (u : Version). not (same_stamp v.stamp u.stamp)) vs (v ∷ [])
-    ∙ ap (λ (b : Bool). without v.stamp vs ++ cond (not b) (v ∷ []) []) (same_stamp-refl v.stamp)
-    ∙ append-nil (without v.stamp vs) ∙ without_none v.stamp vs none
-
-set_twice : {A : Type 0} (xs : List A) (i : ℕ) (a b : A) → slice_set (slice_set xs i a) i b ≡ slice_set xs i b
-set_twice {A = A} [] i a b = refl
-set_twice {A = A} (x ∷ xs) zero a b = refl
-set_twice {A = A} (x ∷ xs) (suc i) a b = ap (λ (l : List A). x ∷ l) (set_twice xs i a b)
-
-pub all_front : {X : Type 0} (P : X → Type 0) (xs : List X) (x : X) → AllByRecursion P (xs ++ x ∷ []) → AllByRecursion P xs
-all_front P [] x all = tt
-all_front P (y ∷ xs) x all = (all.0, all_front P xs x all.1)
-
--- what was added can be taken back
-module _ (node : SeenNode) (ask : Ask) (v : Version) (some : Some v ≡ accepts_of node ask) where
-  new : IsNewIn (setting node.config) (versions_in node ask.block) ask v
-  new = accepted_is_new (setting node.config) node.number (versions_in node ask.block) ask v (sym some)
-
-  pub is_later : IsLater node.config (record { block = ask.block; stamp = v.stamp })
-  is_later = record { there = new.there; later = new.later }
-
-  abbrev more : List Version
-  more = versions_in node ask.block ++ v ∷ []
-
-  added_one : after_deed node (Answers ask) ≡ with_versions node ask.block more
-  added_one = ap (λ (o : Option Version). with_versions node ask.block (one_more (versions_in node ask.block) o)) (sym some)
-
-  there_then : (versions_in (with_versions node ask.block more) ask.block ≡ more) ⊎ (with_versions node ask.block more ≡ node)
-  there_then = elim (cases_lt ask.block (length node.blocks)) [
-    | inl below ↦ inl (get_or-set_same node.blocks ask.block more [] below)
-    | inr past ↦ inr (ap (λ (bs : List (List Version)). record { config = node.config; number = node.number; blocks = bs }) (set_past node.blocks ask.block more past))
-  ]
-
-  gone : with_versions (with_versions node ask.block more) ask.block (versions_in node ask.block) ≡ node
-  gone =
-      ap (λ (bs : List (List Version)). record { config = node.config; number = node.number; blocks = bs }) (set_twice node.blocks ask.block more (versions_in node ask.block))
-      ∙ sym (node_same node ask.block)
-
-  pub back_again : taken_back (after_deed node (Answers ask)) (record { block = ask.block; stamp = v.stamp }) ≡ node
-  back_again =
-      ap (λ (n : SeenNode). taken_back n (record { block = ask.block; stamp = v.stamp })) added_one
-      ∙ elim there_then [
-        | inl there ↦ ap (λ (vs : List Version). with_versions (with_versions node ask.block more) ask.block (without v.stamp vs)) there
-            ∙ ap (with_versions (with_versions node ask.block more) ask.block) (without_last v (versions_in node ask.block) new.new) ∙ gone
-        | inr same ↦ ap (λ (n : SeenNode). taken_back n (record { block = ask.block; stamp = v.stamp })) same
-            ∙ ap (with_versions node ask.block) (without_none v.stamp (versions_in node ask.block) new.new) ∙ sym (node_same node ask.block)
-      ]
-
-  pub undone_more : (added : List Added) → undone (after_deed node (Answers ask)) (added ++ record { block = ask.block; stamp = v.stamp } ∷ []) ≡ undone node added
-  undone_more added = undone_push (after_deed node (Answers ask)) added (record { block = ask.block; stamp = v.stamp }) ∙ ap (λ (n : SeenNode). undone n added) back_again
+-- the last addition led to the node, and those in front of it to what the node was before
+pub led_front : (node : SeenNode) (added : List Addition) (a : Addition) → LeadTo node (added ++ a ∷ []) → (a.after ≡ node) × LeadTo a.before added
+led_front node [] a led = (led.0, tt)
+led_front node (x ∷ added) a led = let rest = led_front node added a led.1 in (rest.0, (led.0 ∙ undone_push node added a, rest.1))

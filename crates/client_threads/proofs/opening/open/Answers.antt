@@ -1,10 +1,10 @@
-use Rattle.std.proofs.Common.{◌+◌, Some, refl, ◌∙◌, arith}
+use Rattle.std.proofs.Common.{◌+◌, Some, length, refl, ap, ◌∙◌, arith}
 use Rattle.std.proofs.lemmas.List.Elements.{All-pop}
 use Rattle.client_duties.specs.Tasks.{client_of}
 use Rattle.phase_threads.specs.declared.duty.Seat.{Seat}
 use Rattle.client_duties.specs.declared.work.ClientDuty.{ClientDuty}
 use Rattle.client_threads.specs.Opened.{IsUnusedPass}
-use Rattle.client_threads.proofs.Newcomers.{count_few, tasks_few, same_long, all_unused, liars_named, stands_first}
+use Rattle.client_threads.proofs.Newcomers.{count_few, tasks_few, mapped, same_long, all_unused, liars_named, stands_first}
 use Rattle.client_threads.proofs.opening.open.Goals as goal
 
 pub overflow_cast-clients : goal.overflow_cast-clients
@@ -55,3 +55,9 @@ returns-clause-stands c =
       begun = refl;
       named = liars_named c.args.plan.now c.requires.fits;
     })
+
+pub returns-clause-passes : goal.returns-clause-passes
+returns-clause-passes c =
+    let long = mapped client_of c.in_ok-tasks.tasks in
+    let named = ap length c.in_ok-tasks.ensures.clients in
+    omega (arith, long, named, c.in_ok-clock.ensures.clock, c.len-clients.ensures, c.count_cells.ensures)

@@ -1,10 +1,15 @@
 use Rattle.std.proofs.Common.{◌≡◌, ℕ, ◌+◌, ◌<◌, ◌≤◌, Err, List, length, get_or, sym, ◌∙◌, ap, subst, arith}
 use Rattle.plan_words.specs.Named.{is_phase}
 use Rattle.plan_words.specs.declared.job.Job.{Job}
+use Rattle.event_clock.specs.Passes.{ClockId}
 use Rattle.client_threads.specs.Running.{IsBetween, IsWorked, plan_of}
+use Rattle.client_threads.specs.declared.state.Run.{Run}
 use Rattle.client_threads.proofs.Counting.{phases_in, one_phase_more, no_phase_more, no_phase, all_phases, handed_on}
 use Rattle.client_threads.proofs.run.run_by.Goals.{in-Phase+in_ok-run-2+in_ok-run-3, in_default}
 use Rattle.client_threads.proofs.run.run_by.Goals as goal
+
+abbrev passes_of : Run → ℕ
+passes_of run = run.clock.passes
 
 pub returns-in_err-run-2-clause-full : goal.returns-in_err-run-2-clause-full
 returns-in_err-run-2-clause-full g c = handed_on c.from_residual-in_err-run-2.result c.in_err-run-2.field-0.0 c.from_residual-in_err-run-2.ensures.1 (λ t is. c.in_err-run-2.ensures.full t (ap Err is))
@@ -31,11 +36,13 @@ loop-job-preserved g c =
           let more : phases_in work (i + 1) ≡ k + 1 = one_phase_more work i x lt (sym item ∙ w.in-Phase.is) in (
             ap plan_of w.run-is ∙ w.in_ok-run-3.ensures.plan ∙ w.in_ok-run-2.ensures.plan ∙ inv.0,
             subst (IsBetween (phases_in work (i + 1))) (sym w.run-is) (subst (λ (n : ℕ). IsBetween n w.in_ok-run-3.run') (sym more) (w.in_ok-run-3.ensures.closed k (w.in_ok-run-2.ensures.worked k inv.1))),
+            ap passes_of w.run-is ∙ ap (λ (clock : ClockId). clock.passes) (w.in_ok-run-3.ensures.clock ∙ w.in_ok-run-2.ensures.clock) ∙ inv.2,
           )
       | in_default w ↦
           let same : phases_in work (i + 1) ≡ k = no_phase_more work i x lt (ap is_phase (sym item) ∙ no_phase x w.in_default.not-Phase) in (
             ap plan_of w.run-is ∙ inv.0,
             subst (IsBetween (phases_in work (i + 1))) (sym w.run-is) (subst (λ (n : ℕ). IsBetween n c.loop-job.run) (sym same) inv.1),
+            ap passes_of w.run-is ∙ inv.2,
           )
     ]
 

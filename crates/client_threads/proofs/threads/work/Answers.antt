@@ -30,3 +30,11 @@ returns-clause-done g c none k standing =
     let new : Run = record { plan = run.plan; clock = c.in_ok-clock.clock; cells = c.in_ok-clock.left.cells; clients = c.in_ok-clock.left.seats; keeper = run.keeper; begun = run.begun } in
     phase_done run new (record { plan = refl; clock = told.clock; keeper = refl; begun = refl; cells = told.cells; desks = told.desks }) (subst (All KeptCell) c.as_slice.ensures.value c.know_cells.ensures)
     (told.duties none) (told.pairs none) k standing
+
+pub returns-clause-clock : goal.returns-clause-clock
+returns-clause-clock g c =
+    let run = c.args.run in
+    let few : length run.clients.items ≤ 65535 = search rules in
+    let may = may_phase run c.requires.standing.0 few c.requires.standing.1 c.requires.standing.2 in
+    let told = c.requires.phase.does run.clock run.cells run.clients (Ok (c.in_ok-clock.clock, c.in_ok-clock.left)) may c.in_ok-clock.ensures in
+    told.clock

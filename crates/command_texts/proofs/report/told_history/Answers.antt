@@ -27,5 +27,5 @@ returns c =
     let all : AreAllRecords j (map record_of c.by_start-records.result) = c.by_start-records.ensures (conduct_of c.args.plan.now.rules) j of c.requires.run.follows.are_for.ascend c.requires.records in
     let are = are_of_run runs there c.args.plan.now j c.args.drawn c.requires.run c.merged_lines.ensures.place c.all_records.ensures.had c.all_records.ensures.are c.few_records.ensures c.requires.clock
     (map record_of c.by_start-records.result) all c.in_ok-first.first.stamp (ap (λ (f : First). f.stamp) c.in_ok-first.ensures) in
-    tells_plan runs there c.args.plan.now j c.args.drawn c.requires.run c.in_ok-history.history
+    tells_plan runs there c.args.plan.now j c.args.drawn c.requires.run are.fits c.in_ok-history.history
     (c.in_ok-history.ensures (setting_for j) (last_world runs there c.args.plan.now j c.args.drawn c.requires.run) (rw c.as_slice.ensures are))

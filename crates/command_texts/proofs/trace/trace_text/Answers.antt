@@ -9,5 +9,5 @@ script_of-requires-clause-lines c = journals_told c.args.plan.now c.args.journal
 
 pub returns : goal.returns
 returns c =
-    let run = runs_plan c.complete_histories.ensures c.args.plan.now c.args.journals (c.args.drawn, c.requires.run) c.in_ok-merged.merged.lines c.in_ok-merged.merged.world c.in_ok-merged.ensures.run c.in_ok-report.report c.in_ok-report.ensures in
+    let run = runs_plan c.complete_histories.ensures c.args.plan.now c.args.journals (c.args.drawn, c.requires.run) c.in_ok-merged.merged.lines c.in_ok-merged.merged.world c.in_ok-merged.ensures.run c.in_ok-merged.ensures.fits c.in_ok-report.report c.in_ok-report.ensures in
     traces_plan c.args.plan.now c.args.journals (c.args.drawn, c.requires.run) c.in_ok-report.report c.in_ok-text.text c.in_ok-script.script run c.in_ok-script.ensures.text c.in_ok-script.ensures.events c.in_ok-text.ensures

@@ -1,4 +1,4 @@
-use Rattle.std.proofs.Common.{◌≡◌, ◌≤◌, length}
+use Rattle.std.proofs.Common.{◌≡◌, ◌≤◌, ◌+◌, length, vec_capacity}
 use Rattle.std.specs.Io.KnownBytes.{Consumes}
 use Rattle.outside_io.specs.declared.reading.TheConstants.{LIMIT}
 use Rattle.outside_io.proofs.reading.read_all.Given as goal
@@ -9,3 +9,4 @@ invariant-loop g l =
     × (g.S.Source.faults l.source ≡ g.S.Source.faults l.initial.source)
     × (l.counter ≤ length l.input.items)
     × (length l.input.items ≤ LIMIT)
+    × (LIMIT + 1 ≤ vec_capacity l.input)

@@ -23,7 +23,7 @@ loop-group-preserved g c =
       ends = inv.ends;
       calls = (
         before.0 ++ more.0,
-        leads_then D.pending D.seen D.moment D.left_since before.0 more.0 c.args.store.now c.loop-group.store c.fill.new.store before.1 more.1,
+        leads_then D.pending D.seen D.most D.moment D.left_since before.0 more.0 c.args.store.now c.loop-group.store c.fill.new.store before.1 more.1,
         groups_then blocks 0 before.0 more.0 before.2
             (subst (λ (n : ℕ). AreGroups blocks n more.0) (let e : k ≡ 0 + length before.0 = omega (arith, before.3) in e)
             (group_at blocks k c.min-first.result c.min-count.result more.0 first count more.2)),
@@ -52,7 +52,7 @@ returns-in_err-fill-clause-calls g c =
     let first : c.min-first.result ≡ first_of blocks k = c.min-first.ensures ∙ ap (λ (b : ℕ). first_of b k) inv.blocks in
     let count : c.min-count.result ≡ count_of blocks k = c.min-count.ensures ∙ ap (λ (f : ℕ). min 64 (c.blocks-blocks.result - f)) c.min-first.ensures ∙ ap (λ (b : ℕ). count_of b k) inv.blocks in (
       before.0 ++ more.0,
-      leads_then D.pending D.seen D.moment D.left_since before.0 more.0 c.args.store.now c.loop-group.store c.fill.new.store before.1 more.1,
+      leads_then D.pending D.seen D.most D.moment D.left_since before.0 more.0 c.args.store.now c.loop-group.store c.fill.new.store before.1 more.1,
       groups_then blocks 0 before.0 more.0 before.2
           (subst (λ (n : ℕ). AreGroups blocks n more.0) (let e : k ≡ 0 + length before.0 = omega (arith, before.3) in e)
           (group_at blocks k c.min-first.result c.min-count.result more.0 first count more.2)),

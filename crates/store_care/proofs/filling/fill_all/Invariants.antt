@@ -9,7 +9,7 @@ invariant-loop-group g l = record {
   blocks : l.blocks ≡ l.fn.store.config.blocks;
   most : l.blocks ≤ 65536;
   ends : l.group-end ≡ groups_of l.blocks;
-  calls : (calls : List (Call _)) × Leads g.D.Disk.pending g.D.Disk.seen g.D.Disk.moment g.D.Disk.left_since l.fn.store calls l.store
+  calls : (calls : List (Call _)) × Leads g.D.Disk.pending g.D.Disk.seen g.D.Disk.most g.D.Disk.moment g.D.Disk.left_since l.fn.store calls l.store
       × AreGroups l.fn.store.config.blocks 0 calls × (length calls ≡ l.group)
       × AreFilling g.E.Disk.pending g.E.Disk.seen l.fn.store.config l.number calls nothing l.filled l.fn.node l.node;
 }

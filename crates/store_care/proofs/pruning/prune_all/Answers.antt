@@ -12,7 +12,7 @@ loop-group-init g c =
       blocks = search rules;
       ends = search rules;
       passed = refl;
-      tended = none_tended D.pending D.seen D.moment D.left_since c.args.store.now c.args.store.now refl;
+      tended = none_tended D.pending D.seen D.most D.moment D.left_since c.args.store.now c.args.store.now refl;
     }
 
 pub loop-group-preserved : goal.loop-group-preserved
@@ -30,17 +30,17 @@ loop-group-preserved g c =
     let pruning : ArePruning (k * 64) (min 64 (mid.config.blocks - k * 64)) c.args.most mid did.0 =
     subst (λ (f : ℕ). ArePruning f (min 64 (mid.config.blocks - k * 64)) c.args.most mid did.0) first
     (subst (λ (n : ℕ). ArePruning c.min-first.result n c.args.most mid did.0) count did.2) in
-    let passed : HasPassed D.pending D.seen D.moment D.left_since c.args.most k mid new = record { calls = did.0; led = did.1; pruning = pruning; both = did.3 } in
+    let passed : HasPassed D.pending D.seen D.most D.moment D.left_since c.args.most k mid new = record { calls = did.0; led = did.1; pruning = pruning; both = did.3 } in
     let next : suc k ≡ k + 1 = omega arith in
     record {
       config = c.in_ok-prune_due.ensures.config ∙ inv.config;
       blocks = inv.blocks;
       ends = inv.ends;
-      passed = subst (λ (n : ℕ). HavePassed D.pending D.seen D.moment D.left_since c.args.most n c.args.store.now new) next (mid, inv.passed, passed);
-      tended = tended_then D.pending D.seen D.moment D.left_since c.args.store.now c.loop-group.store c.prune_due.new.store inv.tended c.prune_due.ensures.tended;
+      passed = subst (λ (n : ℕ). HavePassed D.pending D.seen D.most D.moment D.left_since c.args.most n c.args.store.now new) next (mid, inv.passed, passed);
+      tended = tended_then D.pending D.seen D.most D.moment D.left_since c.args.store.now c.loop-group.store c.prune_due.new.store inv.tended c.prune_due.ensures.tended;
     }
 
 pub returns-in_err-prune_due-clause-tended : goal.returns-in_err-prune_due-clause-tended
 returns-in_err-prune_due-clause-tended g c =
     let D = g.D.Disk in
-    tended_then D.pending D.seen D.moment D.left_since c.args.store.now c.loop-group.store c.prune_due.new.store c.loop-group.invariant.tended c.prune_due.ensures.tended
+    tended_then D.pending D.seen D.most D.moment D.left_since c.args.store.now c.loop-group.store c.prune_due.new.store c.loop-group.invariant.tended c.prune_due.ensures.tended

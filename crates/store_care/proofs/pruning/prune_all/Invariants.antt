@@ -9,6 +9,6 @@ invariant-loop-group g l = record {
   config : l.store.config ≡ l.fn.store.config;
   blocks : l.blocks ≡ l.fn.store.config.blocks;
   ends : l.group-end ≡ groups_of l.blocks;
-  passed : HavePassed g.D.Disk.pending g.D.Disk.seen g.D.Disk.moment g.D.Disk.left_since l.most l.group l.fn.store l.store;
-  tended : IsTended g.D.Disk.pending g.D.Disk.seen g.D.Disk.moment g.D.Disk.left_since l.fn.store l.store;
+  passed : HavePassed g.D.Disk.pending g.D.Disk.seen g.D.Disk.most g.D.Disk.moment g.D.Disk.left_since l.most l.group l.fn.store l.store;
+  tended : IsTended g.D.Disk.pending g.D.Disk.seen g.D.Disk.most g.D.Disk.moment g.D.Disk.left_since l.fn.store l.store;
 }

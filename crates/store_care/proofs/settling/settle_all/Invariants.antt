@@ -8,6 +8,6 @@ invariant-loop-group g l = record {
   config : l.store.config ≡ l.fn.store.config;
   blocks : l.blocks ≡ l.fn.store.config.blocks;
   ends : l.group-end ≡ groups_of l.blocks;
-  tries : (tries : List (Try _)) × TriesLead g.D.Disk.pending g.D.Disk.seen g.D.Disk.moment g.D.Disk.left_since l.fn.store tries l.store
+  tries : (tries : List (Try _)) × TriesLead g.D.Disk.pending g.D.Disk.seen g.D.Disk.most g.D.Disk.moment g.D.Disk.left_since l.fn.store tries l.store
       × ((block : ℕ) → block < l.group * 64 → block < l.blocks → IsTriedOut l.fn.store tries block);
 }

@@ -4,7 +4,7 @@ use Rattle.protocol.specs.Instance.{setting}
 use Rattle.batch_clients.specs.Batches.{Running, begun, end_of}
 use Rattle.store_device.specs.declared.seat.Seat.{Seat}
 use Rattle.store_device.specs.Going.{store_of}
-use Rattle.store_device.proofs.Carrying.{laws_of, starts, from_batch, to_store, if_err}
+use Rattle.store_device.proofs.Carrying.{from_begun, if_ok, starts, from_batch, to_store, if_err}
 use Rattle.store_device.proofs.Coming.{endings_of, told_all}
 use Rattle.store_device.proofs.phase.carry_out.Goals as goal
 
@@ -12,10 +12,9 @@ pub returns-in_err-batch-clause-going : goal.returns-in_err-batch-clause-going
 returns-in_err-batch-clause-going g c =
     let D = g.D.Disk in
     let disk = g.met.D.Disk g.world.𝓛 g.world.𝓜 g.world.𝓡 ((λ s x. x), (λ x. x), (λ x. x), λ x. x) in
-    let start = store_of c.args.config.now (map (λ (seat : Seat g.row.D.Denot). seat.node) c.args.seats.now) in
-    let laws = laws_of c.operations.ensures.begin c.operations.ensures.go_on c.operations.ensures.cut_off in (
+    let start = store_of c.args.config.now (map (λ (seat : Seat g.row.D.Denot). seat.node) c.args.seats.now) in (
       begun (setting c.args.config.now) 1 c.args.ops.now,
-      starts D.pending D.seen D.moment D.left_since disk.only_now laws start c.requires.store c.args.ops.now c.requires.few
+      starts D.pending D.seen D.moment D.left_since disk.only_now start c.requires.store c.args.ops.now c.requires.few
           c.form_ops.ensures,
       if_err _ c.from_residual.result c.from_residual.ensures.0,
     )
@@ -28,10 +27,9 @@ returns-in_err-go_on-clause-going g c =
     let last = map (λ (seat : Seat g.row.D.Denot). seat.node) c.go_on.new.seats in
     let config = c.args.config.now in
     let start = store_of config seats in
-    let laws = laws_of c.operations.ensures.begin c.operations.ensures.go_on c.operations.ensures.cut_off in
     let first = from_batch D.pending D.seen D.moment D.left_since config c.in_ok-batch.batch.config seats c.args.ops.now
     c.in_ok-batch.batch.runs c.in_ok-batch.ensures.config c.in_ok-batch.ensures.runs
-    (starts D.pending D.seen D.moment D.left_since disk.only_now laws start c.requires.store c.args.ops.now c.requires.few
+    (starts D.pending D.seen D.moment D.left_since disk.only_now start c.requires.store c.args.ops.now c.requires.few
     c.form_ops.ensures) in
     let h = c.go_on.ensures.going start c.args.ops.now c.requires.apart first in (
       h.0,
@@ -48,10 +46,9 @@ returns-clause-going g c =
     let last = map (λ (seat : Seat g.row.D.Denot). seat.node) c.go_on.new.seats in
     let config = c.args.config.now in
     let start = store_of config seats in
-    let laws = laws_of c.operations.ensures.begin c.operations.ensures.go_on c.operations.ensures.cut_off in
     let first = from_batch D.pending D.seen D.moment D.left_since config c.in_ok-batch.batch.config seats c.args.ops.now
     c.in_ok-batch.batch.runs c.in_ok-batch.ensures.config c.in_ok-batch.ensures.runs
-    (starts D.pending D.seen D.moment D.left_since disk.only_now laws start c.requires.store c.args.ops.now c.requires.few
+    (starts D.pending D.seen D.moment D.left_since disk.only_now start c.requires.store c.args.ops.now c.requires.few
     c.form_ops.ensures) in
     let h = c.in_ok-go_on.ensures.going start c.args.ops.now c.requires.apart first in (
       h.0,
@@ -69,13 +66,25 @@ returns-clause-answered g c =
     let last = map (λ (seat : Seat g.row.D.Denot). seat.node) c.go_on.new.seats in
     let config = c.args.config.now in
     let start = store_of config seats in
-    let laws = laws_of c.operations.ensures.begin c.operations.ensures.go_on c.operations.ensures.cut_off in
     let first = from_batch D.pending D.seen D.moment D.left_since config c.in_ok-batch.batch.config seats c.args.ops.now
     c.in_ok-batch.batch.runs c.in_ok-batch.ensures.config c.in_ok-batch.ensures.runs
-    (starts D.pending D.seen D.moment D.left_since disk.only_now laws start c.requires.store c.args.ops.now c.requires.few
+    (starts D.pending D.seen D.moment D.left_since disk.only_now start c.requires.store c.args.ops.now c.requires.few
     c.form_ops.ensures) in
     let ends = endings_of c.endings.ensures.begin c.endings.ensures.phases config c.requires.store.valid in
     told_all D.pending D.seen D.moment D.left_since D.most disk.counts_now config c.in_ok-batch.batch.config seats last c.args.ops.now
     c.in_ok-batch.batch.runs c.go_on.new.batch.runs c.in_ok-batch.batch.phases c.in_ok-batch.ensures.config c.in_ok-batch.ensures.runs
     c.in_ok-batch.ensures.phases c.requires.store.valid ends c.form_ops.ensures c.requires.apart first c.in_ok-go_on.ensures.ended
     (λ outcomes. outcomes.items) c.into_ends.result c.into_ends.ensures
+
+pub returns-clause-phases : goal.returns-clause-phases
+returns-clause-phases g c =
+    let D = g.D.Disk in
+    let seats = map (λ (seat : Seat g.row.D.Denot). seat.node) c.args.seats.now in
+    let last = map (λ (seat : Seat g.row.D.Denot). seat.node) c.go_on.new.seats in
+    if_ok _ _ c.into_ends.result (λ ends are. (
+      c.go_on.new.batch.runs,
+      from_begun D.pending D.seen D.most D.moment D.left_since c.args.config.now c.in_ok-batch.batch.config seats last c.args.ops.now
+          c.in_ok-batch.batch.runs c.go_on.new.batch.runs c.in_ok-batch.ensures.config c.in_ok-batch.ensures.runs
+          c.in_ok-go_on.ensures.phases,
+      are,
+    )) c.into_ends.ensures

@@ -6,14 +6,22 @@ use Rattle.store_device.specs.declared.seat.Seat.{Seat}
 use Rattle.store_device.specs.Working.{AreHanded}
 use Rattle.store_device.specs.Answered.{HaveReplied}
 use Rattle.store_device.specs.Going.{store_of}
-use Rattle.store_device.proofs.Carrying.{GoFrom, go_more, laws_of, on_err}
+use Rattle.store_device.proofs.Carrying.{GoFrom, go_more, none_gone, one_phase, on_err}
 use Rattle.store_device.proofs.Coming.{ComeFrom, all_ended, come_more, endings_of}
 use Rattle.store_device.proofs.phase.go_on.Goals.{then-loop-batch-test+else-phases-lt-MOST_PHASES, else-loop-batch-test}
 use Rattle.store_device.proofs.phase.go_on.Goals as goal
 
 pub loop-batch-init : goal.loop-batch-init
 loop-batch-init g c =
-    (refl, refl, c.requires.asks, λ start ops apart going. going, λ start ops more valid apart going few come enough. come)
+    let D = g.D.Disk in (
+      refl,
+      refl,
+      c.requires.asks,
+      λ start ops apart going. going,
+      λ start ops more valid apart going few come enough. come,
+      none_gone D.pending D.seen D.most D.moment D.left_since c.args.batch.now.config
+          (map (λ (seat : Seat g.row.D.Denot). seat.node) c.args.seats.now) c.args.batch.now.runs,
+    )
 
 pub go_through-requires-clause-count : goal.go_through-requires-clause-count
 go_through-requires-clause-count g c κs within = c.loop-batch.invariant.0 ∙ c.requires.count
@@ -31,7 +39,6 @@ returns-in_err-asks-clause-going g c =
     let node = λ (seat : Seat g.row.D.Denot). seat.node in
     let inv = c.loop-batch.invariant in
     let h = c.go_through.ensures.handed in
-    let laws = laws_of c.operations.ensures.begin c.operations.ensures.go_on c.operations.ensures.cut_off in
     let config = c.args.batch.now.config in
     let runs = c.loop-batch.batch.runs in
     let handed : AreHanded D.pending D.seen D.moment D.left_since (λ i. asks_to (setting config) i runs) h.0
@@ -40,7 +47,7 @@ returns-in_err-asks-clause-going g c =
     (store_of d (map node c.loop-batch.seats)) (store_of d (map node c.go_through.new.seats))) inv.1 h.1 in
     λ start ops apart going. (
       after_answers (setting config) 0 h.0 runs,
-      go_more D.pending D.seen D.moment D.left_since disk.counts_now laws config (map node c.args.seats.now) (map node c.loop-batch.seats)
+      go_more D.pending D.seen D.moment D.left_since disk.counts_now config (map node c.args.seats.now) (map node c.loop-batch.seats)
           (map node c.go_through.new.seats) c.args.batch.now.runs runs h.0 inv.3 handed start ops apart going,
       on_err (c.go_through.new.batch.runs ≡ after_answers (setting config) 0 h.0 runs) c.from_residual.result c.from_residual.ensures.0,
     )
@@ -55,7 +62,6 @@ loop-batch-preserved g c =
     let node = λ (seat : Seat g.row.D.Denot). seat.node in
     let inv = c.loop-batch.invariant in
     let h = c.in_ok-asks.ensures.handed in
-    let laws = laws_of c.operations.ensures.begin c.operations.ensures.go_on c.operations.ensures.cut_off in
     let config = c.args.batch.now.config in
     let runs = c.loop-batch.batch.runs in
     let handed : AreHanded D.pending D.seen D.moment D.left_since (λ i. asks_to (setting config) i runs) h.0
@@ -75,13 +81,15 @@ loop-batch-preserved g c =
           c.in_ok-asks.ensures.asks,
       subst (λ (rs : List Running). GoFrom D.pending D.seen D.moment D.left_since config (map node c.args.seats.now) c.args.batch.now.runs
           (map node c.go_through.new.seats) rs) (sym then)
-          (go_more D.pending D.seen D.moment D.left_since disk.counts_now laws config (map node c.args.seats.now)
+          (go_more D.pending D.seen D.moment D.left_since disk.counts_now config (map node c.args.seats.now)
           (map node c.loop-batch.seats) (map node c.go_through.new.seats) c.args.batch.now.runs runs h.0 inv.3 handed),
       subst (λ (rs : List Running). ComeFrom D.pending D.seen D.moment D.left_since D.most config (map node c.args.seats.now)
           c.args.batch.now.runs c.args.batch.now.phases (map node c.go_through.new.seats) rs c.go_through.new.batch.phases) (sym then)
-          (come_more D.pending D.seen D.moment D.left_since D.most disk.counts_now laws ends config (map node c.args.seats.now)
+          (come_more D.pending D.seen D.moment D.left_since D.most disk.counts_now ends config (map node c.args.seats.now)
           (map node c.loop-batch.seats) (map node c.go_through.new.seats) c.args.batch.now.runs runs c.args.batch.now.phases
           c.loop-batch.batch.phases c.go_through.new.batch.phases h.0 inv.3 inv.4 handed replied c.in_ok-asks.ensures.phases),
+      one_phase D.pending D.seen D.most D.moment D.left_since config (map node c.args.seats.now) (map node c.loop-batch.seats)
+          (map node c.go_through.new.seats) c.args.batch.now.runs runs c.go_through.new.batch.runs h.0 then inv.5 handed replied,
     )
 
 pub returns-clause-going : goal.returns-clause-going
@@ -96,3 +104,6 @@ returns-clause-ended g c =
       | then-loop-batch-test+else-phases-lt-MOST_PHASES w ↦ inr (omega (arith, w.if-phases-lt-MOST_PHASES.false, w.phases.ensures))
       | else-loop-batch-test w ↦ inl (omega (arith, w.loop-batch-test.false, c.asking.ensures))
     ])
+
+pub returns-clause-phases : goal.returns-clause-phases
+returns-clause-phases g c = c.loop-batch.invariant.5

@@ -16,7 +16,7 @@ returns-in_err-done-clause-cut g c =
     let asked = c.args.round.now.asked.items in
     let made = c.in_err-done.ensures.calls in
     any_err _ c.from_residual.result
-    (reads_begun g.D.Disk.pending g.D.Disk.seen g.D.Disk.moment g.D.Disk.left_since config (requests_of asked) (together_of config asked c.requires.asked c.requires.apart)
+    (reads_begun g.D.Disk.pending g.D.Disk.seen g.D.Disk.most g.D.Disk.moment g.D.Disk.left_since config (requests_of asked) (together_of config asked c.requires.asked c.requires.apart)
     made.0 c.args.store.now c.read_blocks.new.store made.1 (subst (λ ks. AreAsked (map Read ks) made.0) c.requires.read made.2))
 
 pub returns-in_err-values-clause-cut : goal.returns-in_err-values-clause-cut
@@ -25,7 +25,7 @@ returns-in_err-values-clause-cut g c =
     let asked = c.args.round.now.asked.items in
     let made = c.in_ok-done.ensures.calls in
     any_err _ c.from_residual-in_err-values.result
-    (reads_begun g.D.Disk.pending g.D.Disk.seen g.D.Disk.moment g.D.Disk.left_since config (requests_of asked) (together_of config asked c.requires.asked c.requires.apart)
+    (reads_begun g.D.Disk.pending g.D.Disk.seen g.D.Disk.most g.D.Disk.moment g.D.Disk.left_since config (requests_of asked) (together_of config asked c.requires.asked c.requires.apart)
     made.0 c.args.store.now c.read_blocks.new.store made.1 (subst (λ ks. AreAsked (map Read ks) made.0) c.requires.read made.2))
 
 pub returns-in_err-write_blocks-clause-cut : goal.returns-in_err-write_blocks-clause-cut
@@ -42,7 +42,7 @@ returns-in_err-write_blocks-clause-cut g c =
     ∙ ap (λ (xs : List Asked). values_left config (value_at c.in_ok-done.done.found.entries) (requests_of xs)) c.deref.ensures.value
     ∙ ap (λ es. values_left config (value_at es) (requests_of asked)) made.3.1 in
     any_err _ c.from_residual-in_err-write_blocks.result
-    (writes_begun g.D.Disk.pending g.D.Disk.seen g.D.Disk.moment g.D.Disk.left_since config (requests_of asked) (together_of config asked c.requires.asked c.requires.apart)
+    (writes_begun g.D.Disk.pending g.D.Disk.seen g.D.Disk.most g.D.Disk.moment g.D.Disk.left_since config (requests_of asked) (together_of config asked c.requires.asked c.requires.apart)
     made.0 c.args.store.now c.read_blocks.new.store made.1 all wrote.0 c.write_blocks.new.store wrote.1 (subst (λ es. AreAsked (map write_of es) wrote.0) values wrote.2))
 
 pub returns-clause-cut : goal.returns-clause-cut
@@ -59,7 +59,7 @@ returns-clause-cut g c =
     ∙ ap (λ (xs : List Asked). values_left config (value_at c.in_ok-done.done.found.entries) (requests_of xs)) c.deref.ensures.value
     ∙ ap (λ es. values_left config (value_at es) (requests_of asked)) made.3.1 in
     any_err _ c.replies.result
-    (writes_begun g.D.Disk.pending g.D.Disk.seen g.D.Disk.moment g.D.Disk.left_since config (requests_of asked) (together_of config asked c.requires.asked c.requires.apart)
+    (writes_begun g.D.Disk.pending g.D.Disk.seen g.D.Disk.most g.D.Disk.moment g.D.Disk.left_since config (requests_of asked) (together_of config asked c.requires.asked c.requires.apart)
     made.0 c.args.store.now c.read_blocks.new.store made.1 all wrote.0 c.write_blocks.new.store wrote.1 (subst (λ es. AreAsked (map write_of es) wrote.0) values wrote.2))
 
 pub returns-clause-answered : goal.returns-clause-answered
@@ -78,7 +78,7 @@ returns-clause-answered g c =
     let found = c.write_blocks.new.done.found.entries in
     let written = c.write_blocks.new.done.written.keys in
     let still : c.config-2.result.now ≡ config = c.config-2.ensures ∙ c.write_blocks.ensures.config ∙ c.read_blocks.ensures.config in
-    let gone = all_done g.D.Disk.pending g.D.Disk.seen g.D.Disk.moment g.D.Disk.left_since config (requests_of asked) (together_of config asked c.requires.asked c.requires.apart)
+    let gone = all_done g.D.Disk.pending g.D.Disk.seen g.D.Disk.most g.D.Disk.moment g.D.Disk.left_since config (requests_of asked) (together_of config asked c.requires.asked c.requires.apart)
     made.0 c.args.store.now c.read_blocks.new.store made.1 all wrote.0 c.write_blocks.new.store wrote.1 in
     IfOk-weaker c.replies.result _ _
     (λ text is. gone text.items (subst (λ es. AreHeard (map write_of es) wrote.0) values wrote.3.0) found written (c.in_ok-write_blocks.ensures.found ∙ made.3.1) (wrote.3.1 ∙ ap (λ ks. written_in ks (told_in wrote.0)) made.3.2)

@@ -20,14 +20,14 @@ perform-requires-clause-apart g c =
 
 pub returns-in_err-outcomes-clause-calls : goal.returns-in_err-outcomes-clause-calls
 returns-in_err-outcomes-clause-calls g c =
-    let cut = cut_off g.D.Disk.pending g.D.Disk.seen g.D.Disk.moment g.D.Disk.left_since c.args.store.now.config c.args.store.now c.loop-at.store c.args.ops.now c.loop-at.at c.min.result c.args.done.now.found.entries c.loop-at.done.found.entries c.args.done.now.written.keys c.loop-at.done.written.keys c.loop-at.invariant.gone
+    let cut = cut_off g.D.Disk.pending g.D.Disk.seen g.D.Disk.most g.D.Disk.moment g.D.Disk.left_since c.args.store.now.config c.args.store.now c.loop-at.store c.args.ops.now c.loop-at.at c.min.result c.args.done.now.found.entries c.loop-at.done.found.entries c.args.done.now.written.keys c.loop-at.done.written.keys c.loop-at.invariant.gone
     (omega (arith, c.min.ensures)) (take (c.min.result - c.loop-at.at) (drop c.loop-at.at c.args.ops.now)) refl None c.perform.new.self c.in_err-outcomes.ensures.performed in
     (cut.0, cut.1, cut.2, none_ok _ c.from_residual.result c.from_residual.ensures.0)
 
 pub returns-in_err-hear_all-clause-calls : goal.returns-in_err-hear_all-clause-calls
 returns-in_err-hear_all-clause-calls g c =
     let outcomes = c.in_ok-outcomes.outcomes.items in
-    let cut = cut_off g.D.Disk.pending g.D.Disk.seen g.D.Disk.moment g.D.Disk.left_since c.args.store.now.config c.args.store.now c.loop-at.store c.args.ops.now c.loop-at.at c.min.result c.args.done.now.found.entries c.loop-at.done.found.entries c.args.done.now.written.keys c.loop-at.done.written.keys c.loop-at.invariant.gone
+    let cut = cut_off g.D.Disk.pending g.D.Disk.seen g.D.Disk.most g.D.Disk.moment g.D.Disk.left_since c.args.store.now.config c.args.store.now c.loop-at.store c.args.ops.now c.loop-at.at c.min.result c.args.done.now.found.entries c.loop-at.done.found.entries c.args.done.now.written.keys c.loop-at.done.written.keys c.loop-at.invariant.gone
     (omega (arith, c.min.ensures)) (take (c.min.result - c.loop-at.at) (drop c.loop-at.at c.args.ops.now)) refl (Some outcomes) c.perform.new.self c.in_ok-outcomes.ensures.performed in
     (cut.0, cut.1, cut.2, none_ok _ c.from_residual-in_err-hear_all.result c.from_residual-in_err-hear_all.ensures.0)
 
@@ -47,8 +47,8 @@ loop-at-preserved g c =
       within = omega (arith, place, c.min.ensures);
       blocks = subst (λ (k : Numbers). AreBlocks k c.hear_all.new.self.found) same heard.blocks;
       gone =
-          subst (λ n. HasGone g.D.Disk.pending g.D.Disk.seen g.D.Disk.moment g.D.Disk.left_since config c.args.store.now c.perform.new.self ops n c.args.done.now.found.entries c.hear_all.new.self.found.entries c.args.done.now.written.keys c.hear_all.new.self.written.keys) (sym place)
-          (goes_on g.D.Disk.pending g.D.Disk.seen g.D.Disk.moment g.D.Disk.left_since config c.args.store.now c.loop-at.store ops c.loop-at.at c.min.result c.args.done.now.found.entries c.loop-at.done.found.entries c.args.done.now.written.keys c.loop-at.done.written.keys inv.gone
+          subst (λ n. HasGone g.D.Disk.pending g.D.Disk.seen g.D.Disk.most g.D.Disk.moment g.D.Disk.left_since config c.args.store.now c.perform.new.self ops n c.args.done.now.found.entries c.hear_all.new.self.found.entries c.args.done.now.written.keys c.hear_all.new.self.written.keys) (sym place)
+          (goes_on g.D.Disk.pending g.D.Disk.seen g.D.Disk.most g.D.Disk.moment g.D.Disk.left_since config c.args.store.now c.loop-at.store ops c.loop-at.at c.min.result c.args.done.now.found.entries c.loop-at.done.found.entries c.args.done.now.written.keys c.loop-at.done.written.keys inv.gone
           (omega (arith, place)) batch refl outcomes c.perform.new.self c.hear_all.new.self.found.entries c.hear_all.new.self.written.keys c.in_ok-outcomes.ensures.performed
           (heard.found ∙ ap (λ (k : Numbers). found_in k c.loop-at.done.found.entries (zip batch outcomes)) same) heard.written);
     }
@@ -56,5 +56,5 @@ loop-at-preserved g c =
 pub returns-clause-calls : goal.returns-clause-calls
 returns-clause-calls g c =
     let h = c.loop-at.invariant.gone in
-    let all = all_heard g.D.Disk.pending g.D.Disk.seen g.D.Disk.moment g.D.Disk.left_since c.args.store.now.config c.args.store.now c.loop-at.store c.args.ops.now c.loop-at.at c.args.done.now.found.entries c.loop-at.done.found.entries c.args.done.now.written.keys c.loop-at.done.written.keys h (omega (arith, c.loop-at-test.false)) in
+    let all = all_heard g.D.Disk.pending g.D.Disk.seen g.D.Disk.most g.D.Disk.moment g.D.Disk.left_since c.args.store.now.config c.args.store.now c.loop-at.store c.args.ops.now c.loop-at.at c.args.done.now.found.entries c.loop-at.done.found.entries c.args.done.now.written.keys c.loop-at.done.written.keys h (omega (arith, c.loop-at-test.false)) in
     (h.calls, h.leads_there, heard_asked c.args.ops.now h.calls all, (all, h.found_is, h.written_is))

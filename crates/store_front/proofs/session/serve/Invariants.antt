@@ -8,5 +8,5 @@ invariant-loop-round g l = record {
   config : l.store.config ≡ l.fn.store.config;
   reads : g.S.Source.faults l.source ≡ g.S.Source.faults l.fn.source;
   writes : g.K.Sink.faults l.sink ≡ g.K.Sink.faults l.fn.sink;
-  served : HasServed g.D.Disk.pending g.D.Disk.seen g.D.Disk.moment g.D.Disk.left_since l.fn.store.config g.U.Keeper.keeps l.fn.store l.store l._round l.session.place l.session.input (g.S.Source.left l.fn.source) (g.S.Source.left l.source) (g.K.Sink.taken l.fn.sink) (g.K.Sink.taken l.sink);
+  served : HasServed g.D.Disk.pending g.D.Disk.seen g.D.Disk.most g.D.Disk.moment g.D.Disk.left_since l.fn.store.config g.U.Keeper.keeps l.fn.store l.store l._round l.session.place l.session.input (g.S.Source.left l.fn.source) (g.S.Source.left l.source) (g.K.Sink.taken l.fn.sink) (g.K.Sink.taken l.sink);
 }

@@ -1,12 +1,12 @@
 use Rattle.std.proofs.Common.{refl, sym, ap, subst}
-use Rattle.version_disk.specs.Undone.{undone, AreLater}
+use Rattle.version_disk.specs.Undone.{undone, LeadTo}
 use Rattle.version_disk.proofs.batch.answer_each.Goals as goal
 
 pub loop-ask-init : goal.loop-ask-init
 loop-ask-init c = record {
   batch = c.requires.batch;
   undone = ap (undone c.args.node.now) c.requires.none;
-  later = subst (AreLater c.args.node.now.config) (sym c.requires.none) tt;
+  led = subst (LeadTo c.args.node.now) (sym c.requires.none) tt;
   config = refl;
   number = refl;
 }

@@ -26,10 +26,10 @@ returns-in_err-outcomes-clause-calls g c =
     let D = g.D.Disk in
     let new = c.perform.new.store in
     let ops = c.deref.result.now in
-    did_read D.pending D.seen D.moment D.left_since c.args.first c.args.count c.args.store.now new new ops None
+    did_read D.pending D.seen D.most D.moment D.left_since c.args.first c.args.count c.args.store.now new new ops None
     (λ (calls : List (Call _)). OnOk c.from_residual-in_err-outcomes.result (HasCounted c.args.first c.args.count c.args.self.now c.args.self.now c.args.store.now calls))
     (c.deref.ensures.value ∙ c.in_ok-reads.ensures.reads)
-    (subst (λ (s : SeenStore _). HasPerformed D.pending D.seen D.moment D.left_since ops None s new) c.newest_of_all.ensures.same c.in_err-outcomes.ensures.err)
+    (subst (λ (s : SeenStore _). HasPerformed D.pending D.seen D.most D.moment D.left_since ops None s new) c.newest_of_all.ensures.same c.in_err-outcomes.ensures.err)
     refl (on_err _ c.from_residual-in_err-outcomes.result c.from_residual-in_err-outcomes.ensures.0)
 
 pub look_at_all-requires-clause-few : goal.look_at_all-requires-clause-few
@@ -55,10 +55,10 @@ returns-in_err-lacking-clause-calls g c =
     let new = c.look_at_all.new.store in
     let ops = c.deref.result.now in
     let outcomes = c.in_ok-outcomes.outcomes.items in
-    did_read D.pending D.seen D.moment D.left_since c.args.first c.args.count c.args.store.now mid new ops (Some outcomes)
+    did_read D.pending D.seen D.most D.moment D.left_since c.args.first c.args.count c.args.store.now mid new ops (Some outcomes)
     (λ (calls : List (Call _)). OnOk c.from_residual-in_err-lacking.result (HasCounted c.args.first c.args.count c.args.self.now c.look_at_all.new.self c.args.store.now calls))
     (c.deref.ensures.value ∙ c.in_ok-reads.ensures.reads)
-    (subst (λ (s : SeenStore _). HasPerformed D.pending D.seen D.moment D.left_since ops (Some outcomes) s mid) c.newest_of_all.ensures.same c.in_ok-outcomes.ensures.ok)
+    (subst (λ (s : SeenStore _). HasPerformed D.pending D.seen D.most D.moment D.left_since ops (Some outcomes) s mid) c.newest_of_all.ensures.same c.in_ok-outcomes.ensures.ok)
     c.look_at_all.ensures.same (on_err _ c.from_residual-in_err-lacking.result c.from_residual-in_err-lacking.ensures.0)
 
 pub returns-clause-calls : goal.returns-clause-calls
@@ -94,10 +94,10 @@ returns-clause-calls g c =
     subst (λ (os : List (Option Outcome)). All (IsWrittenBack (reads_from first count) os) again) c.deref-2.ensures.value
     (subst (λ (n : ℕ). All (IsWrittenBack (reads_from first n) c.deref-2.result.now) again) all c.in_ok-lacking.ensures.lacking.written_back) in
     let More : List (Call _) → Type 0 = λ calls. OnOk c.restore.result (HasCounted first count start then old calls) in
-    did_restore D.pending D.seen D.moment D.left_since first count old mid new ops again outcomes told More
+    did_restore D.pending D.seen D.most D.moment D.left_since first count old mid new ops again outcomes told More
     (c.deref.ensures.value ∙ c.in_ok-reads.ensures.reads)
-    (subst (λ (s : SeenStore _). HasPerformed D.pending D.seen D.moment D.left_since ops (Some outcomes) s mid) c.newest_of_all.ensures.same c.in_ok-outcomes.ensures.ok)
-    (subst (λ (s : SeenStore _). HasPerformed D.pending D.seen D.moment D.left_since again told s new) c.look_at_all.ensures.same calls.1)
+    (subst (λ (s : SeenStore _). HasPerformed D.pending D.seen D.most D.moment D.left_since ops (Some outcomes) s mid) c.newest_of_all.ensures.same c.in_ok-outcomes.ensures.ok)
+    (subst (λ (s : SeenStore _). HasPerformed D.pending D.seen D.most D.moment D.left_since again told s new) c.look_at_all.ensures.same calls.1)
     back
     (on_ok c.restore.result
     (λ r. subst (λ (t : Option (List (Option Outcome))). HasCounted first count start then old (performed (reads_from first count) (Some outcomes) mid ∷ performed again t new ∷ [])) (sym r.1)

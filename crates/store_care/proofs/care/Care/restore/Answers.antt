@@ -13,8 +13,8 @@ returns-in_err-outcomes-clause-calls g c =
     let D = g.D.Disk in
     let again = c.args.lacking.now.again.items in
     let new = c.perform.new.store in
-    let h : HasPerformed D.pending D.seen D.moment D.left_since again None c.args.store.now new =
-    subst (λ (ops : List Op). HasPerformed D.pending D.seen D.moment D.left_since ops None c.args.store.now new) c.deref.ensures.value c.in_err-outcomes.ensures.err in
+    let h : HasPerformed D.pending D.seen D.most D.moment D.left_since again None c.args.store.now new =
+    subst (λ (ops : List Op). HasPerformed D.pending D.seen D.most D.moment D.left_since ops None c.args.store.now new) c.deref.ensures.value c.in_err-outcomes.ensures.err in
     (None, h, on_err _ c.from_residual.result c.from_residual.ensures.0)
 
 pub returns-clause-calls : goal.returns-clause-calls
@@ -27,9 +27,9 @@ returns-clause-calls g c =
     let new = c.count_written.new.store in
     let outcomes = c.in_ok-outcomes.outcomes.items in
     let count = length again in
-    let h : HasPerformed D.pending D.seen D.moment D.left_since again (Some outcomes) old new =
-    subst (λ (s : SeenStore _). HasPerformed D.pending D.seen D.moment D.left_since again (Some outcomes) old s) (sym c.count_written.ensures.same)
-    (subst (λ (ops : List Op). HasPerformed D.pending D.seen D.moment D.left_since ops (Some outcomes) old mid) c.deref.ensures.value c.in_ok-outcomes.ensures.ok) in (
+    let h : HasPerformed D.pending D.seen D.most D.moment D.left_since again (Some outcomes) old new =
+    subst (λ (s : SeenStore _). HasPerformed D.pending D.seen D.most D.moment D.left_since again (Some outcomes) old s) (sym c.count_written.ensures.same)
+    (subst (λ (ops : List Op). HasPerformed D.pending D.seen D.most D.moment D.left_since ops (Some outcomes) old mid) c.deref.ensures.value c.in_ok-outcomes.ensures.ok) in (
       Some outcomes,
       h,
       on_ok c.count_written.result

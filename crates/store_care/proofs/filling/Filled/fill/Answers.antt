@@ -21,8 +21,8 @@ returns-in_err-outcomes-clause-calls g c =
     let D = g.D.Disk in
     let reads = reads_from c.args.first c.args.count in
     let new = c.perform.new.store in
-    let h : HasPerformed D.pending D.seen D.moment D.left_since reads None c.args.store.now new =
-    subst (λ (ops : List Op). HasPerformed D.pending D.seen D.moment D.left_since ops None c.args.store.now new) (c.deref.ensures.value ∙ c.in_ok-reads.ensures.reads) c.in_err-outcomes.ensures.err in (
+    let h : HasPerformed D.pending D.seen D.most D.moment D.left_since reads None c.args.store.now new =
+    subst (λ (ops : List Op). HasPerformed D.pending D.seen D.most D.moment D.left_since ops None c.args.store.now new) (c.deref.ensures.value ∙ c.in_ok-reads.ensures.reads) c.in_err-outcomes.ensures.err in (
       performed reads None new ∷ [],
       (h, refl),
       record { told = None; is = refl },
@@ -35,8 +35,8 @@ returns-in_err-asks-clause-calls g c =
     let reads = reads_from c.args.first c.args.count in
     let new = c.perform.new.store in
     let outcomes = c.in_ok-outcomes.outcomes.items in
-    let h : HasPerformed D.pending D.seen D.moment D.left_since reads (Some outcomes) c.args.store.now new =
-    subst (λ (ops : List Op). HasPerformed D.pending D.seen D.moment D.left_since ops (Some outcomes) c.args.store.now new) (c.deref.ensures.value ∙ c.in_ok-reads.ensures.reads) c.in_ok-outcomes.ensures.ok in (
+    let h : HasPerformed D.pending D.seen D.most D.moment D.left_since reads (Some outcomes) c.args.store.now new =
+    subst (λ (ops : List Op). HasPerformed D.pending D.seen D.most D.moment D.left_since ops (Some outcomes) c.args.store.now new) (c.deref.ensures.value ∙ c.in_ok-reads.ensures.reads) c.in_ok-outcomes.ensures.ok in (
       performed reads (Some outcomes) new ∷ [],
       (h, refl),
       record { told = Some outcomes; is = refl },
@@ -56,8 +56,8 @@ returns-clause-calls g c =
     let was = c.args.node.now in
     let is = c.keep.new.node in
     let are = c.deref.ensures.value ∙ c.in_ok-reads.ensures.reads in
-    let h : HasPerformed D.pending D.seen D.moment D.left_since reads (Some outcomes) c.args.store.now new =
-    subst (λ (ops : List Op). HasPerformed D.pending D.seen D.moment D.left_since ops (Some outcomes) c.args.store.now new) are c.in_ok-outcomes.ensures.ok in
+    let h : HasPerformed D.pending D.seen D.most D.moment D.left_since reads (Some outcomes) c.args.store.now new =
+    subst (λ (ops : List Op). HasPerformed D.pending D.seen D.most D.moment D.left_since ops (Some outcomes) c.args.store.now new) are c.in_ok-outcomes.ensures.ok in
     let kept = λ (config : Numbers) (rs : List Op) (os : List (Option Outcome)).
     HasKept E.pending E.seen (asks_for config number rs os (length rs)) (record start { missed = failed_reads config.size os (length rs) start.missed }) then was is in
     let base : kept c.config.result.now c.deref-2.result.now c.deref-3.result.now =

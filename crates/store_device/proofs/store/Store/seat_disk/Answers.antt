@@ -1,7 +1,8 @@
-use Rattle.std.proofs.Common.{◌∙◌, ap, sym}
+use Rattle.std.proofs.Common.{◌≡◌, ◌∙◌, ap, subst, sym}
+use Rattle.quorum_rules.specs.Limits.{Numbers}
 use Rattle.version_disk.specs.Held.{held}
 use Rattle.store_device.specs.Stores.{SeenStore}
-use Rattle.store_device.specs.Seating.{with_seat}
+use Rattle.store_device.specs.Seating.{with_seat, IsOpened}
 use Rattle.std.specs.Prelude.{Some}
 use Rattle.store_device.proofs.store.Store.seat_disk.Goals as goal
 
@@ -20,4 +21,23 @@ returns-clause-seated g c =
         durable = opened.durable;
         state = sym (ap (λ (s : SeenStore g.row.D.Denot). held s.config c.args.seat (g.D.Disk.seen n.disk)) c.self.view_is) ∙ opened.held;
       },
+    )
+
+pub returns-clause-opened : goal.returns-clause-opened
+returns-clause-opened g c =
+    let D = g.D.Disk in
+    let n = c.in_ok-node.node in
+    let opened = c.in_ok-node.ensures in
+    let view = c.self.view_is in
+    let config : c.self.inside.config ≡ c.args.self.now.config = ap (λ (s : SeenStore g.row.D.Denot). s.config) view in
+    let is : IsOpened D.pending D.seen D.most D.moment D.left_since c.self.inside.config c.args.seat c.args.disk n = record {
+      state = opened.state;
+      slots = opened.slots;
+      good = opened.good;
+      room = opened.room;
+      any_moment = opened.any_moment;
+    } in (
+      n,
+      c.seat_node.ensures ∙ ap (λ k. with_seat c.args.self.now k (Some n)) c.from.ensures,
+      subst (λ (d : Numbers). IsOpened D.pending D.seen D.most D.moment D.left_since d c.args.seat c.args.disk n) config is,
     )

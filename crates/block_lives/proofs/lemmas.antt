@@ -1,2 +1,0 @@
--- What proofs of other crates may cite.
-pub mod TurnNumbers

@@ -1,0 +1,4 @@
+pub mod Phases
+pub mod Executions
+pub mod Laws
+pub mod Endings

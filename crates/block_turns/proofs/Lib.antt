@@ -1,0 +1,10 @@
+pub mod lemmas
+mod Placing
+mod KnownValues
+mod Judging
+mod Working
+mod NextStates
+mod Linear
+mod Settling
+mod Growth
+mod AllOrdered

@@ -1,0 +1,4 @@
+-- What proofs of other crates may cite.
+pub mod TurnNumbers
+pub mod TurnsTold
+pub mod EachSetting

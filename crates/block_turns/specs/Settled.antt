@@ -1,0 +1,50 @@
+-- A block is settled when no write that was cut off before can take effect any more.
+use Rattle.std.specs.Prelude.{◌≡◌, ◌⊎◌, ℕ, ◌<◌, false, List, ◌∷◌, ◌++◌, length}
+use Rattle.std.specs.List.{Contains}
+use Rattle.std.specs.declared.option.Option.TheVariants.{Some}
+use Rattle.stamp_order.specs.Stamps.{◌≼◌}
+use Rattle.stamp_order.specs.declared.Stamp.{Stamp}
+use Rattle.run_words.specs.declared.outcome.How.{How}
+use Rattle.run_words.specs.declared.outcome.Outcome.TheVariants.{Gave}
+use Rattle.protocol.specs.Operations.Work.{Reads}
+use Rattle.protocol.specs.Messages.{Version}
+use Rattle.protocol.specs.Setting.{Setting}
+use Rattle.linear_runs.specs.Linear.{IsLinear}
+use Rattle.block_phases.specs.Phases.{Keeps}
+use Rattle.block_phases.specs.Executions.{StampedValue}
+use Rattle.block_turns.specs.Turns.Turn.{Did}
+use Rattle.block_turns.specs.Turns.{Moment, Standing, first_standing, standing_at, kept_at, told, turns_of, written_in}
+use Rattle.block_turns.specs.Lives.{IsLife, first_kept}
+use Rattle.block_turns.specs.Strings.{NoClash}
+
+module _ (s : Setting) where
+  -- The latest acknowledged operation read or wrote this. No node keeps a version above it, or may still store one,
+  -- unless the node lies or is lost.
+  pub record IsSettled (x : StampedValue) (b : Standing) (kept : Keeps) : Type 0 where
+    pub earlier : List StampedValue
+    pub latest : b.ended ≡ x ∷ earlier
+    pub kept_low : (i : ℕ) (v : Version) → i < s.n → b.lies i ≡ false → b.lost i ≡ false → Contains (kept i) v → v.stamp ≼ x.stamp
+    pub late_low : (i : ℕ) (y : StampedValue) → Contains (b.late i) y → y.stamp ≼ x.stamp
+    pub asked_low : (y : StampedValue) → b.asked ≡ Some y → y.stamp ≼ x.stamp
+
+  -- After a block was settled, later operations are linearizable by themselves, as if the block had had that value
+  -- from the beginning.
+  abbrev pub SettledLivesBeginAnew : Type 0
+  SettledLivesBeginAnew =
+      (block : ℕ) (before after : List Moment) (x : StampedValue)
+      → IsLife s block (before ++ after)
+      → NoClash s (before ++ after)
+      → IsSettled x (standing_at (first_standing s) before) (kept_at (first_kept s) before)
+      → IsLinear x.value (told block (length before) (turns_of after))
+
+  -- so a later read returns that value, or one that a later operation was to write
+  abbrev pub SettledLivesForget : Type 0
+  SettledLivesForget =
+      (block : ℕ) (before after : List Moment) (x : StampedValue)
+      → IsLife s block (before ++ after)
+      → NoClash s (before ++ after)
+      → IsSettled x (standing_at (first_standing s) before) (kept_at (first_kept s) before)
+      → (m : Moment) (client rounds : ℕ) (stamp : Stamp) (value : List ℕ) (how : How)
+      → Contains after m
+      → m.turn ≡ Did client Reads (Gave stamp value how rounds)
+      → (value ≡ x.value) ⊎ ((w : Moment) × Contains after w × (written_in w.turn ≡ Some value))

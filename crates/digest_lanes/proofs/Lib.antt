@@ -1,0 +1,4 @@
+mod Bits
+mod Padding
+mod Rounds
+mod Vectors

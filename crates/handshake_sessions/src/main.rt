@@ -1,0 +1,31 @@
+//! Handshakes as data. The file handshakes.cases in the folder that this program runs in has them, in the form that `case` says. Each is
+//! played over memory, in whole pieces and byte by byte. Writes a line for each: how it ended and how many bytes the server sent, if all
+//! is as it must be, or what is otherwise.
+#![tactic(auto)]
+
+mod case;
+mod played;
+
+use case::{Case, cases_of};
+use played::difference;
+use std::{fs, io};
+
+fn tell<R: Print + AllocGlobal>(rt: &R, case: &Case) -> io::Result<()> {
+    let name = case.name.as_str();
+    match difference(rt.alloc(), case)? {
+        None => {
+            let end = case.end.as_str();
+            let count = case.output.len();
+            println!(rt; "{name}: {end}, {count} bytes")
+        }
+        Some(what) => println!(rt; "{name}: {what}"),
+    }
+}
+
+fn main(rt: HostRuntime) -> io::Result<()> {
+    let text = fs::read_to_string(&rt, "handshakes.cases")?;
+    for case in &cases_of(rt.alloc(), text.as_str())? {
+        tell(&rt, case)?;
+    }
+    Ok(())
+}

@@ -1,0 +1,4 @@
+pub mod Data
+pub mod Headers
+pub mod Heads
+pub mod Shapes

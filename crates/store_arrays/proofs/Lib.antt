@@ -1,5 +1,0 @@
-mod Unspent
-mod TurnRecords
-mod BlockTurns
-mod Done
-mod Arrays
