@@ -1,6 +1,7 @@
 //! Byte strings, their SHA-256 digests, and cross checksums.
 #![tactic(auto)]
 
+mod blocks;
 pub mod bytes;
 mod digests;
 pub mod part;

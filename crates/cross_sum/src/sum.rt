@@ -106,7 +106,7 @@ impl CrossSum {
     }
 
     /// The cross checksum of a vector's digests, which are those of the strings, and of the one that stands beside it.
-    fn of_vec(
+    pub(crate) fn of_vec(
         digests: Vec<Hash>,
         strings: Shares,
         beside: Option<Part>,
@@ -215,7 +215,7 @@ fn beside(digests: &[Hash], number: u8, fragment: &Bytes) -> Result<Option<Part>
 }
 
 /// Copies of the strings, in order.
-fn copies_of(alloc: Global, strings: &[Bytes]) -> Result<Shares, NoMemory>
+pub(crate) fn copies_of(alloc: Global, strings: &[Bytes]) -> Result<Shares, NoMemory>
     ensures { IfOk result (λ copies. copies ≡ strings.now) }
 {
     let mut copies = Vec::with_capacity(alloc, strings.len())?;
