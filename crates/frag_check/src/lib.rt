@@ -8,5 +8,5 @@ mod verdict;
 
 pub use cluster_code::code_of;
 pub use ida_lanes::{Code, Part, Shares};
-pub use summed::{Summed, summed_block};
+pub use summed::{Summed, summed_block, summed_blocks};
 pub use verdict::{Checked, Verdict, checked_block, verdict_of};
