@@ -1,15 +1,18 @@
 ghost use Rattle.std.specs.Prelude.{◌≡◌, ◌<◌, ◌↔◌, true, false, IsTrue, IsSome, IsSomeAnd, IfSome, IfOk, OnOk, OnErr, Some, None};
 ghost use Rattle.wire_forms.specs.declared.op.Op.TheVariants.{Write as WriteOp};
+ghost use Rattle.protocol.specs.Operations.{value_of};
 ghost use Rattle.protocol.specs.Operations.Stage.{Times};
 ghost use Rattle.protocol.specs.Seen.{Hearing, with_task, has_answered, phase_of, chosen_of};
 ghost use Rattle.operation_core.specs.Stages.{stage_of, IsEncoded};
 ghost use Rattle.operation_core.specs.Counting.{begun_in, first_mail, counts_in, ends_in, hears_in, next_in, outstanding_in, AnswerDoes, GoesOn, IsAtEnd, IsPhaseEnd};
 ghost use Rattle.write_core.specs.declared.writer.Writing.TheVariants.{More, Spent};
 ghost use Rattle.write_core.specs.Writers.{after_hearing, said_of, ended_as, FindsLastTime, IsUnder};
+ghost use Rattle.write_core.specs.Made.{IsMadeFor};
 
 use crate::encoding::encoded;
 use crate::times::drawn;
 use cross_sum::Bytes;
+use frag_check::Summed;
 use lists::{Copied, NoMemory};
 use operation_core::{Operation, PhaseEnd, Stage, Storing};
 use quorum_rules::Config;
@@ -35,6 +38,8 @@ pub enum Writing {
 /// A write of a client. Contracts see the cluster's numbers, the client, and the task while it isn't over.
 pub struct Writer {
     operation: Operation,
+    /// The value's fragments and its cross checksum, where they were made before the phase that stores them.
+    made: Option<Summed>,
 }
 
 // By hand, since a derived drop is proved anew wherever a writer is let go.
@@ -42,19 +47,20 @@ impl Drop for Writer {
     fn drop(self) {
         let Writer {
             operation: _operation,
+            made: _made,
         } = self;
     }
 }
 
 impl Model for Writer {
     ghost use Rattle.protocol.specs.Seen.{SeenOperation};
-    ghost use Rattle.write_core.specs.Writers.{IsWriter};
+    ghost use Rattle.write_core.specs.Made.{IsWriting};
 
     ghost Value = { SeenOperation };
 
     ghost view = { λ w. w.operation };
 
-    ghost invariant = { λ w. IsWriter w.operation };
+    ghost invariant = { λ w. IsWriting w.operation w.made };
 }
 
 impl Writer {
@@ -77,7 +83,8 @@ impl Writer {
             value: value.copy()?,
         };
         let (operation, mail) = Operation::begin(alloc, config, client, op, write)?;
-        Ok((Writer { operation }, mail))
+        let made = None;
+        Ok((Writer { operation, made }, mail))
     }
 
     /// Hears a node's answer: it is counted if it is the node's first of the present phase, and the phase ends when as many
@@ -146,6 +153,30 @@ impl Writer {
         ensures { self.new ≡ next_in self.old (stage_of stage) }
     {
         self.operation.go_on(stage);
+        self.made = None;
+    }
+
+    /// The value whose fragments are made when the present phase ends: none where the phase doesn't ask for times, or they
+    /// were made already.
+    pub fn value_to_encode(&self) -> Option<&Bytes>
+        ensures { IfSome result (λ value. IsSomeAnd self.now.task
+            (λ t. (t.stage ≡ Times) × (value.now ≡ value_of t.work))) }
+    {
+        if self.made.is_some() {
+            return None;
+        }
+        match (self.operation.stage(), self.operation.op()) {
+            (Some(Stage::Times), Op::Write { value, .. }) => Some(value),
+            _ => None,
+        }
+    }
+
+    /// Keeps the fragments of the value and its cross checksum, so that they aren't made when the present phase ends.
+    pub fn keep_made(&mut self, made: Summed)
+        requires { IsMadeFor self.old made }
+        ensures { self.new ≡ self.old }
+    {
+        self.made = Some(made);
     }
 
     /// Ends the write, as an answer that ends the present phase has it. It takes no memory.
@@ -154,6 +185,7 @@ impl Writer {
         ensures { self.new ≡ with_task self.old None }
     {
         self.operation.end();
+        self.made = None;
     }
 
     /// The operation that the write is.
@@ -254,6 +286,7 @@ impl Writer {
                 operation.client(),
                 time,
                 value,
+                &self.made,
             ),
             Op::Read { .. } => unreachable!(),
         }
@@ -276,6 +309,7 @@ impl Copied for Writer {
     fn copy(&self) -> Result<Writer, NoMemory> {
         Ok(Writer {
             operation: self.operation.copy()?,
+            made: None,
         })
     }
 }

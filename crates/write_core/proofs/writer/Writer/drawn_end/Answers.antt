@@ -9,7 +9,7 @@ pub returns-then-time : goal.returns-then-time
 returns-then-time c =
     let o = c.args.self.now in
     let v : c.self.inside.operation ≡ o = c.self.view_is in
-    let w = subst IsWriter v c.self.invariant in
+    let w = subst IsWriter v c.self.invariant.writer in
     let answers = rw (v, ← c.as_slice.ensures.value) at c.in_ok-answers.ensures.answers in
     let places = rw (v, ← c.as_slice.ensures.value) at c.in_ok-answers.ensures.places in
     let lying : c.b.result ≡ o.config.b = c.b.ensures.is ∙ ap (λ (n : Numbers). n.b) c.config.ensures ∙ ap (λ (x : SeenOperation). x.config.b) v in
@@ -19,7 +19,7 @@ pub returns : goal.returns
 returns c =
     let o = c.args.self.now in
     let v : c.self.inside.operation ≡ o = c.self.view_is in
-    let w = subst IsWriter v c.self.invariant in
+    let w = subst IsWriter v c.self.invariant.writer in
     let answers = rw (v, ← c.as_slice.ensures.value) at c.in_ok-answers.ensures.answers in
     let places = rw (v, ← c.as_slice.ensures.value) at c.in_ok-answers.ensures.places in
     let lying : c.b.result ≡ o.config.b = c.b.ensures.is ∙ ap (λ (n : Numbers). n.b) c.config.ensures ∙ ap (λ (x : SeenOperation). x.config.b) v in

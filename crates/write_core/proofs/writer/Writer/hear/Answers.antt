@@ -8,7 +8,7 @@ pub returns-then-ends_phase-clause-more : goal.returns-then-ends_phase-clause-mo
 returns-then-ends_phase-clause-more c =
     let o = c.args.self.now in
     let a = c.args in
-    let w = subst IsWriter c.self.view_is c.self.invariant in
+    let w = subst IsWriter c.self.view_is c.self.invariant.writer in
     let said : c.enter.result ≡ said_of o (hears_in o a.node a.tag a.reply.now) = c.enter.ensures.said _ c.in_ok-end.ensures in
     more_where o a.node a.tag a.reply.now c.enter.result w said
 
@@ -16,7 +16,7 @@ pub returns-then-ends_phase-clause-spent : goal.returns-then-ends_phase-clause-s
 returns-then-ends_phase-clause-spent c =
     let o = c.args.self.now in
     let a = c.args in
-    let w = subst IsWriter c.self.view_is c.self.invariant in
+    let w = subst IsWriter c.self.view_is c.self.invariant.writer in
     let said : c.enter.result ≡ said_of o (hears_in o a.node a.tag a.reply.now) = c.enter.ensures.said _ c.in_ok-end.ensures in
     spent_when o a.node a.tag a.reply.now c.enter.result w said
 
