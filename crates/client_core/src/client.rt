@@ -1,15 +1,20 @@
-ghost use Rattle.std.specs.Prelude.{◌≡◌, ◌↔◌, ◌<◌, ◌-◌, ◌^◌, IsTrue, MatchOption, IfOk, OnOk, OnErr, Some, None, true};
+ghost use Rattle.std.specs.Prelude.{◌≡◌, ◌↔◌, ◌<◌, ◌-◌, ◌^◌, IsTrue, MatchOption, IfOk, IfSome, IsSomeAnd, OnOk, OnErr, Some, None, true};
 ghost use Rattle.protocol.specs.Seen.{ops_of, block_of, work_of, has_answered, phase_of, chosen_of};
+ghost use Rattle.protocol.specs.Operations.{value_of};
+ghost use Rattle.protocol.specs.Operations.Stage.{Times};
 ghost use Rattle.protocol.specs.World.{Fits};
 ghost use Rattle.protocol.specs.Instance.{setting};
 ghost use Rattle.wire_forms.specs.Firsts.{first_of};
 ghost use Rattle.operation_core.specs.Counting.{begun_task, first_mail, ends_in, outstanding_in, GoesOn, IsAtEnd, IsPhaseEnd};
+ghost use Rattle.write_core.specs.Made.{IsMadeFor};
 ghost use Rattle.client_core.specs.Works.{HasBegun};
 ghost use Rattle.operation_core.specs.Clients.{hears, with_task, with_started, started};
 ghost use Rattle.client_core.specs.Clients.{operation_of, idle_client, hears_answer, next_of, mail_of, is_only_counted, goes_to, IsStep, IsHeard};
 
 use crate::heard::Heard;
 use crate::step::Step;
+use cross_sum::Bytes;
+use frag_check::Summed;
 use lists::{Copied, NoMemory};
 use operation_core::{Operation, PhaseEnd, Stage};
 use quorum_rules::Config;
@@ -197,6 +202,29 @@ impl Client {
         ensures { self.new ≡ with_task self.old None }
     {
         self.work = Work::Idle;
+    }
+
+    /// The value whose fragments are made when the present phase ends: none where no write is under way, its phase doesn't ask
+    /// for times, or they were made already.
+    pub fn value_to_encode(&self) -> Option<&Bytes>
+        ensures { IfSome result (λ value. IsSomeAnd self.now.seen.task
+            (λ t. (t.stage ≡ Times) × (value.now ≡ value_of t.work))) }
+    {
+        match &self.work {
+            Work::Writing(writer) => writer.value_to_encode(),
+            Work::Idle | Work::Reading(_) => None,
+        }
+    }
+
+    /// Keeps the fragments of the value that is being written and its cross checksum, so that they aren't made when the present
+    /// phase ends.
+    pub fn keep_made(&mut self, made: Summed)
+        requires { IsMadeFor (operation_of self.old) made }
+        ensures { self.new ≡ self.old }
+    {
+        if let Work::Writing(writer) = &mut self.work {
+            writer.keep_made(made);
+        }
     }
 
     /// The present phase's message to the node; None exactly where the client is idle or there is no such node.
