@@ -59,7 +59,7 @@ bits_or true c = omega arith
 bits_or false true = omega arith
 bits_or false false = omega arith
 
-count_or : (n : ℕ) (p q : ℕ → Bool) → count n (λ i. p i || q i) ≤ count n p + count n (λ i. not (p i) && q i)
+pub count_or : (n : ℕ) (p q : ℕ → Bool) → count n (λ i. p i || q i) ≤ count n p + count n (λ i. not (p i) && q i)
 count_or zero p q = omega arith
 count_or (suc n) p q = omega (arith, count_or n p q, bits_or (p n) (q n))
 

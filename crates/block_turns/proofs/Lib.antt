@@ -6,5 +6,6 @@ mod Working
 mod NextStates
 mod Linear
 mod Settling
+mod Holding
 mod Growth
 mod AllOrdered

@@ -53,7 +53,7 @@ left_same p v value e x f =
     let g : ◌≡◌ {A = StampedValue} (record { stamp = p; value = v }) x = cc in
     ap (λ (u : List ℕ). record { stamp = p; value = u }) (sym e) ∙ g
 
-neither : (a c : Bool) → a || c ≡ false → c ≡ false
+pub neither : (a c : Bool) → a || c ≡ false → c ≡ false
 neither true c h = absurd cc
 neither false c h = h
 

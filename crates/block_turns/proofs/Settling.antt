@@ -28,7 +28,7 @@ use Rattle.block_turns.proofs.Placing.{none_placed, placed_linear}
 use Rattle.block_turns.proofs.Linear.{Waiting, ops, IsStanding, ValueSeen, turn_placed, rest_placed, stands_first}
 
 -- the number of the turn after these
-abbrev number_after : ℕ → List Moment → ℕ
+abbrev pub number_after : ℕ → List Moment → ℕ
 number_after k [] = k
 number_after k (m ∷ life) = number_after (suc k) life
 
@@ -122,22 +122,18 @@ module _ (s : Setting) (good : IsValid s) (block : ℕ) (inside : block < s.bloc
       due = λ y there. inl (filter_is (λ (z : StampedValue). up_to z.stamp top.stamp) known y there).1;
     }
 
-module _ (s : Setting) (good : IsValid s) (block : ℕ) (before after : List Moment) (x : StampedValue) (is : IsLife s block (before ++ after))
-    (apart : NoClash s (before ++ after))
-    (settled : IsSettled s x (standing_at (first_standing s) before) (kept_at (first_kept s) before)) where
+module _ (s : Setting) (good : IsValid s) (block : ℕ) (before after : List Moment) (is : IsLife s block (before ++ after))
+    (apart : NoClash s (before ++ after)) where
   abbrev life : List Moment
   life = before ++ after
 
-  abbrev Seen : List ℕ → Type 0
+  abbrev pub Seen : List ℕ → Type 0
   Seen = IsSeen s life
 
-  abbrev Ever : ℕ → Type 0
+  abbrev pub Ever : ℕ → Type 0
   Ever = LiesOnce s life
 
-  abbrev Goal : Type 0
-  Goal = IsLinear x.value (told block (length before) (turns_of after))
-
-  parts : TakesAll s block (first_standing s) (first_kept s) before
+  pub parts : TakesAll s block (first_standing s) (first_kept s) before
       × TakesAll s block (standing_at (first_standing s) before) (kept_at (first_kept s) before) after
   parts = takes_parts s block before after (first_standing s) (first_kept s) is.takes
 
@@ -159,31 +155,41 @@ module _ (s : Setting) (good : IsValid s) (block : ℕ) (before after : List Mom
   failing : (m : Moment) (node : ℕ) → Contains life m → m.turn ≡ Failed node → Ever node
   failing m node there e = inr (m, there, e)
 
-  done : (known : List StampedValue) (top : StampedValue) (waiting : List Waiting)
-      → IsStanding s good block is.there Seen Ever apart (number_after 0 before) known top waiting (standing_at (first_standing s) before) (kept_at (first_kept s) before)
-      → Goal
-  done known top waiting st =
-      let st' = settled_standing s good block is.there Seen Ever apart (number_after 0 before) known top waiting (standing_at (first_standing s) before) (kept_at (first_kept s) before) st x settled in
-      let same = is_top s good block is.there Seen Ever apart (number_after 0 before) known top waiting (standing_at (first_standing s) before) (kept_at (first_kept s) before) st x settled in
-      let placed = rest_placed s good block is.there Seen Ever apart after (number_after 0 before) (low_known s good block is.there Seen Ever apart (number_after 0 before) known top waiting (standing_at (first_standing s) before) (kept_at (first_kept s) before) st x settled)
-      top [] (standing_at (first_standing s) before) (kept_at (first_kept s) before)
-      (λ m value there e. values m value (in_after m there) e) (λ m there. keeping m (in_after m there))
-      (λ m node there e. failing m node (in_after m there) e) st' parts.1 in
-      subst (λ (k : ℕ). IsLinear x.value (told block k (turns_of after))) (let e = number_is 0 before in let f : number_after 0 before ≡ length before = omega (arith, e) in f)
-      (subst (λ (y : StampedValue). IsLinear y.value (told block (number_after 0 before) (turns_of after))) (sym same)
-      (placed_linear top.value (told block (number_after 0 before) (turns_of after)) placed.0))
+  -- what is known when the first turns are over
+  abbrev pub StandsThen : List StampedValue → StampedValue → List Waiting → Type 0
+  StandsThen known top waiting =
+      IsStanding s good block is.there Seen Ever apart (number_after 0 before) known top waiting (standing_at (first_standing s) before) (kept_at (first_kept s) before)
 
-  begins_anew : Goal
-  begins_anew =
-      stands_after s good block is.there Seen Ever apart Goal before 0 (first_of s ∷ []) (first_of s) [] (first_standing s) (first_kept s)
+  pub stands_then : (Further : Type 0)
+      → ((known : List StampedValue) (top : StampedValue) (waiting : List Waiting) → StandsThen known top waiting → Further) → Further
+  stands_then Further go =
+      stands_after s good block is.there Seen Ever apart Further before 0 (first_of s ∷ []) (first_of s) [] (first_standing s) (first_kept s)
       (λ m value there e. values m value (in_before m there) e) (λ m there. keeping m (in_before m there))
       (λ m node there e. failing m node (in_before m there) e)
       (stands_first s good block is.there Seen Ever apart (sum_seen zeros_value, λ i l. fragment_seen zeros_value l) (λ i lies. inl lies))
-      parts.0
-      (λ known top waiting st. done known top waiting st)
+      parts.0 go
+
+  module _ (x : StampedValue) (settled : IsSettled s x (standing_at (first_standing s) before) (kept_at (first_kept s) before)) where
+    abbrev Goal : Type 0
+    Goal = IsLinear x.value (told block (length before) (turns_of after))
+
+    done : (known : List StampedValue) (top : StampedValue) (waiting : List Waiting) → StandsThen known top waiting → Goal
+    done known top waiting st =
+        let st' = settled_standing s good block is.there Seen Ever apart (number_after 0 before) known top waiting (standing_at (first_standing s) before) (kept_at (first_kept s) before) st x settled in
+        let same = is_top s good block is.there Seen Ever apart (number_after 0 before) known top waiting (standing_at (first_standing s) before) (kept_at (first_kept s) before) st x settled in
+        let placed = rest_placed s good block is.there Seen Ever apart after (number_after 0 before) (low_known s good block is.there Seen Ever apart (number_after 0 before) known top waiting (standing_at (first_standing s) before) (kept_at (first_kept s) before) st x settled)
+        top [] (standing_at (first_standing s) before) (kept_at (first_kept s) before)
+        (λ m value there e. values m value (in_after m there) e) (λ m there. keeping m (in_after m there))
+        (λ m node there e. failing m node (in_after m there) e) st' parts.1 in
+        subst (λ (k : ℕ). IsLinear x.value (told block k (turns_of after))) (let e = number_is 0 before in let f : number_after 0 before ≡ length before = omega (arith, e) in f)
+        (subst (λ (y : StampedValue). IsLinear y.value (told block (number_after 0 before) (turns_of after))) (sym same)
+        (placed_linear top.value (told block (number_after 0 before) (turns_of after)) placed.0))
+
+    begins_anew : Goal
+    begins_anew = stands_then Goal (λ known top waiting st. done known top waiting st)
 
 pub settled_lives_begin_anew : (s : Setting) → IsValid s → SettledLivesBeginAnew s
-settled_lives_begin_anew s good block before after x is apart settled = begins_anew s good block before after x is apart settled
+settled_lives_begin_anew s good block before after x is apart settled = begins_anew s good block before after is apart x settled
 
 -- a read that is acknowledged later gives that value, or one that was to be written later
 pub settled_lives_forget : (s : Setting) → IsValid s → ((first : List ℕ) (ops : List Operation) → ReadsAreWritten first ops) → SettledLivesForget s

@@ -1,13 +1,14 @@
 -- What holds of each life.
-use Rattle.std.specs.Prelude.{◌≡◌, ℕ, ◌<◌, ◌^◌, ⊤, List, length}
+use Rattle.std.specs.Prelude.{◌≡◌, ◌⊎◌, ℕ, ◌<◌, ◌^◌, ⊤, List, ◌∷◌, length}
 use Rattle.std.specs.List.{Contains}
-use Rattle.protocol.specs.Setting.{Setting, zeros}
+use Rattle.protocol.specs.Setting.{Setting, IsBlock, zeros, first_stamp}
 use Rattle.protocol.specs.Operations.{Work, Outcome}
 use Rattle.protocol.specs.Operations.Work.{Reads, Writes}
 use Rattle.run_words.specs.declared.outcome.Outcome.TheVariants.{Wrote, Gave}
 use Rattle.linear_runs.specs.Linear.{IsLinear}
+use Rattle.block_phases.specs.Executions.{StampedValue}
 use Rattle.block_turns.specs.Turns.Turn.{Did}
-use Rattle.block_turns.specs.Turns.{Moment, told, turns_of}
+use Rattle.block_turns.specs.Turns.{Moment, first_standing, standing_at, told, turns_of}
 use Rattle.block_turns.specs.Lives.{IsLife}
 use Rattle.block_turns.specs.Strings.{NoClash}
 
@@ -38,3 +39,13 @@ module _ (s : Setting) where
       → (client : ℕ) (work : Work) (outcome : Outcome)
       → m.turn ≡ Did client work outcome
       → IsDone work outcome
+
+  -- What the latest acknowledged operation read or wrote is a block, under the first stamp or one of a later time.
+  abbrev pub LatestAreBlocks : Type 0
+  LatestAreBlocks =
+      (block : ℕ) (life : List Moment)
+      → IsLife s block life
+      → NoClash s life
+      → (x : StampedValue) (earlier : List StampedValue)
+      → (standing_at (first_standing s) life).ended ≡ x ∷ earlier
+      → IsBlock s x.value × ((0 < x.stamp.time) ⊎ (x.stamp ≡ first_stamp s))

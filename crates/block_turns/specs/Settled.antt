@@ -1,20 +1,23 @@
 -- A block is settled when no write that was cut off before can take effect any more.
-use Rattle.std.specs.Prelude.{◌≡◌, ◌⊎◌, ℕ, ◌<◌, false, List, ◌∷◌, ◌++◌, length}
+use Rattle.std.specs.Prelude.{◌≡◌, ◌⊎◌, ℕ, ◌+◌, ◌<◌, ◌≤◌, false, not, ◌&&◌, ◌||◌, List, [], ◌∷◌, ◌++◌, length}
 use Rattle.std.specs.List.{Contains}
 use Rattle.std.specs.declared.option.Option.TheVariants.{Some}
 use Rattle.stamp_order.specs.Stamps.{◌≼◌}
 use Rattle.stamp_order.specs.declared.Stamp.{Stamp}
 use Rattle.run_words.specs.declared.outcome.How.{How}
 use Rattle.run_words.specs.declared.outcome.Outcome.TheVariants.{Gave}
-use Rattle.protocol.specs.Operations.Work.{Reads}
+use Rattle.protocol.specs.Count.{count}
 use Rattle.protocol.specs.Messages.{Version}
+use Rattle.protocol.specs.Nodes.{keeps}
+use Rattle.protocol.specs.Operations.{Work, Outcome}
+use Rattle.protocol.specs.Operations.Work.{Reads}
 use Rattle.protocol.specs.Setting.{Setting}
 use Rattle.linear_runs.specs.Linear.{IsLinear}
 use Rattle.block_phases.specs.Phases.{Keeps}
 use Rattle.block_phases.specs.Executions.{StampedValue}
-use Rattle.block_turns.specs.Turns.Turn.{Did}
-use Rattle.block_turns.specs.Turns.{Moment, Standing, first_standing, standing_at, kept_at, told, turns_of, written_in}
-use Rattle.block_turns.specs.Lives.{IsLife, first_kept}
+use Rattle.block_turns.specs.Turns.Turn.{Did, Changed}
+use Rattle.block_turns.specs.Turns.{Moment, Standing, first_standing, standing_at, kept_at, stamped_by, told, turns_of, written_in}
+use Rattle.block_turns.specs.Lives.{Takes, IsLife, first_kept}
 use Rattle.block_turns.specs.Strings.{NoClash}
 
 module _ (s : Setting) where
@@ -48,3 +51,31 @@ module _ (s : Setting) where
       → Contains after m
       → m.turn ≡ Did client Reads (Gave stamp value how rounds)
       → (value ≡ x.value) ⊎ ((w : Moment) × Contains after w × (written_in w.turn ≡ Some value))
+
+  -- Where no client knows the latest value, as after a crash. No node keeps a version above this stamp, or may still
+  -- store one, unless the node lies or is lost. At least n-t nodes lie, or keep a version of the stamp and aren't lost.
+  pub record IsHeld (stamp : Stamp) (b : Standing) (kept : Keeps) : Type 0 where
+    pub kept_low : (i : ℕ) (v : Version) → i < s.n → b.lies i ≡ false → b.lost i ≡ false → Contains (kept i) v → v.stamp ≼ stamp
+    pub late_low : (i : ℕ) (y : StampedValue) → Contains (b.late i) y → y.stamp ≼ stamp
+    pub many : s.n ≤ count s.n (λ i. b.lies i || (not (b.lost i) && keeps (kept i) stamp)) + s.t
+
+  -- Then the next operation that is acknowledged settles the block: a read returns that stamp's value, or a write's
+  -- stamp is above it.
+  abbrev pub HeldBlocksSettle : Type 0
+  HeldBlocksSettle =
+      (block : ℕ) (before : List Moment) (m : Moment) (stamp : Stamp)
+      → IsLife s block (before ++ m ∷ [])
+      → NoClash s (before ++ m ∷ [])
+      → IsHeld stamp (standing_at (first_standing s) before) (kept_at (first_kept s) before)
+      → (client : ℕ) (work : Work) (outcome : Outcome) (x : StampedValue)
+      → m.turn ≡ Did client work outcome
+      → stamped_by work outcome ≡ Some x
+      → IsSettled x (standing_at (first_standing s) (before ++ m ∷ [])) (kept_at (first_kept s) (before ++ m ∷ []))
+
+  -- until then the stamp is held while nothing is done on the block
+  abbrev pub HeldBlocksStay : Type 0
+  HeldBlocksStay =
+      (block : ℕ) (b : Standing) (stamp : Stamp) (old new : Keeps)
+      → IsHeld stamp b old
+      → Takes s block b old Changed new
+      → IsHeld stamp b new

@@ -10,8 +10,8 @@
 #![tactic(auto)]
 
 ghost use Rattle.protocol.specs.Laws.{InEachCluster};
-ghost use Rattle.block_turns.specs.Laws.{LivesAreLinearizable, AcknowledgedAreDone};
-ghost use Rattle.block_turns.specs.Settled.{SettledLivesBeginAnew, SettledLivesForget};
+ghost use Rattle.block_turns.specs.Laws.{LivesAreLinearizable, AcknowledgedAreDone, LatestAreBlocks};
+ghost use Rattle.block_turns.specs.Settled.{SettledLivesBeginAnew, SettledLivesForget, HeldBlocksSettle, HeldBlocksStay};
 ghost use Rattle.block_turns.specs.Growing.{LivesBegin, LivesGoOn, EarlierAreLives, EarlierDoNotClash};
 ghost use Rattle.block_turns.specs.Growing.{LateAsksAreTaken, NothingIsTaken, MoreIsTaken, PrunesKeepSome, UndonePrunesKeepAll};
 ghost use Rattle.block_turns.specs.AllBlocks.{LivesAreLinearAsOne, LivesAreDurable, OneLifeIsDurable};
@@ -21,6 +21,8 @@ ghost use Rattle.block_turns.specs.AllBlocks.{LivesAreLinearAsOne, LivesAreDurab
 pub fn lives_are_linearizable()
     ensures linear { InEachCluster LivesAreLinearizable }
     ensures done { InEachCluster AcknowledgedAreDone }
+    // what was read or written last is a block, under the first stamp or one of a later time
+    ensures latest { InEachCluster LatestAreBlocks }
 {
     protocol::laws::cluster();
 }
@@ -41,10 +43,13 @@ pub fn lives_grow()
 
 /// A block is settled right after an acknowledged operation if no node keeps a version above its stamp, or may still
 /// store one; lying and lost nodes don't matter. From then on no write that was cut off before takes effect: later
-/// operations are linearizable by themselves.
+/// operations are linearizable by themselves. After a crash nobody knows the latest value. Then it is enough that `n-t`
+/// nodes keep one stamp and none keeps a greater one: the next acknowledged operation settles the block.
 pub fn settled_lives()
     ensures anew { InEachCluster SettledLivesBeginAnew }
     ensures forgotten { InEachCluster SettledLivesForget }
+    ensures held { InEachCluster HeldBlocksSettle }
+    ensures stays { InEachCluster HeldBlocksStay }
 {
     linear_runs::laws::reads();
     protocol::laws::cluster();
