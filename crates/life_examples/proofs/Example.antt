@@ -1,11 +1,10 @@
 -- The life on three nodes: each phase computes.
-use Rattle.std.proofs.Common.{◌≡◌, ◌⊎◌, ℕ, zero, suc, ◌<◌, Bool, true, false, List, [], ◌∷◌, ◌++◌, take, Option, slice_get, refl, sym, subst, inl, inr, arith}
-use Rattle.std.specs.declared.option.Option.TheVariants.{None, Some}
-use Rattle.std.proofs.lemmas.Option.{slice_get_within}
+use Rattle.std.proofs.Common.{◌≡◌, ℕ, zero, suc, ◌<◌, Bool, true, false, List, [], ◌∷◌, ◌++◌, take, refl, sym, subst, inl, inr, arith}
+use Rattle.std.specs.declared.option.Option.TheVariants.{Some}
 use Rattle.stamp_order.specs.Stamps.{up_to, before, same_stamp, stamp_cmp}
 use Rattle.run_words.specs.declared.outcome.How.TheVariants.{Plain, Repaired}
 use Rattle.run_words.specs.declared.outcome.Outcome.TheVariants.{Wrote, Gave}
-use Rattle.protocol.specs.Messages.{Reply, IsFormedReply}
+use Rattle.protocol.specs.Messages.{IsFormedReply}
 use Rattle.protocol.specs.Nodes.{reply}
 use Rattle.protocol.specs.Setting.{same, same_digests, zeros, first_stamp}
 use Rattle.protocol.specs.Operations.{Work}
@@ -14,7 +13,7 @@ use Rattle.protocol.specs.Operations.Stage.{Storing}
 use Rattle.protocol.specs.Seen.{SeenTask, seen_begun, seen_goes_on}
 use Rattle.block_phases.specs.Phases.{Keeps}
 use Rattle.block_phases.specs.Executions.{StampedValue, IsRunning, IsCompleted, IsGivenUp}
-use Rattle.block_phases.specs.Phases.{Progress, after_phase, ask_to, AreAnswers, HasDone, IsAfterPhase}
+use Rattle.block_phases.specs.Phases.{Progress, after_phase, ask_to}
 use Rattle.block_phases.specs.Phases.Progress.{UnderWay, Over}
 use Rattle.block_turns.specs.Lives.{HasTaken, IsLife, version_of, first_kept}
 use Rattle.block_turns.specs.Turns.{away_in, first_standing}
@@ -29,7 +28,8 @@ use Rattle.protocol.specs.Messages.{Version}
 use Rattle.block_turns.specs.Turns.{standing_at}
 use Rattle.block_phases.specs.Laws.{ContinuesAs}
 use Rattle.life_examples.specs.Examples.{three_nodes, seven, nine, blank, old_disk, full_disk, ahead_disk, by_node, two_disks_replaced, cut_off_and_settled, IsSettledThen, nine_disk, before_late, after_late, KeepNoMore, TooEarlyIsRead}
-use Rattle.block_phases.proofs.lemmas.Executing.{operations_begin, operations_go_on, operations_cut_off}
+use Rattle.block_phases.proofs.lemmas.Executing.{operations_begin, operations_cut_off}
+use Rattle.life_examples.proofs.Answering.{said, replies, DoneIf, goes_on_as}
 
 pub below_three : (P : ℕ → Type 0) → P 0 → P 1 → P 2 → (i : ℕ) → i < 3 → P i
 below_three P a b c zero l = a
@@ -39,82 +39,22 @@ below_three P a b c (suc (suc (suc i))) l = absurd (omega (arith, l))
 
 -- ---- one phase, in which these nodes answer
 
-said : Bool → SeenTask → Keeps → ℕ → Option Reply
-said true task now i = Some (reply three_nodes i (now i) (ask_to three_nodes task i))
-said false task now i = None
+abbrev by_flags : Bool → Bool → Bool → ℕ → Bool
+by_flags a b c zero = a
+by_flags a b c (suc zero) = b
+by_flags a b c (suc (suc i)) = c
 
-abbrev replies : Bool → Bool → Bool → SeenTask → Keeps → List (Option Reply)
-replies a b c task now = said a task now 0 ∷ said b task now 1 ∷ said c task now 2 ∷ []
-
--- a node that answers has done what was asked
-abbrev DoneIf : Bool → SeenTask → ℕ → Keeps → Keeps → Type 0
-DoneIf true task i now then = HasDone three_nodes task i (now i) (then i)
-DoneIf false task i now then = (then i ≡ now i) ⊎ HasDone three_nodes task i (now i) (then i)
-
-module _ (away : ℕ → Bool) (work : Work) (task : SeenTask) (old now then : Keeps) (a b c : Bool) where
-  abbrev given : List (Option Reply)
-  given = replies a b c task now
-
-  at_three : (P : ℕ → Option Reply → Type 0) → P 0 (said a task now 0) → P 1 (said b task now 1) → P 2 (said c task now 2)
-      → (i : ℕ) (x : Option Reply) → slice_get given i ≡ Some x → P i x
-  at_three P p q r i x e =
-      below_three (λ j. slice_get given j ≡ Some x → P j x)
-      (λ f. (let g : said a task now 0 ≡ x = cc in subst (P 0) g p))
-      (λ f. (let g : said b task now 1 ≡ x = cc in subst (P 1) g q))
-      (λ f. (let g : said c task now 2 ≡ x = cc in subst (P 2) g r))
-      i (slice_get_within given i x e) e
-
-  said_is : (f : Bool) (i : ℕ) (r : Reply) → said f task now i ≡ Some r → (f ≡ true) × (r ≡ reply three_nodes i (now i) (ask_to three_nodes task i))
-  unfolding said
-  said_is true i r e = (refl, (let g : reply three_nodes i (now i) (ask_to three_nodes task i) ≡ r = cc in sym g))
-  said_is false i r e = absurd cc
-
-  module _ (formed : (i : ℕ) → i < 3 → IsFormedReply (reply three_nodes i (now i) (ask_to three_nodes task i))) where
-    abbrev Told : ℕ → Option Reply → Type 0
-    Told i x = (r : Reply) → x ≡ Some r → IsFormedReply r × (r ≡ reply three_nodes i (now i) (ask_to three_nodes task i))
-
-    told_three : (i : ℕ) (x : Option Reply) → slice_get given i ≡ Some x → Told i x
-    told_three = at_three Told (each a 0 (omega arith)) (each b 1 (omega arith)) (each c 2 (omega arith))
-      where
-        each : (f : Bool) (i : ℕ) → i < 3 → Told i (said f task now i)
-        each f i l r e =
-            let g = (said_is f i r e).1 in
-            (subst IsFormedReply (sym g) (formed i l), g)
-
-    answers : AreAnswers three_nodes task now given
-    answers = record {
-      count = refl;
-      formed = λ i r e. (told_three i (Some r) e r refl).0;
-      answers = λ i r e. (told_three i (Some r) e r refl).1;
-    }
-
-    done_three : DoneIf a task 0 now then → DoneIf b task 1 now then → DoneIf c task 2 now then → IsAfterPhase three_nodes task now given then
-    unfolding said
-    done_three p q r = record {
-      answered = λ i x e. at_three (λ j y. (z : Reply) → y ≡ Some z → HasDone three_nodes task j (now j) (then j))
-          (answered a 0 p) (answered b 1 q) (answered c 2 r) i (Some x) e x refl;
-      silent = λ i e. at_three (λ j y. y ≡ None → (then j ≡ now j) ⊎ HasDone three_nodes task j (now j) (then j))
-          (silent a 0 p) (silent b 1 q) (silent c 2 r) i None e refl;
-    }
-      where
-        answered : (f : Bool) (i : ℕ) → DoneIf f task i now then → (z : Reply) → said f task now i ≡ Some z → HasDone three_nodes task i (now i) (then i)
-        answered true i h z e = h
-        answered false i h z e = absurd cc
-
-        silent : (f : Bool) (i : ℕ) → DoneIf f task i now then → said f task now i ≡ None → (then i ≡ now i) ⊎ HasDone three_nodes task i (now i) (then i)
-        silent true i h e = inr h
-        silent false i h e = h
-
-    goes_on : IsRunning three_nodes away 0 0 work task old now
-        → (a ≡ true → away 0 ≡ false) → (b ≡ true → away 1 ≡ false) → (c ≡ true → away 2 ≡ false)
-        → DoneIf a task 0 now then → DoneIf b task 1 now then → DoneIf c task 2 now then
-        → (p : Progress) → after_phase three_nodes 0 task given ≡ p → ContinuesAs three_nodes away 0 0 work p old then
-    goes_on goes x y z d e f p is =
-        subst (λ (q : Progress). ContinuesAs three_nodes away 0 0 work q old then) is
-        (operations_go_on three_nodes away 0 0 work task given old now then goes answers
-        (λ i r h. at_three (λ j o. (q : Reply) → o ≡ Some q → away j ≡ false)
-        (λ q g. x (said_is a 0 q g).0) (λ q g. y (said_is b 1 q g).0) (λ q g. z (said_is c 2 q g).0) i (Some r) h r refl)
-        (done_three d e f))
+goes_on : (away : ℕ → Bool) (work : Work) (task : SeenTask) (old now then : Keeps) (a b c : Bool)
+    → ((i : ℕ) → i < 3 → IsFormedReply (reply three_nodes i (now i) (ask_to three_nodes task i)))
+    → IsRunning three_nodes away 0 0 work task old now
+    → (a ≡ true → away 0 ≡ false) → (b ≡ true → away 1 ≡ false) → (c ≡ true → away 2 ≡ false)
+    → DoneIf three_nodes a task 0 now then → DoneIf three_nodes b task 1 now then → DoneIf three_nodes c task 2 now then
+    → (p : Progress) → after_phase three_nodes 0 task (replies three_nodes (by_flags a b c) task now) ≡ p
+    → ContinuesAs three_nodes away 0 0 work p old then
+goes_on away work task old now then a b c formed goes x y z d e f p is =
+    goes_on_as three_nodes (by_flags a b c) away 0 0 work task old now then formed goes
+    (below_three (λ i. by_flags a b c i ≡ true → away i ≡ false) x y z)
+    (below_three (λ i. DoneIf three_nodes (by_flags a b c i) task i now then) d e f) p is
 
 -- ---- the operations
 

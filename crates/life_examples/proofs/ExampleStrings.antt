@@ -15,24 +15,25 @@ use Rattle.block_turns.specs.Lives.{IsLife}
 use Rattle.block_turns.specs.Turns.Turn.{Changed, Lost, Failed}
 use Rattle.block_turns.specs.Strings.IsValue.{zeros_value, to_be_written}
 use Rattle.block_turns.specs.Strings.IsSeen.{sum_seen, fragment_seen, sum_kept, fragment_kept}
-use Rattle.life_examples.specs.Examples.{short_digest, three_nodes, two_disks_replaced, cut_off_and_settled, answered_too_early, NoneAnswersTooEarly}
+use Rattle.life_examples.specs.Examples.{short_digest, first_part, three_nodes, two_disks_replaced, cut_off_and_settled, answered_too_early, NoneAnswersTooEarly}
 use Rattle.life_examples.proofs.Example.{below_three}
 use Rattle.block_turns.proofs.lemmas.EachSetting.{setting_linear}
 use Rattle.block_turns.proofs.lemmas.TurnsTold.{told_linear, written_told}
 
 -- ---- the setting
 
-first_decodes : (value : List ℕ) (parts : List (ℕ × List ℕ)) → length parts ≡ 1
-    → ((q : ℕ × List ℕ) → Contains parts q → (q.0 < 3) × (q.1 ≡ value)) → three_nodes.decoded parts ≡ value
-first_decodes value [] long own = absurd (omega (arith, long))
-first_decodes value (p ∷ parts) long own = (own p (Contains-head p parts)).1
+-- of a setting of so many nodes
+pub first_decodes : (n : ℕ) (value : List ℕ) (parts : List (ℕ × List ℕ)) → length parts ≡ 1
+    → ((q : ℕ × List ℕ) → Contains parts q → (q.0 < n) × (q.1 ≡ value)) → first_part parts ≡ value
+first_decodes n value [] long own = absurd (omega (arith, long))
+first_decodes n value (p ∷ parts) long own = (own p (Contains-head p parts)).1
 
-first_block : (parts : List (ℕ × List ℕ)) → length parts ≡ 1
-    → ((q : ℕ × List ℕ) → Contains parts q → (q.0 < 3) × IsFragment three_nodes q.1) → IsBlock three_nodes (three_nodes.decoded parts)
-first_block [] long fits = absurd (omega (arith, long))
-first_block (p ∷ parts) long fits = (fits p (Contains-head p parts)).1
+pub first_block : (n : ℕ) (parts : List (ℕ × List ℕ)) → length parts ≡ 1
+    → ((q : ℕ × List ℕ) → Contains parts q → (q.0 < n) × IsFragment three_nodes q.1) → IsBlock three_nodes (first_part parts)
+first_block n [] long fits = absurd (omega (arith, long))
+first_block n (p ∷ parts) long fits = (fits p (Contains-head p parts)).1
 
-digest_long : (x : List ℕ) → length (short_digest x) ≡ 32
+pub digest_long : (x : List ℕ) → length (short_digest x) ≡ 32
 digest_long x =
     let enough : 31 ≤ length (x ++ replicate 31 0) =
     (let a = length-append x (replicate 31 0) in let r = length-replicate {A = ℕ} 31 0 in omega (arith, a, r)) in
@@ -51,8 +52,8 @@ is_valid = record {
   digests = λ value i is l. below_three (λ j. digest_at three_nodes (three_nodes.sum_of value) j ≡ short_digest value) refl refl refl i l;
   length-fragment = λ value i is l. is.0;
   bytes-fragment = λ value i is. is.1;
-  decodes = λ value parts is long ascend own. first_decodes value parts long own;
-  decoded-block = λ parts long ascend fits. first_block parts long fits;
+  decodes = λ value parts is long ascend own. first_decodes 3 value parts long own;
+  decoded-block = λ parts long ascend fits. first_block 3 parts long fits;
 }
 
 -- ---- the strings
@@ -71,7 +72,7 @@ IsLater value = (v : ℕ) × (value ≡ suc v ∷ [])
 abbrev pub OnlyLater : Moment → Type 0
 OnlyLater m = ((value : List ℕ) → written_in m.turn ≡ Some value → IsLater value) × ((i : ℕ) → m.turn ≡ Failed i → ⊥)
 
-all_of : (P : Moment → Type 0) (life : List Moment) → AllByRecursion P life → (m : Moment) → Contains life m → P m
+pub all_of : (P : Moment → Type 0) (life : List Moment) → AllByRecursion P life → (m : Moment) → Contains life m → P m
 all_of P [] all m there = absurd (Contains-none m there)
 all_of P (x ∷ life) all m there =
     let rest = all_of P life all.1 m in

@@ -1,2 +1,4 @@
+mod Answering
 mod Example
 mod ExampleStrings
+mod ExampleLiars

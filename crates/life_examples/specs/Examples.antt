@@ -1,5 +1,5 @@
--- A small cluster, lives of a block in it, and a list of turns that is not a life.
-use Rattle.std.specs.Prelude.{◌⊎◌, ℕ, ◌<◌, zero, suc, false, List, [], ◌∷◌, ◌++◌, length, take, replicate}
+-- Two small clusters, lives of a block in them, and lists of turns that are not lives.
+use Rattle.std.specs.Prelude.{◌⊎◌, ℕ, ◌<◌, zero, suc, false, List, [], ◌∷◌, ◌++◌, length, take, replicate, slice_index_or}
 use Rattle.std.specs.declared.option.Option.TheVariants.{Some}
 use Rattle.std.specs.List.{Contains}
 use Rattle.stamp_order.specs.Stamps.{◌≼◌}
@@ -15,7 +15,7 @@ use Rattle.block_turns.specs.Turns.{Turn, Moment, first_standing}
 use Rattle.block_turns.specs.Lives.{IsLife, version_of, first_kept}
 use Rattle.block_turns.specs.Turns.{standing_at, kept_at}
 use Rattle.block_turns.specs.Settled.{IsSettled}
-use Rattle.block_turns.specs.Turns.Turn.{Did, Left, Gone, Back, Changed, Lost, Renewed}
+use Rattle.block_turns.specs.Turns.Turn.{Did, Left, Gone, Back, Changed, Lost, Failed, Renewed}
 
 -- a string's length, and what comes first in it
 abbrev pub short_digest : List ℕ → List ℕ
@@ -144,3 +144,61 @@ after_late =
 -- before node 2 comes back, no node keeps a stamp above the one that was read
 abbrev pub KeepNoMore : Type 0
 KeepNoMore = (i : ℕ) (v : Version) → i < 3 → Contains (kept_at (first_kept three_nodes) before_late i) v → v.stamp ≼ seven.stamp
+
+-- ---- liars
+
+-- five nodes: one may be missing, one may lie; each keeps the whole block, which is one byte
+abbrev pub five_nodes : Setting
+five_nodes = record {
+  n = 5;
+  t = 1;
+  b = 1;
+  qc = 3;
+  m = 1;
+  size = 1;
+  blocks = 1;
+  share = 1;
+  fragment_of = λ value i. value;
+  decoded = first_part;
+  digest = short_digest;
+  sum_of = λ value. short_digest value ∷ short_digest value ∷ short_digest value ∷ short_digest value ∷ short_digest value ∷ [];
+  lying_node = λ i. false;
+  lying_client = λ i. false;
+}
+
+-- what the write stores, and what nobody ever wrote
+abbrev pub written : StampedValue
+written = record { stamp = record { time = 1; client = 0; verifier = verifier_of five_nodes (7 ∷ []) }; value = 7 ∷ [] }
+
+abbrev pub forged : StampedValue
+forged = record { stamp = record { time = 2; client = 0; verifier = verifier_of five_nodes (9 ∷ []) }; value = 9 ∷ [] }
+
+-- the versions of these on node i
+abbrev pub versions_of : List StampedValue → ℕ → List Version
+versions_of [] i = []
+versions_of (x ∷ xs) i = version_of five_nodes x i ∷ versions_of xs i
+
+-- each node keeps the first version, and those of what stands at its place
+abbrev pub keeping : List (List StampedValue) → Keeps
+keeping lists i = first_version five_nodes i ∷ versions_of (slice_index_or lists i []) i
+
+-- The block is written on nodes 0 to 3. Node 0 begins to lie: it keeps a version that nobody wrote. A read returns what was written, and
+-- stores it again. Node 0 is rebuilt, and counts as honest. Then the same with node 1.
+abbrev pub two_liars_replaced : List Moment
+two_liars_replaced =
+    record { turn = Did 0 (Writes (7 ∷ [])) (Wrote written.stamp); kept = keeping ((written ∷ []) ∷ (written ∷ []) ∷ (written ∷ []) ∷ (written ∷ []) ∷ []) }
+    ∷ record { turn = Failed 0; kept = keeping ((forged ∷ []) ∷ (written ∷ []) ∷ (written ∷ []) ∷ (written ∷ []) ∷ []) }
+    ∷ record { turn = Did 0 Reads (Gave written.stamp written.value Repaired 1); kept = keeping ((forged ∷ written ∷ []) ∷ (written ∷ []) ∷ (written ∷ []) ∷ (written ∷ []) ∷ []) }
+    ∷ record { turn = Renewed 0; kept = keeping ((written ∷ []) ∷ (written ∷ []) ∷ (written ∷ []) ∷ (written ∷ []) ∷ []) }
+    ∷ record { turn = Failed 1; kept = keeping ((written ∷ []) ∷ (forged ∷ []) ∷ (written ∷ []) ∷ (written ∷ []) ∷ []) }
+    ∷ record { turn = Did 0 Reads (Gave written.stamp written.value Repaired 1); kept = keeping ((written ∷ []) ∷ (forged ∷ written ∷ []) ∷ (written ∷ []) ∷ (written ∷ []) ∷ []) }
+    ∷ record { turn = Renewed 1; kept = keeping ((written ∷ []) ∷ (written ∷ []) ∷ (written ∷ []) ∷ (written ∷ []) ∷ []) }
+    ∷ []
+
+-- two nodes lie at the same time
+abbrev pub two_liars_at_once : List Moment
+two_liars_at_once = record { turn = Failed 0; kept = first_kept five_nodes } ∷ record { turn = Failed 1; kept = first_kept five_nodes } ∷ []
+
+-- that is not a life
+abbrev pub NoTwoLie : Type 0
+NoTwoLie = IsLife five_nodes 0 two_liars_at_once → ⊥

@@ -1,6 +1,7 @@
-//! Lives of one block on three nodes, of which one may be missing and none may lie, worked out turn by turn.
+//! Lives of one block, worked out turn by turn: on three nodes, of which one may be missing and none may lie, and on five,
+//! of which one may be missing and one may lie.
 //!
-//! The setting is a toy: one byte a block, each node keeps it whole, and a digest is a string's length and its
+//! The settings are toys: one byte a block, each node keeps it whole, and a digest is a string's length and its
 //! beginning.
 #![tactic(auto)]
 
@@ -11,6 +12,7 @@ ghost use Rattle.block_turns.specs.Strings.{NoClash};
 ghost use Rattle.life_examples.specs.Examples.{three_nodes, two_disks_replaced};
 ghost use Rattle.life_examples.specs.Examples.{cut_off_and_settled, IsSettledThen, before_late, after_late, KeepNoMore};
 ghost use Rattle.life_examples.specs.Examples.{TooEarlyIsRead, NoneAnswersTooEarly};
+ghost use Rattle.life_examples.specs.Examples.{five_nodes, two_liars_replaced, NoTwoLie};
 
 /// Two disks are replaced one after the other: that is a life (`is`, `apart`). So is one in which a node is out of
 /// reach, a write is cut off, and the block is settled (`then`, `settled`).
@@ -19,6 +21,9 @@ ghost use Rattle.life_examples.specs.Examples.{TooEarlyIsRead, NoneAnswersTooEar
 /// later read could return it, though no node keeps it yet (`late`, `keep_no_more`). A new disk that answers before
 /// it is rebuilt would make a read return zeros after an acknowledged write (`too_early`); that is not a life
 /// (`refused`).
+///
+/// On five nodes one begins to lie and is rebuilt, and then another one: that is a life (`liars`, `liars_apart`), though
+/// two have lied. It is none where both lie at once (`one_liar`).
 pub fn example_lives()
     ensures valid { IsValid three_nodes }
     ensures is { IsLife three_nodes 0 two_disks_replaced }
@@ -30,6 +35,10 @@ pub fn example_lives()
     ensures keep_no_more { KeepNoMore }
     ensures too_early { TooEarlyIsRead }
     ensures refused { NoneAnswersTooEarly }
+    ensures five { IsValid five_nodes }
+    ensures liars { IsLife five_nodes 0 two_liars_replaced }
+    ensures liars_apart { NoClash five_nodes two_liars_replaced }
+    ensures one_liar { NoTwoLie }
 {
     linear_runs::laws::reads();
 }
