@@ -3,4 +3,6 @@ mod Dealing
 mod Taking
 mod Adding
 mod Turning
+mod Handing
+mod Sharing
 pub mod Batches

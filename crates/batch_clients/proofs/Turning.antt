@@ -1,6 +1,7 @@
 -- What the turns of operations come to, one after the other.
 use Rattle.std.proofs.Common.{◌≡◌, ℕ, zero, suc, ◌+◌, ◌-◌, ◌^◌, ◌<◌, List, [], ◌∷◌, ◌++◌, length, Option, refl, sym, ap, subst, ◌∙◌, arith, append_assoc, append-nil}
-use Rattle.std.specs.Prelude.{All, slice_index_or}
+use Rattle.std.specs.Prelude.{All}
+use Rattle.std.specs.List.{AllZip}
 use Rattle.std.proofs.lemmas.List.Elements.{All-head, All-tail}
 use Rattle.quorum_rules.specs.Limits.{Numbers}
 use Rattle.protocol.specs.Messages.{Ask, Reply}
@@ -8,7 +9,7 @@ use Rattle.batch_clients.specs.declared.run.Run.{Run}
 use Rattle.batch_clients.specs.declared.turn.Turn.{Turn}
 use Rattle.batch_clients.specs.Batches.{Running}
 use Rattle.batch_clients.specs.Parts.{stand_of, phase_at, left_by, IsRun, IsAdded}
-use Rattle.batch_clients.specs.Turns.{HasHeard, MayHear, Comes, heard_as, IsTurnOf, AreTurnsOf}
+use Rattle.batch_clients.specs.Turns.{HasHeard, MayTake, Comes, heard_as, IsTurnOf, AreTurnsOf}
 use Rattle.batch_clients.proofs.Adding.{IsGoing, going_on, length_left}
 
 -- ---- the turns are taken from the operations
@@ -53,22 +54,20 @@ HaveCome c left [] [] = Unit {0}
 HaveCome c left (run ∷ runs) (turn ∷ turns) = HasHeard c (heard_as c left run) (phase_at (stand_of run.standing) + 1) turn × HaveCome c (left_by (stand_of run.standing) left) runs turns
 HaveCome c left _ _ = ⊥
 
-pub all_may : (c : Numbers) (left : List (Option (List Reply))) (runs : List Run) (turns : List Turn) → AreTurnsOf c left runs turns → (i : ℕ) (d : Turn) → i < length turns → MayHear (slice_index_or turns i d)
+pub all_may : (c : Numbers) (left : List (Option (List Reply))) (runs : List Run) (turns : List Turn) → AreTurnsOf c left runs turns → All (MayTake c) turns
 all_may c left [] [] h i d lt = absurd (omega (arith, lt))
 all_may c left [] (turn ∷ turns) h i d lt = absurd h
 all_may c left (run ∷ runs) [] h i d lt = absurd h
 all_may c left (run ∷ runs) (turn ∷ turns) h zero d lt = h.0.may
 all_may c left (run ∷ runs) (turn ∷ turns) h (suc i) d lt = all_may c (left_by (stand_of run.standing) left) runs turns h.1 i d (omega (arith, lt))
 
-pub all_come : (c : Numbers) (left : List (Option (List Reply))) (runs : List Run) (old new : List Turn) → AreTurnsOf c left runs old → length new ≡ length old
-    → ((i : ℕ) (d : Turn) → i < length old → Comes (slice_index_or old i d) (slice_index_or new i d)) → HaveCome c left runs new
-all_come c left [] [] [] h long each = tt
-all_come c left [] [] (new ∷ news) h long each = absurd (omega (arith, long))
-all_come c left [] (old ∷ olds) news h long each = absurd h
-all_come c left (run ∷ runs) [] news h long each = absurd h
-all_come c left (run ∷ runs) (old ∷ olds) [] h long each = absurd (omega (arith, long))
-all_come c left (run ∷ runs) (old ∷ olds) (new ∷ news) h long each =
-    (h.0.comes new (each 0 old (omega arith)), all_come c (left_by (stand_of run.standing) left) runs olds news h.1 (omega (arith, long)) (λ i d lt. each (suc i) d (omega (arith, lt))))
+pub all_come : (c : Numbers) (left : List (Option (List Reply))) (runs : List Run) (old new : List Turn) → AreTurnsOf c left runs old → AllZip Comes old new → HaveCome c left runs new
+all_come c left [] [] [] h come = tt
+all_come c left [] [] (new ∷ news) h come = absurd come
+all_come c left [] (old ∷ olds) news h come = absurd h
+all_come c left (run ∷ runs) [] news h come = absurd h
+all_come c left (run ∷ runs) (old ∷ olds) [] h come = absurd come
+all_come c left (run ∷ runs) (old ∷ olds) (new ∷ news) h come = (h.0.comes new come.0, all_come c (left_by (stand_of run.standing) left) runs olds news h.1 come.1)
 
 -- ---- they are put beside one another again
 

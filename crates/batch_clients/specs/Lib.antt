@@ -1,3 +1,5 @@
 pub mod Batches
 pub mod Parts
 pub mod Turns
+pub mod Encoding
+pub mod Sharing

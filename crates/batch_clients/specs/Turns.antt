@@ -43,6 +43,11 @@ abbrev pub MayHear : Turn → Type 0
 MayHear (Hears id client replies) = IsAsking client.config id client × (phase_of client.seen.task < 2 ^ 64 - 1) × (length replies.items < 256)
 MayHear turn = Unit {0}
 
+-- and it is an operation of this cluster
+abbrev pub MayTake : Numbers → Turn → Type 0
+MayTake c (Hears id client replies) = (client.config ≡ c) × MayHear (Hears id client replies)
+MayTake c turn = Unit {0}
+
 -- what a turn comes to: the answers that were to be heard are heard
 abbrev pub Comes : Turn → Turn → Type 0
 Comes (Hears id client replies) new =
@@ -55,7 +60,7 @@ heard_as c left run = record { client = run.id; stand = stand_heard (setting c) 
 
 -- the turn is this operation's, where these answers are left
 pub record IsTurnOf (c : Numbers) (left : List (Option (List Reply))) (run : Run) (turn : Turn) : Type 0 where
-  pub may : MayHear turn
+  pub may : MayTake c turn
   pub comes : (new : Turn) → Comes turn new → HasHeard c (heard_as c left run) (phase_at (stand_of run.standing) + 1) new
 
 -- the turns are those of the operations, one each

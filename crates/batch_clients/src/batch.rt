@@ -222,7 +222,7 @@ fn hear_all<R: Threads + Sync>(
 {
     let nodes = config.n();
     let given = take_turns(alloc, runs, answers)?;
-    let turns = take_all(rt, threads, given);
+    let turns = take_all(rt, threads, alloc, config, given)?;
     let mut heard = Vec::with_capacity(alloc, turns.len())?;
     let mut asks = no_asks(alloc, nodes)?;
     for turn in turns {

@@ -4,6 +4,8 @@
 mod answers;
 mod asking;
 pub mod batch;
+mod encoding;
+mod part;
 mod run;
 mod turn;
 

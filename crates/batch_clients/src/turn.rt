@@ -1,20 +1,22 @@
 //! The turns of a batch's operations in a phase: each hears its own answers, by itself.
-ghost use Rattle.std.specs.Prelude.{◌≡◌, ◌+◌, ◌-◌, ◌<◌, ◌^◌, ℕ, map, All, length, slice_index_or, IfOk, OnOk};
+ghost use Rattle.std.specs.Prelude.{◌≡◌, ◌+◌, ◌-◌, ◌<◌, ◌^◌, map, All, length, IfOk, OnOk};
+ghost use Rattle.std.specs.List.{AllZip};
 ghost use Rattle.quorum_rules.specs.Limits.{Numbers};
 ghost use Rattle.protocol.specs.Seen.{phase_of};
 ghost use Rattle.protocol.specs.Instance.{setting};
 ghost use Rattle.batch_clients.specs.Parts.{turned, left_by, stand_of, stand_in, stand_by, IsRun, IsAsking};
-ghost use Rattle.batch_clients.specs.Turns.{MayHear, Comes, HasHeard, IsTurnOf, AreTurnsOf};
+ghost use Rattle.batch_clients.specs.Turns.{MayHear, MayTake, Comes, HasHeard, IsTurnOf, AreTurnsOf};
 
 use crate::answers::{take_next, turn};
 use crate::batch::Answers;
+use crate::part::{joined, parts_of, take_parts};
 use crate::run::{Run, Standing, hear_phase};
 use client_core::{Client, Heard};
 use lists::NoMemory;
+use quorum_rules::Config;
 use std::alloc::Global;
 use std::mem::replace;
 use std::thread::Threads;
-use thread_spread::for_each_apart;
 use wire_forms::{Mail, Reply};
 
 /// What an operation has to do in a phase, and what it came to.
@@ -88,34 +90,19 @@ fn over(id: u32, standing: Standing) -> Turn
 const OPERATIONS_OF_A_THREAD: usize = 2;
 
 /// Has each operation take its turn. Where many of them have fragments to make or to compare, they work at once, in so many threads at most.
-pub(crate) fn take_all<R: Threads + Sync>(rt: &R, threads: usize, mut turns: Vec<Turn>) -> Vec<Turn>
-    requires { (i : ℕ) (d : _) → i < length turns.items → MayHear (slice_index_or turns.items i d) }
-    ensures count { length result.items ≡ length turns.items }
-    ensures each { (i : ℕ) (d : _) → i < length turns.items
-        → Comes (slice_index_or turns.items i d) (slice_index_or result.items i d) }
+pub(crate) fn take_all<R: Threads + Sync>(
+    rt: &R,
+    threads: usize,
+    alloc: Global,
+    config: &Config,
+    turns: Vec<Turn>,
+) -> Result<Vec<Turn>, NoMemory>
+    requires { All (MayTake config.now) turns.items }
+    ensures { IfOk result (λ taken. AllZip Comes turns.items taken.items) }
 {
     let threads = threads.min(count_works(&turns) / OPERATIONS_OF_A_THREAD);
-    take_each(rt, threads.max(1), &mut turns);
-    turns
-}
-
-/// Has each operation take its turn, in so many threads at most.
-fn take_each<R: Threads + Sync>(rt: &R, threads: usize, turns: &mut [Turn])
-    requires some { 0 < threads }
-    requires may { (i : ℕ) (d : _) → i < length turns.old → MayHear (slice_index_or turns.old i d) }
-    ensures count { length turns.new ≡ length turns.old }
-    ensures each { (i : ℕ) (d : _) → i < length turns.old
-        → Comes (slice_index_or turns.old i d) (slice_index_or turns.new i d) }
-{
-    for_each_apart(
-        rt,
-        turns,
-        threads,
-        &|_: usize, turn: &mut Turn|
-            requires { MayHear turn.old }
-            ensures { Comes turn.old turn.new }
-        { take(turn) },
-    );
+    let parts = parts_of(alloc, config, threads.max(1), turns)?;
+    joined(alloc, take_parts(rt, parts))
 }
 
 /// How many operations have fragments to make or to compare.
@@ -130,7 +117,7 @@ fn count_works(turns: &[Turn]) -> usize {
 }
 
 /// Whether a time or a version was answered, of which a phase makes or compares fragments when it ends.
-fn is_work(turn: &Turn) -> bool {
+pub(crate) fn is_work(turn: &Turn) -> bool {
     let Turn::Hears { replies, .. } = turn else {
         return false;
     };
@@ -143,7 +130,7 @@ fn is_work(turn: &Turn) -> bool {
 }
 
 /// An operation takes its turn.
-fn take(turn: &mut Turn)
+pub(crate) fn take(turn: &mut Turn)
     requires { MayHear turn.old }
     ensures { Comes turn.old turn.new }
 {

@@ -10,8 +10,8 @@ use Rattle.batch_clients.proofs.Adding.{IsGoing, going_begins, going_ends}
 use Rattle.batch_clients.proofs.Turning.{ArePut, all_may, all_come, putting_begins, next_put, putting_goes_on, putting_ends}
 use Rattle.batch_clients.proofs.batch.hear_all.Goals as goal
 
-pub take_all-turns-requires-after_bounds : goal.take_all-turns-requires-after_bounds
-take_all-turns-requires-after_bounds g c κs within =
+pub take_all-requires-after_bounds : goal.take_all-requires-after_bounds
+take_all-requires-after_bounds g c κs within =
     let config = c.args.config.now in
     let nodes = c.n-nodes.ensures.valid.nodes.1 in
     let full = c.requires.count in
@@ -22,13 +22,13 @@ loop-turn-init g c =
     let config = c.args.config.now in
     let answers = c.args.answers.items in
     let runs = c.args.runs.items in
-    let turns = c.take_all-turns.result.items in
+    let turns = c.in_ok-turns.turns.items in
     let heard = c.in_ok-heard.heard.items in
     let asks = lists_of c.in_ok-asks.asks.items in
     let nodes = c.n-nodes.ensures.valid.nodes.1 in
     let full = c.requires.count in
     let taken = c.in_ok-given.ensures config c.requires.early (omega (arith, nodes, full)) in
-    let come = all_come config answers runs c.in_ok-given.given.items turns taken c.take_all-turns.ensures.count c.take_all-turns.ensures.each in
+    let come = all_come config answers runs c.in_ok-given.given.items turns taken c.in_ok-turns.ensures in
     let begun = going_begins config answers runs answers refl c.requires.count c.requires.early asks (c.in_ok-asks.ensures ∙ ap (λ n. replicate n []) c.n-nodes.ensures.is) runs refl in
     record {
       put =
