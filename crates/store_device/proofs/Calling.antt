@@ -1,5 +1,5 @@
 -- What calls leave of a store, and what its nodes are found to keep.
-use Rattle.std.proofs.Common.{◌≡◌, inl, inr, ℕ, ◌<◌, Bool, true, false, cond, not, List, [], ◌∷◌, ◌++◌, Option, Some, None, refl, sym, ◌∙◌, ap, subst}
+use Rattle.std.proofs.Common.{◌≡◌, inl, inr, ℕ, ◌<◌, Bool, true, false, cond, not, List, [], ◌∷◌, Option, Some, None, refl, sym, ◌∙◌, ap, subst}
 use Rattle.std.proofs.lemmas.Bool.{cases_Bool}
 use Rattle.quorum_rules.specs.Limits.{Numbers}
 use Rattle.disk_model.specs.Crash.{Pending, MayLeave}
@@ -9,7 +9,7 @@ use Rattle.version_disk.specs.Held.{held}
 use Rattle.version_disk.specs.Stored.{Stored}
 use Rattle.store_device.specs.Stores.{SeenStore, Nodes, IsSound, IsStore, IsFound, IsFoundAt, kept_at, kept_in, seat_at, is_up}
 use Rattle.store_device.specs.Lives.{KeepAlike}
-use Rattle.store_device.specs.Calls.{Deed, Call, HasDone, StaysStore, Leads, CallsGoOn, CallsKeepStores}
+use Rattle.store_device.specs.Calls.{Deed, HasDone, StaysStore, Leads, CallsGoOn, CallsKeepStores}
 use Rattle.store_device.specs.Calls.Deed.{Performs, Prunes}
 use Rattle.store_device.proofs.Seats.{when_true, when_false}
 

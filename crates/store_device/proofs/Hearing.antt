@@ -1,15 +1,15 @@
 -- What a phase leaves of an operation.
-use Rattle.std.proofs.Common.{◌≡◌, ℕ, suc, ◌<◌, Bool, true, false, cond, ltb, List, [], ◌∷◌, Option, Some, None, refl, sym, ◌∙◌, subst}
+use Rattle.std.proofs.Common.{◌≡◌, ℕ, suc, Bool, true, false, cond, ltb, List, [], ◌∷◌, Option, Some, None, refl, subst}
 use Rattle.protocol.specs.Count.{one_more}
 use Rattle.protocol.specs.Messages.{Version, Reply, Tag}
 use Rattle.protocol.specs.Setting.{Setting}
 use Rattle.protocol.specs.Nodes.{after}
-use Rattle.protocol.specs.Operations.{Work, Stage, Decision, Outcome, request_of, decide, awaits_more}
+use Rattle.protocol.specs.Operations.{Stage, Decision, request_of, decide, awaits_more}
 use Rattle.protocol.specs.Operations.Stage.{Times, Versions, Storing}
 use Rattle.protocol.specs.Operations.Decision.{GoesOn, Ends}
 use Rattle.protocol.specs.Seen.{SeenTask, task_at, hearing, is_counted, seen_counted, by_decision, after_counting}
 use Rattle.protocol.specs.Seen.Hearing.{Ignored, Counted}
-use Rattle.block_phases.specs.Phases.{Progress, tag_of, ask_to, progress, heard_from, after_phase}
+use Rattle.block_phases.specs.Phases.{Progress, tag_of, progress, heard_from, after_phase}
 use Rattle.block_phases.specs.Phases.Progress.{UnderWay, Over}
 
 -- the stage has nodes store something

@@ -14,9 +14,12 @@ pub mod LifeTelling
 pub mod LifeLaws
 pub mod LifeReads
 pub mod LifeDone
+pub mod LifeSettled
 pub mod Calling
 pub mod Rooms
 pub mod Coming
 pub mod LifeArrays
 pub mod Sessions
 pub mod lemmas
+pub mod Replacing
+pub mod Acknowledging

@@ -18,9 +18,9 @@ use Rattle.linear_runs.specs.Linear.{Operation, IsLinear, on_block}
 use Rattle.linear_runs.specs.Linear.Act.{Read}
 use Rattle.linear_runs.specs.Meaning.{IsSource, ReadsAreWritten}
 use Rattle.block_phases.specs.Executions.{StampedValue}
-use Rattle.store_device.specs.Lives.{Turn, Moment, told, told_one, IsWhole, IsLife, IsReadAfter, NoneClash, WasTold, LivesAreLinearizable, AcknowledgedWritesAreRead}
+use Rattle.store_device.specs.Lives.{Turn, Moment, told, told_one, IsWhole, IsLife, IsReadAfter, WasTold, LivesAreLinearizable, AcknowledgedWritesAreRead}
 use Rattle.store_device.specs.Lives.Turn.{Performed, Pruned, Changed, Gone, Back, Lost, Damaged, Failed, Renewed}
-use Rattle.store_device.specs.Arrays.{Contents, contents_after, IsAnswered, AreAnswered, with_outcomes, operations_in, operations_of, IsTold, WasDone, AcknowledgedAreDone, LivesAreArrays}
+use Rattle.store_device.specs.Arrays.{Contents, contents_after, IsAnswered, AreAnswered, with_outcomes, operations_in, operations_of, WasDone, AcknowledgedAreDone, LivesAreArrays}
 use Rattle.store_device.proofs.Batches.{AreOwn, are_own}
 use Rattle.store_device.proofs.LifeTelling.{IsFrom, from_life, to_life, one_each}
 use Rattle.store_device.proofs.LifeReads.{only_there}

@@ -1,35 +1,33 @@
 -- What was told as acknowledged was done, by the law of the lives of blocks.
-use Rattle.std.proofs.Common.{◌≡◌, ◌≢◌, ◌⊎◌, ℕ, zero, suc, ◌<◌, ◌≤◌, ◌^◌, Bool, true, false, eqb, map, List, [], ◌∷◌, length, Option, refl, sym, ap, subst, ◌∙◌, arith}
+use Rattle.std.proofs.Common.{◌≡◌, ◌≢◌, ℕ, zero, suc, Bool, true, false, eqb, map, List, [], ◌∷◌, length, Option, refl, sym, ap, subst, ◌∙◌, arith}
 use Rattle.std.specs.Prelude.{if◌then◌else◌, slice_get}
 use Rattle.std.specs.declared.option.Option.TheVariants.{None, Some}
 use Rattle.std.specs.List.{AllByRecursion, Contains}
 use Rattle.std.proofs.lemmas.Bool.{eqb-true, eq-eqb}
 use Rattle.std.proofs.lemmas.List.{length-map}
 use Rattle.lists.proofs.lemmas.Members.{Contains-head, Contains-rest, Contains-map, member_of_all}
-use Rattle.quorum_rules.specs.Limits.{Numbers, IsValid}
+use Rattle.quorum_rules.specs.Limits.{Numbers}
 use Rattle.wire_forms.specs.declared.op.Op.{Op}
 use Rattle.wire_forms.specs.declared.op.Op.TheVariants.{Read as ReadOp, Write as WriteOp}
 use Rattle.run_words.specs.declared.outcome.Outcome.TheVariants.{Wrote, Spent, Gave, Outvoted}
-use Rattle.protocol.specs.Instance.{setting, nobody}
+use Rattle.protocol.specs.Instance.{nobody}
 use Rattle.protocol.specs.Laws.{InEachCluster}
-use Rattle.protocol.specs.World.{Fits}
-use Rattle.protocol.specs.Operations.{Work, Outcome}
+use Rattle.protocol.specs.Operations.{Outcome}
 use Rattle.protocol.specs.Seen.{block_of, work_of}
 use Rattle.block_phases.specs.Executions.{StampedValue}
-use Rattle.block_turns.specs.Turns.{Turn as BlockTurn, Moment as BlockMoment}
 use Rattle.block_turns.specs.Turns.Turn.{Did}
 use Rattle.block_turns.specs.Laws.{IsDone, AcknowledgedAreDone as BlocksAreDone}
 use Rattle.store_device.specs.Told.{AreApart}
-use Rattle.store_device.specs.Lives.{Turn, Moment, turn_of, batch_on, turn_on, moment_on, life_on, IsWhole, IsLife, NoneClash, WasTold}
+use Rattle.store_device.specs.Lives.{Turn, Moment, turn_of, batch_on, turn_on, moment_on, life_on, IsWhole}
 use Rattle.store_device.specs.Lives.Turn.{Performed}
-use Rattle.store_device.specs.Arrays.{IsTold, WasDone, AcknowledgedAreDone}
+use Rattle.store_device.specs.Arrays.{WasDone, AcknowledgedAreDone}
 use Rattle.store_device.proofs.Asked.{all_get}
 use Rattle.store_device.proofs.LifeLaws.{calm}
 use Rattle.store_device.proofs.LifeOperations.{apart_first, apart_rest}
 use Rattle.store_device.proofs.LifeTelling.{fits}
 
 -- an operation of a batch that was told of is what the batch is on its block
-batch_is : (block client : ℕ) (ops : List Op) (outcomes : List (Option Outcome)) (stored : List (Option StampedValue)) (place : ℕ) (op : Op)
+pub batch_is : (block client : ℕ) (ops : List Op) (outcomes : List (Option Outcome)) (stored : List (Option StampedValue)) (place : ℕ) (op : Op)
     (outcome : Outcome) → AreApart ops → length stored ≡ length ops → slice_get ops place ≡ Some op
     → slice_get outcomes place ≡ Some (Some outcome) → block_of op ≡ block
     → (other : ℕ) × (batch_on block client ops outcomes stored ≡ Did other (work_of op) outcome)
@@ -71,13 +69,13 @@ done_of (WriteOp block value) Spent is = absurd is
 done_of (WriteOp block value) (Outvoted nodes) is = absurd is
 
 -- the moment of a turn
-at_turn : (life : List Moment) (k : ℕ) (turn : Turn) → slice_get (map (λ (m : Moment). m.turn) life) k ≡ Some turn
+pub at_turn : (life : List Moment) (k : ℕ) (turn : Turn) → slice_get (map (λ (m : Moment). m.turn) life) k ≡ Some turn
     → (m : Moment) × Contains life m × (m.turn ≡ turn)
 at_turn [] k turn e = absurd cc
 at_turn (m ∷ life) zero turn e = let same : m.turn ≡ turn = cc in (m, Contains-head m life, same)
 at_turn (m ∷ life) (suc k) turn e = let r = at_turn life k turn e in (r.0, Contains-rest r.0 m life r.1, r.2)
 
-on_moment : (block : ℕ) (life : List Moment) (m : Moment) → Contains life m → Contains (life_on block life) (moment_on block m)
+pub on_moment : (block : ℕ) (life : List Moment) (m : Moment) → Contains life m → Contains (life_on block life) (moment_on block m)
 on_moment block life m there = Contains-map (moment_on block) life m there
 
 module _ (c : Numbers) where

@@ -1,10 +1,9 @@
 -- The operations of a store's life are linearizable, by the laws of the lives of blocks.
-use Rattle.std.proofs.Common.{◌≡◌, ◌≢◌, ℕ, suc, ◌<◌, ◌≤◌, Bool, eqb, List, [], ◌∷◌, ◌++◌, refl, sym, ap, subst, ◌∙◌, arith}
+use Rattle.std.proofs.Common.{◌≡◌, ◌≢◌, ℕ, suc, ◌<◌, eqb, List, [], ◌∷◌, ◌++◌, refl, sym, ap, subst, ◌∙◌, arith}
 use Rattle.std.specs.List.{Contains}
 use Rattle.std.proofs.lemmas.Bool.{eqb-true}
 use Rattle.std.proofs.lemmas.List.Sorted.{IsPermutation-refl}
 use Rattle.quorum_rules.specs.Limits.{Numbers, IsValid}
-use Rattle.protocol.specs.Count.{count}
 use Rattle.protocol.specs.Setting.{zeros}
 use Rattle.protocol.specs.Instance.{setting, nobody, IsCluster}
 use Rattle.protocol.specs.Laws.{InEachCluster}

@@ -1,8 +1,8 @@
 -- What a store does is on each block a turn of the block's life.
-use Rattle.std.proofs.Common.{◌≡◌, ◌≢◌, ◌⊎◌, ℕ, suc, ◌+◌, ◌<◌, ◌≤◌, ◌||◌, Bool, true, false, eqb, map, List, [], ◌∷◌, ◌++◌, length, Option, refl, sym, ap, subst, ◌∙◌, inl, inr, arith}
+use Rattle.std.proofs.Common.{◌≡◌, ◌≢◌, ◌⊎◌, ℕ, suc, ◌<◌, Bool, true, false, eqb, List, [], ◌∷◌, ◌++◌, length, Option, refl, sym, ap, subst, ◌∙◌, inl, inr, arith}
 use Rattle.std.specs.Prelude.{if◌then◌else◌}
 use Rattle.std.specs.declared.option.Option.TheVariants.{None, Some}
-use Rattle.std.specs.List.{AllByRecursion, Contains}
+use Rattle.std.specs.List.{AllByRecursion}
 use Rattle.std.proofs.lemmas.Bool.{eqb-true, eq-eqb}
 use Rattle.std.proofs.lemmas.List.{map-append, get_or-replicate}
 use Rattle.quorum_rules.specs.Limits.{Numbers}
@@ -10,7 +10,6 @@ use Rattle.stamp_order.specs.declared.Stamp.{Stamp}
 use Rattle.wire_forms.specs.declared.op.Op.{Op}
 use Rattle.protocol.specs.Messages.{Version}
 use Rattle.protocol.specs.Nodes.{first_version, pruned, outlives}
-use Rattle.protocol.specs.Setting.{Setting}
 use Rattle.protocol.specs.Instance.{setting}
 use Rattle.protocol.specs.World.{Fits}
 use Rattle.protocol.specs.Operations.{Work, Outcome}
@@ -21,14 +20,13 @@ use Rattle.block_phases.specs.Phases.{Keeps}
 use Rattle.block_phases.specs.Executions.{StampedValue}
 use Rattle.block_phases.proofs.lemmas.Executing.{comes_fewer, given_up_fewer}
 use Rattle.block_phases.proofs.lemmas.Alike.{completed_alike, given_up_alike}
-use Rattle.block_turns.specs.Turns.{Standing, Turn as BlockTurn, Moment as BlockMoment, away_in, first_standing, standing_after, standing_at, kept_at, with_one, stamped_by}
-use Rattle.block_turns.specs.Turns.Turn.{Pruned as PrunedThere, Changed as ChangedThere}
-use Rattle.block_turns.specs.Lives.{Takes as TakesThere, TakesAll as TakesAllThere, IsLife as IsBlockLife, KeepsSome, first_kept}
+use Rattle.block_turns.specs.Turns.{Standing, Turn as BlockTurn, Moment as BlockMoment, away_in, first_standing, standing_after, standing_at, kept_at, with_one}
+use Rattle.block_turns.specs.Turns.Turn.{Pruned as PrunedThere}
+use Rattle.block_turns.specs.Lives.{Takes as TakesThere, IsLife as IsBlockLife, KeepsSome, first_kept}
 use Rattle.block_turns.proofs.lemmas.EachSetting.{one_turn_more, prune_in_part, prune_undone}
 use Rattle.store_device.specs.Stores.{Nodes}
 use Rattle.store_device.specs.Told.{IsDone, AreDone, kept_of}
-use Rattle.store_device.specs.Lives.{Turn, Moment, turn_of, batch_on, prune_on, turn_on, moment_on, life_on, nodes_after, nodes_of, first_nodes, IsWhole, IsLife, standing_on, KeepAlike}
-use Rattle.store_device.specs.Lives.Turn.{Performed, Pruned}
+use Rattle.store_device.specs.Lives.{Moment, turn_of, batch_on, prune_on, turn_on, moment_on, life_on, nodes_after, nodes_of, first_nodes, IsWhole, IsLife, standing_on}
 use Rattle.store_device.specs.Calls.{Acknowledged, IsPruned, IsStampOf, given_by, given_on}
 
 -- ---- a life and one moment more

@@ -1,5 +1,5 @@
 -- What a call leaves of a store.
-use Rattle.std.proofs.Common.{◌≡◌, inl, inr, ℕ, ◌<◌, ◌≤◌, Bool, true, false, List, [], ◌∷◌, length, map, Option, Some, None, Ok, Err, Result, sym, ◌∙◌, ap, subst, arith}
+use Rattle.std.proofs.Common.{◌≡◌, inl, inr, ℕ, ◌<◌, ◌≤◌, true, false, List, [], ◌∷◌, length, map, Option, Some, None, Ok, Err, Result, sym, ◌∙◌, ap, subst, arith}
 use Rattle.std.specs.Prelude.{All, IfOk, is_some}
 use Rattle.std.specs.List.{AllByRecursion}
 use Rattle.std.specs.Option.{option_map}
@@ -18,7 +18,7 @@ use Rattle.batch_clients.specs.Batches.{Running, begun, end_of}
 use Rattle.store_device.specs.Stores.{SeenStore, Nodes, IsSound, IsStore, IsFound, kept_in, seat_at, down_in, is_up}
 use Rattle.store_device.specs.Told.{AreApart, IsTold}
 use Rattle.store_device.specs.Going.{IsGoing, MayBegin}
-use Rattle.store_device.specs.Calls.{HasPerformed, HaveEnded, HaveEndedIf, StaysStore, told_each}
+use Rattle.store_device.specs.Calls.{HasPerformed, HaveEndedIf, StaysStore, told_each}
 use Rattle.store_device.specs.Answered.{AreFew, IsEnough}
 use Rattle.store_device.specs.Phased.{GoThrough}
 use Rattle.store_device.proofs.Seats.{found_is_left}

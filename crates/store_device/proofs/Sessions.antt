@@ -1,33 +1,32 @@
 -- A store's life goes on: over calls, crashes, lost and rebuilt nodes, and from one session to the next.
-use Rattle.std.proofs.Common.{◌≡◌, ◌≢◌, ◌⊎◌, inl, inr, ℕ, suc, ◌<◌, ◌≤◌, Bool, true, false, cond, not, eqb, List, [], ◌∷◌, ◌++◌, length, Option, Some, None, refl, sym, ◌∙◌, ap, subst, arith, append_assoc}
-use Rattle.std.specs.List.{AllByRecursion}
+use Rattle.std.proofs.Common.{◌≡◌, inl, inr, ℕ, ◌<◌, ◌≤◌, Bool, true, false, cond, not, eqb, List, [], ◌∷◌, ◌++◌, Option, Some, None, refl, sym, ◌∙◌, ap, subst, arith, append_assoc}
 use Rattle.std.proofs.lemmas.Bool.{cases_Bool, cases_lt, cases_eq, eqb-true, eq-eqb}
 use Rattle.std.proofs.lemmas.List.{append-nil, get_or_past}
 use Rattle.quorum_rules.specs.Limits.{Numbers, IsValid}
-use Rattle.protocol.specs.Count.{update}
+use Rattle.protocol.specs.Count.{count, update}
 use Rattle.protocol.specs.Instance.{setting}
+use Rattle.protocol.specs.Messages.{Version}
 use Rattle.disk_model.specs.Crash.{Pending}
 use Rattle.node_core.specs.Seen.{SeenNode, versions_in}
 use Rattle.version_disk.specs.Stored.{Stored}
 use Rattle.version_disk.specs.declared.prune.Prune.{Prune}
 use Rattle.block_phases.specs.Phases.{Keeps}
 use Rattle.block_phases.specs.Executions.{StampedValue}
-use Rattle.block_turns.specs.Turns.{Standing, Turn as BlockTurn, away_in, standing_after, standing_at}
-use Rattle.block_turns.specs.Turns.Turn.{Changed as ChangedThere, Lost as LostThere, Renewed as RenewedThere}
-use Rattle.block_turns.specs.Lives.{Takes as TakesThere, renewed}
+use Rattle.block_turns.specs.Turns.{Standing, away_in, standing_after}
+use Rattle.block_turns.specs.Turns.Turn.{Changed as ChangedThere, Failed as FailedThere, Renewed as RenewedThere}
+use Rattle.block_turns.specs.Lives.{Takes as TakesThere, HasTaken, renewed}
 use Rattle.store_device.specs.Stores.{SeenStore, Nodes, IsSound, IsStore, IsFound, IsLeft, kept_at, kept_in, seat_at, down_in, is_up}
 use Rattle.store_device.specs.Told.{IsTold, kept_of, untold}
-use Rattle.store_device.specs.Lives.{Turn, Moment, IsLife, IsBatch, IsWhole, KeepAlike, turn_on, nodes_of, nodes_after, first_nodes, standing_on, life_on}
-use Rattle.store_device.specs.Lives.Turn.{Performed, Pruned, Lost, Renewed}
-use Rattle.store_device.specs.Calls.{Deed, Call, Acknowledged, ArePruned, HasDone, IsCall, StaysStore, MayDo, MayDoAll, AreTurnsBy, IsTurnBy, IsTurnCut, given_after, given_on, told_each}
+use Rattle.store_device.specs.Lives.{Turn, Moment, IsBatch, IsWhole, KeepAlike, turn_on, nodes_of, first_nodes, standing_on}
+use Rattle.store_device.specs.Lives.Turn.{Performed, Pruned, Changed, Gone, Back, Lost, Failed, Renewed}
+use Rattle.store_device.specs.Calls.{Deed, Acknowledged, ArePruned, HasDone, StaysStore, MayDo, MayDoAll, AreTurnsBy, IsTurnBy, IsTurnCut, given_after, given_on, told_each}
 use Rattle.store_device.specs.Calls.Deed.{Performs, Prunes}
 use Rattle.store_device.specs.Seating.{IsReseatedAt, IsReseated}
 use Rattle.store_device.specs.Steps.{Step, StepsLead, AreFound, calls_among, gone_after}
 use Rattle.store_device.specs.Steps.Step.{Called, Reseated}
-use Rattle.store_device.specs.Sessions.{given_in, IsPresent, HasLived, OthersAlike, BlocksAlike, LivesBegin, NodesAreLost, NodesAreRebuilt, HasComeTo, StoresOpen, StoresAreLeft, StepsAreLives, CrashesAreLives, CallsKeepPresent}
-use Rattle.store_device.proofs.Calling.{alike_back, alike_on, stays_by, found_is_kept, found_same}
+use Rattle.store_device.specs.Sessions.{given_in, IsPresent, HasLived, LivesBegin, NodesAreLost, NodesAreRebuilt, NodesAreGone, NodesAreBack, NodesFail, NodesAreChanged, HasComeTo, StoresOpen, StoresAreLeft, StepsAreLives, CrashesAreLives, CallsKeepPresent}
+use Rattle.store_device.proofs.Calling.{alike_back, alike_on, found_is_kept, found_same}
 use Rattle.store_device.proofs.LifeOnBlocks.{KeptOf, kept_end, kept_is, nodes_append, one_more, standing_more, batch, prune, given_batch, given_prune, away_batch, away_prune, lengths}
-use Rattle.store_device.proofs.Asked.{all_get}
 
 module _ (c : Numbers) where
   -- one moment more: where nodes kept what the life had come to, and each block may take the turn
@@ -100,6 +99,47 @@ module _ (c : Numbers) where
               → TakesThere (setting c) other (standing_on c other life) kept (cond t (RenewedThere node) ChangedThere) (kept_of new other)
           at true e = here other (eqb-true block other e) below kept same
           at false e = elsewhere other (λ q. let k = eq-eqb block other (sym q) in cc) kept same
+
+  pub nodes_gone : NodesAreGone c
+  nodes_gone life kept node has =
+      lived_more life kept (record { turn = Gone node; nodes = kept }) has tt (λ block there now same i l. sym (same i l))
+
+  pub nodes_back : NodesAreBack c
+  nodes_back life old new node has below taken others =
+      lived_more life old (record { turn = Back node; nodes = new }) has tt (λ block there now same.
+      (let h = taken block there in (
+        h.0,
+        subst (λ (vs : List Version). HasTaken (setting c) ((standing_on c block life).late node) node vs (versions_in (new node) block)) (sym (same node below)) h.1,
+        λ i l other. others i block l other ∙ sym (same i l),
+      )))
+
+  pub nodes_fail : NodesFail c
+  nodes_fail life kept block node has there few =
+      lived_more life kept (record { turn = Failed block node; nodes = kept }) has tt takes
+    where
+      here : (other : ℕ) → block ≡ other → (now : Keeps) → KeptOf c other now kept
+          → TakesThere (setting c) other (standing_on c other life) now (FailedThere node) (kept_of kept other)
+      here other e now same = (
+        subst (λ (b : ℕ). count c.n (update (standing_on c b life).lies node true) ≤ c.b) e few,
+        λ i l apart. sym (same i l),
+      )
+
+      takes : (other : ℕ) → other < c.blocks → (now : Keeps) → KeptOf c other now kept
+          → TakesThere (setting c) other (standing_on c other life) now (turn_on other (Failed block node)) (kept_of kept other)
+      takes other below now same = at (eqb block other) refl
+        where
+          at : (t : Bool) → eqb block other ≡ t
+              → TakesThere (setting c) other (standing_on c other life) now (cond t (FailedThere node) ChangedThere) (kept_of kept other)
+          at true e = here other (eqb-true block other e) now same
+          at false e = λ i l. inr (inr (sym (same i l)))
+
+  pub nodes_changed : NodesAreChanged c
+  nodes_changed life old new has changed =
+      lived_more life old (record { turn = Changed; nodes = new }) has tt
+      (λ block there now same i l. elim (changed block i there l) [
+        | inl lies ↦ inl lies
+        | inr rest ↦ elim rest [ inl lost ↦ inr (inl lost) | inr stays ↦ inr (inr (stays ∙ sym (same i l))) ]
+      ])
 
 module _ {D : Type 0} (pending : D → Pending) (seen : D → List ℕ) where
   abbrev On : List Moment → SeenStore D → Nodes → Type 0

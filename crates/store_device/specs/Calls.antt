@@ -1,5 +1,5 @@
 -- Calls of a store, and what they are in its life.
-use Rattle.std.specs.Prelude.{◌≡◌, ◌≢◌, ◌⊎◌, ◌==◌, ℕ, ◌<◌, ⊤, Bool, true, false, if◌then◌else◌, is_some, map, List, [], ◌∷◌, ◌++◌, length, Option}
+use Rattle.std.specs.Prelude.{◌≡◌, ◌≢◌, ◌⊎◌, ◌==◌, ℕ, ◌<◌, ⊤, true, false, if◌then◌else◌, is_some, map, List, [], ◌∷◌, ◌++◌, length, Option}
 use Rattle.std.specs.declared.option.Option.TheVariants.{None, Some}
 use Rattle.std.specs.List.{AllByRecursion, Contains}
 use Rattle.quorum_rules.specs.Limits.{Numbers}
@@ -151,6 +151,11 @@ given_on block _ _ xs = xs
 abbrev pub given_after : Acknowledged → Deed → Acknowledged
 given_after given (Performs ops told) block = given_on block ops (told_each ops told) (given block)
 given_after given (Prunes prunes) block = given block
+
+-- and after calls, one after the other
+abbrev pub given_through : {D : Type 0} → Acknowledged → List (Call D) → Acknowledged
+given_through given [] = given
+given_through given (call ∷ calls) = given_through (given_after given call.deed) calls
 
 -- the stamp is that of one of these
 abbrev pub IsStampOf : List StampedValue → Stamp → Type 0

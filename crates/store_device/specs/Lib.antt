@@ -10,3 +10,4 @@ pub mod Arrays
 pub mod Steps
 pub mod Phased
 pub mod Sessions
+pub mod Settled

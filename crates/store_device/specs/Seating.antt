@@ -1,5 +1,5 @@
 -- Who sits on a store's seats, and what prunes leave of a node.
-use Rattle.std.specs.Prelude.{◌≡◌, ◌≢◌, ◌<◌, ◌⊎◌, ℕ, ⊤, Bool, true, false, cond, All, List, length, Option, Some, None, slice_set}
+use Rattle.std.specs.Prelude.{◌≡◌, ◌≢◌, ◌<◌, ◌≤◌, ◌⊎◌, ℕ, ⊤, Bool, true, false, cond, All, List, length, Option, Some, None, slice_set}
 use Rattle.std.specs.List.{AllPairs}
 use Rattle.quorum_rules.specs.Limits.{Numbers}
 use Rattle.disk_model.specs.Crash.{Pending, LeavesOnly, settled}
@@ -56,14 +56,15 @@ module _ {D : Type 0} where
     pub wholly : starved ≡ false → has_room seen most (length prunes) new ≡ true
         → (was : Stored D) × (is : Stored D) × (old ≡ Some was) × (new ≡ Some is) × HasPruned pending seen prunes was is
 
-  -- A disk was opened as this node: it has the slots that it had, all of them good, and the same room. A crash meanwhile left what a crash
-  -- might have left before, or these slots.
+  -- A disk was opened as this node: it has the slots that it had, all of them good, and the same room, and met no fewer faults. A crash
+  -- meanwhile left what a crash might have left before, or these slots.
   pub record IsOpened (pending : D → Pending) (seen : D → List ℕ) (most : D → ℕ) (moment : D → ℕ) (left_since : D → ℕ → List ℕ → Type 0)
-      (c : Numbers) (number : ℕ) (disk : D) (node : Stored D) : Type 0 where
+      (faults : D → ℕ) (c : Numbers) (number : ℕ) (disk : D) (node : Stored D) : Type 0 where
     pub state : node.node ≡ held c number (seen disk)
     pub slots : slots_of c (seen node.disk) ≡ slots_of c (seen disk)
     pub good : first_bad c number (seen disk) ≡ None
     pub room : most node.disk ≡ most disk
+    pub later : faults disk ≤ faults node.disk
     pub any_moment : LeavesOnly moment left_since disk node.disk (IsStillThere c (pending disk) (seen disk))
 
   module _ (pending : D → Pending) (seen : D → List ℕ) where

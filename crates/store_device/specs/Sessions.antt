@@ -1,20 +1,20 @@
 -- A store's life goes on: over calls, crashes, lost and rebuilt nodes, and from one session to the next.
-use Rattle.std.specs.Prelude.{◌≡◌, ◌≢◌, ℕ, ◌<◌, ⊤, true, false, List, [], ◌∷◌, ◌++◌, Option}
+use Rattle.std.specs.Prelude.{◌≡◌, ◌≢◌, ◌⊎◌, ℕ, ◌<◌, ◌≤◌, true, false, List, [], ◌∷◌, ◌++◌}
 use Rattle.std.specs.declared.option.Option.TheVariants.{Some}
 use Rattle.quorum_rules.specs.Limits.{Numbers}
+use Rattle.protocol.specs.Count.{count, update}
 use Rattle.protocol.specs.Instance.{setting}
 use Rattle.node_core.specs.Seen.{SeenNode, versions_in}
 use Rattle.disk_model.specs.Crash.{Pending}
 use Rattle.version_disk.specs.Stored.{Stored}
 use Rattle.block_phases.specs.Executions.{StampedValue}
 use Rattle.block_turns.specs.Turns.{away_in}
-use Rattle.block_turns.specs.Lives.{renewed}
-use Rattle.store_device.specs.Stores.{SeenStore, Nodes, IsSound, IsStore, IsFound, IsLeft, kept_in, seat_at, is_up}
-use Rattle.store_device.specs.Lives.{Turn, Moment, IsLife, KeepAlike, nodes_of, standing_on}
-use Rattle.store_device.specs.Lives.Turn.{Lost, Renewed}
-use Rattle.store_device.specs.Calls.{Call, Acknowledged, IsCall, MayDoAll, AreTurnsBy, IsTurnCut}
+use Rattle.block_turns.specs.Lives.{HasTaken, renewed}
+use Rattle.store_device.specs.Stores.{SeenStore, Nodes, IsStore, IsFound, IsLeft, kept_in, seat_at, is_up}
+use Rattle.store_device.specs.Lives.{Moment, IsLife, KeepAlike, nodes_of, standing_on}
+use Rattle.store_device.specs.Lives.Turn.{Changed, Gone, Back, Lost, Failed, Renewed}
+use Rattle.store_device.specs.Calls.{Call, Acknowledged, given_through, IsCall, MayDoAll, AreTurnsBy, IsTurnCut}
 use Rattle.store_device.specs.Steps.{Step, StepsLead, AreFound, calls_among, gone_after}
-use Rattle.store_device.specs.Seating.{with_seat}
 
 module _ (c : Numbers) where
   -- what acknowledged operations of a life read or wrote on each block
@@ -63,6 +63,56 @@ module _ (c : Numbers) where
       → HasLived (life ++ record { turn = Renewed block node; nodes = new } ∷ []) new
       × (away_in (standing_on c block (life ++ record { turn = Renewed block node; nodes = new } ∷ [])) node ≡ false)
 
+  -- A node has another disk, which keeps of each block the first version and that of the latest acknowledged operation. So it was lost, and
+  -- is rebuilt on one block after the other, and present then.
+  abbrev pub NodesAreReplaced : Type 0
+  NodesAreReplaced =
+      (life : List Moment) (old new : Nodes) (node : ℕ)
+      → HasLived life old
+      → OthersAlike node old new
+      → ((block : ℕ) → block < c.blocks
+      → (x : StampedValue) × (earlier : List StampedValue) × (given_in life block ≡ x ∷ earlier)
+      × (versions_in (new node) block ≡ renewed (setting c) x node))
+      → (more : List Moment) × HasLived (life ++ more) new × IsPresent (life ++ more) node
+
+  -- A node is out of reach, and keeps what it has.
+  abbrev pub NodesAreGone : Type 0
+  NodesAreGone =
+      (life : List Moment) (kept : Nodes) (node : ℕ)
+      → HasLived life kept
+      → HasLived (life ++ record { turn = Gone node; nodes = kept } ∷ []) kept
+
+  -- A node that was out of reach on each block is back. It keeps what it kept, and may have stored what it still could.
+  abbrev pub NodesAreBack : Type 0
+  NodesAreBack =
+      (life : List Moment) (old new : Nodes) (node : ℕ)
+      → HasLived life old
+      → node < c.n
+      → ((block : ℕ) → block < c.blocks
+      → ((standing_on c block life).gone node ≡ true)
+      × HasTaken (setting c) ((standing_on c block life).late node) node (versions_in (old node) block) (versions_in (new node) block))
+      → OthersAlike node old new
+      → HasLived (life ++ record { turn = Back node; nodes = new } ∷ []) new
+
+  -- A node begins to lie about a block, if then at most b nodes do.
+  abbrev pub NodesFail : Type 0
+  NodesFail =
+      (life : List Moment) (kept : Nodes) (block node : ℕ)
+      → HasLived life kept
+      → block < c.blocks
+      → count c.n (update (standing_on c block life).lies node true) ≤ c.b
+      → HasLived (life ++ record { turn = Failed block node; nodes = kept } ∷ []) kept
+
+  -- On each block nodes were changed that lie or are lost, and no others.
+  abbrev pub NodesAreChanged : Type 0
+  NodesAreChanged =
+      (life : List Moment) (old new : Nodes)
+      → HasLived life old
+      → ((block i : ℕ) → block < c.blocks → i < c.n
+      → ((standing_on c block life).lies i ≡ true) ⊎ ((standing_on c block life).lost i ≡ true)
+      ⊎ (versions_in (new i) block ≡ versions_in (old i) block))
+      → HasLived (life ++ record { turn = Changed; nodes = new } ∷ []) new
+
 module _ {D : Type 0} (pending : D → Pending) (seen : D → List ℕ) where
   -- A life has come to what a store's nodes keep, where those that aren't up keep this. Each node that is up is present.
   pub record HasComeTo (life : List Moment) (store : SeenStore D) (gone : Nodes) : Type 0 where
@@ -88,6 +138,14 @@ module _ {D : Type 0} (pending : D → Pending) (seen : D → List ℕ) where
       → HasComeTo life store gone
       → IsFound pending store store gone kept
       → HasLived store.config life kept
+
+  -- what calls acknowledge, in a life of which they are turns
+  abbrev pub CallsAcknowledge : Type 0
+  CallsAcknowledge =
+      (c : Numbers) (life more : List Moment) (calls : List (Call D)) (block : ℕ)
+      → IsLife c (life ++ more)
+      → AreTurnsBy calls more
+      → given_in c (life ++ more) block ≡ given_through (given_in c life) calls block
 
   -- who is present stays so over calls
   abbrev pub CallsKeepPresent : Type 0

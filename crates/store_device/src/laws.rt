@@ -6,8 +6,10 @@ ghost use Rattle.store_device.specs.Lives.{AcknowledgedWritesAreRead};
 ghost use Rattle.store_device.specs.Arrays.{LivesAreArrays, AcknowledgedAreDone};
 ghost use Rattle.store_device.specs.Calls.{CallsGoOn, CallsKeepStores};
 ghost use Rattle.store_device.specs.Steps.{StepsGoOn};
-ghost use Rattle.store_device.specs.Sessions.{LivesBegin, NodesAreLost, NodesAreRebuilt, StoresOpen};
-ghost use Rattle.store_device.specs.Sessions.{StepsAreLives, StoresAreLeft, CrashesAreLives, CallsKeepPresent};
+ghost use Rattle.store_device.specs.Settled.{SettledBlocksForget, HeldBlocksSettle, StoresHold};
+ghost use Rattle.store_device.specs.Sessions.{LivesBegin, NodesAreLost, NodesAreRebuilt, NodesAreReplaced, StoresOpen};
+ghost use Rattle.store_device.specs.Sessions.{NodesAreGone, NodesAreBack, NodesFail, NodesAreChanged};
+ghost use Rattle.store_device.specs.Sessions.{StepsAreLives, StoresAreLeft, CrashesAreLives, CallsAcknowledge, CallsKeepPresent};
 
 use disk_model::Disk;
 
@@ -44,6 +46,18 @@ pub fn lives_are_arrays()
     linear_runs::laws::reads();
 }
 
+/// A block is settled when no node keeps a version above what its latest acknowledged operation read or wrote, or may still store one;
+/// lying and lost nodes don't matter. A later read returns that value, or one that a later write was to write: no write that was cut off
+/// before takes effect. After a crash nobody knows the latest value. Then it is enough that `n-t` nodes that are up keep one stamp and none
+/// keeps a greater one (`holds`): the first operation on the block settles it, if it is acknowledged (`settles`).
+pub fn settled_blocks_forget<D: Disk>()
+    ensures forgets { (c : Numbers) → SettledBlocksForget c }
+    ensures settles { (c : Numbers) → HeldBlocksSettle c }
+    ensures holds { StoresHold D.pending D.seen }
+{
+    block_turns::settled_lives();
+}
+
 /// Calls after calls are calls, and leave a store of the same cluster. Steps after steps are steps.
 pub fn calls_follow<D: Disk>()
     ensures calls { CallsGoOn D.pending D.seen D.most D.moment D.left_since }
@@ -59,13 +73,22 @@ pub fn sessions_are_lives<D: Disk>()
     ensures steps { StepsAreLives D.pending D.seen D.most D.moment D.left_since }
     ensures left { StoresAreLeft D.pending D.seen }
     ensures crashed { CrashesAreLives D.pending D.seen D.most D.moment D.left_since }
+    ensures acknowledged { CallsAcknowledge D.pending D.seen }
     ensures present { CallsKeepPresent D.pending D.seen }
 {}
 
 /// A life begins with nodes that keep the first version of each block. A node may be lost at any time, and may keep anything then. It is
-/// present again on each block for which it keeps the first version and that of the latest acknowledged operation.
+/// present again on each block for which it keeps the first version and that of the latest acknowledged operation. So a node may get another
+/// disk that keeps these of all blocks. A node may be out of
+/// reach, and come back with what it kept. It may begin to lie about a block if then at most `b` nodes do. What lying and lost nodes keep
+/// may change.
 pub fn nodes_are_rebuilt()
     ensures begin { (c : Numbers) → LivesBegin c }
     ensures lost { (c : Numbers) → NodesAreLost c }
     ensures rebuilt { (c : Numbers) → NodesAreRebuilt c }
+    ensures replaced { (c : Numbers) → NodesAreReplaced c }
+    ensures gone { (c : Numbers) → NodesAreGone c }
+    ensures back { (c : Numbers) → NodesAreBack c }
+    ensures fail { (c : Numbers) → NodesFail c }
+    ensures changed { (c : Numbers) → NodesAreChanged c }
 {}

@@ -1,5 +1,5 @@
 //! Who sits on a store's seats, and prunes of blocks.
-ghost use Rattle.std.specs.Prelude.{◌≡◌, ◌<◌, ℕ, true, false, All, replicate, length, slice_index_or, MatchOption, IfSome, IfOk, IfErr, OnOk, OnErr, Some, None};
+ghost use Rattle.std.specs.Prelude.{◌≡◌, ◌≤◌, ◌<◌, ◌⊎◌, ℕ, true, false, All, replicate, length, slice_index_or, MatchOption, IfSome, IfOk, IfErr, OnOk, OnErr, Some, None, Err};
 ghost use Rattle.quorum_rules.specs.Limits.{IsValid};
 ghost use Rattle.version_disk.specs.Held.{held, first_bad};
 ghost use Rattle.version_disk.specs.Stored.{Stored};
@@ -7,7 +7,8 @@ ghost use Rattle.store_device.specs.Stores.{IsSound, seat_at, is_up};
 ghost use Rattle.store_device.specs.Calls.{HasPruned};
 ghost use Rattle.store_device.specs.Seating.{with_seat, HasBlocks, ArePrunesApart, PrunesIn, HasTried, TriesIn};
 ghost use Rattle.store_device.specs.Seating.{PrunesWholly, IsOpened};
-ghost use Rattle.version_disk.specs.Opened.{IfSlotOf};
+ghost use Rattle.version_disk.specs.Opened.{IfSlotOf, IfFaultOf, disk_of};
+ghost use Rattle.outside_io.specs.Causes.{Rose};
 ghost use Rattle.store_device.specs.Answered.{is_memory};
 
 use crate::seat::{Seat, none_starved};
@@ -90,8 +91,8 @@ impl<D: Disk + Drop> Store<D> {
         Store::new(alloc, config, nodes)
     }
 
-    /// Opens a disk as the node of a seat, and seats it. `Damaged` tells the first slot that this node didn't write. A disk without room for
-    /// a byte is a `DiskFault`.
+    /// Opens a disk as the node of a seat, and seats it. `Damaged` tells the first slot that this node didn't write. `DiskFault` comes where
+    /// the disk failed, or has no room for a byte.
     pub fn seat_disk(&mut self, alloc: Global, seat: u8, disk: D) -> Result<(), OpenRefusal<D>>
         requires there { seat < self.old.config.n }
         ensures config { self.new.config ≡ self.old.config }
@@ -100,9 +101,13 @@ impl<D: Disk + Drop> Store<D> {
             × IsSound D.pending D.seen self.old.config seat node) }
         // the disk holds its slots still, which are all good
         ensures opened { OnOk result ((node : Stored D) × (self.new ≡ with_seat self.old seat (Some node))
-            × IsOpened D.pending D.seen D.most D.moment D.left_since self.old.config seat disk node) }
+            × IsOpened D.pending D.seen D.most D.moment D.left_since D.faults self.old.config seat disk node) }
         ensures damaged { IfErr result
             (IfSlotOf (λ slot. first_bad self.old.config seat (D.seen disk) ≡ Some slot)) }
+        // the disk that is given back
+        ensures later { IfErr result (λ why. D.faults disk ≤ D.faults (disk_of (Err why))) }
+        ensures cause { IfErr result (λ why. IfFaultOf
+            ((D.most disk ≡ 0) ⊎ Rose D.last (D.faults disk) (D.faults (disk_of (Err why)))) why) }
         ensures up { OnOk result (is_up (seat_at self.new seat) ≡ true) }
         ensures err { OnErr result (self.new ≡ self.old) }
     {

@@ -1,4 +1,4 @@
-use Rattle.std.proofs.Common.{Option, Some, sym, subst}
+use Rattle.std.proofs.Common.{Some, sym, subst}
 use Rattle.store_device.specs.Seating.{PrunesWholly}
 use Rattle.store_device.proofs.Reseated.{tried_in}
 use Rattle.store_device.proofs.seating.prune_in.Goals as goal

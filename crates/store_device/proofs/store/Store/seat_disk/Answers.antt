@@ -30,14 +30,15 @@ returns-clause-opened g c =
     let opened = c.in_ok-node.ensures in
     let view = c.self.view_is in
     let config : c.self.inside.config ≡ c.args.self.now.config = ap (λ (s : SeenStore g.row.D.Denot). s.config) view in
-    let is : IsOpened D.pending D.seen D.most D.moment D.left_since c.self.inside.config c.args.seat c.args.disk n = record {
+    let is : IsOpened D.pending D.seen D.most D.moment D.left_since D.faults c.self.inside.config c.args.seat c.args.disk n = record {
       state = opened.state;
       slots = opened.slots;
       good = opened.good;
       room = opened.room;
+      later = opened.later;
       any_moment = opened.any_moment;
     } in (
       n,
       c.seat_node.ensures ∙ ap (λ k. with_seat c.args.self.now k (Some n)) c.from.ensures,
-      subst (λ (d : Numbers). IsOpened D.pending D.seen D.most D.moment D.left_since d c.args.seat c.args.disk n) config is,
+      subst (λ (d : Numbers). IsOpened D.pending D.seen D.most D.moment D.left_since D.faults d c.args.seat c.args.disk n) config is,
     )
