@@ -115,7 +115,7 @@ def recorded(path):
             cases.append({"name": text, "size": 0, "preferred": 512, "input": b"", "left": b"", "output": b"", "end": ""})
         elif not cases or not mark:
             continue
-        elif mark == "export":
+        elif mark == "device":
             cases[-1]["size"], cases[-1]["preferred"] = map(int, text.split())
         elif mark[0] == "<":
             cases[-1]["input"] += digits(mark[1:], text)
@@ -174,7 +174,7 @@ def written(cases):
     for number, (case, data) in enumerate(cases):
         server = Server(case["size"], case["preferred"], data)
         end = server.run()
-        lines += [f"# {number}", f"export {case['size']} {case['preferred']}", f"< {data[:server.at].hex()}", f"> {server.sent.hex()}"]
+        lines += [f"# {number}", f"device {case['size']} {case['preferred']}", f"< {data[:server.at].hex()}", f"> {server.sent.hex()}"]
         lines += [f"left {data[server.at:].hex()}"] if server.at < len(data) else []
         lines += [f"end {end}"]
     return "\n".join(line for line in lines if line not in ("< ", "> ")) + "\n"
@@ -216,4 +216,5 @@ def main():
     sys.exit(failed > 0)
 
 
-main()
+if __name__ == "__main__":
+    main()

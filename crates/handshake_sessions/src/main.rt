@@ -1,13 +1,13 @@
-//! Handshakes as data. The file handshakes.cases in the folder that this program runs in has them, in the form that `case` says. Each is
-//! played over memory, in whole pieces and byte by byte. Writes a line for each: how it ended and how many bytes the server sent, if all
-//! is as it must be, or what is otherwise.
+//! Handshakes as data. The file handshakes.cases in the folder that this program runs in has them, in the form that
+//! `session_cases` says; its device is the size of the export and the preferred block size. Each is played over memory,
+//! in whole pieces and byte by byte. Writes a line for each: how it ended and how many bytes the server sent, if all is
+//! as it must be, or what is otherwise.
 #![tactic(auto)]
 
-mod case;
 mod played;
 
-use case::{Case, cases_of};
 use played::difference;
+use session_cases::{Case, cases_of};
 use std::{fs, io};
 
 fn tell<R: Print + AllocGlobal>(rt: &R, case: &Case) -> io::Result<()> {

@@ -1,10 +1,10 @@
 //! What comes of a handshake.
 ghost use Rattle.std.specs.Prelude.{◌≤◌};
 
-use crate::case::Case;
 use cross_sum::Bytes;
-use nbd_handshake::{Agreement, HandshakeFault, shake_hands};
+use nbd_handshake::{Agreement, Export, HandshakeFault, shake_hands};
 use outside_io::{Calls, MemorySink, MemorySource, Source};
+use session_cases::Case;
 use std::alloc::Global;
 use std::io;
 use std::io::ErrorKind;
@@ -47,7 +47,12 @@ fn difference_at(alloc: Global, case: &Case, most: usize) -> io::Result<Option<&
     };
     let mut source = MemorySource::new(input, most, Calls::new(alloc));
     let mut sink = MemorySink::new(alloc, most, Calls::new(alloc));
-    let end = shake_hands(&case.export, &mut source, &mut sink);
+    let (size, preferred) = case.device;
+    let export = Export {
+        size,
+        preferred: preferred.min(u64::from(u32::MAX)) as u32,
+    };
+    let end = shake_hands(&export, &mut source, &mut sink);
     if told(alloc, end)?.as_str() != case.end.as_str() {
         Ok(Some("the end differs"))
     } else if sink.taken() != case.output.as_slice() {

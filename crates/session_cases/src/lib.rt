@@ -1,25 +1,26 @@
-//! Handshakes as they are written down: a line `# NAME` begins one, and these lines follow. Lines before the first are a comment, and
-//! empty lines are nothing.
+//! Sessions of a server as they are written down: a line `# NAME` begins one, and these lines follow. Lines before the
+//! first are a comment, and empty lines are nothing.
 //!
 //! | Line | Meaning |
 //! |---|---|
-//! | `export SIZE PREFERRED` | how many bytes the export has, and the preferred block size |
+//! | `device A B` | two numbers that say what is served |
 //! | `< DIGITS` | what the client sends, as digits in base 16 with spaces among them |
 //! | `> DIGITS` | what the server sends |
 //! | `<N DIGITS`, `>N DIGITS` | that N times |
-//! | `left DIGITS` | what stands behind the handshake, and isn't read |
+//! | `left DIGITS` | what stands behind what the server reads |
 //! | `end TEXT` | how it ends |
+#![tactic(auto)]
 
-use nbd_handshake::Export;
 use std::alloc::Global;
 use std::io;
 use std::io::ErrorKind;
 
-/// What a handshake is given, and what must come of it.
+/// What a session is given, and what must come of it.
 #[derive(Drop)]
 pub struct Case {
     pub name: String,
-    pub export: Export,
+    /// What is served.
+    pub device: (u64, u64),
     pub input: Vec<u8>,
     pub left: usize,
     pub output: Vec<u8>,
@@ -30,10 +31,7 @@ impl Case {
     fn new(alloc: Global, name: &str) -> io::Result<Case> {
         Ok(Case {
             name: String::from_str(alloc, name)?,
-            export: Export {
-                size: 0,
-                preferred: 512,
-            },
+            device: (0, 0),
             input: Vec::new(alloc),
             left: 0,
             output: Vec::new(alloc),
@@ -45,10 +43,9 @@ impl Case {
         let (mark, text) = line.split_once(' ').unwrap_or((line, ""));
         match mark {
             "" => Ok(()),
-            "export" => {
-                let (size, preferred) = text.split_once(' ').unwrap_or((text, ""));
-                self.export.size = size.parse().unwrap_or(0);
-                self.export.preferred = preferred.parse().unwrap_or(0);
+            "device" => {
+                let (first, last) = text.split_once(' ').unwrap_or((text, ""));
+                self.device = (first.parse().unwrap_or(0), last.parse().unwrap_or(0));
                 Ok(())
             }
             "left" => {
@@ -90,7 +87,7 @@ fn add_digits(alloc: Global, bytes: &mut Vec<u8>, times: &str, digits: &str) -> 
     Ok(())
 }
 
-/// The handshakes of a file.
+/// The sessions of a file.
 pub fn cases_of(alloc: Global, text: &str) -> io::Result<Vec<Case>> {
     let mut cases: Vec<Case> = Vec::new(alloc);
     for line in text.lines() {
