@@ -4,7 +4,6 @@ use denote.Ref.{MutBor}
 use Rattle.quorum_rules.specs.Limits.{Numbers}
 use Rattle.disk_model.specs.Past.{LeftSince}
 use Rattle.file_disk.specs.OnFile.{OnFile}
-use Rattle.nbd_front.specs.declared.ending.SessionEnd.{SessionEnd}
 use Rattle.version_disk.specs.Compacted.{IsJournalOf}
 use Rattle.version_disk.specs.Held.{held}
 use Rattle.version_disk.specs.Stored.{Stored}
@@ -14,7 +13,8 @@ use Rattle.store_device.specs.Steps.{IsTended as IsTendedOn}
 use Rattle.store_care.specs.Filling.{groups_of}
 use Rattle.store_care.specs.Pruning.{HavePassed}
 use Rattle.store_care.specs.Settling.{IsTriedOut, Try, TriesLead as TriesLeadOn}
-use Rattle.store_front.specs.Sessions.{IsSession as IsSessionOn}
+use Rattle.store_front.specs.declared.connection.ConnectionEnd.{ConnectionEnd}
+use Rattle.store_front.specs.Connections.{IsConnection as IsConnectionOn}
 
 -- ---- a store whose disks are files
 

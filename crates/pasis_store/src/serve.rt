@@ -1,6 +1,6 @@
 ghost use Rattle.std.specs.Prelude.{◌≡◌, IfErr};
 ghost use Rattle.pasis_store.specs.Ends.{IsUnderstood};
-ghost use Rattle.pasis_store.specs.Upkeep.{IsSession, IsTended};
+ghost use Rattle.pasis_store.specs.Upkeep.{IsConnection, IsTended};
 
 use crate::folder::FileStore;
 use crate::keeping::ByClosure;
@@ -8,9 +8,10 @@ use crate::opening::open_store;
 use crate::settling::settle;
 use crate::upkeep::Upkeep;
 use lists::NoMemory;
+use nbd_handshake::HandshakeFault;
 use outside_io::{Sink, Source, StdSink, StdSource};
 use std::thread::{Threads, available_parallelism};
-use store_front::SessionEnd;
+use store_front::{ConnectionEnd, SessionEnd};
 use store_words::{Refusal, Status};
 
 /// Settles what a crash left, and then serves the device over standard input and output.
@@ -40,13 +41,13 @@ pub fn serve<T: Threads + Sync>(
     ) {
         Ok(()) => Ok(Status::Done),
         Err(end) => {
-            let _ = eprintln!(rt; "pasis_store: {}", told(&end));
+            let _ = eprintln!(rt; "pasis_store: {}", told(end));
             Ok(Status::Failed)
         }
     }
 }
 
-// Serves a store until the session ends, and looks after it while nothing waits.
+// Serves a store to a client until the connection ends, and looks after it while nothing waits.
 fn serve_store<T: Threads + Sync, S: Source, K: Sink>(
     rt: &HostRuntime,
     threads: &T,
@@ -55,10 +56,10 @@ fn serve_store<T: Threads + Sync, S: Source, K: Sink>(
     upkeep: &mut Upkeep,
     source: &mut S,
     sink: &mut K,
-) -> Result<(), SessionEnd>
+) -> Result<(), ConnectionEnd>
     // what was read, asked of the store, and written; between rounds the store is only looked after
-    ensures session { IsSession store.old.config store.old store.new result (S.left source.old)
-        (S.left source.new) (K.taken sink.old) (K.taken sink.new) }
+    ensures connection { IsConnection store.old.config store.old store.new result
+        (S.left source.old) (S.left source.new) (K.taken sink.old) (K.taken sink.new) }
 {
     let tend = |upkeep: &mut Upkeep, store: &mut FileStore, served: usize, is_ready: bool| -> Result<
         (),
@@ -68,10 +69,29 @@ fn serve_store<T: Threads + Sync, S: Source, K: Sink>(
         ensures config { store.new.config ≡ store.old.config }
     { upkeep.tend(rt, threads, folders, store, served, is_ready) };
     let mut keeper = ByClosure { upkeep, tend };
-    store_front::serve(threads, rt.alloc(), store, &mut keeper, source, sink)
+    store_front::serve_connection(threads, rt.alloc(), store, &mut keeper, source, sink)
 }
 
-fn told(end: &SessionEnd) -> &'static str {
+fn told(end: ConnectionEnd) -> &'static str {
+    match end {
+        ConnectionEnd::Handshake(fault) => told_of_handshake(fault),
+        ConnectionEnd::Session(end) => told_of_session(end),
+    }
+}
+
+fn told_of_handshake(fault: HandshakeFault) -> &'static str {
+    match fault {
+        HandshakeFault::ReadFault => "standard input can't be read",
+        HandshakeFault::WriteFault => "standard output can't be written",
+        HandshakeFault::UnknownFlags => "the client has flags that no handshake has",
+        HandshakeFault::BadMagic { .. } => "an option begins with other bytes",
+        HandshakeFault::Cut { .. } => "the input ends within the handshake",
+        HandshakeFault::UnknownExport { .. } => "the client wants an export that isn't there",
+        HandshakeFault::TooManyOptions => "too many options",
+    }
+}
+
+fn told_of_session(end: SessionEnd) -> &'static str {
     match end {
         SessionEnd::ReadFault => "standard input can't be read",
         SessionEnd::WriteFault => "standard output can't be written",

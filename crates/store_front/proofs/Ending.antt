@@ -19,13 +19,13 @@ use Rattle.store_front.specs.declared.standing.Standing.TheVariants.{Part, Wrong
 use Rattle.store_front.specs.Standings.{IsStanding}
 use Rattle.store_front.specs.Rounds.{BeginsWithRequest, Exchange, IsExchange}
 use Rattle.store_front.specs.Sessions.{told_place, requests_in, BeginsWithLeave, IsEnd, IsRest, EndsSo, IsSession}
-use Rattle.store_front.proofs.Waiting.{begins, leaves}
+use Rattle.store_front.proofs.Waits.{begins, leaves}
 
 -- ---- bytes with which a text begins
-same_magic : (bytes more : List ℕ) → 4 ≤ length bytes → magic_of (bytes ++ more) ≡ magic_of bytes
+pub same_magic : (bytes more : List ℕ) → 4 ≤ length bytes → magic_of (bytes ++ more) ≡ magic_of bytes
 same_magic bytes more long = ap (λ bs. from_be_bytes w32 bs) (take-append-le 4 bytes more long)
 
-same_request : (bytes more : List ℕ) → head_len ≤ length bytes → request_of (bytes ++ more) ≡ request_of bytes
+pub same_request : (bytes more : List ℕ) → head_len ≤ length bytes → request_of (bytes ++ more) ≡ request_of bytes
 same_request bytes more long =
     ap (λ bs. fields_of (take 24 bs)) (drop-append-le 4 bytes more (omega (arith, long)))
     ∙ ap fields_of (take-append-le 24 (drop 4 bytes) more (omega (arith, long, length-drop 4 bytes)))

@@ -4,9 +4,10 @@ pub mod Ending
 pub mod Hearing
 pub mod Living
 pub mod Reaching
+pub mod RefusedWrites
 pub mod Replying
 pub mod Rounding
 pub mod Serving
 pub mod Touching
 pub mod Valuing
-pub mod Waiting
+pub mod Waits

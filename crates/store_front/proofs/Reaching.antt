@@ -1,5 +1,5 @@
 -- What a request that is served reaches.
-use Rattle.std.proofs.Common.{◌≡◌, ℕ, ◌+◌, ◌*◌, ◌/◌, ◌<◌, ◌≤◌, Bool, true, false, if◌then◌else◌, inl, inr, refl, arith}
+use Rattle.std.proofs.Common.{◌≡◌, ℕ, ◌+◌, ◌*◌, ◌/◌, ◌<◌, ◌≤◌, Bool, true, false, if◌then◌else◌, inl, inr, refl, subst, arith}
 use Rattle.std.specs.Int.{div_ceil}
 use Rattle.std.proofs.lemmas.Bool.{cases_lt, and_parts, ltb-true, leb-true, eqb-true, ne_eqb}
 use Rattle.std.proofs.lemmas.Grind.{div_ceil_times}
@@ -7,8 +7,7 @@ use Rattle.std.proofs.Math.Nat.{mul-le-mul_right, mul_comm}
 use Rattle.quorum_rules.specs.Limits.{Numbers}
 use Rattle.block_device.proofs.lemmas.Touching.{first_place, last_place}
 use Rattle.nbd_front.specs.declared.request.Request.{Request}
-use Rattle.nbd_front.specs.Requests.{write_kind}
-use Rattle.nbd_front.specs.Replies.{error_of}
+use Rattle.store_front.specs.Requests.{has_range, error_of}
 use Rattle.store_front.specs.Blocks.{is_served, end_of, piece_of, IsPiece, Reaches}
 
 -- ---- a request that is served ends within the device
@@ -22,11 +21,14 @@ tests false false true w h e = refl
 tests false false false true h e = cc
 tests false false false false h e = cc
 
-pub error_within : (size : ℕ) (r : Request) → r.kind ≤ 1 → error_of size r ≡ 0 → r.offset + r.len ≤ size
-error_within size r low e = leb-true (r.offset + r.len) size (tests _ _ _ _ e (ne_eqb r.kind 3 (λ h. omega arith)))
+not_flush : (kind : ℕ) → has_range kind ≡ true → kind ≡ 3 → ⊥
+not_flush kind ranged is = let flush : has_range 3 ≡ true = subst (λ k. has_range k ≡ true) is ranged in cc
+
+pub error_within : (size : ℕ) (r : Request) → has_range r.kind ≡ true → error_of size r ≡ 0 → r.offset + r.len ≤ size
+error_within size r ranged e = leb-true (r.offset + r.len) size (tests _ _ _ _ e (ne_eqb r.kind 3 (not_flush r.kind ranged)))
 
 pub record Served (c : Numbers) (r : Request) : Type 0 where
-  pub low : r.kind ≤ 1
+  pub ranged : has_range r.kind ≡ true
   pub well : error_of (c.size * c.blocks) r ≡ 0
   pub some : 0 < r.len
   pub within : r.offset + r.len ≤ c.size * c.blocks
@@ -35,9 +37,8 @@ pub served : (c : Numbers) (r : Request) → is_served c r ≡ true → Served c
 served c r h =
     let both = and_parts _ _ h in
     let first = and_parts _ _ both.0 in
-    let low : r.kind ≤ 1 = leb-true r.kind write_kind first.0 in
     let well = eqb-true (error_of (c.size * c.blocks) r) 0 first.1 in
-    record { low = low; well = well; some = ltb-true 0 r.len both.1; within = error_within (c.size * c.blocks) r low well }
+    record { ranged = first.0; well = well; some = ltb-true 0 r.len both.1; within = error_within (c.size * c.blocks) r first.0 well }
 
 -- ---- its blocks
 pub end_within : (size blocks end : ℕ) → 0 < size → end ≤ size * blocks → div_ceil end size ≤ blocks

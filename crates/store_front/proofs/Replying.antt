@@ -8,7 +8,7 @@ use Rattle.quorum_rules.specs.Limits.{Numbers}
 use Rattle.block_device.proofs.lemmas.Touching.{range_more}
 use Rattle.nbd_front.specs.declared.request.Request.{Request}
 use Rattle.nbd_front.specs.Requests.{request_of}
-use Rattle.nbd_front.specs.Replies.{error_of}
+use Rattle.store_front.specs.Requests.{error_of}
 use Rattle.store_front.specs.declared.round.Asked.{Asked}
 use Rattle.store_front.specs.Rounds.{IsAsked, bytes_of, requests_of}
 use Rattle.store_front.specs.Blocks.{first_of, end_of, blocks_of}

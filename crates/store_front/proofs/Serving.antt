@@ -1,5 +1,5 @@
 -- Sessions that go on by a round, and end.
-use Rattle.std.proofs.Common.{◌≡◌, ◌⊎◌, ℕ, ◌+◌, ◌-◌, ◌*◌, ◌^◌, ◌<◌, ◌≤◌, Bool, true, false, List, [], ◌∷◌, ◌++◌, length, take, drop, refl, sym, ap, ◌∙◌, subst, arith, inl, inr, append_assoc, length-append, take-append-drop, Option, Some, None, Result, Ok, Err}
+use Rattle.std.proofs.Common.{◌≡◌, ℕ, ◌+◌, ◌-◌, ◌^◌, ◌<◌, ◌≤◌, List, [], ◌∷◌, ◌++◌, length, take, drop, refl, sym, ap, ◌∙◌, subst, arith, inl, inr, append_assoc, length-append, take-append-drop, Option, Some, None, Result, Ok, Err}
 use Rattle.std.specs.List.{AllByRecursion, concat}
 use Rattle.std.specs.Io.KnownBytes.{Consumes}
 use Rattle.std.proofs.lemmas.List.{append-nil, length-take-le}
@@ -10,7 +10,6 @@ use Rattle.disk_model.specs.Crash.{Pending}
 use Rattle.outside_io.specs.Written.{Adds, TakesPrefix}
 use Rattle.outside_io.proofs.lemmas.Known.{Consumes-none, Consumes-then}
 use Rattle.quorum_rules.specs.Limits.{Numbers}
-use Rattle.nbd_front.specs.Replies.{greeting}
 use Rattle.nbd_front.specs.Sessions.{IsRequest}
 use Rattle.nbd_front.specs.declared.ending.SessionEnd.{SessionEnd}
 use Rattle.nbd_front.specs.declared.ending.SessionEnd.TheVariants.{NoMemory, ReadFault, WriteFault, BadMagic, CutRequest, TooManyRequests}
@@ -19,7 +18,9 @@ use Rattle.store_device.specs.Calls.{Leads}
 use Rattle.store_front.specs.Rounds.{BeginsWithRequest, Exchange, IsExchange, IsBegun, calls_of, reads_for, writes_for}
 use Rattle.store_front.specs.Values.{given_by}
 use Rattle.store_front.specs.Replies.{text_of, IsDone, IsCutOff, ServesRound}
-use Rattle.store_front.specs.Sessions.{told_place, requests_in, replies_in, RoundsLead, HasRequest, HasReadOn, EndsWait, IsEnd, IsSession}
+use Rattle.store_front.specs.declared.waiting.Came.{Came}
+use Rattle.store_front.specs.declared.waiting.Came.TheVariants.{Nothing}
+use Rattle.store_front.specs.Sessions.{SeenSession, told_place, requests_in, replies_in, RoundsLead, HasRequest, HasReadOn, EndsWait, HasRound, HasWaited, TakesTurn, IsEnd, IsSession}
 
 -- ---- what the sink took
 pub adds_none : (a : Option (List ℕ)) → Adds a a []
@@ -39,10 +40,6 @@ adds_prefix a b c xs ys h k = (xs ++ k.0, k.1, ap (λ z. xs ++ z) k.2 ∙ sym (a
 adds_same : (a b c : Option (List ℕ)) (xs : List ℕ) → Adds a b xs → c ≡ b → Adds a c xs
 adds_same a b c xs h e = subst (λ z. Adds a z xs) (sym e) h
 
--- a wait doesn't write
-pub not_write : (end : SessionEnd) (place : ℕ) (old new : List ℕ) (left left_after : Option (List ℕ)) → end ≡ WriteFault → EndsWait (Err end) place old new left left_after → ⊥
-not_write end place old new left left_after is waited = subst (λ (e : SessionEnd). EndsWait (Err e) place old new left left_after) is waited
-
 -- ---- places
 place_on : (n m : ℕ) → told_place (told_place n + m) ≡ told_place (n + m)
 place_on n m = omega arith
@@ -61,9 +58,6 @@ all_more P [] x h k = (k, tt)
 all_more P (y ∷ ys) x h k = (h.0, all_more P ys x h.1 k)
 
 module _ {D : Type 0} (pending : D → Pending) (seen : D → List ℕ) (capacity : D → ℕ) (moment : D → ℕ) (left_since : D → ℕ → List ℕ → Type 0) (c : Numbers) where
-  abbrev words : List ℕ
-  words = greeting (c.size * c.blocks)
-
   -- nothing was asked of the store for no request
   pub none_cut : (rest : List ℕ) (store : SeenStore D) → (round : Exchange D) × IsCutOff pending seen capacity moment left_since c rest store store round
   none_cut rest store = (
@@ -130,10 +124,10 @@ module _ {D : Type 0} (pending : D → Pending) (seen : D → List ℕ) (capacit
       pub count_is : count ≡ length rounds
       pub place_is : place ≡ told_place (length (concat (requests_in rounds)))
       pub calls : RoundsLead pending seen capacity moment left_since keeps old rounds now
-      pub said : Adds taken taken_now (words ++ replies_in c rounds)
+      pub said : Adds taken taken_now (replies_in c rounds)
 
-    pub greeted : (store : SeenStore D) (left taken taken_now : Option (List ℕ)) → Adds taken taken_now words → HasServed store store 0 0 [] left left taken taken_now
-    greeted store left taken taken_now adds = record {
+    pub begun : (store : SeenStore D) (left taken : Option (List ℕ)) → HasServed store store 0 0 [] left left taken taken
+    begun store left taken = record {
       rounds = [];
       done = tt;
       some = tt;
@@ -141,7 +135,7 @@ module _ {D : Type 0} (pending : D → Pending) (seen : D → List ℕ) (capacit
       count_is = refl;
       place_is = refl;
       calls = refl;
-      said = subst (Adds taken taken_now) (sym (append-nil words)) adds;
+      said = adds_none taken;
     }
 
     module _ (old now : SeenStore D) (count place : ℕ) (input : List ℕ) (left left_now taken taken_now : Option (List ℕ))
@@ -188,8 +182,8 @@ module _ {D : Type 0} (pending : D → Pending) (seen : D → List ℕ) (capacit
         some_all : AllByRecursion HasRequest more
         some_all = all_more HasRequest h.rounds round h.some (done.some there)
 
-        text_more : (words ++ replies_in c h.rounds) ++ text_of c round ≡ words ++ replies_in c more
-        text_more = append_assoc words (replies_in c h.rounds) (text_of c round) ∙ ap (λ z. words ++ z) (sym (replies_more c h.rounds round))
+        text_more : replies_in c h.rounds ++ text_of c round ≡ replies_in c more
+        text_more = sym (replies_more c h.rounds round)
 
         pub serves_on : (taken_after : Option (List ℕ)) → Adds taken_now taken_after (text_of c round)
             → HasServed old new (count + 1) (told_place (place + len)) (drop len input) left left_now taken taken_after
@@ -204,7 +198,7 @@ module _ {D : Type 0} (pending : D → Pending) (seen : D → List ℕ) (capacit
               place_is = ap (λ p. told_place (p + len)) h.place_is ∙ place_on (length bytes) len
                   ∙ ap (λ n. told_place (length bytes + n)) (sym long) ∙ ap told_place (sym (length-append bytes (concat round.requests)) ∙ ap length (sym (requests_more h.rounds round)));
               calls = done_calls;
-              said = subst (Adds taken taken_after) text_more (adds_then taken taken_now taken_after (words ++ replies_in c h.rounds) (text_of c round) h.said adds);
+              said = subst (Adds taken taken_after) text_more (adds_then taken taken_now taken_after (replies_in c h.rounds) (text_of c round) h.said adds);
             }
 
         -- the sink failed in the midst of its replies
@@ -220,7 +214,7 @@ module _ {D : Type 0} (pending : D → Pending) (seen : D → List ℕ) (capacit
           store = new;
           calls = done_calls;
           left_store = refl;
-          said = subst (TakesPrefix taken taken_after) text_more (adds_prefix taken taken_now taken_after (words ++ replies_in c h.rounds) (text_of c round) h.said prefix);
+          said = subst (TakesPrefix taken taken_after) text_more (adds_prefix taken taken_now taken_after (replies_in c h.rounds) (text_of c round) h.said prefix);
         }
 
       -- a round ended the session
@@ -237,7 +231,7 @@ module _ {D : Type 0} (pending : D → Pending) (seen : D → List ℕ) (capacit
         store = now;
         calls = h.calls;
         left_store = inr (kept, r.0, work, r.1);
-        said = (words ++ replies_in c h.rounds, [], sym (append-nil (words ++ replies_in c h.rounds)), subst (Adds taken taken_after) (append-nil (words ++ replies_in c h.rounds)) (adds_then taken taken_now taken_after (words ++ replies_in c h.rounds) [] h.said r.2));
+        said = (replies_in c h.rounds, [], sym (append-nil (replies_in c h.rounds)), subst (Adds taken taken_after) (append-nil (replies_in c h.rounds)) (adds_then taken taken_now taken_after (replies_in c h.rounds) [] h.said r.2));
       }
       ends_round there kept work ReadFault new taken_after r = absurd r
       ends_round there kept work (BadMagic at) new taken_after r = absurd r
@@ -249,7 +243,7 @@ module _ {D : Type 0} (pending : D → Pending) (seen : D → List ℕ) (capacit
       ended_so result new left_after = IsEnd result (length h.rounds) (length bytes) new left_after
 
       -- a wait ended the session
-      pub leaves : (kept : SeenStore D) (work : keeps now kept) (new : List ℕ) (left_after : Option (List ℕ)) → EndsWait (Ok false) place input new left_now left_after
+      pub leaves : (kept : SeenStore D) (work : keeps now kept) (new : List ℕ) (left_after : Option (List ℕ)) → EndsWait c (Ok Nothing) place input new left_now left_after
           → IsSession pending seen capacity moment left_since keeps c old kept (Ok tt) left left_after taken taken_now
       leaves kept work new left_after w = record {
         rounds = h.rounds;
@@ -264,7 +258,7 @@ module _ {D : Type 0} (pending : D → Pending) (seen : D → List ℕ) (capacit
         said = h.said;
       }
 
-      pub ends_wait : (kept : SeenStore D) (work : keeps now kept) (end : SessionEnd) (new : List ℕ) (left_after : Option (List ℕ)) → EndsWait (Err end) place input new left_now left_after
+      pub ends_wait : (kept : SeenStore D) (work : keeps now kept) (end : SessionEnd) (new : List ℕ) (left_after : Option (List ℕ)) → EndsWait c (Err end) place input new left_now left_after
           → IsSession pending seen capacity moment left_since keeps c old kept (Err end) left left_after taken taken_now
       ends_wait kept work (BadMagic at) new left_after w = record {
         rounds = h.rounds;
@@ -312,7 +306,7 @@ module _ {D : Type 0} (pending : D → Pending) (seen : D → List ℕ) (capacit
         store = now;
         calls = h.calls;
         left_store = inr (kept, (none_cut (input ++ w.bytes) kept).0, work, (none_cut (input ++ w.bytes) kept).1);
-        said = (words ++ replies_in c h.rounds, [], sym (append-nil (words ++ replies_in c h.rounds)), h.said);
+        said = (replies_in c h.rounds, [], sym (append-nil (replies_in c h.rounds)), h.said);
       }
       ends_wait kept work WriteFault new left_after w = absurd w
       ends_wait kept work TooManyRequests new left_after w = absurd w
@@ -330,7 +324,7 @@ module _ {D : Type 0} (pending : D → Pending) (seen : D → List ℕ) (capacit
         store = now;
         calls = h.calls;
         left_store = inr (kept, (none_cut input kept).0, work, (none_cut input kept).1);
-        said = (words ++ replies_in c h.rounds, [], sym (append-nil (words ++ replies_in c h.rounds)), h.said);
+        said = (replies_in c h.rounds, [], sym (append-nil (replies_in c h.rounds)), h.said);
       }
 
       -- no more rounds than these are counted
@@ -348,54 +342,59 @@ module _ {D : Type 0} (pending : D → Pending) (seen : D → List ℕ) (capacit
         said = h.said;
       }
 
-    -- ---- a wait, and what came of it
-    module _ (old now : SeenStore D) (count place : ℕ) (input : List ℕ) (left left_now taken taken_now : Option (List ℕ))
-        (h : HasServed old now count place input left left_now taken taken_now) (kept : SeenStore D) (work : keeps now kept)
-        (came : Bool) (read : List ℕ) (left_after : Option (List ℕ)) (waited : EndsWait (Ok came) place input read left_now left_after) where
+    -- ---- a turn
+    module _ (old now : SeenStore D) (count : ℕ) (before : SeenSession) (left left_now taken taken_now : Option (List ℕ))
+        (h : HasServed old now count before.place before.input left left_now taken taken_now) (kept : SeenStore D) (work : keeps now kept)
+        (config : Numbers) (same : config ≡ c) (new : SeenStore D) (left_after taken_after : Option (List ℕ)) where
+      abbrev Turn : SeenSession → Result (Option ℕ) SessionEnd → Type 0
+      Turn after result = TakesTurn pending seen capacity moment left_since config before after kept new left_now left_after taken_now taken_after result
+
+      abbrev Round : List ℕ → Result ℕ SessionEnd → Type 0
+      Round read result = HasRound pending seen capacity moment left_since config before read kept new left_now left_after taken_now taken_after result
+
+      abbrev Waited : List ℕ → Result Came SessionEnd → Type 0
+      Waited read result = HasWaited pending seen capacity moment left_since config before read kept new left_now left_after taken_now taken_after result
+
+      abbrev Ended : SeenStore D → Option (List ℕ) → Result Unit SessionEnd → Type 0
+      Ended store took result = IsSession pending seen capacity moment left_since keeps c old store result left left_after taken took
+
+      come : (read : List ℕ) (result : Result ℕ SessionEnd) → Round read result → HasServed old now count before.place read left left_after taken taken_now
+      come read result r = reads_on old now count before.place before.input left left_now taken taken_now h read left_after r.reads
+
+      serves : (read : List ℕ) (result : Result ℕ SessionEnd) → Round read result → ServesRound pending seen capacity moment left_since c read kept new taken_now taken_after result
+      serves read result r = subst (λ (k : Numbers). ServesRound pending seen capacity moment left_since k read kept new taken_now taken_after result) same r.serves
+
+      -- requests were served
+      pub turn : (after : SeenSession) (some : Option ℕ) (len : ℕ) → some ≡ Some len → Turn after (Ok some) → HasServed old new (count + 1) after.place after.input left left_after taken taken_after
+      turn after some len is it =
+          let t : Turn after (Ok (Some len)) = subst (λ z. Turn after (Ok z)) is it in
+          let read = t.0 in
+          let done = serves read (Ok len) t.1 in
+          let next = serves_on old now count before.place read left left_after taken taken_now (come read (Ok len) t.1) t.1.begins kept work new len done.0 done.1 taken_after done.2 in
+          subst (λ z. HasServed old new (count + 1) after.place z left left_after taken taken_after) (sym t.2)
+          (subst (λ n. HasServed old new (count + 1) n (drop len read) left left_after taken taken_after) (sym t.3) next)
+
+      same_ended : (result : Result Unit SessionEnd) → new ≡ kept → taken_after ≡ taken_now → Ended kept taken_now result → Ended new taken_after result
+      same_ended result store took e = subst (λ s. Ended s taken_after result) (sym store) (subst (λ t. Ended kept t result) (sym took) e)
+
       -- the client leaves, or the input has ended
-      pub none_came : came ≡ false → IsSession pending seen capacity moment left_since keeps c old kept (Ok tt) left left_after taken taken_now
-      none_came is = leaves old now count place input left left_now taken taken_now h kept work read left_after (subst (λ b. EndsWait (Ok b) place input read left_now left_after) is waited)
+      pub none_came : (after : SeenSession) (some : Option ℕ) → some ≡ None → Turn after (Ok some) → Ended new taken_after (Ok tt)
+      none_came after some is it =
+          let t : Turn after (Ok None) = subst (λ z. Turn after (Ok z)) is it in
+          let w : EndsWait c (Ok Nothing) before.place before.input t.0 left_now left_after = t.1.waited in
+          same_ended (Ok tt) t.1.same t.1.silent (leaves old now count before.place before.input left left_now taken taken_now h kept work t.0 left_after w)
 
-      module _ (is : came ≡ true) (config : Numbers) (same : config ≡ c) (new : SeenStore D) (taken_after : Option (List ℕ)) where
-        it_came : EndsWait (Ok true) place input read left_now left_after
-        it_came = subst (λ b. EndsWait (Ok b) place input read left_now left_after) is waited
+      -- the session ended
+      pub cut_short : (after : SeenSession) (end : SessionEnd) → Turn after (Err end) → Ended new taken_after (Err end)
+      cut_short after end (inl w) =
+          let waited = subst (λ (k : Numbers). EndsWait k (Err end) before.place before.input w.0 left_now left_after) same w.1.waited in
+          same_ended (Err end) w.1.same w.1.silent (ends_wait old now count before.place before.input left left_now taken taken_now h kept work end w.0 left_after waited)
+      cut_short after end (inr r) =
+          ends_round old now count before.place r.0 left left_after taken taken_now (come r.0 (Err end) r.1) r.1.begins kept work end new taken_after (serves r.0 (Err end) r.1)
 
-        one_came : HasServed old now count place read left left_after taken taken_now
-        one_came = reads_on old now count place input left left_now taken taken_now h read left_after it_came.0
-
-        -- its round was served
-        pub turn : (len : ℕ) → ServesRound pending seen capacity moment left_since config read kept new taken_now taken_after (Ok len)
-            → (input_next : List ℕ) (place_next : ℕ) → input_next ≡ drop len read → place_next ≡ told_place (place + len)
-            → HasServed old new (count + 1) place_next input_next left left_after taken taken_after
-        turn len r input_next place_next rest further =
-            let done = subst (λ (k : Numbers). ServesRound pending seen capacity moment left_since k read kept new taken_now taken_after (Ok len)) same r in
-            let next = serves_on old now count place read left left_after taken taken_now one_came it_came.1 kept work new len done.0 done.1 taken_after done.2 in
-            subst (λ z. HasServed old new (count + 1) place_next z left left_after taken taken_after) (sym rest)
-            (subst (λ n. HasServed old new (count + 1) n (drop len read) left left_after taken taken_after) (sym further) next)
-
-        -- its round ended the session
-        pub cut_short : (end : SessionEnd) → ServesRound pending seen capacity moment left_since config read kept new taken_now taken_after (Err end)
-            → IsSession pending seen capacity moment left_since keeps c old new (Err end) left left_after taken taken_after
-        cut_short end r =
-            ends_round old now count place read left left_after taken taken_now one_came it_came.1 kept work end new taken_after
-            (subst (λ (k : Numbers). ServesRound pending seen capacity moment left_since k read kept new taken_now taken_after (Err end)) same r)
-
-    -- the session ended with its greeting
-    pub not_begun : (end : SessionEnd) (store : SeenStore D) (left taken taken_after : Option (List ℕ)) → (end ≡ WriteFault) ⊎ (end ≡ NoMemory) → TakesPrefix taken taken_after words
-        → IsSession pending seen capacity moment left_since keeps c store store (Err end) left left taken taken_after
-    not_begun end store left taken taken_after (inl is) prefix = rw is (record {
-      rounds = [];
-      done = tt;
-      some = tt;
-      rest = [];
-      gave = Consumes-none left;
-      ended = tt;
-      store = store;
-      calls = refl;
-      left_store = refl;
-      said = subst (TakesPrefix taken taken_after) (sym (append-nil words)) prefix;
-    })
-    not_begun end store left taken taken_after (inr is) prefix = rw is (record {
+    -- no memory was found to begin it
+    pub not_begun : (store : SeenStore D) (left taken : Option (List ℕ)) → IsSession pending seen capacity moment left_since keeps c store store (Err NoMemory) left left taken taken
+    not_begun store left taken = record {
       rounds = [];
       done = tt;
       some = tt;
@@ -405,5 +404,5 @@ module _ {D : Type 0} (pending : D → Pending) (seen : D → List ℕ) (capacit
       store = store;
       calls = refl;
       left_store = inl refl;
-      said = subst (TakesPrefix taken taken_after) (sym (append-nil words)) prefix;
-    })
+      said = ([], [], refl, adds_none taken);
+    }

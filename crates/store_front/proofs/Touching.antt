@@ -8,7 +8,7 @@ use Rattle.std.specs.declared.cmp.Ordering.TheVariants.{Less, Equal, Greater}
 use Rattle.std.specs.Cmp.{nat_cmp_is}
 use Rattle.std.specs.BTreeMap.{is_at}
 use Rattle.std.specs.BTreeSet.{BTreeSet, insert_key}
-use Rattle.std.proofs.lemmas.Bool.{cases_lt, and_parts, ltb-true, leb-true}
+use Rattle.std.proofs.lemmas.Bool.{cases_eq, and_parts, ltb-true, leb-true, ne_eqb}
 use Rattle.std.proofs.lemmas.List.{map-append}
 use Rattle.std.proofs.lemmas.List.Elements.{All-append, All-from_recursion}
 use Rattle.std.proofs.lemmas.List.Quantifiers.{all_pairs_push}
@@ -17,6 +17,7 @@ use Rattle.nbd_front.specs.declared.request.Request.{Request}
 use Rattle.nbd_front.specs.Requests.{request_of}
 use Rattle.nbd_front.specs.Sessions.{read_kind}
 use Rattle.store_front.specs.declared.round.Touched.{Touched}
+use Rattle.store_front.specs.Requests.{changes, has_range}
 use Rattle.store_front.specs.Blocks.{is_served, first_of, end_of, touches}
 use Rattle.store_front.specs.declared.round.Asked.{Asked}
 use Rattle.store_front.specs.Rounds.{AreSeparate, bytes_of, requests_of}
@@ -85,11 +86,11 @@ touched_still c old new r more h k there = (knows_still old new r.kind k more (h
 nothing_below : (k : ℕ) → (nat_le 0 k && nat_lt k 0) ≡ true → ⊥
 nothing_below k h = let l : k < 0 = ltb-true k 0 (and_parts (nat_le 0 k) (nat_lt k 0) h).1 in omega (arith, l)
 
-pub touches_low : (c : Numbers) (r : Request) (k : ℕ) → touches c r k ≡ true → r.kind ≤ 1
-touches_low c r k h = by_served (is_served c r) refl
+pub touches_ranged : (c : Numbers) (r : Request) (k : ℕ) → touches c r k ≡ true → has_range r.kind ≡ true
+touches_ranged c r k h = by_served (is_served c r) refl
   where
-    by_served : (b : Bool) → is_served c r ≡ b → r.kind ≤ 1
-    by_served true e = (served c r e).low
+    by_served : (b : Bool) → is_served c r ≡ b → has_range r.kind ≡ true
+    by_served true e = (served c r e).ranged
     by_served false e =
         absurd (nothing_below k (subst (λ (b : Bool). (nat_le (if b then r.offset / c.size else 0) k && nat_lt k (if b then div_ceil (r.offset + r.len) c.size else 0)) ≡ true) e h))
 
@@ -100,17 +101,19 @@ pub touches_to : (c : Numbers) (r : Request) (k : ℕ) → touches c r k ≡ tru
 touches_to c r k h = ltb-true k (end_of c r) (and_parts _ _ h).1
 
 -- ---- a request that joins others
-by_kind : (t : Touched) (kind other k : ℕ) → kind ≤ 1 → Knows t kind k → IsFree t other k → (kind ≡ read_kind) × (other ≡ read_kind)
-by_kind t kind other k low knows free = elim (cases_lt kind 1) [
-  | inr writes ↦ absurd (let e = knows.written (let w : kind ≡ 1 = omega (arith, low, writes) in w) in let f = free.0 in cc)
-  | inl reads ↦
-      let is : kind ≡ 0 = omega (arith, reads) in (
-        is,
-        elim free.1 [
-          | inl same ↦ same
-          | inr none ↦ absurd (let e = knows.read is in cc)
-        ],
-      )
+changing : (kind : ℕ) → (kind ≡ read_kind → ⊥) → has_range kind ≡ true → changes kind ≡ true
+changing kind other ranged = subst (λ b. (b || changes kind) ≡ true) (ne_eqb kind read_kind other) ranged
+
+by_kind : (t : Touched) (kind other k : ℕ) → has_range kind ≡ true → Knows t kind k → IsFree t other k → (kind ≡ read_kind) × (other ≡ read_kind)
+by_kind t kind other k ranged knows free = elim (cases_eq kind read_kind) [
+  | inr writes ↦ absurd (let e = knows.written (changing kind writes ranged) in let f = free.0 in cc)
+  | inl is ↦ (
+    is,
+    elim free.1 [
+      | inl same ↦ same
+      | inr none ↦ absurd (let e = knows.read is in cc)
+    ],
+  )
 ]
 
 pub separate : (c : Numbers) (t : Touched) (a b : List ℕ) → HasTouched c t (request_of a)
@@ -119,7 +122,7 @@ separate c t a b knows room k there too =
     let known = knows k there in
     elim (room k (touches_from c (request_of b) k too) (touches_to c (request_of b) k too)) [
       | inl none ↦ absurd (omega (arith, known.1, none))
-      | inr free ↦ by_kind t (request_of a).kind (request_of b).kind k (touches_low c (request_of a) k there) known.0 free
+      | inr free ↦ by_kind t (request_of a).kind (request_of b).kind k (touches_ranged c (request_of a) k there) known.0 free
     ]
 
 -- the blocks of requests are known

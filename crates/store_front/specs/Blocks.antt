@@ -4,13 +4,12 @@ use Rattle.std.specs.List.{range_with_len}
 use Rattle.std.specs.Int.{div_ceil}
 use Rattle.quorum_rules.specs.Limits.{Numbers}
 use Rattle.nbd_front.specs.declared.request.Request.{Request}
-use Rattle.nbd_front.specs.Requests.{write_kind}
-use Rattle.nbd_front.specs.Replies.{error_of}
+use Rattle.store_front.specs.Requests.{has_range, error_of}
 use Rattle.store_front.specs.declared.blocks.Piece.{Piece}
 
--- the request reads or writes bytes, and is served
+-- the request reads or changes bytes, and is served
 abbrev pub is_served : Numbers → Request → Bool
-is_served c r = nat_le r.kind write_kind && error_of (c.size * c.blocks) r == 0 && nat_lt 0 r.len
+is_served c r = has_range r.kind && error_of (c.size * c.blocks) r == 0 && nat_lt 0 r.len
 
 -- the first block that it touches, and the one after the last
 abbrev pub first_of : Numbers → Request → ℕ

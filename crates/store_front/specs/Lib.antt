@@ -1,7 +1,10 @@
 pub mod Asking
 pub mod Blocks
+pub mod Connections
 pub mod Inputs
+pub mod Refusals
 pub mod Replies
+pub mod Requests
 pub mod Rounds
 pub mod Sessions
 pub mod Standings

@@ -7,13 +7,14 @@ use Rattle.disk_model.specs.Crash.{Pending}
 use Rattle.outside_io.specs.Written.{Adds, TakesPrefix}
 use Rattle.nbd_front.specs.declared.request.Request.{Request}
 use Rattle.nbd_front.specs.Requests.{request_of}
-use Rattle.nbd_front.specs.Replies.{error_of, reply_head}
+use Rattle.nbd_front.specs.Replies.{reply_head}
 use Rattle.nbd_front.specs.Sessions.{read_kind}
 use Rattle.nbd_front.specs.declared.ending.SessionEnd.{SessionEnd}
 use Rattle.nbd_front.specs.declared.ending.SessionEnd.TheVariants.{NoMemory, ReadFault, WriteFault, BadMagic, CutRequest, TooManyRequests}
 use Rattle.store_device.specs.Stores.{SeenStore}
 use Rattle.store_device.specs.Calls.{Leads}
 use Rattle.store_front.specs.Asking.{IsFront}
+use Rattle.store_front.specs.Requests.{error_of}
 use Rattle.store_front.specs.Blocks.{blocks_of, piece_of}
 use Rattle.store_front.specs.Rounds.{BeginsWithRequest, Exchange, IsExchange, IsBegun, calls_of}
 use Rattle.store_front.specs.Values.{given_by, wrote_by}

@@ -1,5 +1,5 @@
 -- Rounds of requests, and the block operations that are done for them.
-use Rattle.std.specs.Prelude.{◌≡◌, ◌⊎◌, ℕ, ◌-◌, ◌+◌, ◌≤◌, ◌==◌, ◌||◌, ◌++◌, nat_lt, if◌then◌else◌, Bool, true, List, [], ◌∷◌, length, map, take, fold, Option}
+use Rattle.std.specs.Prelude.{◌≡◌, ◌⊎◌, ℕ, ◌-◌, ◌+◌, ◌≤◌, ◌==◌, ◌||◌, ◌++◌, nat_lt, if◌then◌else◌, Bool, true, List, [], ◌∷◌, length, map, take, fold, replicate, Option}
 use Rattle.std.specs.declared.option.Option.TheVariants.{None, Some}
 use Rattle.std.specs.List.{All, AllPairs, concat, filter, flat_map, slice_range}
 use Rattle.std.specs.Option.{option_map}
@@ -12,6 +12,7 @@ use Rattle.block_device.specs.Device.{merged}
 use Rattle.nbd_front.specs.declared.request.Request.{Request}
 use Rattle.nbd_front.specs.Requests.{head_len, request_of, write_kind}
 use Rattle.nbd_front.specs.Sessions.{read_kind, IsRequest}
+use Rattle.store_front.specs.Requests.{changes}
 use Rattle.store_front.specs.declared.round.Asked.{Asked}
 use Rattle.store_front.specs.declared.round.Round.{Round}
 use Rattle.store_front.specs.Blocks.{blocks_of, piece_of, touches}
@@ -56,16 +57,21 @@ blocks_read c requests = with_blocks [] (flat_map (λ bytes. needed c (request_o
 
 -- ---- the values that they leave blocks with
 
--- a write's bytes of block k
+-- the bytes that a request leaves in its piece of block k: a write's own, or zeros
 abbrev pub part_in : Numbers → List ℕ → ℕ → List ℕ
-part_in c bytes k = slice_range bytes (head_len + (piece_of c (request_of bytes) k).from) (head_len + (piece_of c (request_of bytes) k).to)
+part_in c bytes k =
+    if (request_of bytes).kind == write_kind then slice_range bytes (head_len + (piece_of c (request_of bytes) k).from) (head_len + (piece_of c (request_of bytes) k).to)
+    else replicate ((piece_of c (request_of bytes) k).to - (piece_of c (request_of bytes) k).from) 0
 
--- the value of block k after a write: its bytes, where they are the whole block; else those that were there, with its bytes merged in; none
+-- the value of block k after a request that changes it: these bytes, where they are the whole block; else those that were there, with these merged in; none
 -- where those weren't read
+abbrev pub value_with : Numbers → ℕ → List ℕ → Option (List ℕ) → Option (List ℕ)
+value_with c at part old =
+    if length part == c.size then Some part
+    else option_map (λ value. merged value at part) old
+
 abbrev pub value_after : Numbers → List ℕ → ℕ → Option (List ℕ) → Option (List ℕ)
-value_after c bytes k old =
-    if length (part_in c bytes k) == c.size then Some (part_in c bytes k)
-    else option_map (λ value. merged value (piece_of c (request_of bytes) k).at (part_in c bytes k)) old
+value_after c bytes k old = value_with c (piece_of c (request_of bytes) k).at (part_in c bytes k) old
 
 -- block k with its value, where it has one
 abbrev pub valued : ℕ → Option (List ℕ) → List (ℕ × List ℕ)
@@ -78,7 +84,7 @@ module _ (c : Numbers) (read : ℕ → Option (List ℕ)) where
   left_at bytes k = valued k (value_after c bytes k (read k))
 
   abbrev pub left_by : List ℕ → List (ℕ × List ℕ)
-  left_by bytes = if (request_of bytes).kind == write_kind then flat_map (left_at bytes) (blocks_of c (request_of bytes)) else []
+  left_by bytes = if changes (request_of bytes).kind then flat_map (left_at bytes) (blocks_of c (request_of bytes)) else []
 
   -- the blocks that requests leave with other values, ascending, each with its value
   abbrev pub values_left : List (List ℕ) → List (ℕ × List ℕ)

@@ -1,12 +1,11 @@
--- A whole session: the greeting, and then rounds of requests and their replies, by what the store told.
-use Rattle.std.specs.Prelude.{◌≡◌, ◌≢◌, ◌⊎◌, ⊤, ℕ, ◌+◌, ◌-◌, ◌*◌, ◌^◌, ◌<◌, ◌≤◌, min, Bool, true, false, List, [], ◌∷◌, ◌++◌, length, Option, Result, Ok, Err}
+-- A session behind its handshake: rounds of requests and their replies, by what the store told.
+use Rattle.std.specs.Prelude.{◌≡◌, ◌≢◌, ◌⊎◌, ⊤, ℕ, ◌+◌, ◌-◌, ◌^◌, ◌<◌, ◌≤◌, min, List, [], ◌∷◌, ◌++◌, length, drop, Option, Some, None, Result, Ok, Err}
 use Rattle.std.proofs.Common.{inl, inr}
 use Rattle.std.specs.Io.KnownBytes.{Consumes, IsAtEnd}
 use Rattle.std.specs.List.{All, AllByRecursion, concat, flat_map}
 use Rattle.quorum_rules.specs.Limits.{Numbers}
 use Rattle.disk_model.specs.Crash.{Pending}
 use Rattle.nbd_front.specs.Requests.{request_magic, magic_of}
-use Rattle.nbd_front.specs.Replies.{greeting}
 use Rattle.nbd_front.specs.Sessions.{IsRequest, IsLeave, IsPart, HasTaken, end_as}
 use Rattle.nbd_front.specs.declared.ending.SessionEnd.{SessionEnd}
 use Rattle.nbd_front.specs.declared.ending.SessionEnd.TheVariants.{NoMemory, ReadFault, WriteFault, BadMagic, CutRequest, TooManyRequests}
@@ -15,9 +14,12 @@ use Rattle.store_device.specs.Lives.{Moment}
 use Rattle.store_device.specs.Calls.{Acknowledged, Leads, MayDoAll, AreTurnsBy}
 use Rattle.store_device.specs.Steps.{Step, called, calls_among, gone_after, AreFound, StepsLead, IsTended}
 use Rattle.store_device.specs.Sessions.{HasComeTo}
+use Rattle.store_front.specs.declared.waiting.Came.{Came}
+use Rattle.store_front.specs.declared.waiting.Came.TheVariants.{Requests, Refused, Nothing}
 use Rattle.store_front.specs.Asking.{IsFront}
+use Rattle.store_front.specs.Refusals.{IsRefused}
 use Rattle.store_front.specs.Rounds.{BeginsWithRequest, Exchange, IsExchange, calls_of}
-use Rattle.store_front.specs.Replies.{text_of, IsCutOff}
+use Rattle.store_front.specs.Replies.{text_of, IsCutOff, ServesRound}
 
 -- a session that has begun: the input that was read and isn't served yet, and how many bytes of requests were served
 pub record SeenSession : Type 0 where
@@ -46,20 +48,50 @@ pub record HasLost (old new : List ℕ) (left left_after : Option (List ℕ)) : 
   pub gave : Consumes left left_after bytes
   pub behind : IsFront new (old ++ bytes)
 
--- how a wait ended, with this input at hand, which begins at this place: a request is there; the client leaves, or the input has ended; or the
--- session ends
-abbrev pub EndsWait : Result Bool SessionEnd → ℕ → (old new : List ℕ) → (left left_after : Option (List ℕ)) → Type 0
-EndsWait (Ok true) place old new left left_after = HasReadOn old new left left_after × BeginsWithRequest new
-EndsWait (Ok false) place old new left left_after =
+-- how a wait ended, with this input at hand, which begins at this place: a request is there, or the head of a write that is refused; the
+-- client leaves, or the input has ended; or the session ends
+abbrev pub EndsWait : Numbers → Result Came SessionEnd → ℕ → (old new : List ℕ) → (left left_after : Option (List ℕ)) → Type 0
+EndsWait c (Ok Requests) place old new left left_after = HasReadOn old new left left_after × BeginsWithRequest new
+EndsWait c (Ok (Refused r)) place old new left left_after = HasReadOn old new left left_after × IsRefused c new r
+EndsWait c (Ok Nothing) place old new left left_after =
     HasReadOn old new left left_after × (BeginsWithLeave new ⊎ ((new ≡ []) × IsAtEnd left_after))
-EndsWait (Err (BadMagic at)) place old new left left_after =
+EndsWait c (Err (BadMagic at)) place old new left left_after =
     HasReadOn old new left left_after × (at ≡ place) × (4 ≤ length new) × (magic_of new ≢ request_magic)
-EndsWait (Err (CutRequest at)) place old new left left_after =
+EndsWait c (Err (CutRequest at)) place old new left left_after =
     HasReadOn old new left left_after × (at ≡ place) × (0 < length new) × IsPart new × IsAtEnd left_after
-EndsWait (Err ReadFault) place old new left left_after = HasReadOn old new left left_after × IsPart new
-EndsWait (Err NoMemory) place old new left left_after = HasLost old new left left_after
-EndsWait (Err WriteFault) place old new left left_after = ⊥
-EndsWait (Err TooManyRequests) place old new left left_after = ⊥
+EndsWait c (Err ReadFault) place old new left left_after = HasReadOn old new left left_after × IsPart new
+EndsWait c (Err NoMemory) place old new left left_after = HasLost old new left left_after
+EndsWait c (Err WriteFault) place old new left left_after = ⊥
+EndsWait c (Err TooManyRequests) place old new left left_after = ⊥
+
+-- ---- a turn: a wait, and what was done then
+
+module _ {D : Type 0} (pending : D → Pending) (seen : D → List ℕ) (capacity : D → ℕ) (moment : D → ℕ) (left_since : D → ℕ → List ℕ → Type 0) where
+  -- the input that was read begins with requests, and a round of them was served, or ended the session; a write that is refused is such a
+  -- round by itself
+  pub record HasRound (c : Numbers) (before : SeenSession) (read : List ℕ) (old new : SeenStore D) (left left_after taken taken_after : Option (List ℕ))
+      (result : Result ℕ SessionEnd) : Type 0 where
+    pub reads : HasReadOn before.input read left left_after
+    pub begins : BeginsWithRequest read
+    pub serves : ServesRound pending seen capacity moment left_since c read old new taken taken_after result
+
+  -- the wait ended so, and nothing else was done
+  pub record HasWaited (c : Numbers) (before : SeenSession) (read : List ℕ) (old new : SeenStore D) (left left_after taken taken_after : Option (List ℕ))
+      (result : Result Came SessionEnd) : Type 0 where
+    pub waited : EndsWait c result before.place before.input read left left_after
+    pub same : new ≡ old
+    pub silent : taken_after ≡ taken
+
+  -- What became of a turn: requests of so many bytes were served; or the client leaves, or the input has ended; or the session ended.
+  abbrev pub TakesTurn : Numbers → (before after : SeenSession) → (old new : SeenStore D) → (left left_after taken taken_after : Option (List ℕ)) → Result (Option ℕ) SessionEnd → Type 0
+  TakesTurn c before after old new left left_after taken taken_after (Ok (Some len)) =
+      (read : List ℕ) × HasRound c before read old new left left_after taken taken_after (Ok len)
+      × (after.input ≡ drop len read) × (after.place ≡ told_place (before.place + len))
+  TakesTurn c before after old new left left_after taken taken_after (Ok None) =
+      (read : List ℕ) × HasWaited c before read old new left left_after taken taken_after (Ok Nothing)
+  TakesTurn c before after old new left left_after taken taken_after (Err end) =
+      ((read : List ℕ) × HasWaited c before read old new left left_after taken taken_after (Err end))
+      ⊎ ((read : List ℕ) × HasRound c before read old new left left_after taken taken_after (Err end))
 
 -- ---- sessions
 
@@ -103,9 +135,9 @@ module _ {D : Type 0} where
     LeavesStore (Err TooManyRequests) c rest old new = new ≡ old
     LeavesStore result c rest old new = keeps old new
 
-    -- A session from its greeting on. The requests of its rounds are those of the input, in order, and the calls that were made for them,
-    -- with what its keeper did between, lead from the one store to the other. The sink took the greeting and the replies to them; a
-    -- beginning where it failed.
+    -- A session from its first request on. The requests of its rounds are those of the input, in order, and the calls that were made for them,
+    -- with what its keeper did between, lead from the one store to the other. The sink took the replies to them; a beginning
+    -- where it failed.
     pub record IsSession (c : Numbers) (old new : SeenStore D) (result : Result Unit SessionEnd)
         (left left_after taken taken_after : Option (List ℕ)) : Type 0 where
       pub rounds : List (Exchange D)
@@ -119,7 +151,7 @@ module _ {D : Type 0} where
       pub store : SeenStore D
       pub calls : RoundsLead old rounds store
       pub left_store : LeavesStore result c rest store new
-      pub said : HasTaken (end_as result) (greeting (c.size * c.blocks) ++ replies_in c rounds) taken taken_after
+      pub said : HasTaken (end_as result) (replies_in c rounds) taken taken_after
 
 -- ---- a session in a store's life
 

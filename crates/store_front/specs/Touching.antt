@@ -2,8 +2,8 @@
 use Rattle.std.specs.Prelude.{◌≡◌, ◌⊎◌, ℕ, ◌<◌, ◌≤◌, true, false}
 use Rattle.quorum_rules.specs.Limits.{Numbers}
 use Rattle.nbd_front.specs.declared.request.Request.{Request}
-use Rattle.nbd_front.specs.Requests.{write_kind}
 use Rattle.nbd_front.specs.Sessions.{read_kind}
+use Rattle.store_front.specs.Requests.{changes}
 use Rattle.store_front.specs.declared.round.Touched.{Touched}
 use Rattle.store_front.specs.Blocks.{touches}
 use Rattle.store_front.specs.Values.{written_of as has}
@@ -19,7 +19,7 @@ HasRoom t kind k = (t.count ≡ 0) ⊎ IsFree t kind k
 -- it is known that a request of this kind touches the block
 pub record Knows (t : Touched) (kind k : ℕ) : Type 0 where
   pub read : kind ≡ read_kind → has t.read k ≡ true
-  pub written : kind ≡ write_kind → has t.written k ≡ true
+  pub written : changes kind ≡ true → has t.written k ≡ true
 
 -- more is known
 pub record KnowsMore (old new : Touched) : Type 0 where

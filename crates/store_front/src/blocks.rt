@@ -2,13 +2,9 @@
 ghost use Rattle.std.specs.Prelude.{◌≡◌, ℕ, ◌+◌, ◌*◌, ◌^◌, ◌≤◌, ◌<◌, ◌-◌, min};
 ghost use Rattle.store_front.specs.Blocks.{first_of, end_of, is_served, piece_of as piece_in, IsPiece, Reaches};
 
+use crate::requests::{error, has_range};
 use nbd_front::request::Request;
 use quorum_rules::Config;
-
-/// The kinds of requests that read and that write.
-pub(crate) const READ: u16 = 0;
-
-pub(crate) const WRITE: u16 = 1;
 
 /// Blocks, from a first one up to an end that is none of them.
 #[derive(Clone, Copy)]
@@ -25,14 +21,14 @@ pub(crate) fn device_len(config: &Config) -> u64
     u64::from(config.size()) * u64::from(config.blocks())
 }
 
-/// Whether a request reads or writes bytes, and is served.
+/// Whether a request reads or changes bytes, and is served.
 fn is_served(config: &Config, request: &Request) -> bool
     ensures { result ≡ is_served config.now request.now }
 {
-    request.kind <= WRITE && request.error(device_len(config)) == 0 && request.len > 0
+    has_range(request.kind) && error(request, device_len(config)) == 0 && request.len > 0
 }
 
-/// The blocks of which a request reads or writes a byte. None where it does neither, or isn't served.
+/// The blocks of which a request reads or changes a byte. None where it does neither, or isn't served.
 pub(crate) fn blocks_of(config: &Config, request: &Request) -> Blocks
     ensures first { result.first ≡ first_of config.now request.now }
     ensures end { result.end ≡ end_of config.now request.now }

@@ -1,5 +1,5 @@
 //! The input that was read and isn't served yet.
-ghost use Rattle.std.specs.Prelude.{◌≡◌, ◌≢◌, ◌≤◌, ◌<◌, ◌↔◌, ◌++◌, ◌⊎◌, ℕ, List, IsTrue, Ok, Err, true, length, drop, [], IfOk, OnOk, OnErr, IfErr, IsErrOf};
+ghost use Rattle.std.specs.Prelude.{◌≡◌, ◌≢◌, ◌≤◌, ◌<◌, ◌+◌, ◌^◌, ◌↔◌, ◌++◌, ◌⊎◌, ℕ, List, IsTrue, Ok, Err, true, length, drop, [], IfOk, OnOk, OnErr, IfErr, IsErrOf};
 ghost use Rattle.outside_io.specs.Causes.{Rose};
 ghost use Rattle.store_front.specs.Inputs.{HasRead};
 ghost use Rattle.store_front.specs.Sessions.{HasReadOn, HasLost};
@@ -66,6 +66,7 @@ impl Input {
         ensures read { IfOk result (λ more.
             HasRead self.old self.new (S.left source.old) (S.left source.new) more) }
         ensures longer { result ≡ Ok true → length self.old < length self.new }
+        ensures room { OnOk result (length self.new ≤ length self.old + 2 ^ 20) }
         ensures failed { IsErrOf result SessionEnd.ReadFault
             → (self.new ≡ self.old) × HasReadOn self.old self.new (S.left source.old) (S.left source.new) }
         ensures lost { IsErrOf result SessionEnd.NoMemory

@@ -6,8 +6,9 @@ ghost use Rattle.store_front.specs.Rounds.{IsAsked, requests_of};
 ghost use Rattle.store_front.specs.Values.{AreBlocks, read_of, written_of};
 ghost use Rattle.store_front.specs.Replies.{is_done, answer_error, part_of, reply_of, replies_of};
 
-use crate::blocks::{READ, blocks_of, device_len, piece_of};
+use crate::blocks::{blocks_of, device_len, piece_of};
 use crate::operations::{Done, value_in};
+use crate::requests::{READ, error};
 use crate::round::Asked;
 use lists::NoMemory;
 use nbd_front::reply::push_head;
@@ -36,7 +37,7 @@ impl Done {
         ensures { result ≡ answer_error config.now (read_of self.now.found)
             (written_of self.now.written) request.now }
     {
-        let error = request.error(device_len(config));
+        let error = error(request, device_len(config));
         if error != 0 {
             return error;
         }

@@ -8,7 +8,8 @@ ghost use Rattle.store_front.specs.Touching.{IsFree, HasRoom, HasTouched, Knows,
 ghost use Rattle.store_front.specs.Standings.{IsStanding};
 ghost use Rattle.nbd_front.specs.Requests.{head_len, data_len};
 
-use crate::blocks::{Blocks, READ, WRITE, blocks_of, piece_of};
+use crate::blocks::{Blocks, blocks_of, piece_of};
+use crate::requests::{READ, changes};
 use crate::standing::{HEAD, Standing, at_front};
 use lists::NoMemory;
 use nbd_front::request::Request;
@@ -32,9 +33,9 @@ pub(crate) struct Asked<'a> {
 pub(crate) struct Touched {
     /// How many they are, where one that several requests read is counted for each of them.
     count: u32,
-    /// Those that are read, or written in part.
+    /// Those that are read, or changed in part.
     read: BTreeSet<u32>,
-    /// Those that are written.
+    /// Those that are changed.
     written: BTreeSet<u32>,
 }
 
@@ -104,13 +105,13 @@ impl Touched {
         ensures known { OnOk result (Knows self.new request.now.kind block) }
         ensures count { OnOk result (self.new.count ≡ self.old.count) }
     {
-        add_if(&mut self.written, request.kind == WRITE, block)?;
+        add_if(&mut self.written, changes(request.kind), block)?;
         add_if(&mut self.read, needs_read(config, request, block), block)?;
         Ok(())
     }
 }
 
-/// Whether a block is to be read for a request: it reads it, or writes only a part of it.
+/// Whether a block is to be read for a request: it reads it, or changes only a part of it.
 fn needs_read(config: &Config, request: &Request, block: u32) -> bool
     requires { Reaches config.now request.now block }
     ensures { result ≡ needs config.now request.now block }

@@ -1,29 +1,34 @@
-//! A whole session: the greeting, and then rounds of requests and replies.
-ghost use Rattle.std.specs.Prelude.{◌≡◌, ◌≢◌, ◌⊎◌, ◌↔◌, ◌≤◌, ◌<◌, ◌*◌, ◌+◌, ℕ, List, [], Some, Result, Ok, Err, true, false, length, drop, IsTrue, OnOk, OnErr, IfOk, IfErr, IsErrOf};
+//! A session behind its handshake: rounds of requests and replies.
+ghost use Rattle.std.specs.Prelude.{◌≡◌, ◌≢◌, ◌⊎◌, ◌↔◌, ◌≤◌, ◌+◌, ℕ, List, [], Some, Result, Err, length, drop, IsTrue, OnOk, IfOk, IsErrOf};
 ghost use Rattle.outside_io.specs.Causes.{Rose};
-ghost use Rattle.outside_io.specs.Written.{Adds, AllFlushed, TakesPrefix};
-ghost use Rattle.nbd_front.specs.Replies.{greeting};
+ghost use Rattle.outside_io.specs.Written.{AllFlushed};
 ghost use Rattle.nbd_front.specs.Sessions.{IsPart};
+ghost use Rattle.store_front.specs.Refusals.{IsRefused, RefusesWrite};
 ghost use Rattle.store_front.specs.Replies.{ServesRound};
-ghost use Rattle.store_front.specs.Sessions.{EndsSo, EndsWait, IsSession, told_place};
+ghost use Rattle.store_front.specs.Requests.{most_at_hand};
+ghost use Rattle.store_front.specs.Sessions.{EndsSo, EndsWait, IsSession, TakesTurn, told_place};
 
 use crate::answer::answer;
-use crate::blocks::device_len;
 use crate::input::Input;
 use crate::keeper::Keeper;
+use crate::refusing::{drop_data, reply_error};
 use crate::round::take_round;
-use crate::standing::{Standing, at_front};
+use crate::standing::{HEAD, Standing, at_front};
+use crate::waiting::{Came, has_next};
+use crate::writing::write_or_end;
 use disk_model::Disk;
+use lists::NoMemory;
 use nbd_front::SessionEnd;
-use nbd_front::reply::greeting;
-use outside_io::{Sink, Source, write_all};
+use nbd_front::request::Request;
+use outside_io::{Sink, Source};
+use quorum_rules::Config;
 use std::alloc::Global;
 use std::marker::Model;
 use std::thread::Threads;
 use store_device::Store;
 
-/// A session that has begun. Its rounds are served one by one, so that a caller may look after the store between two. Contracts see
-/// the input that was read and isn't served yet, and how many bytes of requests were served.
+/// A session that has begun. Its rounds are served one by one, so that a caller may look after the store between two.
+/// Contracts see the input that was read and isn't served yet, and how many bytes of requests were served.
 #[derive(Drop)]
 pub struct Session {
     input: Input,
@@ -39,24 +44,10 @@ impl Model for Session {
 }
 
 impl Session {
-    /// Begins a session: greets the client.
-    pub fn begin<D: Disk, K: Sink>(
-        alloc: Global,
-        store: &Store<D>,
-        sink: &mut K,
-    ) -> Result<Session, SessionEnd>
+    /// Begins a session, of which nothing was read.
+    pub fn begin(alloc: Global) -> Result<Session, NoMemory>
         ensures fresh { IfOk result (λ session. session ≡ record { input = []; place = 0 }) }
-        ensures greeted { OnOk result (Adds (K.taken sink.old) (K.taken sink.new)
-            (greeting (store.now.config.size * store.now.config.blocks))) }
-        ensures prefix { TakesPrefix (K.taken sink.old) (K.taken sink.new)
-            (greeting (store.now.config.size * store.now.config.blocks)) }
-        ensures ends { IfErr result (λ end. (end ≡ SessionEnd.WriteFault) ⊎ (end ≡ SessionEnd.NoMemory)) }
-        ensures flushed { OnOk result (AllFlushed (K.taken sink.new) (K.flushed sink.new)) }
-        ensures write_fault { IsErrOf result SessionEnd.WriteFault
-            → Rose K.last (K.faults sink.old) (K.faults sink.new) }
-        ensures calm { result ≢ Err SessionEnd.WriteFault → K.faults sink.new ≡ K.faults sink.old }
     {
-        write_or_end(sink, &greeting(device_len(store.config())))?;
         Ok(Session {
             input: Input::new(alloc)?,
             place: 0,
@@ -70,21 +61,24 @@ impl Session {
         at_front(self.input.at_hand()) != Standing::Part
     }
 
-    /// Reads until a whole request is at hand. False where the client leaves, or the input has ended.
-    pub fn wait<S: Source>(&mut self, source: &mut S) -> Result<bool, SessionEnd>
-        ensures waited { EndsWait result self.old.place self.old.input self.new.input
+    /// Reads until a whole request is at hand, or the head of a write that is refused, and tells what has come.
+    pub fn wait<S: Source>(&mut self, config: &Config, source: &mut S) -> Result<Came, SessionEnd>
+        ensures waited { EndsWait config.now result self.old.place self.old.input self.new.input
             (S.left source.old) (S.left source.new) }
         ensures place { self.new.place ≡ self.old.place }
+        // of the data of a write that is refused no more is kept
+        ensures few { length self.old.input ≤ most_at_hand
+            → OnOk result (length self.new.input ≤ most_at_hand) }
         ensures fault { IsErrOf result SessionEnd.ReadFault
             → Rose S.last (S.faults source.old) (S.faults source.new) }
         ensures calm { result ≢ Err SessionEnd.ReadFault
             → S.faults source.new ≡ S.faults source.old }
     {
-        has_next(&mut self.input, source, self.place)
+        has_next(config, &mut self.input, source, self.place)
     }
 
-    /// Serves the requests at hand that are done together: the replies are written in one piece, and flushed. Gives how many bytes the
-    /// requests have.
+    /// Serves the requests at hand that are done together: the replies are written in one piece, and flushed. Gives how
+    /// many bytes the requests have.
     pub fn serve_round<D: Disk + Send, K: Sink, R: Threads + Sync>(
         &mut self,
         rt: &R,
@@ -109,10 +103,75 @@ impl Session {
         self.place = self.place.saturating_add(len as u64);
         Ok(len)
     }
+
+    /// Drops what is to come of a write that is refused, and replies to it. Gives how many bytes it has.
+    pub fn refuse<S: Source, K: Sink>(
+        &mut self,
+        alloc: Global,
+        config: &Config,
+        request: &Request,
+        source: &mut S,
+        sink: &mut K,
+    ) -> Result<usize, SessionEnd>
+        requires { IsRefused config.now self.old.input request.now }
+        ensures refused { RefusesWrite config.now request.now self.old.place self.old.input
+            (S.left source.old) (S.left source.new) (K.taken sink.old) (K.taken sink.new) result }
+        ensures served { OnOk result (self.new.input ≡ []) }
+        ensures place { IfOk result (λ len. self.new.place ≡ told_place (self.old.place + len)) }
+        ensures flushed { OnOk result (AllFlushed (K.taken sink.new) (K.flushed sink.new)) }
+        ensures read_fault { IsErrOf result SessionEnd.ReadFault
+            → Rose S.last (S.faults source.old) (S.faults source.new) }
+        ensures write_fault { IsErrOf result SessionEnd.WriteFault
+            → Rose K.last (K.faults sink.old) (K.faults sink.new) }
+        ensures calm_source { result ≢ Err SessionEnd.ReadFault
+            → S.faults source.new ≡ S.faults source.old }
+        ensures calm_sink { result ≢ Err SessionEnd.WriteFault
+            → K.faults sink.new ≡ K.faults sink.old }
+    {
+        let come = self.input.at_hand().len();
+        let len = HEAD + request.len as usize;
+        drop_data(source, (len - come) as u32, self.place)?;
+        reply_error(alloc, config, request, sink)?;
+        self.input.drop_front(come);
+        self.place = self.place.saturating_add(len as u64);
+        Ok(len)
+    }
+
+    /// Waits for requests, and serves those that are done together, or refuses a write. Gives how many bytes they have;
+    /// none where the client leaves, or the input has ended.
+    pub fn serve_next<D: Disk + Send, S: Source, K: Sink, R: Threads + Sync>(
+        &mut self,
+        rt: &R,
+        alloc: Global,
+        store: &mut Store<D>,
+        source: &mut S,
+        sink: &mut K,
+    ) -> Result<Option<usize>, SessionEnd>
+        ensures config { store.new.config ≡ store.old.config }
+        ensures turn { TakesTurn D.pending D.seen D.most D.moment D.left_since store.old.config
+            self.old self.new store.old store.new (S.left source.old) (S.left source.new)
+            (K.taken sink.old) (K.taken sink.new) result }
+        ensures read_fault { IsErrOf result SessionEnd.ReadFault
+            → Rose S.last (S.faults source.old) (S.faults source.new) }
+        ensures write_fault { IsErrOf result SessionEnd.WriteFault
+            → Rose K.last (K.faults sink.old) (K.faults sink.new) }
+        ensures calm_source { result ≢ Err SessionEnd.ReadFault
+            → S.faults source.new ≡ S.faults source.old }
+        ensures calm_sink { result ≢ Err SessionEnd.WriteFault
+            → K.faults sink.new ≡ K.faults sink.old }
+    {
+        match self.wait(store.config(), source)? {
+            Came::Nothing => Ok(None),
+            Came::Requests => Ok(Some(self.serve_round(rt, alloc, store, sink)?)),
+            Came::Refused(request) => {
+                Ok(Some(self.refuse(alloc, store.config(), &request, source, sink)?))
+            }
+        }
+    }
 }
 
-/// Serves a store's bytes from the greeting on until the session ends, and has the store looked after before each wait for a request.
-/// `TooManyRequests` comes only after 2^64 - 1 rounds.
+/// Serves a store's bytes to a client behind its handshake until the session ends, and has the store looked after
+/// before each wait for a request. `TooManyRequests` comes only after 2^64 - 1 rounds.
 pub fn serve<D: Disk + Send, U: Keeper<D>, S: Source, K: Sink, R: Threads + Sync>(
     rt: &R,
     alloc: Global,
@@ -141,50 +200,16 @@ pub fn serve<D: Disk + Send, U: Keeper<D>, S: Source, K: Sink, R: Threads + Sync
         → (Rose K.last (K.faults sink.old) (K.faults sink.new) → ⊥)
         → (result ≡ end) ⊎ ((result ≡ Err SessionEnd.NoMemory) ⊎ (result ≡ Err SessionEnd.TooManyRequests)) }
 {
-    let mut session = Session::begin(alloc, store, sink)?;
+    let mut session = Session::begin(alloc)?;
     let mut served = 0;
     for _round in 0..u64::MAX {
         keeper.tend(store, served, session.is_ready())?;
-        if !session.wait(source)? {
-            return Ok(());
+        match session.serve_next(rt, alloc, store, source, sink)? {
+            None => return Ok(()),
+            Some(len) => served = len,
         }
-        served = session.serve_round(rt, alloc, store, sink)?;
     }
     Err(SessionEnd::TooManyRequests)
-}
-
-/// Reads until a whole request is at hand. False where the client leaves, or the input has ended. The input at hand begins at `place`.
-fn has_next<S: Source>(input: &mut Input, source: &mut S, place: u64) -> Result<bool, SessionEnd>
-    ensures waited { EndsWait result place input.old input.new (S.left source.old)
-        (S.left source.new) }
-    ensures fault { IsErrOf result SessionEnd.ReadFault
-        → Rose S.last (S.faults source.old) (S.faults source.new) }
-    ensures calm { result ≢ Err SessionEnd.ReadFault → S.faults source.new ≡ S.faults source.old }
-{
-    loop {
-        match at_front(input.at_hand()) {
-            Standing::Whole(_) => return Ok(true),
-            Standing::Leave => return Ok(false),
-            Standing::Wrong => return Err(SessionEnd::BadMagic { at: place }),
-            Standing::Part => {}
-        }
-        if !input.read_more(source)? {
-            return at_end(input.at_hand(), place);
-        }
-    }
-}
-
-/// How the session ends where the input ends with these bytes at hand, which begin at `place`.
-fn at_end(at_hand: &[u8], place: u64) -> Result<bool, SessionEnd>
-    ensures none { result ≡ Ok false → at_hand.now ≡ [] }
-    ensures some { result ≢ Ok true }
-    ensures cut { IfErr result (λ end. end ≡ SessionEnd.CutRequest place) }
-    ensures rest { OnErr result (0 < length at_hand.now) }
-{
-    if at_hand.is_empty() {
-        return Ok(false);
-    }
-    Err(SessionEnd::CutRequest { at: place })
 }
 
 /// Serves the requests at the front of the input at hand that are done together, and answers how many bytes they have.
@@ -208,19 +233,4 @@ fn serve_round<D: Disk + Send, K: Sink, R: Threads + Sync>(
     let replies = answer(rt, alloc, store, &round)?;
     write_or_end(sink, &replies)?;
     Ok(round.len)
-}
-
-/// Writes and flushes a text.
-fn write_or_end<K: Sink>(sink: &mut K, text: &[u8]) -> Result<(), SessionEnd>
-    ensures whole { OnOk result (Adds (K.taken sink.old) (K.taken sink.new) text.now) }
-    ensures flushed { OnOk result (AllFlushed (K.taken sink.new) (K.flushed sink.new)) }
-    ensures prefix { TakesPrefix (K.taken sink.old) (K.taken sink.new) text.now }
-    ensures end { IfErr result (λ end. end ≡ SessionEnd.WriteFault) }
-    ensures cause { OnErr result (Rose K.last (K.faults sink.old) (K.faults sink.new)) }
-    ensures calm { OnOk result (K.faults sink.new ≡ K.faults sink.old) }
-{
-    match write_all(sink, text) {
-        Ok(()) => Ok(()),
-        Err(_) => Err(SessionEnd::WriteFault),
-    }
 }

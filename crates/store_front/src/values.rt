@@ -1,24 +1,24 @@
 //! The values that blocks are left with by writes.
-ghost use Rattle.std.specs.Prelude.{◌≡◌, ◌+◌, ◌≤◌, [], length, IfOk, OnOk, IfSome, All};
+ghost use Rattle.std.specs.Prelude.{◌≡◌, ◌+◌, ◌-◌, ◌≤◌, [], length, replicate, IfOk, OnOk, IfSome, All};
 ghost use Rattle.std.specs.Option.{option_copied};
 ghost use Rattle.block_device.specs.Device.{merged};
 ghost use Rattle.store_front.specs.Blocks.{Reaches};
-ghost use Rattle.nbd_front.specs.Requests.{write_kind};
-ghost use Rattle.store_front.specs.Rounds.{IsAsked, requests_of, value_after, left_at, left_by, values_left};
+ghost use Rattle.store_front.specs.Rounds.{IsAsked, requests_of, value_after, value_with, left_at, left_by, values_left};
 ghost use Rattle.store_front.specs.Values.{AreBlocks, read_of, with_values};
 
-use crate::blocks::{WRITE, blocks_of, piece_of};
+use crate::blocks::{Piece, blocks_of, piece_of};
 use crate::operations::{Values, put_value, value_in};
+use crate::requests::{WRITE, changes};
 use crate::round::Asked;
 use crate::standing::HEAD;
 use cross_sum::Bytes;
-use lists::NoMemory;
+use lists::{Copied, NoMemory};
 use quorum_rules::Config;
 use std::alloc::Global;
 use std::collections::BTreeMap;
 
-/// The values to be written to blocks for the requests of a round. A block of which only a part is written has none where it wasn't
-/// read.
+/// The values to be written to blocks for the requests of a round. A block of which only a part is changed has none
+/// where it wasn't read.
 pub(crate) fn values_of(
     alloc: Global,
     config: &Config,
@@ -31,21 +31,24 @@ pub(crate) fn values_of(
         ≡ values_left config.now (read_of found.now) (requests_of asked.now)) }
     ensures blocks { IfOk result (λ values. AreBlocks config.now values) }
 {
+    let zeros = Bytes::zeros(alloc, config.size() as usize)?;
     let mut values = BTreeMap::new(alloc);
     for one in asked {
-        put_values(alloc, config, one, found, &mut values)?;
+        put_values(alloc, config, one, &zeros, found, &mut values)?;
     }
     Ok(values)
 }
 
-/// Adds the values to be written for a request, where it is a write.
+/// Adds the values to be written for a request, where it changes bytes. `zeros` are those of a whole block.
 fn put_values(
     alloc: Global,
     config: &Config,
     asked: &Asked<'_>,
+    zeros: &Bytes,
     found: &Values,
     values: &mut Values,
 ) -> Result<(), NoMemory>
+    requires zeros { zeros.now ≡ replicate config.now.size 0 }
     requires found { AreBlocks config.now found.now }
     requires values { AreBlocks config.now values.old }
     requires asked { IsAsked asked.now }
@@ -53,12 +56,12 @@ fn put_values(
         (left_by config.now (read_of found.now) asked.now.bytes.now)) }
     ensures blocks { OnOk result (AreBlocks config.now values.new) }
 {
-    if asked.request.kind != WRITE {
+    if !changes(asked.request.kind) {
         return Ok(());
     }
     let blocks = blocks_of(config, &asked.request);
     for block in blocks.first..blocks.end {
-        put_block(alloc, config, asked, block, found, values)?;
+        put_block(alloc, config, asked, block, zeros, found, values)?;
     }
     Ok(())
 }
@@ -69,41 +72,47 @@ fn put_block(
     config: &Config,
     asked: &Asked<'_>,
     block: u32,
+    zeros: &Bytes,
     found: &Values,
     values: &mut Values,
 ) -> Result<(), NoMemory>
     requires reaches { Reaches config.now asked.now.request block }
+    requires zeros { zeros.now ≡ replicate config.now.size 0 }
     requires found { AreBlocks config.now found.now }
     requires values { AreBlocks config.now values.old }
     requires asked { IsAsked asked.now }
-    requires writes { asked.now.request.kind ≡ write_kind }
     ensures put { OnOk result (values.new.entries ≡ with_values values.old.entries
         (left_at config.now (read_of found.now) asked.now.bytes.now block)) }
     ensures blocks { OnOk result (AreBlocks config.now values.new) }
 {
-    let Some(value) = value_of(alloc, config, asked, block, value_in(found, block))? else {
+    let Some(value) = value_of(alloc, config, asked, block, zeros, value_in(found, block))? else {
         return Ok(());
     };
     put_value(values, config, block, value)
 }
 
-/// The value with which a request leaves a block that held this one; none where it writes a part of it, and that isn't known.
+/// The value with which a request leaves a block that held this one; none where it changes a part of it, and that isn't
+/// known.
 fn value_of(
     alloc: Global,
     config: &Config,
     asked: &Asked<'_>,
     block: u32,
+    zeros: &Bytes,
     old: Option<&Bytes>,
 ) -> Result<Option<Bytes>, NoMemory>
     requires reaches { Reaches config.now asked.now.request block }
     requires asked { IsAsked asked.now }
-    requires writes { asked.now.request.kind ≡ write_kind }
+    requires zeros { zeros.now ≡ replicate config.now.size 0 }
     requires old { IfSome old (λ value. length value.now ≡ config.now.size) }
     ensures value { IfOk result (λ value. value
         ≡ value_after config.now asked.now.bytes.now block (option_copied old.entry)) }
     ensures sized { IfOk result (λ value. IfSome value (λ bytes. length bytes ≡ config.now.size)) }
 {
     let piece = piece_of(config, &asked.request, block);
+    if asked.request.kind != WRITE {
+        return cleared(alloc, config, piece, zeros, old);
+    }
     let bytes = &asked.bytes[HEAD + piece.from..HEAD + piece.to];
     if bytes.len() == config.size() as usize {
         return Ok(Some(Bytes::of(alloc, bytes)?));
@@ -111,6 +120,32 @@ fn value_of(
     match old {
         None => Ok(None),
         Some(old) => Ok(Some(merged(alloc, old, piece.at, bytes)?)),
+    }
+}
+
+/// The value of a block that held this one, with zeros in a piece of it.
+fn cleared(
+    alloc: Global,
+    config: &Config,
+    piece: Piece,
+    zeros: &Bytes,
+    old: Option<&Bytes>,
+) -> Result<Option<Bytes>, NoMemory>
+    requires piece { piece.from ≤ piece.to }
+    requires fits { piece.at + (piece.to - piece.from) ≤ config.now.size }
+    requires zeros { zeros.now ≡ replicate config.now.size 0 }
+    requires old { IfSome old (λ value. length value.now ≡ config.now.size) }
+    ensures value { IfOk result (λ value. value ≡ value_with config.now piece.at
+        (replicate (piece.to - piece.from) 0) (option_copied old.entry)) }
+    ensures sized { IfOk result (λ value. IfSome value (λ bytes. length bytes ≡ config.now.size)) }
+{
+    let len = piece.to - piece.from;
+    if len == config.size() as usize {
+        return Ok(Some(zeros.copy()?));
+    }
+    match old {
+        None => Ok(None),
+        Some(old) => Ok(Some(merged(alloc, old, piece.at, &zeros.as_slice()[..len])?)),
     }
 }
 

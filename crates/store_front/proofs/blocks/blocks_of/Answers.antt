@@ -1,15 +1,32 @@
-use Rattle.std.proofs.Common.{◌≡◌, ◌∙◌, ◌+◌, ◌/◌, ◌<◌, ◌≤◌, ap, sym, subst, arith}
+use Rattle.std.proofs.Common.{◌≡◌, ℕ, ◌∙◌, ◌+◌, ◌/◌, ◌<◌, ◌≤◌, ap, sym, subst, arith}
 use Rattle.std.specs.Int.{div_ceil}
-use Rattle.store_front.proofs.Reaching.{reaches}
+use Rattle.quorum_rules.specs.Limits.{Numbers}
+use Rattle.quorum_rules.proofs.lemmas.FaultLaws.{blocks_at_most}
+use Rattle.nbd_front.specs.declared.request.Request.{Request}
+use Rattle.store_front.proofs.Reaching.{end_within, reaches, served}
 use Rattle.store_front.proofs.blocks.blocks_of.Goals as goal
+
+end_is : (c : Numbers) (r : Request) (end size len : ℕ) → end ≡ div_ceil (r.offset + len) size → len ≡ r.len → size ≡ c.size → end ≡ div_ceil (r.offset + r.len) c.size
+end_is c r end size len is long sized = is ∙ ap (λ n. div_ceil (r.offset + n) size) long ∙ ap (λ n. div_ceil (r.offset + r.len) n) sized
 
 pub returns-clause-reached : goal.returns-clause-reached
 returns-clause-reached c =
     let config = c.args.config.now in
     let r = c.args.request.now in
     let size : c.from-size.result ≡ config.size = c.from-size.ensures ∙ c.size.ensures.is in
-    let end : c.div_ceil.result ≡ div_ceil (r.offset + r.len) config.size =
-    c.div_ceil.ensures ∙ ap (λ n. div_ceil (r.offset + n) c.from-size.result) c.from.ensures ∙ ap (λ n. div_ceil (r.offset + r.len) n) size in
-    let served = sym c.is_served.ensures ∙ c.if-not-is_served.false in
+    let end = end_is config r c.div_ceil.result c.from-size.result c.from.result c.div_ceil.ensures c.from.ensures size in
+    let is = sym c.is_served.ensures ∙ c.if-not-is_served.false in
     λ k low high.
-    reaches config r k served (omega (arith, c.size.ensures.valid.size)) (subst (λ n. r.offset / n ≤ k) size low) (subst (λ n. k < n) end high)
+    reaches config r k is (omega (arith, c.size.ensures.valid.size)) (subst (λ n. r.offset / n ≤ k) size low) (subst (λ n. k < n) end high)
+
+pub returns-clause-within : goal.returns-clause-within
+returns-clause-within c =
+    let config = c.args.config.now in
+    let r = c.args.request.now in
+    let size : c.from-size.result ≡ config.size = c.from-size.ensures ∙ c.size.ensures.is in
+    let end = end_is config r c.div_ceil.result c.from-size.result c.from.result c.div_ceil.ensures c.from.ensures size in
+    let is = served config r (sym c.is_served.ensures ∙ c.if-not-is_served.false) in
+    subst (λ n. n ≤ config.blocks) (sym end) (end_within config.size config.blocks (r.offset + r.len) (omega (arith, c.size.ensures.valid.size)) is.within)
+
+pub returns-clause-most : goal.returns-clause-most
+returns-clause-most c = omega (arith, returns-clause-within c, blocks_at_most c.args.config.now c.size.ensures.valid)

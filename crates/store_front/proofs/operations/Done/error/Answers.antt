@@ -1,5 +1,5 @@
 use Rattle.std.proofs.Common.{◌≡◌, ◌∙◌, ◌*◌, ap, sym, arith}
-use Rattle.nbd_front.specs.Replies.{error_of}
+use Rattle.store_front.specs.Requests.{error_of}
 use Rattle.store_front.specs.Values.{read_of, written_of}
 use Rattle.store_front.proofs.Replying.{error_none, error_some}
 use Rattle.store_front.proofs.operations.Done.error.Goals as goal

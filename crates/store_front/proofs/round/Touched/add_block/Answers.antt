@@ -15,5 +15,5 @@ returns-clause-known c =
     let r = c.args.request.now in
     record {
       read = λ e. let is : needs c.args.config.now r c.args.block ≡ true = rw e refl in added_new _ c.args.self.now.read c.add_if-2.new.blocks c.args.block c.in_ok-add_if-2.ensures (c.needs_read.ensures ∙ is);
-      written = λ e. added_new _ c.args.self.now.written c.add_if.new.blocks c.args.block c.in_ok-add_if.ensures (rw e refl);
+      written = λ e. added_new _ c.args.self.now.written c.add_if.new.blocks c.args.block c.in_ok-add_if.ensures (c.changes.ensures ∙ e);
     }

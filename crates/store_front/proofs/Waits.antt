@@ -1,9 +1,10 @@
 -- Waits for a request.
-use Rattle.std.proofs.Common.{◌≡◌, ◌≢◌, ◌⊎◌, ℕ, ◌+◌, ◌<◌, ◌≤◌, Bool, true, false, List, [], ◌++◌, length, take, drop, refl, sym, ap, ◌∙◌, subst, arith, inl, inr, append_assoc, take-append-drop, Option, Result, Ok, Err, IfErr, OnErr}
+use Rattle.std.proofs.Common.{◌≡◌, ◌⊎◌, ℕ, ◌+◌, ◌<◌, ◌≤◌, Bool, false, List, [], ◌++◌, length, take, drop, refl, sym, ap, ◌∙◌, subst, arith, inl, inr, append_assoc, take-append-drop, Option, Result, Ok, Err, IfOk, IfErr, OnErr}
 use Rattle.std.specs.Int.{w32, from_be_bytes}
 use Rattle.std.specs.Io.KnownBytes.{IsAtEnd}
 use Rattle.std.proofs.lemmas.List.{append-nil, take-take, drop-take, length-take-le}
 use Rattle.outside_io.proofs.lemmas.Known.{Consumes-none, Consumes-then}
+use Rattle.quorum_rules.specs.Limits.{Numbers}
 use Rattle.nbd_front.specs.declared.request.Request.{Request}
 use Rattle.nbd_front.specs.Requests.{magic_of, head_len, data_len, request_of, fields_of}
 use Rattle.nbd_front.specs.Sessions.{IsPart}
@@ -11,6 +12,8 @@ use Rattle.nbd_front.specs.declared.ending.SessionEnd.{SessionEnd}
 use Rattle.nbd_front.specs.declared.ending.SessionEnd.TheVariants.{NoMemory, ReadFault, CutRequest}
 use Rattle.store_front.specs.declared.standing.Standing.{Standing}
 use Rattle.store_front.specs.declared.standing.Standing.TheVariants.{Part, Wrong, Leave, Whole}
+use Rattle.store_front.specs.declared.waiting.Came.{Came}
+use Rattle.store_front.specs.declared.waiting.Came.TheVariants.{Nothing}
 use Rattle.store_front.specs.Inputs.{HasRead}
 use Rattle.store_front.specs.Rounds.{BeginsWithRequest}
 use Rattle.store_front.specs.Sessions.{HasReadOn, HasLost, BeginsWithLeave, EndsWait}
@@ -76,18 +79,19 @@ lost_then old mid new left now left_after first last = record {
 pub still_part : (old new : List ℕ) (left left_after : Option (List ℕ)) → HasRead old new left left_after false → IsPart old → IsPart new
 still_part old new left left_after h part = subst IsPart (sym (h.behind ∙ ap (λ z. old ++ z) (h.ended refl).0 ∙ append-nil old)) part
 
-pub at_end : (result : Result Bool SessionEnd) (place : ℕ) (old new : List ℕ) (left left_after : Option (List ℕ))
-    → (result ≡ Ok false → new ≡ []) → result ≢ Ok true → IfErr result (λ (end : SessionEnd). end ≡ CutRequest place) → OnErr result (0 < length new)
-    → HasReadOn old new left left_after → IsPart new → IsAtEnd left_after → EndsWait result place old new left left_after
-at_end (Ok true) place old new left left_after none some cut rest read part ended = absurd (some refl)
-at_end (Ok false) place old new left left_after none some cut rest read part ended = (read, inr (none refl, ended))
-at_end (Err end) place old new left left_after none some cut rest read part ended = rw cut (read, refl, rest, part, ended)
+pub at_end : (c : Numbers) (result : Result Came SessionEnd) (place : ℕ) (old new : List ℕ) (left left_after : Option (List ℕ))
+    → IfOk result (λ (came : Came). (came ≡ Nothing) × (new ≡ [])) → IfErr result (λ (end : SessionEnd). end ≡ CutRequest place) → OnErr result (0 < length new)
+    → HasReadOn old new left left_after → IsPart new → IsAtEnd left_after → EndsWait c result place old new left left_after
+at_end c (Ok came) place old new left left_after none cut rest read part ended =
+    subst (λ (z : Came). EndsWait c (Ok z) place old new left left_after) (sym none.0) (read, inr (none.1, ended))
+at_end c (Err end) place old new left left_after none cut rest read part ended =
+    subst (λ (z : SessionEnd). EndsWait c (Err z) place old new left left_after) (sym cut) (read, refl, rest, part, ended)
 
 -- a read failed, or memory was wanting for what it gave
-pub not_read : (end : SessionEnd) (place : ℕ) (old mid new : List ℕ) (left now left_after : Option (List ℕ)) → HasReadOn old mid left now → IsPart mid
+pub not_read : (c : Numbers) (end : SessionEnd) (place : ℕ) (old mid new : List ℕ) (left now left_after : Option (List ℕ)) → HasReadOn old mid left now → IsPart mid
     → (end ≡ ReadFault → (new ≡ mid) × HasReadOn mid new now left_after) → (end ≡ NoMemory → HasLost mid new now left_after) → (end ≡ ReadFault) ⊎ (end ≡ NoMemory)
-    → EndsWait (Err end) place old new left left_after
-not_read end place old mid new left now left_after read part failed lost (inl is) =
+    → EndsWait c (Err end) place old new left left_after
+not_read c end place old mid new left now left_after read part failed lost (inl is) =
     let h = failed is in
     rw is (read_then old mid new left now left_after read h.1, subst IsPart (sym h.0) part)
-not_read end place old mid new left now left_after read part failed lost (inr is) = rw is (lost_then old mid new left now left_after read (lost is))
+not_read c end place old mid new left now left_after read part failed lost (inr is) = rw is (lost_then old mid new left now left_after read (lost is))

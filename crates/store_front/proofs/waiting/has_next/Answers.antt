@@ -1,8 +1,8 @@
 use Rattle.std.proofs.Common.{inl, subst}
 use Rattle.store_front.specs.declared.standing.Standing.TheVariants.{Leave, Whole}
 use Rattle.store_front.specs.Standings.{IsStanding}
-use Rattle.store_front.proofs.Waiting.{begins, leaves}
-use Rattle.store_front.proofs.session.has_next.Goals as goal
+use Rattle.store_front.proofs.Waits.{begins, leaves}
+use Rattle.store_front.proofs.waiting.has_next.Goals as goal
 
 pub returns-in-Whole-clause-waited : goal.returns-in-Whole-clause-waited
 returns-in-Whole-clause-waited g c =
