@@ -13,3 +13,5 @@ mod Overfull
 mod Tending
 mod Settled
 mod Tried
+mod MostKept
+mod Rebuilt

@@ -1,19 +1,25 @@
 -- What a new node is asked to keep of what reads gave, and what is counted of it.
-use Rattle.std.specs.Prelude.{◌≡◌, ◌⊎◌, ℕ, zero, suc, ◌+◌, ◌-◌, ◌^◌, ◌*◌, ◌/◌, ◌==◌, ⊤, min, true, false, if◌then◌else◌, List, [], ◌∷◌, ◌++◌, length, slice_index_or, Option}
+use Rattle.std.specs.Prelude.{◌≡◌, ◌⊎◌, ◌<◌, ℕ, zero, suc, ◌+◌, ◌-◌, ◌^◌, ◌*◌, ◌/◌, ◌==◌, ⊤, min, true, false, if◌then◌else◌, List, [], ◌∷◌, ◌++◌, length, slice_index_or, Option}
 use Rattle.std.specs.declared.option.Option.TheVariants.{None, Some}
-use Rattle.quorum_rules.specs.Limits.{Numbers}
+use Rattle.quorum_rules.specs.Limits.{Numbers, IsValid}
 use Rattle.gf_field.specs.Fragments.{fragments_of}
 use Rattle.ida_code.specs.Sums.{sum_of}
 use Rattle.wire_forms.specs.declared.op.Op.{Op}
 use Rattle.wire_forms.specs.declared.Request.TheVariants.{Write}
 use Rattle.wire_forms.specs.declared.Reply.TheVariants.{Ack}
+use Rattle.protocol.specs.Instance.{setting}
 use Rattle.protocol.specs.Messages.{Version, Ask, Reply}
 use Rattle.protocol.specs.Operations.{Outcome}
+use Rattle.node_core.specs.Seen.{new_node, versions_in}
 use Rattle.disk_model.specs.Crash.{Pending, settled}
 use Rattle.version_disk.specs.Held.{held}
 use Rattle.version_disk.specs.Deeds.{after_asks, replies_of}
 use Rattle.version_disk.specs.Stored.{Stored}
-use Rattle.store_device.specs.Calls.{Call}
+use Rattle.block_phases.specs.Executions.{StampedValue}
+use Rattle.block_turns.specs.Lives.{renewed}
+use Rattle.store_device.specs.Lives.{Moment, IsLife, NoneClash}
+use Rattle.store_device.specs.Sessions.{given_in}
+use Rattle.store_device.specs.Calls.{Call, AreTurnsBy}
 use Rattle.store_device.specs.Calls.Deed.{Performs}
 use Rattle.store_care.specs.Given.{Given, block_at}
 use Rattle.store_care.specs.Looking.{IsReading}
@@ -54,12 +60,13 @@ abbrev pub with_missed : Filled → ℕ → Filled
 with_missed filled more = record filled { missed = min (filled.missed + more) (2 ^ 64 - 1) }
 
 module _ {E : Type 0} (pending : E → Pending) (seen : E → List ℕ) where
-  -- The node was asked this. It answered, and its disk has what it keeps since, safe from a crash; or it refused: then it is as it was, or its
-  -- disk failed, and all that it was asked is missed.
+  -- The node was asked this. It was up, answered, and its disk has what it keeps since, safe from a crash; or it refused: then it is as it
+  -- was, or its disk failed, and all that it was asked is missed.
   abbrev pub HasKept : List Ask → (old new : Filled) → (was is : Stored E) → Type 0
   HasKept asks old new was is =
       ((is.node ≡ after_asks was.node asks) × (held was.node.config was.node.number (seen is.disk) ≡ is.node)
-      × (pending is.disk ≡ settled (seen is.disk)) × (new ≡ with_replies old (replies_of was.node asks)))
+      × (pending is.disk ≡ settled (seen is.disk)) × (new ≡ with_replies old (replies_of was.node asks))
+      × (was.broken ≡ false) × (is.broken ≡ false))
       ⊎ (((is ≡ was) ⊎ (is.broken ≡ true)) × (new ≡ with_missed old (length asks)))
 
   module _ {D : Type 0} (c : Numbers) (number : ℕ) where
@@ -115,3 +122,22 @@ module _ {E : Type 0} (pending : E → Pending) (seen : E → List ℕ) (c : Num
   HasFilledBy calls filled (Some node) =
       (opened : Stored E) × IsOpened opened × (length calls ≡ groups_of c.blocks)
       × AreFilling pending seen c number calls nothing filled opened node
+
+-- A disk that held nothing but first versions was filled, and no block was missed. Then it keeps of each block the first version and that of
+-- the latest acknowledged operation, as a rebuilt node does.
+abbrev pub FilledAreRebuilt : (D : Type 0) {E : Type 0} (pending : E → Pending) (seen : E → List ℕ) → Type 0
+FilledAreRebuilt D {E} pending seen =
+    (c : Numbers) (number : ℕ) (bytes : List ℕ) (life more : List Moment) (calls : List (Call D)) (filled : Filled) (node : Stored E)
+    → IsValid c
+    → IsLife c (life ++ more)
+    → AreTurnsBy calls more
+    → AreGroups c.blocks 0 calls
+    → held c number bytes ≡ new_node c number
+    → HasFilledBy pending seen c number bytes calls filled (Some node)
+    → filled.missed ≡ 0
+    → node.broken ≡ false
+    → (block : ℕ)
+    → block < c.blocks
+    → NoneClash c block (life ++ more)
+    → (x : StampedValue) × (earlier : List StampedValue) × (given_in c (life ++ more) block ≡ x ∷ earlier)
+    × (versions_in node.node block ≡ renewed (setting c) x number)

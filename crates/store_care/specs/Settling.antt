@@ -14,6 +14,7 @@ use Rattle.disk_model.specs.Crash.{Pending}
 use Rattle.store_device.specs.Stores.{SeenStore}
 use Rattle.store_device.specs.Calls.{Call, Leads}
 use Rattle.store_device.specs.Calls.Deed.{Performs}
+use Rattle.store_device.specs.Settled.{KeepsAtMost}
 use Rattle.store_care.specs.Given.{Given, given, reads_from}
 use Rattle.store_care.specs.Holdings.{newest_at}
 
@@ -105,3 +106,9 @@ module _ {D : Type 0} where
   -- it was settled at some time, or was tried four times
   abbrev pub IsTriedOut : SeenStore D → List (Try D) → ℕ → Type 0
   IsTriedOut store tries block = WasSettled store tries block ⊎ (4 ≤ tries_of block tries)
+
+-- ---- what a settled block is in a store's life
+
+-- Where a block is settled n-t nodes that are up keep one stamp of it, and none that is up keeps a greater one.
+abbrev pub SettledBlocksHold : Type 0 → Type 0
+SettledBlocksHold D = (store : SeenStore D) (block : ℕ) → is_settled store block ≡ true → (stamp : Stamp) × KeepsAtMost store block stamp

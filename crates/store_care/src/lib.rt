@@ -8,6 +8,7 @@ pub mod care;
 mod counting;
 pub mod filling;
 pub mod holding;
+pub mod laws;
 mod newest;
 pub mod pruning;
 pub mod settling;
