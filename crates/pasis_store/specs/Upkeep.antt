@@ -59,10 +59,10 @@ module _ {F : Type 0} where
       × TriesLeadOn (λ d. d.pending) (λ d. d.bytes) (λ d. d.most) (λ d. length d.past) (λ d. LeftSince d.past d.pending) old tries new
       × OnOk result ((block : ℕ) → block < old.config.blocks → IsTriedOut old tries block)
 
-  -- a session in which it is only looked after between rounds
-  abbrev pub IsSession : Numbers → (old new : SeenStore (OnFile F)) → Result (Unit {0}) SessionEnd → (left left_after taken taken_after : Option (List ℕ)) → Type 0
-  IsSession c old new result left left_after taken taken_after =
-      IsSessionOn (λ d. d.pending) (λ d. d.bytes) (λ d. d.most) (λ d. length d.past) (λ d. LeftSince d.past d.pending) IsTended c old new result left left_after taken taken_after
+  -- a connection in which it is only looked after between rounds
+  abbrev pub IsConnection : Numbers → (old new : SeenStore (OnFile F)) → Result (Unit {0}) ConnectionEnd → (left left_after taken taken_after : Option (List ℕ)) → Type 0
+  IsConnection c old new result left left_after taken taken_after =
+      IsConnectionOn (λ d. d.pending) (λ d. d.bytes) (λ d. d.most) (λ d. length d.past) (λ d. LeftSince d.past d.pending) IsTended c old new left left_after taken taken_after result
 
 -- ---- when a store is looked after
 
