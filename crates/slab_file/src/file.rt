@@ -58,9 +58,9 @@ pub trait SlabFile {
         ensures crash { (c : List ℕ) → may_leave self.new c → may_leave self.old c }
         ensures time { Elapses moment left_since may_leave self.old self.new };
 
-    /// Fills the room with the bytes from a place on, and tells whether they fit a check, which is their digest under a key. It
-    /// need not be known that the file has such bytes there. Where it has, others that the system gives don't fit, and leave the
-    /// file clean, unless both have one digest.
+    /// Fills the room with the bytes from a place on, and tells whether they fit a check, which is their digest under
+    /// a key. It need not be known that the file has such bytes there. Where it has, others that the system gives
+    /// don't fit, and leave the file clean, unless both have one digest.
     fn read_checked(
         &mut self,
         key: u64,
@@ -89,7 +89,8 @@ pub trait SlabFile {
         ensures crash { (c : List ℕ) → may_leave self.new c → may_leave self.old c }
         ensures time { Elapses moment left_since may_leave self.old self.new };
 
-    /// Writes a piece over bytes that are there. A write that fails may have changed any byte of its range, and the file goes on.
+    /// Writes a piece over bytes that are there. A write that fails may have changed any byte of its range, and the
+    /// file goes on.
     fn write_at(&mut self, at: u64, piece: &[u8]) -> Result<(), FileFault>
         requires usable { IsTrue (is_usable self.old) }
         requires within { IsTrue (is_clean self.old) → at + length piece.now

@@ -165,7 +165,8 @@ pub fn write_batch<F: SlabFile>(
         → Agrees shape going nothing (F.SlabFile.seen file.old) c)) }
     ensures clean { F.SlabFile.is_clean file.new ≡ F.SlabFile.is_clean file.old }
     ensures cause { CountsFault result (F.SlabFile.faults file.old) (F.SlabFile.faults file.new) }
-    // in what a crash at any moment leaves, what was marked is as it was, and where marks of the batch may be there, its heads and data are
+    // in what a crash at any moment leaves, what was marked is as it was; where marks of the batch may be
+    // there, its heads and data are there
     ensures any_moment { (going : ℕ → Bool) → IsTrue (F.SlabFile.is_clean file.new)
         → All (λ f. IsUnmarked shape (F.SlabFile.seen file.old) f) batch.now
         → All (λ f. IsOutOf going f) batch.now

@@ -15,8 +15,8 @@ pub fn marks_answer()
     ensures { (c : Numbers) (number : ℕ) (old left : List ℕ) → MarksAnswer c number old left }
 {}
 
-/// Whatever becomes of marks that are taken away, each version that goes is one that the prune drops, and each that doesn't is kept
-/// as it was.
+/// Whatever becomes of marks that are taken away, each version that goes is one that the prune drops, and each that
+/// doesn't is kept as it was.
 pub fn freed_marks_prune()
     ensures pruned { (c : Numbers) (number : ℕ) (old left : List ℕ)
         → FreedMarksPrune c number old left }
@@ -24,8 +24,8 @@ pub fn freed_marks_prune()
         → GoingMarksMayStay c number old left }
 {}
 
-/// Whatever a batch leaves at any step, the node has dropped some of what was going, and then answered some of the asks. Where it was
-/// written whole, all asks are answered.
+/// Whatever a batch leaves at any step, the node has dropped some of what was going, and then answered some of the
+/// asks. Where it was written whole, all asks are answered.
 pub fn batches_answer()
     ensures whole { (c : Numbers) (number : ℕ) (old left : List ℕ)
         → WrittenBatchesAnswer c number old left }

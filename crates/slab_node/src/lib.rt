@@ -1,4 +1,4 @@
-//! The node that a slab holds: its state from the bytes, what a crash leaves of it, and how a batch of versions is written.
+//! The node that a slab holds: its state from the bytes, what a crash leaves of it, and how a batch is written.
 #![tactic(auto)]
 
 pub mod batch;
