@@ -1,0 +1,5 @@
+use Rattle.slab_index.proofs.Telling.{slots_tell}
+use Rattle.slab_index.proofs.laws.slots_tell.Goals as goal
+
+pub returns : goal.returns
+returns c = slots_tell
