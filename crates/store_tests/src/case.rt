@@ -11,6 +11,7 @@
 //! | 15 | nodes whose journals others change before sessions |
 //! | 16 | 1 where nodes prune after batches |
 //! | 17 | where it isn't 0, the case is played for each node and each of so many calls of its disk, which fails in the first session |
+//! | 18 | where it isn't 0, so many disks are replaced before each session, first those of nodes whose journals others change, and then filled; others change other journals from then on |
 
 /// What is done in a session.
 #[derive(Clone, Copy)]
@@ -23,6 +24,10 @@ pub struct Session {
     /// So many nodes are gone at most.
     pub gone: u32,
     pub prunes: bool,
+    /// Others change so many nodes' journals.
+    pub changed: u32,
+    /// So many disks are replaced before.
+    pub replaced: u32,
 }
 
 /// A case.
@@ -34,8 +39,6 @@ pub struct Case<'a> {
     pub seed: u32,
     pub sessions: u32,
     pub session: Session,
-    /// Others change so many nodes' journals.
-    pub changed: u32,
     /// So many calls of each disk fail in turn.
     pub turns: u32,
 }
@@ -44,7 +47,7 @@ pub struct Case<'a> {
 pub fn case_of(line: &str) -> Option<Case<'_>> {
     let mut words = line.split(' ');
     let name = words.next()?;
-    let mut numbers = [0u32; 16];
+    let mut numbers = [0u32; 17];
     for number in &mut numbers {
         *number = words.next()?.parse().ok()?;
     }
@@ -54,7 +57,7 @@ pub fn case_of(line: &str) -> Option<Case<'_>> {
     Some(with_numbers(name, numbers))
 }
 
-fn with_numbers(name: &str, numbers: [u32; 16]) -> Case<'_> {
+fn with_numbers(name: &str, numbers: [u32; 17]) -> Case<'_> {
     let [
         n,
         t,
@@ -72,6 +75,7 @@ fn with_numbers(name: &str, numbers: [u32; 16]) -> Case<'_> {
         changed,
         prunes,
         turns,
+        replaced,
     ] = numbers;
     Case {
         name,
@@ -84,8 +88,9 @@ fn with_numbers(name: &str, numbers: [u32; 16]) -> Case<'_> {
             calls,
             gone,
             prunes: prunes == 1,
+            changed,
+            replaced,
         },
-        changed,
         turns,
     }
 }

@@ -5,6 +5,7 @@ use cross_sum::{Hash, sha};
 use stamp_order::Stamp;
 use std::alloc::{AllocError, Global};
 use std::fmt;
+use store_care::Filled;
 
 /// How operations ended, and what came out otherwise than it may.
 #[derive(Clone, Copy)]
@@ -17,6 +18,7 @@ pub struct Counts {
     lost: u64,
     unopened: u64,
     up: u64,
+    rebuilt: u64,
     otherwise: u64,
     sum: Hash,
 }
@@ -32,6 +34,7 @@ impl Counts {
             lost: 0,
             unopened: 0,
             up: 0,
+            rebuilt: 0,
             otherwise: 0,
             sum: [0; 32],
         }
@@ -97,6 +100,14 @@ impl Counts {
         self.up = self.up.saturating_add(u64::from(up));
     }
 
+    /// A new disk was filled: so many blocks are rebuilt there. None may be missed.
+    pub fn add_filled(&mut self, filled: &Filled) {
+        self.rebuilt = self.rebuilt.saturating_add(filled.kept);
+        if filled.missed > 0 {
+            self.tell_otherwise();
+        }
+    }
+
     /// Something came out otherwise than it may.
     pub fn tell_otherwise(&mut self) {
         self.otherwise = self.otherwise.saturating_add(1);
@@ -120,12 +131,13 @@ impl fmt::Display for Counts {
             lost,
             unopened,
             up,
+            rebuilt,
             otherwise,
             sum: _sum,
         } = *self;
         write!(
             f,
-            "operations={operations} gave={gave} repaired={repaired} rounds={rounds} wrote={wrote} lost={lost} unopened={unopened} up={up} otherwise={otherwise}"
+            "operations={operations} gave={gave} repaired={repaired} rounds={rounds} wrote={wrote} lost={lost} unopened={unopened} up={up} rebuilt={rebuilt} otherwise={otherwise}"
         )
     }
 }

@@ -22,12 +22,13 @@ use trial::play;
 use unmade::Unmade;
 
 /// The files, in the order in which they are told.
-const FILES: [&str; 5] = [
+const FILES: [&str; 6] = [
     "arrays.cases",
     "faults.cases",
     "crashes.cases",
     "gone.cases",
     "changed.cases",
+    "replaced.cases",
 ];
 
 // What came of a case: its counts, or that it could not be made.

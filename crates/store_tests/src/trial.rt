@@ -19,6 +19,7 @@ use quorum_rules::Config;
 use stamp_order::Stamp;
 use std::alloc::Global;
 use std::thread::Threads;
+use store_care::{FilledDisk, fill_disk};
 use store_device::Store;
 use version_disk::{OpenRefusal, Prune, StoredNode};
 use wire_forms::Op;
@@ -160,12 +161,7 @@ impl Trial {
         for _ in 0..config.n() {
             shelves.push(empty_shelf(alloc))?;
         }
-        for _ in 0..case.changed {
-            let node = draws.below(config.n()) as usize;
-            if let Some(shelf) = shelves.get_mut(node) {
-                shelf.is_changed = true;
-            }
-        }
+        mark_changed(&mut shelves, &mut draws, config.n(), case.session.changed);
         Ok(Trial {
             alloc,
             config: *config,
@@ -182,6 +178,9 @@ impl Trial {
         session: &Session,
         fault: Option<Fault>,
     ) -> Result<(), Unmade> {
+        if session.replaced > 0 {
+            self.replace(rt, session)?;
+        }
         self.change()?;
         let away = self.drawn_away(session)?;
         let failing = self.drawn_faults(session, fault)?;
@@ -193,6 +192,61 @@ impl Trial {
             }
         }
         self.close(&mut store)
+    }
+
+    // Disks are replaced and filled, and from then on others change other journals.
+    fn replace<R: Threads + Sync>(&mut self, rt: &R, session: &Session) -> Result<(), Unmade> {
+        let config = self.config;
+        let are_new = self.drawn_new(session)?;
+        let mut store = self.open(&are_new, &[])?;
+        for number in 0..config.n() as u8 {
+            if are_new.get(usize::from(number)).copied().unwrap_or(false) {
+                self.fill(rt, &mut store, number)?;
+            }
+        }
+        self.close(&mut store)?;
+        for shelf in &mut self.shelves {
+            shelf.is_changed = false;
+            shelf.older = Vec::new(self.alloc);
+        }
+        mark_changed(
+            &mut self.shelves,
+            &mut self.draws,
+            config.n(),
+            session.changed,
+        );
+        Ok(())
+    }
+
+    // Whose disks are replaced: those of nodes whose journals others change, and as many others as are drawn.
+    fn drawn_new(&mut self, session: &Session) -> Result<Vec<bool>, Unmade> {
+        let mut are_new = Vec::new(self.alloc);
+        for shelf in &self.shelves {
+            are_new.push(shelf.is_changed)?;
+        }
+        for _ in session.changed..session.replaced {
+            let node = self.draws.below(self.config.n()) as usize;
+            if let Some(is_new) = are_new.get_mut(node) {
+                *is_new = true;
+            }
+        }
+        Ok(are_new)
+    }
+
+    // Puts a new disk, filled with what reads of a store give, in the place of a node's.
+    fn fill<R: Threads + Sync>(
+        &mut self,
+        rt: &R,
+        store: &mut Device,
+        number: u8,
+    ) -> Result<(), Unmade> {
+        let disk = disk_of(self.alloc, &[], None)?;
+        let FilledDisk { filled, node } = fill_disk(rt, self.alloc, store, number, disk)?;
+        self.counts.add_filled(&filled);
+        if let (Some(node), Some(shelf)) = (node, self.shelves.get_mut(usize::from(number))) {
+            shelf.journal = node.into_disk().left(self.alloc, &mut self.draws)?;
+        }
+        Ok(())
     }
 
     // Others change journals.
@@ -408,6 +462,16 @@ impl Trial {
             }
         }
         self.close(&mut store)
+    }
+}
+
+// Others change the journals of nodes that are drawn.
+fn mark_changed(shelves: &mut [Shelf], draws: &mut Draws, nodes: u32, changed: u32) {
+    for _ in 0..changed {
+        let node = draws.below(nodes) as usize;
+        if let Some(shelf) = shelves.get_mut(node) {
+            shelf.is_changed = true;
+        }
     }
 }
 
