@@ -1,5 +1,5 @@
 -- What is done with a store's nodes, and how it is looked after.
-use Rattle.std.specs.Prelude.{◌≡◌, ℕ, ◌+◌, ◌-◌, ◌*◌, ◌<◌, ◌^◌, ◌&&◌, false, not, min, max, nat_le, if◌then◌else◌, Bool, List, length, Option, Some, Result, OnOk}
+use Rattle.std.specs.Prelude.{◌≡◌, ℕ, ◌+◌, ◌-◌, ◌*◌, ◌<◌, ◌^◌, ◌&&◌, false, not, min, max, nat_le, if◌then◌else◌, Bool, List, length, Option, Some, Result, Ok, Err, OnOk}
 use denote.Ref.{MutBor}
 use Rattle.quorum_rules.specs.Limits.{Numbers}
 use Rattle.disk_model.specs.Past.{LeftSince}
@@ -12,7 +12,7 @@ use Rattle.store_device.specs.Seating.{with_seat, IsReseated as IsReseatedOn}
 use Rattle.store_device.specs.Steps.{IsTended as IsTendedOn}
 use Rattle.store_care.specs.Filling.{groups_of}
 use Rattle.store_care.specs.Pruning.{HavePassed}
-use Rattle.store_care.specs.Settling.{IsTriedOut, Try, TriesLead as TriesLeadOn}
+use Rattle.store_care.specs.Settling.{unsettled, IsTriedOut, Try, TriesLead as TriesLeadOn}
 use Rattle.store_front.specs.declared.connection.ConnectionEnd.{ConnectionEnd}
 use Rattle.store_front.specs.Connections.{IsConnection as IsConnectionOn}
 
@@ -63,6 +63,17 @@ module _ {F : Type 0} where
   abbrev pub IsConnection : Numbers → (old new : SeenStore (OnFile F)) → Result (Unit {0}) ConnectionEnd → (left left_after taken taken_after : Option (List ℕ)) → Type 0
   IsConnection c old new result left left_after taken taken_after =
       IsConnectionOn (λ d. d.pending) (λ d. d.bytes) (λ d. d.most) (λ d. length d.past) (λ d. LeftSince d.past d.pending) IsTended c old new left left_after taken taken_after result
+
+  -- Before anything is read its blocks are tried to be settled, and all but so many are settled then. Behind that there is a connection, in
+  -- which it is only looked after between rounds. Where memory lacks while blocks are settled nothing is read and nothing is written.
+  abbrev pub IsServed : {E : Type 0} → (old new : SeenStore (OnFile F)) → Result (Result (Unit {0}) ConnectionEnd) E → (left left_after taken taken_after : Option (List ℕ)) → Type 0
+  IsServed {E} old new (Ok end) left left_after taken taken_after =
+      (mid : SeenStore (OnFile F)) × (count : ℕ)
+      × IsTried {A = ℕ} {E = E} (Ok count) old mid
+      × (count ≡ length (unsettled mid 0 mid.config.blocks))
+      × IsConnection mid.config mid new end left left_after taken taken_after
+  IsServed {E} old new (Err e) left left_after taken taken_after =
+      IsTried {A = ℕ} {E = E} (Err e) old new × (left_after ≡ left) × (taken_after ≡ taken)
 
 -- ---- when a store is looked after
 

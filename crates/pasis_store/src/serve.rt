@@ -1,6 +1,6 @@
 ghost use Rattle.std.specs.Prelude.{◌≡◌, IfErr};
 ghost use Rattle.pasis_store.specs.Ends.{IsUnderstood};
-ghost use Rattle.pasis_store.specs.Upkeep.{IsConnection, IsTended};
+ghost use Rattle.pasis_store.specs.Upkeep.{IsConnection, IsServed, IsTended};
 
 use crate::folder::FileStore;
 use crate::keeping::ByClosure;
@@ -26,11 +26,10 @@ pub fn serve<T: Threads + Sync>(
     if let Ok(processors) = available_parallelism(threads) {
         store.hear_in(processors.get());
     }
-    settle(rt, threads, &mut store)?;
     let mut upkeep = Upkeep::new(rt, &store)?;
     let mut source = StdSource::new(rt.stdin());
     let mut sink = StdSink::new(rt.stdout());
-    match serve_store(
+    let end = settle_and_serve(
         rt,
         threads,
         folders,
@@ -38,13 +37,32 @@ pub fn serve<T: Threads + Sync>(
         &mut upkeep,
         &mut source,
         &mut sink,
-    ) {
+    )?;
+    match end {
         Ok(()) => Ok(Status::Done),
         Err(end) => {
             let _ = eprintln!(rt; "pasis_store: {}", told(end));
             Ok(Status::Failed)
         }
     }
+}
+
+// Settles what a crash left of a store, and then serves it to a client.
+fn settle_and_serve<T: Threads + Sync, S: Source, K: Sink>(
+    rt: &HostRuntime,
+    threads: &T,
+    folders: &[String],
+    store: &mut FileStore,
+    upkeep: &mut Upkeep,
+    source: &mut S,
+    sink: &mut K,
+) -> Result<Result<(), ConnectionEnd>, NoMemory>
+    // blocks are settled before anything is read
+    ensures { IsServed store.old store.new result (S.left source.old) (S.left source.new)
+        (K.taken sink.old) (K.taken sink.new) }
+{
+    let _unsettled = settle(rt, threads, store)?;
+    Ok(serve_store(rt, threads, folders, store, upkeep, source, sink))
 }
 
 // Serves a store to a client until the connection ends, and looks after it while nothing waits.
