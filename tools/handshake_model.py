@@ -180,27 +180,33 @@ def written(cases):
     return "\n".join(line for line in lines if line not in ("< ", "> ")) + "\n"
 
 
+def agreed(crate, name, text, count, words):
+    """Plays so many cases by a crate's built program, by the one that is named, or by `rt try`. Returns how many ended as they say."""
+    with tempfile.TemporaryDirectory() as room:
+        path = f"{room}/{name}"
+        with open(path, "w") as file:
+            file.write(text)
+        if words == ["--try"]:
+            run = ["rt", "try", "--seconds", "900", "--data", f"{name}={path}"]
+            done = subprocess.run(run, cwd=crate, capture_output=True, text=True)
+        else:
+            program = os.path.realpath(words[0]) if words else f"{crate}/out/{os.path.basename(crate)}"
+            done = subprocess.run([program], cwd=room, capture_output=True, text=True, timeout=900)
+    lines = [line for line in done.stdout.splitlines() if line.split(":")[0].isdigit()]
+    good = sum(line.endswith(" bytes") for line in lines) if done.returncode == 0 else 0
+    if good < count:
+        print(f"status {done.returncode}", *[line for line in lines if not line.endswith(" bytes")][:10], done.stderr[-500:], sep="\n")
+    return good
+
+
 def fuzz(count, words):
     rng = random.Random(int(os.environ.get("SEED", "1")))
     bases = [case for case in recorded(f"{CRATE}/data/handshakes.cases") if len(case["input"]) < 2000]
     passed = failed = 0
     while passed + failed < count:
         batch = [mutated(rng, bases) for _ in range(min(10_000, count - passed - failed))]
-        with tempfile.TemporaryDirectory() as room:
-            path = f"{room}/handshakes.cases"
-            with open(path, "w") as file:
-                file.write(written(batch))
-            if words == ["--try"]:
-                run = ["rt", "try", "--seconds", "900", "--data", f"handshakes.cases={path}"]
-                done = subprocess.run(run, cwd=CRATE, capture_output=True, text=True)
-            else:
-                program = os.path.realpath(words[0]) if words else f"{CRATE}/out/handshake_sessions"
-                done = subprocess.run([program], cwd=room, capture_output=True, text=True, timeout=600)
-        lines = [line for line in done.stdout.splitlines() if line.split(":")[0].isdigit()]
-        good = sum(line.endswith(" bytes") for line in lines) if done.returncode == 0 else 0
+        good = agreed(CRATE, "handshakes.cases", written(batch), len(batch), words)
         passed, failed = passed + good, failed + len(batch) - good
-        if good < len(batch):
-            print(f"status {done.returncode}", *[line for line in lines if not line.endswith(" bytes")][:10], done.stderr[-500:], sep="\n")
     return passed, failed
 
 

@@ -216,21 +216,8 @@ def cases(count, words):
     passed = failed = 0
     while passed + failed < count:
         batch = [mutated(rng, bases, 64) for _ in range(min(BATCH, count - passed - failed))]
-        with tempfile.TemporaryDirectory() as room:
-            path = f"{room}/sessions.cases"
-            with open(path, "w") as file:
-                file.write(written(batch, 4, 16))
-            if words == ["--try"]:
-                run = ["rt", "try", "--seconds", "900", "--data", f"sessions.cases={path}"]
-                done = subprocess.run(run, cwd=crate, capture_output=True, text=True)
-            else:
-                program = os.path.realpath(words[0]) if words else f"{crate}/out/store_sessions"
-                done = subprocess.run([program], cwd=room, capture_output=True, text=True, timeout=900)
-        lines = [line for line in done.stdout.splitlines() if line.split(":")[0].isdigit()]
-        good = sum(line.endswith(" bytes") for line in lines) if done.returncode == 0 else 0
+        good = handshake_model.agreed(crate, "sessions.cases", written(batch, 4, 16), len(batch), words)
         passed, failed = passed + good, failed + len(batch) - good
-        if good < len(batch):
-            print(f"status {done.returncode}", *[line for line in lines if not line.endswith(" bytes")][:10], done.stderr[-500:], sep="\n")
     return passed, failed
 
 
