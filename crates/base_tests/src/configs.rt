@@ -42,6 +42,19 @@ fn editions_have_their_limits(rt: HostRuntime) {
             65_537,
             Some(ConfigFault::BlocksOutOfRange),
         ),
+        (Edition::Four, 65_536, 268_435_456, None),
+        (
+            Edition::Four,
+            65_537,
+            268_435_457,
+            Some(ConfigFault::SizeOutOfRange),
+        ),
+        (
+            Edition::Four,
+            65_536,
+            268_435_457,
+            Some(ConfigFault::BlocksOutOfRange),
+        ),
     ];
     for (edition, size, blocks, fault) in rows {
         assert!(rt; fault_of(edition, size, blocks) == fault);
@@ -49,9 +62,9 @@ fn editions_have_their_limits(rt: HostRuntime) {
 }
 
 #[test]
-fn third_is_of_edition_three(rt: HostRuntime) {
-    match Config::third(5, 1, 1, 3, 2, 16_384, 65_536) {
-        Ok(config) => assert!(rt; config.edition() == 3 && config.blocks() == 65_536),
+fn fourth_is_of_edition_four(rt: HostRuntime) {
+    match Config::fourth(5, 1, 1, 3, 2, 65_536, 268_435_456) {
+        Ok(config) => assert!(rt; config.edition() == 4 && config.blocks() == 268_435_456),
         Err(_) => assert!(rt; false),
     }
 }

@@ -34,7 +34,7 @@ impl Piece {
 /// How many bytes the device has.
 pub fn device_len(config: &Config) -> u64
     ensures is { result ≡ config.now.size * config.now.blocks }
-    ensures small { result ≤ 1073741824 }
+    ensures small { result ≤ 17592186044416 }
 {
     u64::from(config.size()) * u64::from(config.blocks())
 }
@@ -48,7 +48,7 @@ pub fn blocks_of(config: &Config, start: u64, len: u64) -> Blocks
     ensures begins { result.first * config.now.size ≤ start }
     ensures ends { 0 < len → start + len ≤ result.end * config.now.size }
     ensures within { result.end ≤ config.now.blocks }
-    ensures most { result.end ≤ 65536 }
+    ensures most { result.end ≤ 268435456 }
     ensures reached { (k : ℕ) → result.first ≤ k → k < result.end → Reaches config.now start len k }
 {
     let size = u64::from(config.size());

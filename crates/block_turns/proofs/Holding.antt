@@ -58,7 +58,7 @@ module _ (s : Setting) (good : IsValid s) (block : ℕ) (inside : block < s.bloc
       (i.0, i.1, not_true (b.lies i.0) outer.0, not_true (b.lost i.0) inner.0, inner.1)
 
   -- so its value is known
-  held_known : (x : StampedValue) × Contains known x × (x.stamp ≡ stamp)
+  pub held_known : (x : StampedValue) × Contains known x × (x.stamp ≡ stamp)
   held_known =
       let i = keeper in
       let v = keeps_is (old i.0) stamp i.4 in
@@ -66,7 +66,7 @@ module _ (s : Setting) (good : IsValid s) (block : ℕ) (inside : block < s.bloc
       (g.0, g.1, sym (ap (λ (u : Version). u.stamp) g.2) ∙ v.2)
 
   -- and may stand for the greatest that ended
-  held_state : IsState s SeenOf EverOf known held_known.0 b.lost b.lies k old
+  pub held_state : IsState s SeenOf EverOf known held_known.0 b.lost b.lies k old
   held_state = record {
     of_known = st.state.of_known;
     first_known = st.state.first_known;

@@ -9,3 +9,5 @@ mod Settling
 mod Holding
 mod Growth
 mod AllOrdered
+mod TakenAlike
+mod Forgetting

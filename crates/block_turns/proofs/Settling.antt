@@ -1,5 +1,5 @@
 -- Where a block was settled, its life begins anew: what is known of it may be cut down to what isn't above the latest.
-use Rattle.std.proofs.Common.{◌≡◌, ℕ, suc, ◌+◌, ◌<◌, List, [], ◌∷◌, ◌++◌, length, filter, sym, ◌∙◌, ap, subst, inl, inr, arith}
+use Rattle.std.proofs.Common.{◌≡◌, ◌⊎◌, ℕ, suc, ◌+◌, ◌<◌, List, [], ◌∷◌, ◌++◌, length, filter, sym, ◌∙◌, ap, subst, inl, inr, arith}
 use Rattle.std.specs.declared.option.Option.TheVariants.{Some}
 use Rattle.std.specs.List.{Contains}
 use Rattle.std.proofs.lemmas.List.Elements.{Contains-append_left, Contains-append_right}
@@ -12,12 +12,15 @@ use Rattle.protocol.proofs.lemmas.Order.{≼-refl, before-≼, lower_time}
 use Rattle.linear_runs.specs.Linear.{Operation, IsLinear}
 use Rattle.linear_runs.specs.Meaning.{ReadsAreWritten}
 use Rattle.block_turns.proofs.lemmas.TurnsTold.{told_linear, read_told, written_told}
+use Rattle.run_words.specs.declared.outcome.How.{How}
+use Rattle.run_words.specs.declared.outcome.Outcome.TheVariants.{Gave}
+use Rattle.protocol.specs.Operations.Work.{Reads}
 use Rattle.block_phases.specs.Phases.{Keeps}
 use Rattle.block_phases.specs.Executions.{StampedValue}
 use Rattle.block_turns.specs.Turns.{Moment, Standing, first_standing, standing_after, told, turns_of, written_in}
 use Rattle.block_turns.specs.Strings.{LiesOnce, HasKept, IsSeen, NoClash}
 use Rattle.block_turns.specs.Lives.{TakesAll, IsLife, first_kept}
-use Rattle.block_turns.specs.Turns.Turn.{Failed}
+use Rattle.block_turns.specs.Turns.Turn.{Did, Failed}
 use Rattle.block_turns.specs.Strings.IsValue.{zeros_value, to_be_written}
 use Rattle.block_turns.specs.Strings.IsSeen.{sum_seen, fragment_seen, sum_kept, fragment_kept}
 use Rattle.block_turns.specs.Turns.{standing_at, kept_at}
@@ -75,7 +78,7 @@ module _ (s : Setting) (good : IsValid s) (block : ℕ) (inside : block < s.bloc
   -- what is known where the block is settled
   module _ (k : ℕ) (known : List StampedValue) (top : StampedValue) (waiting : List Waiting) (b : Standing) (old : Keeps)
       (st : Stands k known top waiting b old) (x : StampedValue) (is : IsSettled s x b old) where
-    abbrev low_known : List StampedValue
+    abbrev pub low_known : List StampedValue
     low_known = filter (λ y. up_to y.stamp top.stamp) known
 
     low_is : (y : StampedValue) → Contains known y → y.stamp ≼ top.stamp → Contains low_known y
@@ -169,6 +172,18 @@ module _ (s : Setting) (good : IsValid s) (block : ℕ) (before after : List Mom
       (stands_first s good block is.there Seen Ever apart (sum_seen zeros_value, λ i l. fragment_seen zeros_value l) (λ i lies. inl lies))
       parts.0 go
 
+  -- from where nothing is known but what isn't above the greatest that ended, the operations are linearizable by themselves
+  pub anew_from : (known : List StampedValue) (top : StampedValue) (b : Standing) (old : Keeps)
+      → IsStanding s good block is.there Seen Ever apart (number_after 0 before) known top [] b old
+      → TakesAll s block b old after
+      → IsLinear top.value (told block (length before) (turns_of after))
+  anew_from known top b old st takes =
+      let placed = rest_placed s good block is.there Seen Ever apart after (number_after 0 before) known top [] b old
+      (λ m value there e. values m value (in_after m there) e) (λ m there. keeping m (in_after m there))
+      (λ m node there e. failing m node (in_after m there) e) st takes in
+      subst (λ (k : ℕ). IsLinear top.value (told block k (turns_of after))) (let e = number_is 0 before in let f : number_after 0 before ≡ length before = omega (arith, e) in f)
+      (placed_linear top.value (told block (number_after 0 before) (turns_of after)) placed.0)
+
   module _ (x : StampedValue) (settled : IsSettled s x (standing_at (first_standing s) before) (kept_at (first_kept s) before)) where
     abbrev Goal : Type 0
     Goal = IsLinear x.value (told block (length before) (turns_of after))
@@ -177,13 +192,9 @@ module _ (s : Setting) (good : IsValid s) (block : ℕ) (before after : List Mom
     done known top waiting st =
         let st' = settled_standing s good block is.there Seen Ever apart (number_after 0 before) known top waiting (standing_at (first_standing s) before) (kept_at (first_kept s) before) st x settled in
         let same = is_top s good block is.there Seen Ever apart (number_after 0 before) known top waiting (standing_at (first_standing s) before) (kept_at (first_kept s) before) st x settled in
-        let placed = rest_placed s good block is.there Seen Ever apart after (number_after 0 before) (low_known s good block is.there Seen Ever apart (number_after 0 before) known top waiting (standing_at (first_standing s) before) (kept_at (first_kept s) before) st x settled)
-        top [] (standing_at (first_standing s) before) (kept_at (first_kept s) before)
-        (λ m value there e. values m value (in_after m there) e) (λ m there. keeping m (in_after m there))
-        (λ m node there e. failing m node (in_after m there) e) st' parts.1 in
-        subst (λ (k : ℕ). IsLinear x.value (told block k (turns_of after))) (let e = number_is 0 before in let f : number_after 0 before ≡ length before = omega (arith, e) in f)
-        (subst (λ (y : StampedValue). IsLinear y.value (told block (number_after 0 before) (turns_of after))) (sym same)
-        (placed_linear top.value (told block (number_after 0 before) (turns_of after)) placed.0))
+        subst (λ (y : StampedValue). IsLinear y.value (told block (length before) (turns_of after))) (sym same)
+        (anew_from (low_known s good block is.there Seen Ever apart (number_after 0 before) known top waiting (standing_at (first_standing s) before) (kept_at (first_kept s) before) st x settled)
+        top (standing_at (first_standing s) before) (kept_at (first_kept s) before) st' parts.1)
 
     begins_anew : Goal
     begins_anew = stands_then Goal (λ known top waiting st. done known top waiting st)
@@ -191,13 +202,19 @@ module _ (s : Setting) (good : IsValid s) (block : ℕ) (before after : List Mom
 pub settled_lives_begin_anew : (s : Setting) → IsValid s → SettledLivesBeginAnew s
 settled_lives_begin_anew s good block before after x is apart settled = begins_anew s good block before after is apart x settled
 
--- a read that is acknowledged later gives that value, or one that was to be written later
-pub settled_lives_forget : (s : Setting) → IsValid s → ((first : List ℕ) (ops : List Operation) → ReadsAreWritten first ops) → SettledLivesForget s
-settled_lives_forget s good written block before after x is apart settled m client rounds stamp value how there e =
-    let linear = settled_lives_begin_anew s good block before after x is apart settled in
+-- where later operations are linearizable by themselves, a later read gives the first value, or one that was to be written later
+pub forgets_from : ((first : List ℕ) (ops : List Operation) → ReadsAreWritten first ops) → (block : ℕ) (before after : List Moment) (first : List ℕ)
+    → IsLinear first (told block (length before) (turns_of after))
+    → (m : Moment) (client rounds : ℕ) (stamp : Stamp) (value : List ℕ) (how : How) → Contains after m → m.turn ≡ Did client Reads (Gave stamp value how rounds)
+    → (value ≡ first) ⊎ ((w : Moment) × Contains after w × (written_in w.turn ≡ Some value))
+forgets_from written block before after first linear m client rounds stamp value how there e =
     let o = read_told block (length before) after m client rounds stamp value how there e in
-    elim (written x.value (told block (length before) (turns_of after)) o.0 value (told_linear block (length before) (turns_of after) x.value linear)
+    elim (written first (told block (length before) (turns_of after)) o.0 value (told_linear block (length before) (turns_of after) first linear)
     (record { there = o.1; gave = o.2; end = o.3; ended = o.4 })) [
       | inl same ↦ inl same
       | inr w ↦ inr (written_told block (length before) after w.0 value w.1.there w.1.wrote)
     ]
+
+pub settled_lives_forget : (s : Setting) → IsValid s → ((first : List ℕ) (ops : List Operation) → ReadsAreWritten first ops) → SettledLivesForget s
+settled_lives_forget s good written block before after x is apart settled m client rounds stamp value how there e =
+    forgets_from written block before after x.value (settled_lives_begin_anew s good block before after x is apart settled) m client rounds stamp value how there e

@@ -12,6 +12,7 @@
 ghost use Rattle.protocol.specs.Laws.{InEachCluster};
 ghost use Rattle.block_turns.specs.Laws.{LivesAreLinearizable, AcknowledgedAreDone, LatestAreBlocks};
 ghost use Rattle.block_turns.specs.Settled.{SettledLivesBeginAnew, SettledLivesForget, HeldBlocksSettle, HeldBlocksStay};
+ghost use Rattle.block_turns.specs.Settled.{HeldLivesBeginAnew, HeldLivesForget};
 ghost use Rattle.block_turns.specs.Growing.{LivesBegin, LivesGoOn, EarlierAreLives, EarlierDoNotClash};
 ghost use Rattle.block_turns.specs.Growing.{LateAsksAreTaken, NothingIsTaken, MoreIsTaken, PrunesKeepSome, UndonePrunesKeepAll};
 ghost use Rattle.block_turns.specs.AllBlocks.{LivesAreLinearAsOne, LivesAreDurable, OneLifeIsDurable};
@@ -44,12 +45,16 @@ pub fn lives_grow()
 /// A block is settled right after an acknowledged operation if no node keeps a version above its stamp, or may still
 /// store one; lying and lost nodes don't matter. From then on no write that was cut off before takes effect: later
 /// operations are linearizable by themselves. After a crash nobody knows the latest value. Then it is enough that `n-t`
-/// nodes keep one stamp and none keeps a greater one: the next acknowledged operation settles the block.
+/// nodes keep one stamp and none keeps a greater one. The next operation settles the block if it is acknowledged
+/// (`held`). If operations are cut off before one is acknowledged, still nothing that was cut off earlier takes effect
+/// (`held_anew`, `held_forgotten`).
 pub fn settled_lives()
     ensures anew { InEachCluster SettledLivesBeginAnew }
     ensures forgotten { InEachCluster SettledLivesForget }
     ensures held { InEachCluster HeldBlocksSettle }
     ensures stays { InEachCluster HeldBlocksStay }
+    ensures held_anew { InEachCluster HeldLivesBeginAnew }
+    ensures held_forgotten { InEachCluster HeldLivesForget }
 {
     linear_runs::laws::reads();
     protocol::laws::cluster();

@@ -1,5 +1,5 @@
 -- The lines of a membership, and what they spell.
-use Rattle.std.proofs.Common.{◌≡◌, ◌≢◌, ℕ, ◌^◌, ◌<◌, ◌≤◌, true, false, List, [], ◌∷◌, ◌++◌, length, Option, Some, None, refl, sym, ap, subst, ◌∙◌, arith, append_assoc, append-nil, lit≤}
+use Rattle.std.proofs.Common.{◌≡◌, ◌≢◌, ℕ, ◌^◌, ◌<◌, ◌≤◌, Bool, true, false, if◌then◌else◌, List, [], ◌∷◌, ◌++◌, length, Option, Some, None, refl, sym, ap, subst, ◌∙◌, arith, append_assoc, append-nil, lit≤}
 use Rattle.std.specs.Prelude.{codes, decimal, unwrap_or, slice_index_or, MatchOption, IfOk, IfErr, IsErrAnd, Result, Ok, Err}
 use Rattle.std.specs.Result.{result_ok}
 use Rattle.std.proofs.lemmas.Slice.Eq.{bytes_eq-Decides}
@@ -8,7 +8,7 @@ use Rattle.quorum_rules.specs.Limits.{Numbers, IsValid}
 use Rattle.quorum_rules.specs.Faults.{numbers, fault}
 use Rattle.quorum_rules.specs.declared.ConfigFault.{ConfigFault}
 use Rattle.quorum_rules.specs.declared.Edition.{Edition}
-use Rattle.quorum_rules.specs.declared.Edition.TheVariants.{Three}
+use Rattle.quorum_rules.specs.declared.Edition.TheVariants.{One, Two, Three, Four}
 use Rattle.quorum_rules.proofs.lemmas.FaultLaws.{none_of_valid, size_at_most, blocks_at_most}
 use Rattle.text_lines.specs.Lines.{parts_of, fields_of, line_of_fields, text_of_lines, Lacks, AllLack}
 use Rattle.text_lines.specs.Fields.{value_text, IsBytes}
@@ -21,7 +21,45 @@ use Rattle.line_forms.proofs.lemmas.Accepted.{cluster_apart}
 use Rattle.cluster_file.specs.declared.membership.Membership.{Membership}
 use Rattle.cluster_file.specs.declared.membership.MembershipRefusal.{MembershipRefusal}
 use Rattle.cluster_file.specs.declared.membership.MembershipRefusal.TheVariants.{NoMemory, BadLine}
-use Rattle.cluster_file.specs.Texts.{IfBadLine, IsConfig, IsId, IsMembership, header, cluster_line, node_line, id_line, lines_of, text_of}
+use Rattle.cluster_file.specs.Texts.{IfBadLine, IsConfig, IsId, IsMembership, is_of_stores, header, cluster_line, node_line, id_line, lines_of, text_of}
+
+-- ---- the first line
+
+-- the edition that a first line says, or the third
+edition_of : List ℕ → Edition
+edition_of line = if bytes_eq line (codes "pasis_store 4") then Four else Three
+
+edition_back : (edition : Edition) → is_of_stores edition ≡ true → edition_of (header edition) ≡ edition
+unfolding edition_of
+edition_back One of = cc
+edition_back Two of = cc
+edition_back Three of = refl
+edition_back Four of = refl
+
+-- two editions of stores have two first lines
+pub one_edition : (a b : Edition) → is_of_stores a ≡ true → is_of_stores b ≡ true → header a ≡ header b → a ≡ b
+one_edition a b of also e = sym (edition_back a of) ∙ ap edition_of e ∙ edition_back b also
+
+-- no first line is neither of the two that there are
+pub no_edition : (line : List ℕ) → bytes_eq line (codes "pasis_store 4") ≡ false → bytes_eq line (codes "pasis_store 1") ≡ false → (edition : Edition) → line ≡ header edition → ⊥
+no_edition line no_fourth no_first edition e = at edition e
+  where
+    first : line ≡ codes "pasis_store 1" → ⊥
+    first same = let is : bytes_eq line (codes "pasis_store 1") ≡ true = (bytes_eq-Decides line (codes "pasis_store 1")).1 same in absurd cc
+
+    at : (other : Edition) → line ≡ header other → ⊥
+    at One same = first same
+    at Two same = first same
+    at Three same = first same
+    at Four same = let is : bytes_eq line (codes "pasis_store 4") ≡ true = (bytes_eq-Decides line (codes "pasis_store 4")).1 same in absurd cc
+
+header_lacks : (edition : Edition) → Lacks 10 (header edition)
+header_lacks One = refl
+header_lacks Two = refl
+header_lacks Three = refl
+header_lacks Four = refl
+
+-- ---- the others
 
 -- the fields of the third line
 pub node_apart : (node : ℕ) → node < 2 ^ 64 → fields_of (node_line node) ≡ codes "node" ∷ decimal node ∷ []
@@ -53,11 +91,11 @@ id_lacks : (id : List ℕ) → Lacks 10 (id_line id)
 id_lacks id = fields_lack (value_text id ∷ []) (codes "id") (refl, (Lacks-value_text 10 id (omega arith) (omega arith), tt))
 
 -- the text of a membership has its lines, and nothing after the last
-pub lines_apart : (m : Membership) → IsMembership m → parts_of (text_of m) ≡ header ∷ cluster_line m.config ∷ node_line m.node ∷ id_line m.id ∷ [] ∷ []
+pub lines_apart : (m : Membership) → IsMembership m → parts_of (text_of m) ≡ header m.config.edition ∷ cluster_line m.config ∷ node_line m.node ∷ id_line m.id ∷ [] ∷ []
 lines_apart m h =
-    let v = h.config.valid in
+    let v = h.valid in
     let lt = h.node in
-    parts-text_of_lines (lines_of m) (refl, (cluster_lacks m.config v, (node_lacks m.node (omega arith), (id_lacks m.id, tt))))
+    parts-text_of_lines (lines_of m) (header_lacks m.config.edition, (cluster_lacks m.config v, (node_lacks m.node (omega arith), (id_lacks m.id, tt))))
 
 -- a text of four whole lines
 pub text_of_four : (text a b c d r s t u : List ℕ)
@@ -73,13 +111,13 @@ pub cluster_written : (old : List ℕ) (c : Numbers) →
     (((((((old ++ codes "cluster") ++ 32 ∷ decimal c.n) ++ 32 ∷ decimal c.t) ++ 32 ∷ decimal c.b) ++ 32 ∷ decimal c.qc) ++ 32 ∷ decimal c.m) ++ 32 ∷ decimal c.size) ++ 32 ∷ decimal c.blocks ≡ old ++ cluster_line c
 cluster_written old c = pieces old (codes "cluster") (32 ∷ decimal c.n) (32 ∷ decimal c.t) (32 ∷ decimal c.b) (32 ∷ decimal c.qc) (32 ∷ decimal c.m) (32 ∷ decimal c.size) (32 ∷ decimal c.blocks)
 
-four_lines : (old a b c d end : List ℕ) → ((((((old ++ (a ++ end)) ++ b) ++ end) ++ c) ++ end) ++ d) ++ end ≡ old ++ ((a ++ end) ++ ((b ++ end) ++ ((c ++ end) ++ ((d ++ end) ++ []))))
+four_lines : (old a b c d end : List ℕ) → (((((((old ++ a) ++ end) ++ b) ++ end) ++ c) ++ end) ++ d) ++ end ≡ old ++ ((a ++ end) ++ ((b ++ end) ++ ((c ++ end) ++ ((d ++ end) ++ []))))
 four_lines old a b c d end = simp (append_assoc, append-nil)
 
 -- the text as its pieces are written one after another
 pub text_written : (old : List ℕ) (m : Membership) →
-    ((((((old ++ codes "pasis_store 1\n") ++ cluster_line m.config) ++ 10 ∷ []) ++ node_line m.node) ++ 10 ∷ []) ++ id_line m.id) ++ 10 ∷ [] ≡ old ++ text_of m
-text_written old m = four_lines old header (cluster_line m.config) (node_line m.node) (id_line m.id) (10 ∷ [])
+    (((((((old ++ header m.config.edition) ++ 10 ∷ []) ++ cluster_line m.config) ++ 10 ∷ []) ++ node_line m.node) ++ 10 ∷ []) ++ id_line m.id) ++ 10 ∷ [] ≡ old ++ text_of m
+text_written old m = four_lines old (header m.config.edition) (cluster_line m.config) (node_line m.node) (id_line m.id) (10 ∷ [])
 
 -- ---- what fields spell
 
@@ -112,8 +150,8 @@ pub no_id : (field : List ℕ) → value_of field ≡ None → (id : List ℕ) �
 no_id field e id is f = let same : None ≡ Some id = sym e ∙ value_back field id is f in absurd cc
 
 -- the numbers that a cluster line's fields spell are the cluster's
-pub config_told : (c : Numbers) → IsConfig c → numbers Three (u32_of (decimal c.n)) (u32_of (decimal c.t)) (u32_of (decimal c.b)) (u32_of (decimal c.qc)) (u32_of (decimal c.m)) (u32_of (decimal c.size)) (u32_of (decimal c.blocks)) ≡ c
-config_told c h =
+pub config_told : (edition : Edition) (c : Numbers) → IsConfig edition c → numbers edition (u32_of (decimal c.n)) (u32_of (decimal c.t)) (u32_of (decimal c.b)) (u32_of (decimal c.qc)) (u32_of (decimal c.m)) (u32_of (decimal c.size)) (u32_of (decimal c.blocks)) ≡ c
+config_told edition c h =
     let v = h.valid in
     let size = size_at_most c v in
     let blocks = blocks_at_most c v in
@@ -168,15 +206,23 @@ passed_on P Q (Err d) e is h f = for_text P Q d (subst (IfBadLine (λ _. Q)) (sy
 field_at : ℕ → List (List ℕ) → ℕ
 field_at i fields = u32_of (slice_index_or fields i [])
 
-numbers_from : List (List ℕ) → Numbers
-numbers_from fields = numbers Three (field_at 1 fields) (field_at 2 fields) (field_at 3 fields) (field_at 4 fields) (field_at 5 fields) (field_at 6 fields) (field_at 7 fields)
+numbers_from : Edition → List (List ℕ) → Numbers
+numbers_from edition fields = numbers edition (field_at 1 fields) (field_at 2 fields) (field_at 3 fields) (field_at 4 fields) (field_at 5 fields) (field_at 6 fields) (field_at 7 fields)
 
--- a line is that of one cluster
-pub one_config : (c d : Numbers) → IsConfig c → IsConfig d → cluster_line c ≡ cluster_line d → c ≡ d
+-- a line is that of one cluster of an edition
+pub one_config : (edition : Edition) (c d : Numbers) → IsConfig edition c → IsConfig edition d → cluster_line c ≡ cluster_line d → c ≡ d
 unfolding numbers_from field_at
-one_config c d h k e =
+one_config edition c d h k e =
     let fields : cluster_fields c ≡ cluster_fields d = sym (cluster_apart c h.valid) ∙ ap fields_of e ∙ cluster_apart d k.valid in
-    sym (config_told c h) ∙ ap numbers_from fields ∙ config_told d k
+    sym (config_told edition c h) ∙ ap (numbers_from edition) fields ∙ config_told edition d k
+
+-- a membership's numbers are those of its edition
+pub own_config : (m : Membership) → IsMembership m → IsConfig m.config.edition m.config
+own_config m h = record { edition = refl; valid = h.valid }
+
+-- and those of another that is said to be the same
+pub config_as : (m : Membership) (edition : Edition) (line : List ℕ) → IsMembership m → is_of_stores edition ≡ true → line ≡ header edition → line ≡ header m.config.edition → IsConfig edition m.config
+config_as m edition line h of here there = record { edition = one_edition m.config.edition edition h.edition of (sym there ∙ here); valid = h.valid }
 
 one_node : (a b : ℕ) → a < 2 ^ 32 → b < 2 ^ 32 → node_line a ≡ node_line b → a ≡ b
 one_node a b lt gt e =
@@ -193,14 +239,17 @@ one_id a b h k e =
 -- a text is that of one membership
 pub one_membership : (m other : Membership) → IsMembership m → IsMembership other → text_of m ≡ text_of other → m ≡ other
 one_membership m other h k e =
-    let x = h.config.valid in
-    let y = k.config.valid in
+    let x = h.valid in
+    let y = k.valid in
     let a = h.node in
     let b = k.node in
     let lines = sym (lines_apart m h) ∙ ap parts_of e ∙ lines_apart other k in
+    let first : header m.config.edition ≡ header other.config.edition = ap (λ (ls : List (List ℕ)). slice_index_or ls 0 []) lines in
+    let same : m.config.edition ≡ other.config.edition = one_edition m.config.edition other.config.edition h.edition k.edition first in
+    let own : IsConfig other.config.edition m.config = record { edition = same; valid = h.valid } in
     let second : cluster_line m.config ≡ cluster_line other.config = ap (λ (ls : List (List ℕ)). slice_index_or ls 1 []) lines in
     let third : node_line m.node ≡ node_line other.node = ap (λ (ls : List (List ℕ)). slice_index_or ls 2 []) lines in
     let fourth : id_line m.id ≡ id_line other.id = ap (λ (ls : List (List ℕ)). slice_index_or ls 3 []) lines in
-    ap (λ (c : Numbers). record m { config = c }) (one_config m.config other.config h.config k.config second)
+    ap (λ (c : Numbers). record m { config = c }) (one_config other.config.edition m.config other.config own (own_config other k) second)
     ∙ ap (λ (n : ℕ). record m { config = other.config; node = n }) (one_node m.node other.node (omega arith) (omega arith) third)
     ∙ ap (λ (i : List ℕ). record m { config = other.config; node = other.node; id = i }) (one_id m.id other.id h.id k.id fourth)

@@ -1,8 +1,8 @@
 ghost use Rattle.std.specs.Prelude.{◌≡◌, ◌≤◌, ◌++◌, IfOk, IfErr, OnOk};
 ghost use Rattle.cluster_file.specs.Texts.{IsMembership, IfBadLine, text_of};
 
-use crate::reading::{config_in, first_line, id_in, last_line, line_at, node_in};
-use crate::writing::{add_cluster, add_id, add_node};
+use crate::reading::{config_in, edition_in, id_in, last_line, line_at, node_in};
+use crate::writing::{add_cluster, add_header, add_id, add_node};
 use lists::NoMemory;
 use quorum_rules::Config;
 use std::alloc::Global;
@@ -37,7 +37,8 @@ impl From<NoMemory> for MembershipRefusal {
 }
 
 impl Membership {
-    /// The membership that a text tells: `pasis_store 1`, the cluster's numbers, the node's own and the id, a line each.
+    /// The membership that a text tells: the edition, the cluster's numbers, the node's own and the id, a line each. The first line
+    /// is `pasis_store 4`; that of a store of edition 3 is `pasis_store 1`.
     pub fn read(alloc: Global, text: &[u8]) -> Result<Membership, MembershipRefusal>
         ensures text { IfOk result (λ m. text.now ≡ text_of m) }
         ensures ok { IfOk result (λ m. IsMembership m) }
@@ -47,9 +48,9 @@ impl Membership {
         ensures line { IfErr result (IfBadLine (λ line. (1 ≤ line) × (line ≤ 5))) }
     {
         let (first, rest) = line_at(text, 1)?;
-        first_line(first)?;
+        let edition = edition_in(first)?;
         let (second, rest) = line_at(rest, 2)?;
-        let config = config_in(alloc, second)?;
+        let config = config_in(alloc, edition, second)?;
         let (third, rest) = line_at(rest, 3)?;
         let node = node_in(third, &config)?;
         let (fourth, rest) = line_at(rest, 4)?;
@@ -62,7 +63,8 @@ impl Membership {
     pub fn write(&self, text: &mut Text) -> Result<(), NoMemory>
         ensures { OnOk result (text.new ≡ text.old ++ text_of self.now) }
     {
-        text.add(b"pasis_store 1\n")?;
+        add_header(text, &self.config)?;
+        text.add_newline()?;
         add_cluster(text, &self.config)?;
         text.add_newline()?;
         add_node(text, self.node)?;

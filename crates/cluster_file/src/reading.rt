@@ -1,18 +1,19 @@
 //! The lines of a membership, as they are read.
 #![tactic(auto, using(std::proofs::lemmas::Grind::common_steps))]
 
-ghost use Rattle.std.specs.Prelude.{◌≡◌, ◌≢◌, ◌∷◌, ◌++◌, [], ◌<◌, ℕ, List, Some, decimal, length, slice_index_or, MatchOption, IfOk, IfErr, IfSome, OnOk, OnErr};
+ghost use Rattle.std.specs.Prelude.{◌≡◌, ◌≢◌, ◌∷◌, ◌++◌, [], ◌<◌, ℕ, true, List, Some, decimal, length, slice_index_or, MatchOption, IfOk, IfErr, IfSome, OnOk, OnErr};
 ghost use Rattle.std.specs.Str.{bytes_eq};
 ghost use Rattle.quorum_rules.specs.Limits.{Numbers};
+ghost use Rattle.quorum_rules.specs.declared.Edition.{Edition};
 ghost use Rattle.text_lines.specs.Lines.{parts_of, texts};
 ghost use Rattle.text_lines.specs.Fields.{value_text};
 ghost use Rattle.line_forms.specs.Heads.{cluster_fields, u32_of};
-ghost use Rattle.cluster_file.specs.Texts.{IfBadLine, IsConfig, IsId, header, cluster_line, node_line, id_line};
+ghost use Rattle.cluster_file.specs.Texts.{IfBadLine, IsConfig, IsId, is_of_stores, header, cluster_line, node_line, id_line};
 
 use crate::membership::MembershipRefusal;
 use crate::writing::add_cluster;
 use lists::NoMemory;
-use quorum_rules::Config;
+use quorum_rules::{Config, Edition};
 use std::alloc::Global;
 use text_lines::{Text, cut, fields, number_u8, number_u32, value};
 
@@ -25,43 +26,52 @@ pub(crate) fn line_at(text: &[u8], number: u8) -> Result<(&[u8], &[u8]), Members
     cut(text, b'\n').ok_or(MembershipRefusal::BadLine(number))
 }
 
-/// The first line is the one that each such text has.
-pub(crate) fn first_line(line: &[u8]) -> Result<(), MembershipRefusal>
-    ensures ok { OnOk result (line.now ≡ header) }
-    ensures err { IfErr result (λ e. (e ≡ MembershipRefusal.BadLine 1) × (line.now ≡ header → ⊥)) }
+/// The edition that the first line says.
+pub(crate) fn edition_in(line: &[u8]) -> Result<Edition, MembershipRefusal>
+    ensures line { IfOk result (λ edition. line.now ≡ header edition) }
+    ensures ok { IfOk result (λ edition. is_of_stores edition ≡ true) }
+    ensures err { IfErr result (λ e. e ≡ MembershipRefusal.BadLine 1) }
+    ensures none { OnErr result ((edition : Edition) → line.now ≡ header edition → ⊥) }
 {
-    if line == b"pasis_store 1".as_slice() {
-        Ok(())
+    if line == b"pasis_store 4".as_slice() {
+        Ok(Edition::Four)
+    } else if line == b"pasis_store 1".as_slice() {
+        Ok(Edition::Three)
     } else {
         Err(MembershipRefusal::BadLine(1))
     }
 }
 
-/// The configuration that the second line spells.
-pub(crate) fn config_in(alloc: Global, line: &[u8]) -> Result<Config, MembershipRefusal>
+/// The configuration of this edition that the second line spells.
+pub(crate) fn config_in(
+    alloc: Global,
+    edition: Edition,
+    line: &[u8],
+) -> Result<Config, MembershipRefusal>
     ensures line { IfOk result (λ c. line.now ≡ cluster_line c) }
-    ensures ok { IfOk result (λ c. IsConfig c) }
+    ensures ok { IfOk result (λ c. IsConfig edition c) }
     ensures err { IfErr result (IfBadLine (λ k. k ≡ 2)) }
     ensures none { IfErr result (IfBadLine (λ _.
-        (c : Numbers) → IsConfig c → line.now ≡ cluster_line c → ⊥)) }
+        (c : Numbers) → IsConfig edition c → line.now ≡ cluster_line c → ⊥)) }
 {
     let fields = fields(alloc, line)?;
-    match config_of(fields.as_slice()) {
+    match config_of(edition, fields.as_slice()) {
         Some(config) if is_cluster_line(alloc, &config, line)? => Ok(config),
         _ => Err(MembershipRefusal::BadLine(2)),
     }
 }
 
-// The only configuration that these fields may spell.
-fn config_of(fields: &[&[u8]]) -> Option<Config>
-    ensures ok { IfSome result (λ c. IsConfig c) }
-    ensures only { (c : Numbers) → IsConfig c → texts fields.now ≡ cluster_fields c
+// The only configuration of this edition that these fields may spell.
+fn config_of(edition: Edition, fields: &[&[u8]]) -> Option<Config>
+    ensures ok { IfSome result (λ c. IsConfig edition c) }
+    ensures only { (c : Numbers) → IsConfig edition c → texts fields.now ≡ cluster_fields c
         → result ≡ Some c }
 {
     if fields.len() != 8 {
         return None;
     }
-    Config::third(
+    Config::of(
+        edition,
         number_at(fields, 1),
         number_at(fields, 2),
         number_at(fields, 3),

@@ -1,10 +1,21 @@
 //! The lines of a membership, as they are written.
 ghost use Rattle.std.specs.Prelude.{◌≡◌, ◌++◌, ◌∷◌, decimal, OnOk};
-ghost use Rattle.cluster_file.specs.Texts.{cluster_line, node_line, id_line};
+ghost use Rattle.cluster_file.specs.Texts.{header, cluster_line, node_line, id_line};
 
 use lists::NoMemory;
 use quorum_rules::Config;
 use text_lines::Text;
+
+/// Adds the first line, without its end.
+pub(crate) fn add_header(text: &mut Text, config: &Config) -> Result<(), NoMemory>
+    ensures { OnOk result (text.new ≡ text.old ++ header config.now.edition) }
+{
+    if config.edition() == 4 {
+        text.add(b"pasis_store 4")
+    } else {
+        text.add(b"pasis_store 1")
+    }
+}
 
 /// Adds the second line, without its end.
 pub(crate) fn add_cluster(text: &mut Text, config: &Config) -> Result<(), NoMemory>

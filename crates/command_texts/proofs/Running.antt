@@ -3,7 +3,7 @@ use Rattle.std.proofs.Common.{◌≡◌, ℕ, ◌+◌, List, [], ◌∷◌, ◌+
 use Rattle.std.specs.Prelude.{codes}
 use Rattle.std.specs.List.{AllByRecursion}
 use Rattle.text_lines.specs.Lines.{text_of_lines}
-use Rattle.quorum_rules.specs.Limits.{Numbers}
+use Rattle.quorum_rules.specs.Limits.{Numbers, IsOfScripts}
 use Rattle.wire_forms.specs.Liars.{Liars, AreLiars}
 use Rattle.protocol.specs.Setting.{Setting}
 use Rattle.protocol.specs.World.{World}
@@ -60,8 +60,8 @@ pub unplaced : (P : Line → Type 0) (n : ℕ) (lines : List Line) → AllByRecu
 unplaced P n [] h = tt
 unplaced P n (l ∷ lines) h = (h.0, unplaced P (n + 1) lines h.1)
 
-pub told_lines : LinesAreTold → (plan : Plan) (j : Journals) → AreOfPlanRun plan j → (lines : List Line) → IsMerge j (placed 0 lines) → AllByRecursion (IsTold plan.config) lines
-told_lines law plan j of lines merged = unplaced (IsTold plan.config) 0 lines (law plan j of.0 (placed 0 lines) of.1 merged)
+pub told_lines : LinesAreTold → (plan : Plan) (j : Journals) → IsOfScripts plan.config → AreOfPlanRun plan j → (lines : List Line) → IsMerge j (placed 0 lines) → AllByRecursion (IsTold plan.config) lines
+told_lines law plan j known of lines merged = unplaced (IsTold plan.config) 0 lines (law plan j of.0 (placed 0 lines) known of.1 merged)
 
 -- the liars and the lines of the journals are those of the plan
 pub journals_declare : OfPlans HasScriptLiars → (plan : Plan) (j : Journals) → AreOfPlanRun plan j → AreAscendingLiars j.config j.liars

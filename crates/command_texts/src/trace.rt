@@ -2,6 +2,7 @@
 
 ghost use Rattle.std.specs.Prelude.{◌≡◌, ◌++◌, ◌∷◌, ◌≤◌, ◌^◌, [], codes, IfOk};
 ghost use Rattle.std.specs.List.{AllByRecursion};
+ghost use Rattle.quorum_rules.specs.Limits.{IsOfScripts};
 ghost use Rattle.text_lines.specs.Lines.{text_of_lines};
 ghost use Rattle.journal_records.specs.Told.{IsTold};
 ghost use Rattle.command_texts.specs.Runs.{IsPlanRun, ReportsWorld};
@@ -30,6 +31,7 @@ fn run_of(
     journals: &Journals,
     drawn: u64,
 ) -> Result<MergedLines, NoMemory>
+    requires of_scripts { IsOfScripts plan.now.config }
     requires run { AreOfPlan plan.now journals.now drawn }
     requires clock { drawn ≤ 2 ^ 56 }
     ensures run { IfOk result (λ r. IsPlanRun plan.now journals.now r.lines r.world) }
@@ -70,13 +72,14 @@ fn joined(alloc: Global, script: &Bytes, report: &Bytes) -> Result<Bytes, NoMemo
 }
 
 /// The lines of the run that the journals tell as a script, the line `report`, and the run's report. The journals are those of a
-/// run of the plan, for which so many numbers were drawn.
+/// run of the plan, for which so many numbers were drawn; a script can describe its cluster.
 pub fn trace_text(
     alloc: Global,
     plan: &Plan,
     journals: Journals,
     drawn: u64,
 ) -> Result<Bytes, NoMemory>
+    requires of_scripts { IsOfScripts plan.now.config }
     requires run { AreOfPlan plan.now journals drawn }
     requires clock { drawn ≤ 2 ^ 56 }
     ensures { IfOk result (TracesPlan plan.now journals) }

@@ -2,7 +2,7 @@
 use Rattle.std.specs.Prelude.{ℕ, Bool, not, List, [], ◌∷◌, ◌++◌, codes, Option, Some, None, if◌then◌else◌}
 use Rattle.quorum_rules.specs.Limits.{Numbers}
 use Rattle.quorum_rules.specs.declared.Edition.{Edition}
-use Rattle.quorum_rules.specs.declared.Edition.TheVariants.{One, Two, Three}
+use Rattle.quorum_rules.specs.declared.Edition.TheVariants.{One, Two, Three, Four}
 use Rattle.text_lines.specs.Lines.{fields_of}
 use Rattle.line_forms.specs.Tables.{first_of}
 use Rattle.line_forms.specs.Texts.{is_empty}
@@ -27,6 +27,7 @@ abbrev pub since_two : Edition → List Kind → List (List Kind)
 since_two One form = []
 since_two Two form = form ∷ []
 since_two Three form = form ∷ []
+since_two Four form = form ∷ []
 
 -- the fields: those of one of these forms, which their fixed words tell apart
 abbrev pub forms_of : Numbers → Form → List (List Kind)

@@ -3,8 +3,8 @@ use Rattle.std.proofs.Common.{◌≡◌, ℕ, ◌+◌, ◌<◌, ◌≤◌, Bool,
 use Rattle.std.specs.declared.option.Option.TheVariants.{None, Some}
 use Rattle.std.specs.List.{Contains, AllByRecursion}
 use Rattle.std.proofs.lemmas.List.{length-replicate}
-use Rattle.quorum_rules.specs.Limits.{Numbers}
-use Rattle.quorum_rules.proofs.lemmas.FaultLaws.{size_at_most}
+use Rattle.quorum_rules.specs.Limits.{Numbers, IsOfScripts}
+use Rattle.quorum_rules.proofs.lemmas.FaultLaws.{script_size_at_most}
 use Rattle.wire_forms.specs.Liars.{Liars, has_number, IsClientNumber}
 use Rattle.message_texts.specs.Texts.{HasLimits}
 use Rattle.wire_forms.specs.declared.op.Op.TheVariants.{Read as ReadOp, Write as WriteOp}
@@ -56,13 +56,14 @@ lie_short ask reply (Some told) f e =
     let q : record { client = ask.client; node = ask.node; tag = ask.tag; body = Answers told } ≡ reply = cc in
     subst (λ (m : Message). HasLimits m.body × (is_answer m.body ≡ true)) q (f told refl, refl)
 
-module _ (valid : InEachCluster IsValid) (fits : AllFit) (plan : Plan) (j : Journals) (drawn : ℕ) (h : AreOfPlan plan j drawn) (of : AreOfRun (conduct_of plan.rules) j) where
+module _ (valid : InEachCluster IsValid) (fits : AllFit) (plan : Plan) (j : Journals) (drawn : ℕ) (known : IsOfScripts plan.config) (h : AreOfPlan plan j drawn) (of : AreOfRun (conduct_of plan.rules) j) where
   c : Numbers
   c = j.config
 
   short_share : (setting_for j).share ≤ 16384
   short_share =
-      share_few j.config.m j.config.size of.cluster.config.shares.0 (size_at_most j.config of.cluster.config)
+      share_few j.config.m j.config.size of.cluster.config.shares.0
+      (script_size_at_most j.config of.cluster.config (subst IsOfScripts (sym h.follows.are_for.config) known))
 
   client_at : (k : ℕ) (e : DeskEntry) → Contains (at_desk j k) e → IsClientNumber k
   client_at k e there = of.follow.clients k e there
@@ -86,7 +87,7 @@ module _ (valid : InEachCluster IsValid) (fits : AllFit) (plan : Plan) (j : Jour
       subst (λ (b : Bool). FollowsAs b plan h.follows.phases ask.client (at_desk j ask.client)) lying (h.follows.clients ask.client) in
       let same : plan.config ≡ j.config = sym h.follows.are_for.config in
       let config = h.fits.valid in
-      let share = share_few plan.config.m plan.config.size config.shares.0 (size_at_most plan.config config) in
+      let share = share_few plan.config.m plan.config.size config.shares.0 (script_size_at_most plan.config config known) in
       let cluster : IsCluster plan.config nobody = record { config = config; few = (let none = nobody_counts plan.config.n in omega (arith, none)) } in
       let good : IsValid (setting plan.config) = valid plan.config nobody nobody cluster in
       let all = messages_short plan.config good config.nodes.1 share ask.client plan.rules h.fits.fitting.each_rule in
@@ -141,6 +142,6 @@ module _ (valid : InEachCluster IsValid) (fits : AllFit) (plan : Plan) (j : Jour
       )
 
 pub told : InEachCluster IsValid → AllFit → PlansRun → LinesAreTold
-told valid fits runs plan j drawn lines h merged =
+told valid fits runs plan j drawn lines known h merged =
     subst (λ (x : Numbers). AllByRecursion (λ l. IsTold x l.1) lines) h.follows.are_for.config
-    (told_all valid fits plan j drawn h (runs plan j drawn h) merged.0 (λ p k. (merged.1.entries p).0 k) (Some (start_world (setting_for j))) 0 lines merged.2)
+    (told_all valid fits plan j drawn known h (runs plan j drawn h) merged.0 (λ p k. (merged.1.entries p).0 k) (Some (start_world (setting_for j))) 0 lines merged.2)

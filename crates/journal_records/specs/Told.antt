@@ -1,7 +1,7 @@
 -- Lines that tell what threads did.
 use Rattle.std.specs.Prelude.{◌≡◌, ℕ, ◌<◌, true, List, length}
 use Rattle.std.specs.List.{AllByRecursion}
-use Rattle.quorum_rules.specs.Limits.{Numbers}
+use Rattle.quorum_rules.specs.Limits.{Numbers, IsOfScripts}
 use Rattle.message_texts.specs.Texts.{HasLimits}
 use Rattle.run_words.specs.declared.line.Line.{Line}
 use Rattle.run_words.specs.declared.line.Line.TheVariants.{Write, Read, Call, Give, Lost, CrashNode, CrashClient, Tell, Poke, Prune}
@@ -27,9 +27,9 @@ IsTold c (Poke message) = HasLimits message.body × (is_ask message.body ≡ tru
 IsTold c (Prune node block) = (node < c.n) × (block < c.blocks)
 IsTold c _ = ⊥
 
--- each line of journals of a run of a plan is told
+-- each line of journals of a run of a plan is told, where a script can describe the plan's cluster
 abbrev pub LinesAreTold : Type 0
 LinesAreTold =
     (plan : Plan) (j : Journals) (drawn : ℕ) (lines : List (ℕ × Line))
-    → AreOfPlan plan j drawn → IsMerge j lines
+    → IsOfScripts plan.config → AreOfPlan plan j drawn → IsMerge j lines
     → AllByRecursion (λ l. IsTold plan.config l.1) lines

@@ -75,7 +75,7 @@ pub fn steady_records()
 }
 
 /// The lines of a plan's journals are of the kinds that tell what threads did, and name clients, nodes, blocks and values of the
-/// plan's cluster.
+/// plan's cluster, where a script can describe it.
 pub fn told_lines()
     ensures { LinesAreTold }
 {

@@ -39,12 +39,12 @@ below_three P a b c (suc (suc (suc i))) l = absurd (omega (arith, l))
 
 -- ---- one phase, in which these nodes answer
 
-abbrev by_flags : Bool → Bool → Bool → ℕ → Bool
+abbrev pub by_flags : Bool → Bool → Bool → ℕ → Bool
 by_flags a b c zero = a
 by_flags a b c (suc zero) = b
 by_flags a b c (suc (suc i)) = c
 
-goes_on : (away : ℕ → Bool) (work : Work) (task : SeenTask) (old now then : Keeps) (a b c : Bool)
+pub goes_on : (away : ℕ → Bool) (work : Work) (task : SeenTask) (old now then : Keeps) (a b c : Bool)
     → ((i : ℕ) → i < 3 → IsFormedReply (reply three_nodes i (now i) (ask_to three_nodes task i)))
     → IsRunning three_nodes away 0 0 work task old now
     → (a ≡ true → away 0 ≡ false) → (b ≡ true → away 1 ≡ false) → (c ≡ true → away 2 ≡ false)
@@ -67,14 +67,14 @@ storing_seven task = seen_goes_on three_nodes task (Storing seven.stamp seven.va
 abbrev reads : SeenTask
 reads = seen_begun three_nodes 0 0 Reads
 
-small : 7 < 256
+pub small : 7 < 256
 small = omega arith
 
-none : 0 < 256
+pub none : 0 < 256
 none = omega arith
 
 -- node 2 is slow
-write_done : (away : ℕ → Bool) → away 0 ≡ false → away 1 ≡ false → IsCompleted three_nodes away 0 0 (Writes (7 ∷ [])) (Wrote seven.stamp) (first_kept three_nodes) (by_node full_disk full_disk old_disk)
+pub write_done : (away : ℕ → Bool) → away 0 ≡ false → away 1 ≡ false → IsCompleted three_nodes away 0 0 (Writes (7 ∷ [])) (Wrote seven.stamp) (first_kept three_nodes) (by_node full_disk full_disk old_disk)
 unfolding said up_to before same_stamp stamp_cmp same same_digests
 write_done away x y =
     goes_on away (Writes (7 ∷ [])) (storing_seven writes) (first_kept three_nodes) (first_kept three_nodes) (by_node full_disk full_disk old_disk)
@@ -137,7 +137,7 @@ is_life = record {
   );
 }
 
-nine_small : 9 < 256
+pub nine_small : 9 < 256
 nine_small = omega arith
 
 abbrev Low : StampedValue → Type 0
@@ -145,10 +145,10 @@ Low y = y.stamp ≼ seven.stamp
 
 -- ---- a write that is cut off, and a block that is settled
 
-abbrev writes_nine : SeenTask
+abbrev pub writes_nine : SeenTask
 writes_nine = seen_begun three_nodes 0 0 (Writes (9 ∷ []))
 
-abbrev storing_nine : SeenTask
+abbrev pub storing_nine : SeenTask
 storing_nine = seen_goes_on three_nodes writes_nine (Storing nine.stamp nine.value)
 
 -- node 0 has taken it
@@ -258,7 +258,7 @@ nine_untaken away x y =
     (λ e. x) (λ e. y) (λ e. absurd cc) refl refl (inl refl) (UnderWay storing_nine) refl)
     (below_three _ (inl refl) (inl refl) (inl refl))
 
-read_first_two : (away : ℕ → Bool) → away 0 ≡ false → away 1 ≡ false
+pub read_first_two : (away : ℕ → Bool) → away 0 ≡ false → away 1 ≡ false
     → IsCompleted three_nodes away 0 0 Reads (Gave seven.stamp seven.value Plain 1) (by_node full_disk full_disk old_disk) (by_node full_disk full_disk old_disk)
 unfolding said up_to before same_stamp stamp_cmp same same_digests
 read_first_two away x y =

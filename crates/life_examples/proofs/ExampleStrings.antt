@@ -104,10 +104,10 @@ module _ (life : List Moment) (only : AllByRecursion OnlyLater life) where
   pub none_clash : NoClash three_nodes life
   none_clash x y p q e = sym (is_back p) ∙ ap back e ∙ is_back q
 
-none_written : (value : List ℕ) → None ≡ Some value → IsLater value
+pub none_written : (value : List ℕ) → None ≡ Some value → IsLater value
 none_written value e = absurd cc
 
-byte_written : (v : ℕ) (value : List ℕ) → Some (suc v ∷ []) ≡ Some value → IsLater value
+pub byte_written : (v : ℕ) (value : List ℕ) → Some (suc v ∷ []) ≡ Some value → IsLater value
 byte_written v value e = (v, (let f : suc v ∷ [] ≡ value = cc in sym f))
 
 pub strings_apart : NoClash three_nodes two_disks_replaced

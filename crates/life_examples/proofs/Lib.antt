@@ -2,3 +2,4 @@ mod Answering
 mod Example
 mod ExampleStrings
 mod ExampleLiars
+mod ExampleHeld

@@ -14,7 +14,7 @@ use Rattle.block_phases.specs.Executions.{StampedValue, IsCompleted}
 use Rattle.block_turns.specs.Turns.{Turn, Moment, first_standing}
 use Rattle.block_turns.specs.Lives.{IsLife, version_of, first_kept}
 use Rattle.block_turns.specs.Turns.{standing_at, kept_at}
-use Rattle.block_turns.specs.Settled.{IsSettled}
+use Rattle.block_turns.specs.Settled.{IsSettled, IsHeld}
 use Rattle.block_turns.specs.Turns.Turn.{Did, Left, Gone, Back, Changed, Lost, Failed, Renewed}
 
 -- a string's length, and what comes first in it
@@ -144,6 +144,28 @@ after_late =
 -- before node 2 comes back, no node keeps a stamp above the one that was read
 abbrev pub KeepNoMore : Type 0
 KeepNoMore = (i : ℕ) (v : Version) → i < 3 → Contains (kept_at (first_kept three_nodes) before_late i) v → v.stamp ≼ seven.stamp
+
+-- A second write is cut off when nodes 0 and 1 have stored it. So its stamp is held, though nobody was told of it.
+abbrev pub before_rebuilt : List Moment
+before_rebuilt =
+    record { turn = Did 0 (Writes (7 ∷ [])) (Wrote seven.stamp); kept = by_node full_disk full_disk old_disk }
+    ∷ record { turn = Left 0 (Writes (9 ∷ [])) (Some nine); kept = by_node ahead_disk ahead_disk old_disk }
+    ∷ []
+
+abbrev pub IsHeldThen : Type 0
+IsHeldThen =
+    IsHeld three_nodes nine.stamp (standing_at (first_standing three_nodes) before_rebuilt) (kept_at (first_kept three_nodes) before_rebuilt)
+
+-- Nodes 0 and 1 are lost and rebuilt, one after the other, and no operation is acknowledged in between. So both keep
+-- what was acknowledged, and a read returns that in place of what was held.
+abbrev pub after_rebuilt : List Moment
+after_rebuilt =
+    record { turn = Lost 0; kept = by_node blank ahead_disk old_disk }
+    ∷ record { turn = Renewed 0; kept = by_node full_disk ahead_disk old_disk }
+    ∷ record { turn = Lost 1; kept = by_node full_disk blank old_disk }
+    ∷ record { turn = Renewed 1; kept = by_node full_disk full_disk old_disk }
+    ∷ record { turn = Did 0 Reads (Gave seven.stamp seven.value Plain 1); kept = by_node full_disk full_disk old_disk }
+    ∷ []
 
 -- ---- liars
 

@@ -1,13 +1,13 @@
 -- The head lines at the front of a text.
-use Rattle.std.proofs.Common.{◌≡◌, ◌≢◌, ℕ, Bool, true, false, if◌then◌else◌, List, [], ◌∷◌, ◌++◌, Some, None, refl, sym, ap, subst, ◌∙◌, append_assoc, lit<}
+use Rattle.std.proofs.Common.{◌≡◌, ℕ, Bool, true, false, if◌then◌else◌, List, [], ◌∷◌, ◌++◌, Some, None, refl, sym, ap, subst, ◌∙◌, append_assoc, lit<}
 use Rattle.std.specs.Prelude.{codes, decimal}
 use Rattle.std.specs.Str.{bytes_eq}
 use Rattle.std.proofs.lemmas.Fmt.{decimal_digit}
 use Rattle.std.proofs.lemmas.List.{append-nil}
 use Rattle.std.proofs.lemmas.Slice.Eq.{bytes_eq-Decides}
-use Rattle.quorum_rules.specs.Limits.{Numbers, edition_number}
+use Rattle.quorum_rules.specs.Limits.{Numbers, edition_number, is_of_scripts}
 use Rattle.quorum_rules.specs.declared.Edition.{Edition}
-use Rattle.quorum_rules.specs.declared.Edition.TheVariants.{One, Two, Three}
+use Rattle.quorum_rules.specs.declared.Edition.TheVariants.{One, Two, Three, Four}
 use Rattle.text_lines.specs.Lines.{parts_of, fields_of, line_of_fields}
 use Rattle.text_lines.proofs.lemmas.Joined.{line_from_fields}
 use Rattle.line_forms.specs.Texts.{IsFault, ReadsTo}
@@ -31,18 +31,19 @@ header_is first edition e = one_of_two (bytes_eq first (header One)) (bytes_eq f
     one_of_two false false h k e = cc
 
 -- the header of an edition that scripts name names it
-pub edition_back : (edition : Edition) → edition ≢ Three → edition_in (header edition) ≡ Some edition
+pub edition_back : (edition : Edition) → is_of_scripts edition ≡ true → edition_in (header edition) ≡ Some edition
 edition_back One named = refl
 edition_back Two named = refl
-edition_back Three named = absurd (named refl)
+edition_back Three named = cc
+edition_back Four named = cc
 
--- no first line names the third edition
-pub never_third : (first : List ℕ) (edition : Edition) → edition_in first ≡ Some edition → edition ≢ Three
-never_third first edition e third = one_of_two (bytes_eq first (header One)) (bytes_eq first (header Two)) (e ∙ ap (λ (x : Edition). Some x) third)
+-- a first line names no other edition
+pub names_scripts : (first : List ℕ) (edition : Edition) → edition_in first ≡ Some edition → is_of_scripts edition ≡ true
+names_scripts first edition e = one_of_two (bytes_eq first (header One)) (bytes_eq first (header Two)) e
   where
-    one_of_two : (p q : Bool) → (if p then Some One else (if q then Some Two else None)) ≡ Some Three → ⊥
-    one_of_two true q e = cc
-    one_of_two false true e = cc
+    one_of_two : (p q : Bool) → (if p then Some One else (if q then Some Two else None)) ≡ Some edition → is_of_scripts edition ≡ true
+    one_of_two true q e = let same : One ≡ edition = cc in sym (ap is_of_scripts same)
+    one_of_two false true e = let same : Two ≡ edition = cc in sym (ap is_of_scripts same)
     one_of_two false false e = cc
 
 -- the first line was read
@@ -74,6 +75,7 @@ header_written : (edition : Edition) → codes "pasis " ++ decimal (edition_numb
 header_written One = ap (λ (d : List ℕ). codes "pasis " ++ d) (decimal_digit 1 (lit< tt))
 header_written Two = ap (λ (d : List ℕ). codes "pasis " ++ d) (decimal_digit 2 (lit< tt))
 header_written Three = ap (λ (d : List ℕ). codes "pasis " ++ d) (decimal_digit 3 (lit< tt))
+header_written Four = ap (λ (d : List ℕ). codes "pasis " ++ d) (decimal_digit 4 (lit< tt))
 
 -- the head is the header, a newline and the cluster line
 pub head_apart : (c : Numbers) → head_text c ≡ header c.edition ++ 10 ∷ (line_of_fields (cluster_fields c) ++ 10 ∷ [])

@@ -1,10 +1,10 @@
 -- The two head lines of a script.
-use Rattle.std.specs.Prelude.{ℕ, ◌≡◌, ◌≢◌, ◌^◌, Bool, false, List, [], ◌∷◌, map, drop, slice_index, codes, decimal, unwrap_or, is_none, option_map, Option, Some, None, if◌then◌else◌}
+use Rattle.std.specs.Prelude.{ℕ, ◌≡◌, ◌^◌, Bool, false, List, [], ◌∷◌, map, drop, slice_index, codes, decimal, unwrap_or, is_none, option_map, Option, Some, None, if◌then◌else◌}
 use Rattle.std.specs.Str.{bytes_eq}
 use Rattle.quorum_rules.specs.Limits.{Numbers, IsValid}
 use Rattle.quorum_rules.specs.Faults.{fault, numbers}
 use Rattle.quorum_rules.specs.declared.Edition.{Edition}
-use Rattle.quorum_rules.specs.declared.Edition.TheVariants.{One, Two, Three}
+use Rattle.quorum_rules.specs.declared.Edition.TheVariants.{One, Two, Three, Four}
 use Rattle.text_lines.specs.Lines.{fields_of, line_of_fields, text_of_lines}
 use Rattle.text_lines.specs.Fields.{number_of}
 use Rattle.line_forms.specs.Tables.{or_then}
@@ -16,15 +16,12 @@ use Rattle.line_forms.specs.declared.cause.Cause.TheVariants.{BadHeader, Config}
 
 -- ---- what they are
 
--- the first line of a script of this edition; no script begins with the third's
+-- the first line of a script of this edition; no script begins with those of the third and the fourth
 abbrev pub header : Edition → List ℕ
 header One = codes "pasis 1"
 header Two = codes "pasis 2"
 header Three = codes "pasis 3"
-
--- a script can describe the cluster: its edition isn't the third, which no script names
-abbrev pub IsOfScripts : Numbers → Type 0
-IsOfScripts c = c.edition ≢ Three
+header Four = codes "pasis 4"
 
 abbrev pub cluster_fields : Numbers → List (List ℕ)
 cluster_fields c = codes "cluster" ∷ decimal c.n ∷ decimal c.t ∷ decimal c.b ∷ decimal c.qc ∷ decimal c.m ∷ decimal c.size ∷ decimal c.blocks ∷ []

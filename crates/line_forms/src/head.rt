@@ -1,6 +1,6 @@
 ghost use Rattle.std.specs.Prelude.{◌≡◌, ◌∷◌, ◌++◌, ◌≤◌, decimal, drop, length, IfOk, IfErr, OnOk};
-ghost use Rattle.quorum_rules.specs.Limits.{IsValid};
-ghost use Rattle.line_forms.specs.Heads.{Body, IsOfScripts, script, edition_in, head_lines, head_text};
+ghost use Rattle.quorum_rules.specs.Limits.{IsValid, IsOfScripts};
+ghost use Rattle.line_forms.specs.Heads.{Body, script, edition_in, head_lines, head_text};
 ghost use Rattle.line_forms.specs.Texts.{IsRefusal, ReadsTo};
 
 use crate::cause::Cause;
@@ -48,7 +48,7 @@ fn edition_in(first: &[u8]) -> Option<Edition>
     }
 }
 
-/// Adds the two head lines of a script for this configuration. No script begins with those of edition 3.
+/// Adds the two head lines of a script for this configuration. No script begins with those of editions 3 and 4.
 ///
 /// After `NoMemory` the text may end within them.
 pub fn add_head(text: &mut Text, config: &Config) -> Result<(), NoMemory>

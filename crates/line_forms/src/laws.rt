@@ -1,8 +1,8 @@
 //! What holds of every kind of text. Each law is a function with nothing to do.
 ghost use Rattle.std.specs.Prelude.{◌≡◌, ◌++◌, ℕ, List};
-ghost use Rattle.quorum_rules.specs.Limits.{Numbers, IsValid};
+ghost use Rattle.quorum_rules.specs.Limits.{Numbers, IsValid, IsOfScripts};
 ghost use Rattle.text_lines.specs.Lines.{fields_of, line_of_fields};
-ghost use Rattle.line_forms.specs.Heads.{Body, IsOfScripts, script, head_lines, head_text, header, cluster_fields, edition_of, numbers_in};
+ghost use Rattle.line_forms.specs.Heads.{Body, script, head_lines, head_text, header, cluster_fields, edition_of, numbers_in};
 ghost use Rattle.line_forms.specs.Texts.{Grammar, IsFault, IsFaultless, ReadsTo};
 ghost use Rattle.line_forms.specs.declared.cause.Cause.{Cause};
 

@@ -1,10 +1,8 @@
 -- Devices in order, after reads and writes.
-use Rattle.std.proofs.Common.{◌≡◌, ℕ, ◌+◌, ◌-◌, ◌*◌, ◌^◌, ◌<◌, ◌≤◌, Bool, false, List, length, take, refl, sym, ◌∙◌, ap, subst, arith, inl, inr, slice_range, slice_set}
+use Rattle.std.proofs.Common.{◌≡◌, ℕ, ◌+◌, ◌-◌, ◌*◌, ◌<◌, ◌≤◌, Bool, false, List, length, take, refl, sym, ◌∙◌, ap, subst, arith, inl, inr, slice_range, slice_set}
 use Rattle.std.proofs.lemmas.Bool.{cases_eq}
 use Rattle.std.proofs.lemmas.List.{take_all, get_or-set_same, get_or-set_other, length-set}
 use Rattle.std.proofs.Math.Nat.{mul_comm}
-use Rattle.std.proofs.lemmas.Nat.{mul-le}
-use Rattle.quorum_rules.specs.Limits.{Numbers, IsValid}
 use Rattle.block_device.specs.Device.{merged}
 use Rattle.protocol.specs.Setting.{IsBlock}
 use Rattle.protocol.specs.Instance.{setting}
@@ -12,7 +10,6 @@ use Rattle.node_device.specs.Held.{Held, held_at, unwritten, rewritten}
 use Rattle.node_device.specs.Devices.{SeenDevice}
 use Rattle.nbd_front.specs.Arrays.{array_of, once, time_at, IsInOrder, HasRead, HasWritten}
 use Rattle.nbd_front.proofs.Blocks.{Parts, parts, array_len, middle, merged_middle}
-use Rattle.quorum_rules.proofs.lemmas.FaultLaws.{size_at_most, blocks_at_most}
 
 module _ (d : SeenDevice) (o : IsInOrder d) where
   sized : (i : ℕ) → i < length d.held → length (held_at d.config d.held i).value ≡ d.config.size
@@ -72,6 +69,7 @@ module _ (d : SeenDevice) (o : IsInOrder d) where
       pub write_order : IsInOrder now
       write_order = record {
         valid = o.valid;
+        few = o.few;
         count = length-set d.held k (rewritten old value) ∙ o.count;
         blocks = λ j l. elim (cases_eq j k) [
           | inl same ↦ rw (same, here) is
@@ -84,7 +82,7 @@ module _ (d : SeenDevice) (o : IsInOrder d) where
       }
 
 pub read_order : (n : ℕ) (d e : SeenDevice) → IsInOrder d → HasRead n d e → IsInOrder e
-read_order n d e o r = rw r.same (record { valid = o.valid; count = o.count; blocks = o.blocks; unwritten = o.unwritten })
+read_order n d e o r = rw r.same (record { valid = o.valid; few = o.few; count = o.count; blocks = o.blocks; unwritten = o.unwritten })
 
 -- nothing was written
 pub same_written : (wrote : ℕ → Bool) (d : SeenDevice) → IsInOrder d → ((k : ℕ) → wrote k ≡ false) → HasWritten 131072 (array_of d.held) wrote d d
@@ -100,7 +98,3 @@ as_told {d = d} same blocks w = record {
   times = λ k l. w.times k l ∙ ap (λ b. time_at d k + once b) (blocks k);
   steps = w.steps;
 }
-
--- a device has at most 2^30 bytes
-pub small_array : (c : Numbers) → IsValid c → c.size * c.blocks ≤ 2 ^ 30
-small_array c v = mul-le c.size c.blocks 16384 65536 (size_at_most c v) (blocks_at_most c v)

@@ -13,7 +13,7 @@ use Rattle.node_device.proofs.lemmas.Holding.{zero_bytes}
 
 -- the client may serve one more request, and the device is as it was
 pub refreshed_order : (served : ℕ) (d e : SeenDevice) → IsInOrder d → HasRefreshed served d e → IsInOrder e
-refreshed_order served d e o r = rw r.same (record { valid = o.valid; count = o.count; blocks = o.blocks; unwritten = o.unwritten })
+refreshed_order served d e o r = rw r.same (record { valid = o.valid; few = o.few; count = o.count; blocks = o.blocks; unwritten = o.unwritten })
 
 pub refreshed_times : (served most : ℕ) (d e : SeenDevice) → IsWrittenUpTo most d → HasRefreshed served d e → IsWrittenUpTo most e
 refreshed_times served most d e h r = rw r.same h
@@ -56,7 +56,7 @@ fresh_array c (suc n) =
     ∙ replicate-append-replicate c.size (c.size * n) 0
     ∙ ap (λ m. replicate m 0) more
 
-module _ (c : Numbers) (valid : IsValid c) (d : SeenDevice) (is : d ≡ record { config = c; held = replicate c.blocks (unwritten c); life = 0; started = 0 }) where
+module _ (c : Numbers) (valid : IsValid c) (few : c.blocks ≤ 65536) (d : SeenDevice) (is : d ≡ record { config = c; held = replicate c.blocks (unwritten c); life = 0; started = 0 }) where
   never : (k : ℕ) → k < c.blocks → held_at c (replicate c.blocks (unwritten c)) k ≡ unwritten c
   never k l = get_or-replicate c.blocks k (unwritten c) (unwritten c) l
 
@@ -64,6 +64,7 @@ module _ (c : Numbers) (valid : IsValid c) (d : SeenDevice) (is : d ≡ record {
   fresh_server = rw is (record {
     order = record {
       valid = valid;
+      few = few;
       count = length-replicate c.blocks (unwritten c);
       blocks = λ k l. rw (never k l) (length-replicate c.size 0, zero_bytes c.size);
       unwritten = λ k l none. rw (never k l) refl;

@@ -19,9 +19,10 @@ array_of held = flat_map value_of held
 abbrev pub time_at : SeenDevice → ℕ → ℕ
 time_at d k = (held_at d.config d.held k).time
 
--- a device in order: each of its blocks is one, of zeros where it was never written
+-- a device in order: each of its blocks is one, of zeros where it was never written, and there are at most 65,536
 pub record IsInOrder (d : SeenDevice) : Type 0 where
   pub valid : IsValid d.config
+  pub few : d.config.blocks ≤ 65536
   pub count : length d.held ≡ d.config.blocks
   pub blocks : (k : ℕ) → k < d.config.blocks → IsBlock (setting d.config) (held_at d.config d.held k).value
   pub unwritten : (k : ℕ) → k < d.config.blocks → time_at d k ≡ 0 → (held_at d.config d.held k).value ≡ zeros (setting d.config)

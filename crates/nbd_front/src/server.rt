@@ -70,6 +70,7 @@ impl From<NoMemory> for Stopped {
 impl Server {
     /// A server of a device whose bytes are all 0.
     pub fn new(alloc: Global, config: &Config) -> Result<Server, NoMemory>
+        requires { config.now.blocks ≤ 65536 }
         ensures fresh { IfOk result (λ s. (s.served ≡ 0) × (s.place ≡ 0)) }
         ensures config { IfOk result (λ s. s.device.config ≡ config.now) }
         ensures zeros { IfOk result (λ s. bytes_of s

@@ -1,5 +1,5 @@
 //! A whole session: the greeting, and then requests and replies.
-ghost use Rattle.std.specs.Prelude.{◌≡◌, ◌≢◌, ◌⊎◌, ◌*◌, ℕ, List, Some, Result, Ok, Err, replicate, OnOk, IfErr, IsErrOf};
+ghost use Rattle.std.specs.Prelude.{◌≡◌, ◌≢◌, ◌⊎◌, ◌*◌, ◌≤◌, ℕ, List, Some, Result, Ok, Err, replicate, OnOk, IfErr, IsErrOf};
 ghost use Rattle.outside_io.specs.Causes.{Rose};
 ghost use Rattle.outside_io.specs.Written.{AllFlushed};
 ghost use Rattle.nbd_front.specs.Replies.{greeting};
@@ -11,13 +11,15 @@ use outside_io::{Sink, Source};
 use quorum_rules::Config;
 use std::alloc::Global;
 
-/// Serves a device of this configuration, whose bytes are all 0, from its greeting on until the session ends.
+/// Serves a device of this configuration, of at most 65,536 blocks, whose bytes are all 0, from its greeting on until the session
+/// ends.
 pub fn serve<S: Source, K: Sink>(
     alloc: Global,
     config: &Config,
     source: &mut S,
     sink: &mut K,
 ) -> Result<(), SessionEnd>
+    requires { config.now.blocks ≤ 65536 }
     ensures done { OnOk result (let size = config.now.size * config.now.blocks in
         IsSession (greeting size) (replicate size 0) 0 0 (Ok Served.Over) (S.left source.old)
         (S.left source.new) (K.taken sink.old) (K.taken sink.new)) }

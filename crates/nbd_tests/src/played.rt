@@ -61,6 +61,9 @@ pub fn play(
     writes: Pace,
 ) -> Result<Played, Unmade> {
     let config = config_of(cluster)?;
+    if config.blocks() > 65_536 {
+        return Err(Unmade);
+    }
     let bytes = Bytes::of(alloc, input)?;
     let mut source = MemorySource::new(bytes, reads.most.max(1), calls_of(alloc, reads.failing)?);
     let mut sink = MemorySink::new(alloc, writes.most.max(1), calls_of(alloc, writes.failing)?);

@@ -2,7 +2,7 @@
 use Rattle.std.specs.Prelude.{◌≡◌, ℕ, zero, suc, ◌<◌, ◌≤◌, List, refl}
 use Rattle.std.specs.Coded.{Coded, code_by, coded×, coded_ℕ, coded_list}
 use Rattle.quorum_rules.specs.declared.Edition.{Edition}
-use Rattle.quorum_rules.specs.declared.Edition.TheVariants.{One, Two, Three}
+use Rattle.quorum_rules.specs.declared.Edition.TheVariants.{One, Two, Three, Four}
 use Rattle.quorum_rules.specs.Limits.{Numbers, edition_number}
 use Rattle.stamp_order.specs.declared.Stamp.{Stamp}
 use Rattle.protocol.specs.Messages.{Version}
@@ -24,12 +24,14 @@ abbrev edition_of : ℕ → Edition
 edition_of zero = One
 edition_of (suc zero) = One
 edition_of (suc (suc zero)) = Two
-edition_of (suc (suc (suc _))) = Three
+edition_of (suc (suc (suc zero))) = Three
+edition_of (suc (suc (suc (suc _)))) = Four
 
 pub edition_of-number : (e : Edition) → edition_of (edition_number e) ≡ e
 edition_of-number One = refl
 edition_of-number Two = refl
 edition_of-number Three = refl
+edition_of-number Four = refl
 
 abbrev edition_code : Coded Edition
 edition_code = code_by ℕ coded_ℕ edition_number edition_of edition_of-number

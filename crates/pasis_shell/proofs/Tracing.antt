@@ -2,9 +2,8 @@
 use Rattle.std.proofs.Common.{◌≡◌, ℕ, ◌+◌, ◌≤◌, List, [], ◌∷◌, length, map, refl, sym, ◌∙◌, ap, subst, arith}
 use Rattle.std.specs.Prelude.{option_map}
 use Rattle.std.proofs.lemmas.List.{length-map}
-use Rattle.quorum_rules.specs.Limits.{Numbers}
+use Rattle.quorum_rules.specs.Limits.{Numbers, IsOfScripts}
 use Rattle.wire_forms.specs.Liars.{Liars, has_number}
-use Rattle.line_forms.specs.Heads.{IsOfScripts}
 use Rattle.line_forms.specs.Texts.{IsFaultless}
 use Rattle.line_forms.specs.declared.cause.Cause.TheVariants.{Step}
 use Rattle.event_lines.specs.declared.line.ReplayLine.{ReplayLine}

@@ -1,7 +1,7 @@
 //! What the words of the top call and the traces of plans cover. Each law is a function with nothing to do.
 
 ghost use Rattle.std.specs.Prelude.{◌≡◌, ℕ, List, Option, None, ◌≤◌, length, map};
-ghost use Rattle.quorum_rules.specs.Limits.{Numbers};
+ghost use Rattle.quorum_rules.specs.Limits.{Numbers, IsOfScripts};
 ghost use Rattle.wire_forms.specs.Liars.{Liars};
 ghost use Rattle.event_lines.specs.declared.line.ReplayLine.{ReplayLine};
 ghost use Rattle.script_text.specs.Replays.{IsReplay, Spells, event_limit, replay_text};
@@ -14,7 +14,6 @@ ghost use Rattle.history_book.specs.declared.judging.Flaw.{Flaw};
 ghost use Rattle.protocol.specs.History.{NoClash};
 ghost use Rattle.command_texts.specs.Replays.{cluster_of, Replays};
 ghost use Rattle.command_texts.specs.Verdicts.{Judges};
-ghost use Rattle.line_forms.specs.Heads.{IsOfScripts};
 ghost use Rattle.line_forms.specs.declared.refusal.ScriptFault.{ScriptFault};
 ghost use Rattle.plan_words.specs.declared.plan.Plan.{Plan};
 ghost use Rattle.plan_words.specs.Plans.{Fits};

@@ -12,6 +12,7 @@ use Rattle.store_device.specs.Seating.{with_seat, IsReseated as IsReseatedOn}
 use Rattle.store_device.specs.Steps.{IsTended as IsTendedOn}
 use Rattle.store_care.specs.Filling.{groups_of}
 use Rattle.store_care.specs.Pruning.{HavePassed}
+use Rattle.store_care.specs.Remembered.{HasPrunedRemembered as HasPrunedRememberedOn}
 use Rattle.store_care.specs.Settling.{unsettled, IsTriedOut, Try, TriesLead as TriesLeadOn}
 use Rattle.store_front.specs.declared.connection.ConnectionEnd.{ConnectionEnd}
 use Rattle.store_front.specs.Connections.{IsConnection as IsConnectionOn}
@@ -44,11 +45,19 @@ module _ {F : Type 0} where
   abbrev pub IsTended : SeenStore (OnFile F) → SeenStore (OnFile F) → Type 0
   IsTended old new = IsTendedOn (λ d. d.pending) (λ d. d.bytes) (λ d. d.most) (λ d. length d.past) (λ d. LeftSince d.past d.pending) old new
 
-  -- group by group those of its blocks of which some node kept more than so many versions are read and pruned, and then it is only looked after
+  -- each of its blocks of which it remembered a stamp, and some node kept more than so many versions, is pruned by the latest stamp; then it
+  -- forgets all stamps
+  abbrev pub HasPrunedRemembered : (most : ℕ) → SeenStore (OnFile F) → SeenStore (OnFile F) → Type 0
+  HasPrunedRemembered most old new =
+      HasPrunedRememberedOn (λ d. d.pending) (λ d. d.bytes) (λ d. d.most) (λ d. length d.past) (λ d. LeftSince d.past d.pending) most old new
+
+  -- So it is; then group by group those of its blocks of which some node still kept more than so many versions are read and pruned; and then it
+  -- is only looked after.
   abbrev pub IsPrunedFirst : (most : ℕ) → SeenStore (OnFile F) → SeenStore (OnFile F) → Type 0
   IsPrunedFirst most old new =
-      (mid : SeenStore (OnFile F))
-      × HavePassed (λ d. d.pending) (λ d. d.bytes) (λ d. d.most) (λ d. length d.past) (λ d. LeftSince d.past d.pending) most (groups_of old.config.blocks) old mid
+      (first : SeenStore (OnFile F)) × (mid : SeenStore (OnFile F))
+      × HasPrunedRemembered most old first
+      × HavePassed (λ d. d.pending) (λ d. d.bytes) (λ d. d.most) (λ d. length d.past) (λ d. LeftSince d.past d.pending) most (groups_of first.config.blocks) first mid
       × IsTended mid new
 
   -- groups of its blocks are tried to be settled, one after the other, and nothing else is done; where that ends well, each block was
@@ -84,6 +93,10 @@ served_since since served = min (since + served) (2 ^ 64 - 1)
 -- it is to be, where no request waits and so many bytes were: as many as the device has, and no fewer than 2^20
 abbrev pub is_due : Numbers → ℕ → Bool → Bool
 is_due c since is_ready = not is_ready && nat_le (max (2 ^ 20) (c.size * c.blocks)) since
+
+-- it remembers many stamps, and no request waits
+abbrev pub is_full : {D : Type 0} → SeenStore D → Bool → Bool
+is_full store is_ready = not is_ready && nat_le 65_536 (length store.acknowledged)
 
 -- how many were, behind that
 abbrev pub since_then : Numbers → ℕ → Bool → ℕ

@@ -89,8 +89,9 @@ fn is_of(told: &Told, store: &Membership) -> bool {
     }
 }
 
-fn numbers(config: &Config) -> [u32; 7] {
+fn numbers(config: &Config) -> [u32; 8] {
     [
+        u32::from(config.edition()),
         config.n(),
         config.t(),
         config.b(),

@@ -12,7 +12,7 @@ use crate::telling::tell;
 use lists::NoMemory;
 use std::alloc::Global;
 use std::thread::Threads;
-use store_care::{Care, NodeTally, prune_due};
+use store_care::{Care, NodeTally, prune_acknowledged, prune_due};
 use store_words::{Found, JournalBytes, Notice, Refusal, ScrubLine, Status, write_scrubbed};
 
 /// How many versions a node keeps of a block that isn't pruned: the first, and one more.
@@ -88,7 +88,7 @@ fn look_at_all<T: Threads + Sync>(
     Ok(care)
 }
 
-// Looks at the blocks of a group, and prunes them. Gives how many blocks that and the groups before it have.
+// Looks at the blocks of a group, and prunes them by the stamps that the reads gave. Gives how many blocks that and the groups before it have.
 fn look_at<T: Threads + Sync>(
     rt: &HostRuntime,
     threads: &T,
@@ -98,6 +98,7 @@ fn look_at<T: Threads + Sync>(
 ) -> Result<u32, NoMemory> {
     let Group { first, count } = group_of(store.config(), number);
     care.look(threads, rt.alloc(), store, first, count)?;
+    prune_acknowledged(threads, rt.alloc(), store, MOST_VERSIONS)?;
     prune_due(threads, rt.alloc(), store, first, count, MOST_VERSIONS)?;
     Ok(first + count)
 }

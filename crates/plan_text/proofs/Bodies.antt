@@ -6,11 +6,11 @@ use Rattle.std.specs.BTreeSet.{insert_key}
 use Rattle.std.proofs.lemmas.List.{map_push, append-nil, length-map, length-drop}
 use Rattle.std.proofs.lemmas.List.Elements.{filter_map-append}
 use Rattle.std.proofs.lemmas.List.Sums.{fold_push}
-use Rattle.quorum_rules.specs.Limits.{Numbers, IsValid}
+use Rattle.quorum_rules.specs.Limits.{Numbers, IsValid, IsOfScripts}
 use Rattle.text_lines.specs.Lines.{fields_of, parts_of, line_of_fields}
 use Rattle.text_lines.proofs.lemmas.Cuts.{rest_part}
 use Rattle.wire_forms.specs.Liars.{Liars}
-use Rattle.line_forms.specs.Heads.{IsOfScripts, header, head_lines, cluster_fields}
+use Rattle.line_forms.specs.Heads.{header, head_lines, cluster_fields}
 use Rattle.line_forms.specs.Tables.{first_of, or_then}
 use Rattle.line_forms.specs.Texts.{IsFault, IsFaultless, ReadsTo, end_causes}
 use Rattle.line_forms.specs.declared.cause.Cause.{Cause}

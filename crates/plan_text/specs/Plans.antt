@@ -3,11 +3,11 @@ use Rattle.std.specs.Prelude.{ℕ, ◌≡◌, ◌+◌, Bool, true, false, not, �
 use Rattle.std.specs.List.{filter_map}
 use Rattle.std.specs.Option.{option_or}
 use Rattle.std.specs.Set.{is_member, distinct_count}
-use Rattle.quorum_rules.specs.Limits.{Numbers}
+use Rattle.quorum_rules.specs.Limits.{Numbers, IsOfScripts}
 use Rattle.text_lines.specs.Lines.{fields_of, text_of_lines}
 use Rattle.line_forms.specs.Tables.{first_of, or_then}
 use Rattle.line_forms.specs.Texts.{Grammar}
-use Rattle.line_forms.specs.Heads.{Body, IsOfScripts, script, head_lines}
+use Rattle.line_forms.specs.Heads.{Body, script, head_lines}
 use Rattle.line_forms.specs.declared.cause.Cause.{Cause}
 use Rattle.line_forms.specs.declared.cause.Cause.TheVariants.{Twice, TooManyLiars, TooManyFaulty, LyingClient, TooManyLines, Device as DeviceCause}
 use Rattle.plan_words.specs.declared.fault.Fault.{Fault}

@@ -5,10 +5,9 @@ use Rattle.std.specs.declared.cmp.Ordering.{Ordering}
 use Rattle.std.specs.Ordering.{nat_cmp, ordering_then}
 use Rattle.std.specs.Set.{is_member, distinct_count}
 use Rattle.std.specs.BTreeSet.{BTreeSet, contains, btree_set_len, IsOrdered, insert_key}
-use Rattle.quorum_rules.specs.Limits.{Numbers, IsValid}
+use Rattle.quorum_rules.specs.Limits.{Numbers, IsValid, IsOfScripts}
 use Rattle.text_lines.specs.Lines.{fields_of}
 use Rattle.wire_forms.specs.Liars.{Liars}
-use Rattle.line_forms.specs.Heads.{IsOfScripts}
 use Rattle.line_forms.specs.Tables.{first_of, or_then}
 use Rattle.line_forms.specs.Texts.{ReadsTo}
 use Rattle.line_forms.specs.declared.cause.Cause.{Cause}

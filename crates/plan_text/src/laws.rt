@@ -1,6 +1,6 @@
 //! Plans and their texts. Each law is a function with nothing to do.
 ghost use Rattle.std.specs.Prelude.{◌≡◌, ℕ, List};
-ghost use Rattle.line_forms.specs.Heads.{IsOfScripts};
+ghost use Rattle.quorum_rules.specs.Limits.{IsOfScripts};
 ghost use Rattle.line_forms.specs.Texts.{IsFaultless};
 ghost use Rattle.plan_words.specs.declared.plan.Plan.{Plan};
 ghost use Rattle.plan_words.specs.Plans.{Fits};

@@ -1,7 +1,7 @@
 //! Reading a plan.
 ghost use Rattle.std.specs.Prelude.{◌≡◌, ◌∷◌, ◌++◌, ◌≤◌, [], None, drop, length, IfOk, IfErr, OnOk};
-ghost use Rattle.quorum_rules.specs.Limits.{IsValid};
-ghost use Rattle.line_forms.specs.Heads.{IsOfScripts, head_lines};
+ghost use Rattle.quorum_rules.specs.Limits.{IsValid, IsOfScripts};
+ghost use Rattle.line_forms.specs.Heads.{head_lines};
 ghost use Rattle.line_forms.specs.Tables.{Gives};
 ghost use Rattle.line_forms.specs.Texts.{IsFaultless, IsRefusal, ReadsTo};
 ghost use Rattle.plan_words.specs.Plans.{Fits};

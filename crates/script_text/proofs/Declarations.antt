@@ -11,11 +11,10 @@ use Rattle.std.proofs.lemmas.List.Sums.{sum_by-cons, sum_by_push}
 use Rattle.std.proofs.lemmas.Map.Views.{All-insert_key}
 use Rattle.std.proofs.lemmas.Slice.Eq.{bytes_eq-Decides}
 use Rattle.std.proofs.lemmas.Fmt.{decimal_injective}
-use Rattle.quorum_rules.specs.Limits.{Numbers, IsValid}
+use Rattle.quorum_rules.specs.Limits.{Numbers, IsValid, IsOfScripts}
 use Rattle.text_lines.specs.Lines.{fields_of, Lacks}
 use Rattle.text_lines.proofs.lemmas.Joined.{parts-joined, Lacks-append, Lacks-decimal}
 use Rattle.wire_forms.specs.Liars.{Liars, has_number, IsClientNumber}
-use Rattle.line_forms.specs.Heads.{IsOfScripts}
 use Rattle.script_text.specs.declared.liars.Declared.{Declared}
 use Rattle.script_text.specs.declared.liars.Declared.TheVariants.{Node, Client}
 use Rattle.script_text.specs.Replays.{liar_fields, liar_line, IsDeclarable, is_same, with_declared, with_all, liars_of, is_liar_line, is_liar_node, is_event}

@@ -5,12 +5,12 @@ use Rattle.std.specs.List.Sorted.{IsStrictlySortedBy}
 use Rattle.std.specs.Ordering.{nat_cmp}
 use Rattle.std.proofs.lemmas.List.{map_push, append-nil, length-map, length-drop, drop_at}
 use Rattle.std.proofs.lemmas.List.Splits.{join_with_byte-slice_split}
-use Rattle.quorum_rules.specs.Limits.{Numbers, IsValid}
+use Rattle.quorum_rules.specs.Limits.{Numbers, IsValid, IsOfScripts}
 use Rattle.text_lines.specs.Lines.{parts_of, text_of_lines, line_of_fields}
 use Rattle.text_lines.proofs.lemmas.Cuts.{rest_part}
 use Rattle.text_lines.proofs.lemmas.Joined.{some_part}
 use Rattle.wire_forms.specs.Liars.{Liars}
-use Rattle.line_forms.specs.Heads.{IsOfScripts, header, head_lines, cluster_fields}
+use Rattle.line_forms.specs.Heads.{header, head_lines, cluster_fields}
 use Rattle.line_forms.specs.Texts.{IsFault, IsFaultless, ReadsTo, end_causes}
 use Rattle.line_forms.specs.declared.cause.Cause.{Cause}
 use Rattle.line_forms.specs.declared.cause.Cause.TheVariants.{Cut}

@@ -3,7 +3,7 @@ use Rattle.std.proofs.Common.{◌≡◌, ◌≢◌, ℕ, ◌-◌, ◌<◌, List,
 use Rattle.std.specs.Prelude.{codes}
 use Rattle.std.specs.Borrow.{Bor}
 use Rattle.std.proofs.Math.Bool.{or-false}
-use Rattle.quorum_rules.specs.Limits.{Numbers, IsValid}
+use Rattle.quorum_rules.specs.Limits.{Numbers, IsValid, IsOfScripts}
 use Rattle.text_lines.specs.Lines.{texts, parts_of, fields_of, line_of_fields}
 use Rattle.text_lines.specs.Fields.{value_of, IsBytes}
 use Rattle.text_lines.proofs.lemmas.Cuts.{rest_part}
@@ -11,7 +11,7 @@ use Rattle.text_lines.proofs.lemmas.Joined.{line_from_fields}
 use Rattle.line_forms.specs.Kinds.{form_cause, has_other_length}
 use Rattle.line_forms.specs.Tables.{first_of}
 use Rattle.line_forms.specs.Texts.{ended, IsFault, IsFaultless, ReadsTo}
-use Rattle.line_forms.specs.Heads.{IsOfScripts, header, head_lines, cluster_fields}
+use Rattle.line_forms.specs.Heads.{header, head_lines, cluster_fields}
 use Rattle.line_forms.specs.declared.cause.Cause.{Cause}
 use Rattle.line_forms.specs.declared.cause.Cause.TheVariants.{BadValue, UnknownWord, MissingLine}
 use Rattle.line_forms.proofs.lemmas.Accepted.{numbers_back}

@@ -1,11 +1,10 @@
 -- How far a replay script was read.
 use Rattle.std.specs.Prelude.{ℕ, ◌≡◌, ◌+◌, ◌≤◌, Bool, true, false, ◌&&◌, nat_le, List, [], ◌∷◌, length, drop, count_by, Option, Some, if◌then◌else◌}
 use Rattle.std.specs.List.{AllByRecursion, IsDistinct}
-use Rattle.quorum_rules.specs.Limits.{Numbers, IsValid}
+use Rattle.quorum_rules.specs.Limits.{Numbers, IsValid, IsOfScripts}
 use Rattle.text_lines.specs.Lines.{parts_of}
 use Rattle.wire_forms.specs.Liars.{Liars, IsAscending, has_number}
 use Rattle.line_forms.specs.Tables.{first_of}
-use Rattle.line_forms.specs.Heads.{IsOfScripts}
 use Rattle.line_forms.specs.Texts.{ReadsTo}
 use Rattle.line_forms.specs.declared.cause.Cause.{Cause}
 use Rattle.line_forms.specs.declared.cause.Cause.TheVariants.{UnknownWord, Twice, TooManyLiars}

@@ -4,14 +4,14 @@ use Rattle.std.specs.List.{list_any, AllByRecursion, IsDistinct}
 use Rattle.std.specs.Str.{bytes_eq}
 use Rattle.std.specs.Ordering.{nat_cmp}
 use Rattle.std.specs.BTreeSet.{insert_key}
-use Rattle.quorum_rules.specs.Limits.{Numbers, IsValid}
+use Rattle.quorum_rules.specs.Limits.{Numbers, IsValid, IsOfScripts}
 use Rattle.text_lines.specs.Lines.{fields_of, line_of_fields, text_of_lines}
 use Rattle.wire_forms.specs.Liars.{Liars, IsAscending, IsClientNumber, AreLiars}
 use Rattle.line_forms.specs.Tables.{first_of, or_then}
 use Rattle.line_forms.specs.Kinds.{Kind, client, node}
 use Rattle.line_forms.specs.Kinds.Kind.{word}
 use Rattle.line_forms.specs.Texts.{Grammar}
-use Rattle.line_forms.specs.Heads.{Body, IsOfScripts, script, head_lines}
+use Rattle.line_forms.specs.Heads.{Body, script, head_lines}
 use Rattle.line_forms.specs.declared.cause.Cause.{Cause}
 use Rattle.line_forms.specs.declared.cause.Cause.TheVariants.{UnknownWord, Twice, TooManyLiars, TooManyLines}
 use Rattle.event_lines.specs.Forms.{fields_cause, event_cause}

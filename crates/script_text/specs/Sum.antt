@@ -1,12 +1,12 @@
 -- The input of `sum`: the head lines of a script, and then one line with a value.
 use Rattle.std.specs.Prelude.{ℕ, ◌≡◌, Bool, true, false, List, [], ◌∷◌, ◌++◌, length, codes, Option, Some}
-use Rattle.quorum_rules.specs.Limits.{Numbers, IsValid}
+use Rattle.quorum_rules.specs.Limits.{Numbers, IsValid, IsOfScripts}
 use Rattle.text_lines.specs.Lines.{fields_of, line_of_fields, text_of_lines}
 use Rattle.text_lines.specs.Fields.{value_text, IsBytes}
 use Rattle.line_forms.specs.Kinds.{Kind, form_cause}
 use Rattle.line_forms.specs.Kinds.Kind.{word, value}
 use Rattle.line_forms.specs.Texts.{Grammar}
-use Rattle.line_forms.specs.Heads.{Body, IsOfScripts, script, head_lines}
+use Rattle.line_forms.specs.Heads.{Body, script, head_lines}
 use Rattle.line_forms.specs.declared.cause.Cause.{Cause}
 use Rattle.line_forms.specs.declared.cause.Cause.TheVariants.{UnknownWord}
 

@@ -2,9 +2,9 @@
 #![tactic(auto, using(text_lines::proofs::lemmas::Spelled::spelled, std::proofs::lemmas::Grind::common_steps))]
 
 ghost use Rattle.std.specs.Prelude.{◌≡◌, ◌∷◌, ◌++◌, ◌≤◌, ◌<◌, [], ℕ, List, true, false, codes, drop, length, map, IfNone, IfOk, IfErr, IfSome, OnErr, OnOk, Some, None};
-ghost use Rattle.quorum_rules.specs.Limits.{Numbers, IsValid};
+ghost use Rattle.quorum_rules.specs.Limits.{Numbers, IsValid, IsOfScripts};
 ghost use Rattle.text_lines.specs.Lines.{fields_of, parts_of, text_of_lines, texts};
-ghost use Rattle.line_forms.specs.Heads.{IsOfScripts, head_lines};
+ghost use Rattle.line_forms.specs.Heads.{head_lines};
 ghost use Rattle.line_forms.specs.Kinds.{form_cause, client as client_kind, node as node_kind};
 ghost use Rattle.line_forms.specs.Kinds.Kind.{word};
 ghost use Rattle.line_forms.specs.Tables.{Gives};

@@ -4,7 +4,7 @@ use Rattle.std.specs.Prelude.{slice_index}
 use Rattle.std.proofs.lemmas.Nat.{from_be_bytes-to_be_bytes_4, from_be_bytes-to_be_bytes_8}
 use Rattle.quorum_rules.specs.Limits.{Numbers, IsValid, edition_number, most_size, most_blocks}
 use Rattle.quorum_rules.specs.declared.Edition.{Edition}
-use Rattle.quorum_rules.specs.declared.Edition.TheVariants.{One, Two, Three}
+use Rattle.quorum_rules.specs.declared.Edition.TheVariants.{One, Two, Three, Four}
 use Rattle.slot_disk.specs.Slots.{word_at, long_at}
 use Rattle.slab_layout.specs.Headers.{IsHeader}
 use Rattle.slab_codec.specs.Told.{config_in}
@@ -14,23 +14,32 @@ one_edition : (d e : Edition) → edition_number d ≡ edition_number e → d �
 one_edition One One h = refl
 one_edition One Two h = cc
 one_edition One Three h = cc
+one_edition One Four h = cc
 one_edition Two One h = cc
 one_edition Two Two h = refl
 one_edition Two Three h = cc
+one_edition Two Four h = cc
 one_edition Three One h = cc
 one_edition Three Two h = cc
 one_edition Three Three h = refl
+one_edition Three Four h = cc
+one_edition Four One h = cc
+one_edition Four Two h = cc
+one_edition Four Three h = cc
+one_edition Four Four h = refl
 
 -- sizes and counts of blocks have place in 4 bytes
 size_small : (e : Edition) → most_size e < 2 ^ 32
 size_small One = omega arith
 size_small Two = omega arith
 size_small Three = omega arith
+size_small Four = omega arith
 
 blocks_small : (e : Edition) → most_blocks e < 2 ^ 32
 blocks_small One = omega arith
 blocks_small Two = omega arith
 blocks_small Three = omega arith
+blocks_small Four = omega arith
 
 module _ (c : Numbers) (number key : ℕ) (bytes : List ℕ) (is : IsHeader c number key bytes) where
   pub size_is : word_at bytes 16 ≡ c.size

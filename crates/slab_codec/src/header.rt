@@ -162,6 +162,7 @@ fn edition_of(number: u8) -> Option<Edition>
         1 => Some(Edition::One),
         2 => Some(Edition::Two),
         3 => Some(Edition::Three),
+        4 => Some(Edition::Four),
         _ => None,
     }
 }

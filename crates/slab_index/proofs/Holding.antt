@@ -4,11 +4,11 @@ use Rattle.std.specs.Prelude.{nat_lt}
 use Rattle.std.specs.List.{AllByRecursion}
 use Rattle.std.proofs.lemmas.Bool.{cases_Bool}
 use Rattle.slab_layout.specs.declared.shape.Shape.{Shape}
-use Rattle.slab_layout.specs.Shapes.{part, data_at, data_len, is_marked}
+use Rattle.slab_layout.specs.Shapes.{part, data_at, data_len}
 use Rattle.slab_layout.specs.Data.{version_in}
 use Rattle.slab_node.specs.Held.{Entry, entry_at, entry_version, entries_from, in_order, put}
-use Rattle.slab_index.specs.Kept.{Kept, put_kept}
-use Rattle.slab_index.specs.Slots.{kept_of, slots_from, slots_of, version_at, SlotsHoldVersions}
+use Rattle.slab_index.specs.Kept.{Kept, stamp_of, put_kept}
+use Rattle.slab_index.specs.Slots.{kept_of, slots_from, slots_by, version_at, SlotsHoldVersions}
 
 module _ (e : ℕ → Entry) where
   -- a slot is what its head tells
@@ -56,9 +56,9 @@ versions_same : (s : Shape) (bytes : List ℕ) (ks : List Kept) → AllByRecursi
     → map (version_at s bytes) ks ≡ map (entry_version s.nodes) (map (its (entry_at s bytes)) ks)
 versions_same s bytes [] all = refl
 versions_same s bytes (k ∷ ks) all =
-    λ i. version_in s.nodes (all.0 i).stamp (part bytes (data_at s k.slot) (data_len s)) ∷ versions_same s bytes ks all.1 i
+    λ i. version_in s.nodes (stamp_of (all.0 i)) (part bytes (data_at s k.slot) (data_len s)) ∷ versions_same s bytes ks all.1 i
 
-pub slots_hold : (s : Shape) (bytes : List ℕ) (block : ℕ) → SlotsHoldVersions s bytes block
-slots_hold s bytes block =
-    versions_same s bytes (slots_of s bytes block) (slots_fit (entry_at s bytes) (is_marked s bytes) block 0 s.count)
-    ∙ ap (map (entry_version s.nodes)) (slots_map (entry_at s bytes) (is_marked s bytes) block 0 s.count)
+pub slots_hold : (s : Shape) (marked : ℕ → Bool) (bytes : List ℕ) (block : ℕ) → SlotsHoldVersions s marked bytes block
+slots_hold s marked bytes block =
+    versions_same s bytes (slots_by s marked bytes block) (slots_fit (entry_at s bytes) marked block 0 s.count)
+    ∙ ap (map (entry_version s.nodes)) (slots_map (entry_at s bytes) marked block 0 s.count)

@@ -1,5 +1,5 @@
 -- The slots of a block's versions, in the order of their numbers.
-use Rattle.std.specs.Prelude.{◌≡◌, ◌≤◌, ◌<◌, ℕ, Bool, false, if◌then◌else◌, ◌||◌, max, nat_lt, List, [], ◌∷◌, length, map, slice_index_or, slice_set, Option, option_map}
+use Rattle.std.specs.Prelude.{◌≡◌, ◌≤◌, ◌<◌, ℕ, Bool, false, if◌then◌else◌, ◌||◌, max, not, ◌==◌, filter, nat_lt, List, [], ◌∷◌, length, map, slice_index_or, slice_set, Option, option_map}
 use Rattle.std.specs.declared.option.Option.TheVariants.{None, Some}
 use Rattle.stamp_order.specs.declared.Stamp.{Stamp}
 use Rattle.stamp_order.specs.declared.Bound.{Bound}
@@ -8,30 +8,41 @@ use Rattle.protocol.specs.Messages.{Version}
 use Rattle.protocol.specs.Nodes.{greatest_in, keeps, greatest_time}
 pub use Rattle.slab_index.specs.declared.kept.Kept.{Kept}
 
+-- the version's stamp
+abbrev pub stamp_of : Kept → Stamp
+stamp_of k = record { time = k.time; client = k.client; verifier = k.verifier }
+
 -- the one of greater stamp
 abbrev pub later_kept : Kept → Option Kept → Kept
 later_kept k None = k
-later_kept k (Some u) = if up_to u.stamp k.stamp then k else u
+later_kept k (Some u) = if up_to (stamp_of u) (stamp_of k) then k else u
 
 -- the one of greatest stamp in the bound
 abbrev pub greatest_kept : Bound → List Kept → Option Kept
 greatest_kept bound [] = None
-greatest_kept bound (k ∷ ks) = if has bound k.stamp then Some (later_kept k (greatest_kept bound ks)) else greatest_kept bound ks
+greatest_kept bound (k ∷ ks) = if has bound (stamp_of k) then Some (later_kept k (greatest_kept bound ks)) else greatest_kept bound ks
 
 -- one has this stamp
 abbrev pub keeps_stamp : List Kept → Stamp → Bool
 keeps_stamp [] stamp = false
-keeps_stamp (k ∷ ks) stamp = same_stamp k.stamp stamp || keeps_stamp ks stamp
+keeps_stamp (k ∷ ks) stamp = same_stamp (stamp_of k) stamp || keeps_stamp ks stamp
 
 -- the greatest time
 abbrev pub latest_time : List Kept → ℕ
 latest_time [] = 0
-latest_time (k ∷ ks) = max k.stamp.time (latest_time ks)
+latest_time (k ∷ ks) = max k.time (latest_time ks)
 
 -- one more, before the first of a greater number
 abbrev pub put_kept : Kept → List Kept → List Kept
 put_kept k [] = k ∷ []
 put_kept k (x ∷ xs) = if nat_lt k.number x.number then k ∷ x ∷ xs else x ∷ put_kept k xs
+
+-- all but those in this slot
+abbrev pub is_elsewhere : ℕ → Kept → Bool
+is_elsewhere slot k = not (k.slot == slot)
+
+abbrev pub without_slot : ℕ → List Kept → List Kept
+without_slot slot ks = filter (is_elsewhere slot) ks
 
 -- the place where it goes
 pub record IsPlaceOf (ks : List Kept) (number place : ℕ) : Type 0 where
@@ -53,4 +64,4 @@ pub record SlotsTellThem (version : Kept → Version) (ks : List Kept) : Type 0 
   pub time : greatest_time (map version ks) ≡ latest_time ks
 
 abbrev pub SlotsTell : (Kept → Version) → List Kept → Type 0
-SlotsTell version ks = ((k : Kept) → (version k).stamp ≡ k.stamp) → SlotsTellThem version ks
+SlotsTell version ks = ((k : Kept) → (version k).stamp ≡ stamp_of k) → SlotsTellThem version ks

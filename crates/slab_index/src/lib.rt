@@ -5,5 +5,5 @@ pub mod index;
 pub mod kept;
 pub mod laws;
 
-pub use index::SlabIndex;
+pub use index::{SlabIndex, SlotList};
 pub use kept::{Kept, greatest_in, keeps, latest_time};

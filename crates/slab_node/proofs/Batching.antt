@@ -1,39 +1,24 @@
 -- What the writes of a batch may write, and what they leave.
-use Rattle.std.proofs.Common.{◌≡◌, ◌⊎◌, inl, inr, ℕ, zero, suc, ◌+◌, ◌*◌, ◌<◌, ◌≤◌, Bool, true, false, List, [], ◌∷◌, length, get_or, drop, refl, sym, ◌∙◌, ap, subst, arith, eq-eqb, eqb, eqb-true, length-take, length-drop}
+use Rattle.std.proofs.Common.{◌≡◌, ◌⊎◌, inl, inr, ℕ, zero, suc, ◌+◌, ◌<◌, ◌≤◌, ◌==◌, Bool, true, false, List, [], ◌∷◌, length, get_or, drop, refl, sym, ◌∙◌, ap, subst, arith, eq-eqb, eqb, eqb-true, length-take, length-drop}
 use Rattle.std.specs.Prelude.{All}
 use Rattle.std.proofs.lemmas.Bool.{or_left, or_right, cases_lt, cases_Bool, false≢true}
 use Rattle.std.proofs.lemmas.List.{ext_get_or, get_or-take, get_or-drop}
-use Rattle.sqlite_disk.specs.Disk.{Only, Follows, Torn, Holds}
+use Rattle.sqlite_disk.specs.Disk.{Torn, Holds}
 use Rattle.disk_model.specs.Crash.{LeavesOnly}
-use Rattle.slab_file.specs.Moments.{Elapses}
-use Rattle.slab_file.proofs.lemmas.Moments.{leaves_now, leaves_more}
+use Rattle.slab_file.proofs.lemmas.Moments.{leaves_now}
 use Rattle.slab_layout.specs.declared.shape.Shape.{Shape}
-use Rattle.slab_layout.specs.Shapes.{mark_at, head_at, data_at, data_len, slab_len, part, is_marked}
+use Rattle.slab_layout.specs.Shapes.{mark_at, head_at, data_at, data_len, slab_len, part, is_marked, answer_at, answers_for}
 use Rattle.slab_node.specs.declared.batch.Fresh.{Fresh}
-use Rattle.slab_node.specs.Left.{head, body, mark, Agrees, AllMay, nothing}
-use Rattle.slab_node.specs.Batches.{HasSizes, IsThere, is_in}
-use Rattle.slab_node.proofs.Torn.{agrees_follow, part_same, steps}
+use Rattle.slab_node.specs.Left.{nothing}
+use Rattle.slab_node.specs.Changes.{ChangesOnly, AreUnmarked}
+use Rattle.slab_node.specs.Batches.{HasSizes, IsThere, is_in, IsHalfway, IsMidway, IsMidwayOver}
+use Rattle.slab_node.proofs.Torn.{part_same, steps}
+use Rattle.slab_node.proofs.Changing.{itself_within, nothing_within, changes_more, changes_then, mark_same}
 
 pub is_in_at : (fs : List Fresh) (i : ℕ) (d : Fresh) → i < length fs → is_in fs (get_or fs i d).slot ≡ true
 is_in_at [] i d lt = absurd (omega arith)
 is_in_at (f ∷ fs) zero d lt = or_left _ _ (eq-eqb f.slot f.slot refl)
 is_in_at (f ∷ fs) (suc i) d lt = or_right _ _ (is_in_at fs i d (omega arith))
-
--- ---- what may be written
-
-module _ (s : Shape) (base : List ℕ) where
-  pub head_may : (going : ℕ → Bool) (f : Fresh) (at n : ℕ) → f.slot < s.count → is_marked s base f.slot ≡ false → going f.slot ≡ false → at ≡ head_at s f.slot → n ≡ 72
-      → AllMay s going nothing base at n
-  head_may going f at n slot free out place long k from to =
-      head f.slot (record { below = slot; unmarked = free; firm = out }) (omega (arith, place, from), omega (arith, place, long, to))
-
-  pub data_may : (going : ℕ → Bool) (f : Fresh) (at n : ℕ) → f.slot < s.count → is_marked s base f.slot ≡ false → going f.slot ≡ false → at ≡ data_at s f.slot → n ≡ data_len s
-      → AllMay s going nothing base at n
-  data_may going f at n slot free out place long k from to =
-      body f.slot (record { below = slot; unmarked = free; firm = out }) (omega (arith, place, from), omega (arith, place, long, to))
-
-  pub mark_may : (loose : ℕ → Bool) (slot at : ℕ) → slot < s.count → loose slot ≡ true → at ≡ mark_at s slot → AllMay s loose nothing base at 1
-  mark_may loose slot at lt is_loose place k from to = mark slot lt is_loose (omega (arith, place, from, to))
 
 -- ---- what a crash leaves since a moment
 
@@ -45,12 +30,6 @@ module _ {F : Type 0} (moment : F → ℕ) (left_since : F → ℕ → List ℕ 
   pub at_end : (old new : F) (P : List ℕ → Type 0) → LeavesOnly moment left_since old new P → ((t : ℕ) (bytes : List ℕ) → t ≤ moment new → may_leave new bytes → left_since new t bytes)
       → (c : List ℕ) → may_leave new c → P c
   at_end old new P so_far counts c may = so_far.each c (counts (moment old) c so_far.later may)
-
-  pub writes_on : (s : Shape) (loose : ℕ → Bool) (base : List ℕ) (at n : ℕ) (old mid new : F) → LeavesOnly moment left_since old mid (Agrees s loose nothing base)
-      → ((d : List ℕ) → may_leave mid d → Agrees s loose nothing base d) → AllMay s loose nothing base at n → Follows (Torn at n) (may_leave mid) (may_leave new)
-      → Elapses moment left_since may_leave mid new → LeavesOnly moment left_since old new (Agrees s loose nothing base)
-  writes_on s loose base at n old mid new so_far each all follows time =
-      leaves_more moment left_since may_leave old mid new (Agrees s loose nothing base) so_far time (agrees_follow s loose nothing base at n (may_leave mid) (may_leave new) each all follows)
 
 -- ---- what was written is there
 
@@ -140,3 +119,72 @@ in_batch s bytes (f ∷ fs) k is all = elim (cases_Bool (eqb f.slot k)) [
   | inl same ↦ subst (λ (n : ℕ). is_marked s bytes n ≡ true) (eqb-true _ _ same) (all 0 f (omega arith))
   | inr other ↦ (let rest : is_in fs k ≡ true = rw other at is in in_batch s bytes fs k rest (λ i d lt. all (suc i) d (omega (arith, lt))))
 ]
+
+-- heads and data are there, and then marks were written
+pub half_of : (s : Shape) (batch : List Fresh) (old mid left : List ℕ) → ChangesOnly s (is_in batch) nothing nothing old mid → All (λ f. IsThere s mid f) batch
+    → ChangesOnly s nothing (is_in batch) nothing mid left → IsHalfway s nothing batch old left
+half_of s batch old mid left before there marks = record {
+  mid = mid;
+  before = before;
+  unmarked = λ i lt never. absurd (false≢true never);
+  there = there;
+  marks = marks;
+}
+
+-- ---- one byte
+
+pub byte_comes : (bytes : List ℕ) (at place value : ℕ) → at ≡ place → Holds bytes at (value ∷ []) → get_or bytes place 0 ≡ value
+byte_comes bytes at place value here holds =
+    let there : place ≡ at + 0 = omega (arith, here) in
+    ap (λ n. get_or bytes n 0) there ∙ holds.each 0 (omega arith)
+
+pub byte_stays : (old new : List ℕ) (at place : ℕ) → Torn at 1 old new → place < length old → (place ≡ at → ⊥) → get_or new place 0 ≡ get_or old place 0
+byte_stays old new at place torn within differs = elim (cases_lt place at) [
+  | inl less ↦ torn.below place within less
+  | inr from ↦ torn.above place within (omega (arith, below_other at place from differs))
+]
+
+-- of a mark that is taken away, and of another one
+pub mark_goes : (s : Shape) (bytes : List ℕ) (at slot : ℕ) → at ≡ mark_at s slot → Holds bytes at (0 ∷ []) → is_marked s bytes slot ≡ false
+mark_goes s bytes at slot place holds = rw (byte_comes bytes at (mark_at s slot) 0 place holds) refl
+
+pub mark_same_at : (s : Shape) (old new : List ℕ) (at slot other : ℕ) → at ≡ mark_at s slot → Torn at 1 old new → mark_at s other < length old → (other ≡ slot → ⊥) → is_marked s new other ≡ is_marked s old other
+mark_same_at s old new at slot other place torn within differs =
+    ap (λ n. n == 1) (byte_stays old new at (mark_at s other) torn within (λ same. differs (omega (arith, same, place))))
+
+-- of the byte of a block, and of another one
+pub answer_comes : (s : Shape) (bytes : List ℕ) (at block value : ℕ) → at ≡ answer_at s block → Holds bytes at (value ∷ []) → answers_for s bytes block ≡ (value == 1)
+answer_comes s bytes at block value place holds = ap (λ n. n == 1) (byte_comes bytes at (answer_at s block) value place holds)
+
+pub answer_same_at : (s : Shape) (old new : List ℕ) (at block other : ℕ) → at ≡ answer_at s block → Torn at 1 old new → answer_at s other < length old → (other ≡ block → ⊥) → answers_for s new other ≡ answers_for s old other
+answer_same_at s old new at block other place torn within differs =
+    ap (λ n. n == 1) (byte_stays old new at (answer_at s other) torn within (λ same. differs (omega (arith, same, place))))
+
+-- ---- marks are taken away, and then a batch is written
+
+module _ (s : Shape) (batch : List Fresh) (going : ℕ → Bool) (old mid : List ℕ) (first : ChangesOnly s nothing going nothing old mid) where
+  pub cleared_then : (left : List ℕ) → ChangesOnly s (is_in batch) going nothing mid left → ChangesOnly s (is_in batch) going nothing old left
+  cleared_then left second =
+      changes_then s (is_in batch) going nothing old mid left
+      (changes_more s nothing going nothing (is_in batch) going nothing old mid (nothing_within (is_in batch)) (itself_within going) (itself_within nothing) first) second
+
+  pub then_bodies : (left : List ℕ) → ChangesOnly s (is_in batch) nothing nothing mid left → ChangesOnly s (is_in batch) going nothing old left
+  then_bodies left second =
+      cleared_then left (changes_more s (is_in batch) nothing nothing (is_in batch) going nothing mid left (itself_within (is_in batch)) (nothing_within going) (itself_within nothing) second)
+
+  -- no mark of them comes back by heads and data
+  pub unmarked_still : (left : List ℕ) → slab_len s ≤ length mid → AreUnmarked s going mid → ChangesOnly s (is_in batch) nothing nothing mid left → AreUnmarked s going left
+  unmarked_still left long unmarked second i lt is = mark_same s (is_in batch) nothing nothing mid left second long i lt refl ∙ unmarked i lt is
+
+  pub half_over : (left : List ℕ) → slab_len s ≤ length mid → AreUnmarked s going mid → IsHalfway s nothing batch mid left → IsHalfway s going batch old left
+  half_over left long unmarked half = record {
+    mid = half.mid;
+    before = then_bodies half.mid half.before;
+    unmarked = unmarked_still half.mid long unmarked half.before;
+    there = half.there;
+    marks = half.marks;
+  }
+
+  pub midway_over : (left : List ℕ) → slab_len s ≤ length mid → AreUnmarked s going mid → IsMidway s going batch mid left → IsMidwayOver s going batch old left
+  midway_over left long unmarked (inl changes) = inl (cleared_then left changes)
+  midway_over left long unmarked (inr half) = inr (half_over left long unmarked half)

@@ -1,8 +1,12 @@
-mod Batching
+mod Answering
+pub mod Batching
+pub mod Changing
 mod Crash
 mod Entries
-mod Freeing
-mod Node
+pub mod Freeing
+pub mod Node
 mod Order
+mod Overs
+mod Rewriting
 mod Rules
 mod Torn

@@ -24,7 +24,7 @@ steps d i j lt =
     let up : (i + 1) * d ≤ j * d = mul-le-mul_right d (omega arith) in
     omega (arith, up)
 
-one_of : (d i j k : ℕ) → i * d ≤ k → k < i * d + d → j * d ≤ k → k < j * d + d → i ≡ j
+pub one_of : (d i j k : ℕ) → i * d ≤ k → k < i * d + d → j * d ≤ k → k < j * d + d → i ≡ j
 one_of d i j k a b e f = elim (cases_lt i j) [
   | inl lt ↦ absurd (omega (arith, steps d i j lt))
   | inr le ↦ elim (cases_lt j i) [

@@ -3,7 +3,8 @@ use Rattle.std.specs.Prelude.{◌≡◌, ◌⊎◌, ◌<◌, ℕ, ◌==◌, ◌|
 use Rattle.slab_layout.specs.declared.shape.Shape.{Shape}
 use Rattle.slab_layout.specs.Shapes.{is_marked, data_len, head_at, data_at, part}
 use Rattle.slab_node.specs.declared.batch.Fresh.{Fresh}
-use Rattle.slab_node.specs.Left.{Agrees, nothing}
+use Rattle.slab_node.specs.Left.{nothing}
+use Rattle.slab_node.specs.Changes.{ChangesOnly, AreUnmarked}
 
 -- there is such a slot, and its head and data have their length
 pub record HasSizes (s : Shape) (f : Fresh) : Type 0 where
@@ -33,17 +34,23 @@ abbrev pub is_in : List Fresh → ℕ → Bool
 is_in [] i = false
 is_in (f ∷ fs) i = f.slot == i || is_in fs i
 
--- Beside marks that were taken away before and aren't safe yet, only free slots differ from the old bytes; or those marks are safe, the heads
--- and data of the batch are there, and marks of the batch alone are either way.
-abbrev pub IsMidway : Shape → (ℕ → Bool) → List Fresh → List ℕ → List ℕ → Type 0
-IsMidway s going batch old left =
-    Agrees s going nothing old left
-    ⊎ ((mid : List ℕ) × Agrees s nothing nothing old mid × All (λ f. IsThere s mid f) batch × Agrees s (is_in batch) nothing mid left)
-
--- A batch is written: the heads and data are there, and then all its marks are set, and no others.
-pub record IsWritten (s : Shape) (batch : List Fresh) (old new : List ℕ) : Type 0 where
+-- Marks were taken away and the heads and data of a batch were written. Then marks of the batch were written, each of them or not.
+pub record IsHalfway (s : Shape) (cleared : ℕ → Bool) (batch : List Fresh) (old left : List ℕ) : Type 0 where
   pub mid : List ℕ
-  pub bodies : Agrees s nothing nothing old mid
+  pub before : ChangesOnly s (is_in batch) cleared nothing old mid
+  pub unmarked : AreUnmarked s cleared mid
   pub there : All (λ f. IsThere s mid f) batch
-  pub marks : Agrees s (is_in batch) nothing mid new
+  pub marks : ChangesOnly s nothing (is_in batch) nothing mid left
+
+-- Only heads and data of a batch changed, and marks that aren't safe yet; or those marks are safe, and marks of the batch were written.
+abbrev pub IsMidway : Shape → (ℕ → Bool) → List Fresh → List ℕ → List ℕ → Type 0
+IsMidway s loose batch old left = ChangesOnly s (is_in batch) loose nothing old left ⊎ IsHalfway s nothing batch old left
+
+-- The same where marks of a set of slots are taken away first.
+abbrev pub IsMidwayOver : Shape → (ℕ → Bool) → List Fresh → List ℕ → List ℕ → Type 0
+IsMidwayOver s going batch old left = ChangesOnly s (is_in batch) going nothing old left ⊎ IsHalfway s going batch old left
+
+-- A batch is written: marks were taken away, the heads and data are there, and then all its marks were set.
+pub record IsWritten (s : Shape) (cleared : ℕ → Bool) (batch : List Fresh) (old new : List ℕ) : Type 0 where
+  pub half : IsHalfway s cleared batch old new
   pub marked : All (λ f. is_marked s new f.slot ≡ true) batch

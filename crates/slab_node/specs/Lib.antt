@@ -1,7 +1,9 @@
 pub mod Answers
 pub mod Batches
+pub mod Changes
 pub mod Faults
 pub mod Freed
 pub mod Held
 pub mod Left
+pub mod Renewals
 pub mod Rules

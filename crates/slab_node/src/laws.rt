@@ -2,7 +2,8 @@
 
 ghost use Rattle.std.specs.Prelude.{ℕ, List};
 ghost use Rattle.quorum_rules.specs.Limits.{Numbers};
-ghost use Rattle.slab_node.specs.Rules.{FreeSlotsDontCount, MarksAnswer, FreedMarksPrune, GoingMarksMayStay, BatchesAnswer, WrittenBatchesAnswer};
+ghost use Rattle.slab_node.specs.Renewals.{RenewalsRenew, WrittenRenewalsRenew};
+ghost use Rattle.slab_node.specs.Rules.{FreeSlotsDontCount, MarksAnswer, FreedMarksPrune, GoingMarksMayStay, UncountedSlotsDontCount, BatchesAnswer, WrittenBatchesAnswer};
 
 /// Whatever becomes of heads and data that are written into free slots, the node is as it was.
 pub fn free_slots_dont_count()
@@ -24,10 +25,25 @@ pub fn freed_marks_prune()
         → GoingMarksMayStay c number old left }
 {}
 
+/// Whatever is written into slots that don't count, the node is as it was, and so if marks are taken away of slots that
+/// count all the same.
+pub fn uncounted_slots_dont_count()
+    ensures { (c : Numbers) (number : ℕ) (old left : List ℕ)
+        → UncountedSlotsDontCount c number old left }
+{}
+
 /// Whatever a batch leaves at any step, the node has dropped some of what was going, and then answered some of the
-/// asks. Where it was written whole, all asks are answered.
+/// asks. Where it was written whole, all asks are answered, and what was going is there as long as it counts.
 pub fn batches_answer()
     ensures whole { (c : Numbers) (number : ℕ) (old left : List ℕ)
         → WrittenBatchesAnswer c number old left }
     ensures cut_off { (c : Numbers) (number : ℕ) (old left : List ℕ) → BatchesAnswer c number old left }
+{}
+
+/// Whatever a renewal leaves at any step, each of its blocks has its old versions, or isn't answered for, or has what the
+/// batch has of it; and all other blocks are as they were.
+pub fn renewals_renew()
+    ensures whole { (c : Numbers) (number : ℕ) (old left : List ℕ)
+        → WrittenRenewalsRenew c number old left }
+    ensures cut_off { (c : Numbers) (number : ℕ) (old left : List ℕ) → RenewalsRenew c number old left }
 {}

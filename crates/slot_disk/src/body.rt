@@ -16,7 +16,7 @@ const HEAD: usize = 49;
 /// How many bytes the body of a slot has.
 pub fn body_size(config: &Config) -> u64
     ensures size { result ≡ body_len config.now }
-    ensures small { result < 32768 }
+    ensures small { result < 131072 }
 {
     HEAD as u64 + 32 * u64::from(config.n()) + u64::from(config.share())
 }

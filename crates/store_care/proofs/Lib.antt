@@ -11,6 +11,7 @@ mod Refused
 mod Groups
 mod Overfull
 mod Tending
+mod Latest
 mod Settled
 mod Tried
 mod MostKept

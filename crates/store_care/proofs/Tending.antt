@@ -93,14 +93,14 @@ module _ {D : Type 0} (pending : D → Pending) (seen : D → List ℕ) (capacit
     pruning_tends old new (read ∷ []) led are =
         let reads = overfull old first count most in
         calls_tend pending seen capacity moment left_since old new (read ∷ []) led
-        (λ given. (any_read read.deed given reads are.told are.is, tt))
+        (λ given knows. (any_read read.deed given reads are.told are.is, tt))
         (none_written read.deed reads are.told are.is (only_reads old most first count), tt)
     pruning_tends old new (read ∷ prune ∷ []) led are =
         let reads = overfull old first count most in
         let only = only_reads old most first count in
         let apart = apart_in read.deed old read.store led.0 reads (Some are.outcomes) are.is in
         calls_tend pending seen capacity moment left_since old new (read ∷ prune ∷ []) led
-        (λ given. (
+        (λ given knows. (
           any_read read.deed given reads (Some are.outcomes) are.is,
           (
             subst (λ (d : Deed). MayDo (given_after given read.deed) d) (sym are.by_reads)

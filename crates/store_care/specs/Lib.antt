@@ -3,6 +3,7 @@ pub mod Given
 pub mod Holdings
 pub mod Prunes
 pub mod Pruning
+pub mod Remembered
 pub mod Settling
 pub mod Tallies
 pub mod Looking

@@ -16,7 +16,7 @@ pub const MOST_BLOCKS: u32 = 64;
 /// Reads of `count` blocks from this one on.
 #[tactic(auto, using(crate::proofs::Rising::none_below))]
 pub(crate) fn reads_of(alloc: Global, first: u32, count: u32) -> Result<Vec<Op>, NoMemory>
-    requires { first + count ≤ 65536 }
+    requires { first + count ≤ 268435456 }
     ensures batch { IfOk result (λ ops. (c : Numbers) → first + count ≤ c.blocks
         → AreBelow c (first + count) ops.items) }
     ensures reads { IfOk result (λ ops. ops.items ≡ reads_from first count) }

@@ -91,7 +91,7 @@ impl Care {
         outcomes: &[Option<Outcome>],
         before: &[Newest],
     ) -> Result<Lacking, NoMemory>
-        requires few { first + length before.now ≤ 65536 }
+        requires few { first + length before.now ≤ 268435456 }
         requires there { first + length before.now ≤ store.old.config.blocks }
         ensures same { store.new ≡ store.old }
         ensures seats { length self.new.tallies.items ≡ length self.old.tallies.items }

@@ -119,7 +119,7 @@ impl Filled {
     ) -> Result<(), NoMemory>
         requires few { count ≤ 64 }
         requires there { first + count ≤ store.old.config.blocks }
-        requires numbers { first + count ≤ 65536 }
+        requires numbers { first + count ≤ 268435456 }
         ensures config { store.new.config ≡ store.old.config }
         // what it did to the store, and what the node keeps of that
         ensures calls { (calls : List (Call D))

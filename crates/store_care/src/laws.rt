@@ -5,8 +5,8 @@ ghost use Rattle.store_care.specs.Filling.{FilledAreRebuilt};
 use disk_model::Disk;
 
 /// Where `settle_all` finds a block settled, `n-t` nodes that are up keep one stamp of it, and none that is up keeps a greater one. So by
-/// `store_device::laws::settled_blocks_forget` its first operation settles it for good, if that is acknowledged: no write that was cut off
-/// before takes effect later.
+/// `store_device::laws::settled_blocks_forget` no write that was cut off before takes effect later, whatever operations are cut off from
+/// then on.
 pub fn settled_blocks_hold<D: Disk>()
     ensures { SettledBlocksHold D }
 {}

@@ -11,6 +11,7 @@ pub mod holding;
 pub mod laws;
 mod newest;
 pub mod pruning;
+pub mod remembered;
 pub mod settling;
 pub mod tally;
 
@@ -19,5 +20,6 @@ pub use care::Care;
 pub use filling::{Filled, FilledDisk, fill_disk};
 pub use holding::Holding;
 pub use pruning::{later_versions, prune_all, prune_due};
+pub use remembered::prune_acknowledged;
 pub use settling::settle_all;
 pub use tally::NodeTally;

@@ -148,7 +148,7 @@ fn add_overfull<D: Disk>(
 }
 
 // Whether some node that is up keeps more than so many versions of a block.
-fn is_overfull<D: Disk>(store: &mut Store<D>, block: u32, most: usize) -> bool
+pub(crate) fn is_overfull<D: Disk>(store: &mut Store<D>, block: u32, most: usize) -> bool
     requires { block < store.old.config.blocks }
     ensures same { store.new ≡ store.old }
     ensures full { result ≡ is_overfull store.old most block }

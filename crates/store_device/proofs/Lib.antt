@@ -15,6 +15,7 @@ pub mod LifeLaws
 pub mod LifeReads
 pub mod LifeDone
 pub mod LifeSettled
+mod LifeHeld
 pub mod Calling
 pub mod Rooms
 pub mod Coming
@@ -23,3 +24,5 @@ pub mod Sessions
 pub mod lemmas
 pub mod Replacing
 pub mod Acknowledging
+pub mod Stamps
+pub mod Memory

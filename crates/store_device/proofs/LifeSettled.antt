@@ -11,6 +11,7 @@ use Rattle.stamp_order.specs.declared.Stamp.{Stamp}
 use Rattle.stamp_order.specs.Stamps.{◌≼◌}
 use Rattle.wire_forms.specs.declared.op.Op.{Op}
 use Rattle.wire_forms.specs.declared.op.Op.TheVariants.{Read as ReadOp, Write as WriteOp}
+use Rattle.run_words.specs.declared.outcome.How.{How}
 use Rattle.run_words.specs.declared.outcome.Outcome.TheVariants.{Gave}
 use Rattle.protocol.specs.Count.{count, update}
 use Rattle.protocol.specs.Messages.{Version}
@@ -18,6 +19,7 @@ use Rattle.protocol.specs.Nodes.{keeps}
 use Rattle.protocol.specs.Instance.{setting, nobody}
 use Rattle.protocol.specs.Laws.{InEachCluster}
 use Rattle.protocol.specs.Operations.{Work, Outcome}
+use Rattle.protocol.specs.Operations.Work.{Reads}
 use Rattle.protocol.specs.Seen.{block_of, work_of}
 use Rattle.protocol.proofs.lemmas.Counting.{count_within}
 use Rattle.node_core.specs.Seen.{versions_in}
@@ -114,10 +116,10 @@ module _ (block : ℕ) (value : List ℕ) where
   turn_wrote (Failed other node) e = absurd (none_of (FailedThere node) (eqb other block) refl e)
   turn_wrote (Renewed other node) e = absurd (none_of (RenewedThere node) (eqb other block) refl e)
 
-  abbrev WasWritten : List Moment → Type 0
+  abbrev pub WasWritten : List Moment → Type 0
   WasWritten life = (j : ℕ) × (outcome : Option Outcome) × WasTold life j (WriteOp block value) outcome
 
-  life_wrote : (life : List Moment) (w : BlockMoment) → Contains (life_on block life) w → written_in w.turn ≡ Some value → WasWritten life
+  pub life_wrote : (life : List Moment) (w : BlockMoment) → Contains (life_on block life) w → written_in w.turn ≡ Some value → WasWritten life
   life_wrote [] w there e = absurd (Contains-none w there)
   life_wrote (m ∷ life) w there e =
       elim (Contains-cons_cases w (moment_on block m) (life_on block life) there) [
@@ -166,21 +168,31 @@ module _ (c : Numbers) (block : ℕ) (there : block < c.blocks) (life : List Mom
     asked_low = settled.asked_low;
   }
 
+-- a life in two parts is on the block a life in two parts
+pub parted_on : (block : ℕ) (before after : List Moment) → life_on block (before ++ after) ≡ life_on block before ++ life_on block after
+parted_on block before after = map-append (moment_on block) before after
+
 module _ (c : Numbers) where
-  pub settled_forget : InEachCluster SettledLivesForget → SettledBlocksForget c
-  settled_forget forget valid before after lived block there apart x settled k rounds stamp value how was =
+  -- a read that was told of is one of the block's life
+  pub read_there : (after : List Moment) → AllByRecursion (λ (y : Moment). IsWhole c y.turn) after
+      → (block k rounds : ℕ) (stamp : Stamp) (value : List ℕ) (how : How) → WasTold after k (ReadOp block) (Some (Gave stamp value how rounds))
+      → (m : BlockMoment) × (client : ℕ) × Contains (life_on block after) m × (m.turn ≡ Did client Reads (Gave stamp value how rounds))
+  read_there after all block k rounds stamp value how was =
       let m = at_turn after k (Performed was.ops was.outcomes was.stored) was.turn in
       let whole : IsWhole c (Performed was.ops was.outcomes was.stored) =
-      subst (IsWhole c) m.2
-      (member_of_all (λ (y : Moment). IsWhole c y.turn) after (whole_after c before after lived.whole) m.0 m.1) in
+      subst (IsWhole c) m.2 (member_of_all (λ (y : Moment). IsWhole c y.turn) after all m.0 m.1) in
       let is = batch_is block 1 was.ops was.outcomes was.stored was.place (ReadOp block) (Gave stamp value how rounds) whole.0.apart whole.2
       was.asked was.told refl in
-      let parts : life_on block (before ++ after) ≡ life_on block before ++ life_on block after = map-append (moment_on block) before after in
+      (moment_on block m.0, is.0, on_moment block after m.0 m.1, ap (turn_on block) m.2 ∙ is.1)
+
+  pub settled_forget : InEachCluster SettledLivesForget → SettledBlocksForget c
+  settled_forget forget valid before after lived block there apart x settled k rounds stamp value how was =
+      let m = read_there after (whole_after c before after lived.whole) block k rounds stamp value how was in
       elim (forget c nobody nobody (calm c valid) block (life_on block before) (life_on block after) x
-      (subst (IsBlockLife (setting c) block) parts (lived.each block there))
-      (subst (NoClash (setting c)) parts apart)
+      (subst (IsBlockLife (setting c) block) (parted_on block before after) (lived.each block there))
+      (subst (NoClash (setting c)) (parted_on block before after) apart)
       (as_there c block there before x settled)
-      (moment_on block m.0) is.0 rounds stamp value how (on_moment block after m.0 m.1) (ap (turn_on block) m.2 ∙ is.1)) [
+      m.0 m.1 rounds stamp value how m.2 m.3) [
         | inl same ↦ inl same
         | inr w ↦ inr (life_wrote block value after w.0 w.1 w.2)
       ]
@@ -239,6 +251,27 @@ module _ (c : Numbers) (block : ℕ) (stamp : Stamp) where
       held_on stay alone (standing_after b (turn_on block m.turn)) (kept_of m.nodes block) rest all.1 takes.1
       (subst (λ (s : Standing). Held s (kept_of m.nodes block)) (sym same) now)
 
+-- what each node keeps of the block, said in two ways
+module _ (c : Numbers) (block : ℕ) (there : block < c.blocks) (life : List Moment) (stamp : Stamp) where
+  abbrev at_end : Standing
+  at_end = standing_on c block life
+
+  same_many : c.n ≤ count c.n (λ i. at_end.lies i || (not (at_end.lost i) && keeps (kept_of (nodes_of c life) block i) stamp)) + c.t
+      → c.n ≤ count c.n (λ i. at_end.lies i || (not (at_end.lost i) && keeps (kept_end c block life i) stamp)) + c.t
+  same_many many =
+      let within = count_within c.n (λ i. at_end.lies i || (not (at_end.lost i) && keeps (kept_of (nodes_of c life) block i) stamp))
+      (λ i. at_end.lies i || (not (at_end.lost i) && keeps (kept_end c block life i) stamp))
+      (λ i l h. subst (λ (vs : List Version). at_end.lies i || (not (at_end.lost i) && keeps vs stamp) ≡ true) (sym (kept_is c block there life i l)) h) in
+      omega (arith, within, many)
+
+  pub held_there : IsHeldOn c block life stamp → IsHeld (setting c) stamp at_end (kept_end c block life)
+  held_there held = record {
+    kept_low = λ i v below honest found holds.
+        held.kept_low i v below honest found (subst (λ (vs : List Version). Contains vs v) (kept_is c block there life i below) holds);
+    late_low = held.late_low;
+    many = same_many held.many;
+  }
+
 parts_of : (c : Numbers) (block : ℕ) (before after : List BlockMoment) (b : Standing) (old : ℕ → List Version)
     → TakesAllThere (setting c) block b old (before ++ after)
     → TakesAllThere (setting c) block (standing_at b before) (kept_at old before) after
@@ -276,20 +309,7 @@ module _ (c : Numbers) where
           (subst (TakesAllThere (setting c) block (first_standing (setting c)) (first_kept (setting c))) parts (lived.each block there).takes)
 
       held_first : IsHeld (setting c) stamp (standing_on c block before) (kept_end c block before)
-      held_first = record {
-        kept_low = λ i v below honest found holds.
-            held.kept_low i v below honest found (subst (λ (vs : List Version). Contains vs v) (kept_is c block there before i below) holds);
-        late_low = held.late_low;
-        many = same_many;
-      }
-        where
-          same_many : c.n ≤ count c.n (λ i. (standing_on c block before).lies i || (not ((standing_on c block before).lost i) && keeps (kept_end c block before i) stamp)) + c.t
-          same_many =
-              let within = count_within c.n
-              (λ i. (standing_on c block before).lies i || (not ((standing_on c block before).lost i) && keeps (kept_of (nodes_of c before) block i) stamp))
-              (λ i. (standing_on c block before).lies i || (not ((standing_on c block before).lost i) && keeps (kept_end c block before i) stamp))
-              (λ i l h. subst (λ (vs : List Version). (standing_on c block before).lies i || (not ((standing_on c block before).lost i) && keeps vs stamp) ≡ true) (sym (kept_is c block there before i l)) h) in
-              omega (arith, within, held.many)
+      held_first = held_there c block there before stamp held
 
       held_then : IsHeld (setting c) stamp (standing_at (first_standing (setting c)) (life_on block before ++ life_on block alone))
           (kept_at (first_kept (setting c)) (life_on block before ++ life_on block alone))

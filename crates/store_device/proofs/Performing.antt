@@ -1,5 +1,5 @@
 -- What a call leaves of a store.
-use Rattle.std.proofs.Common.{◌≡◌, inl, inr, ℕ, ◌<◌, ◌≤◌, true, false, List, [], ◌∷◌, length, map, Option, Some, None, Ok, Err, Result, sym, ◌∙◌, ap, subst, arith}
+use Rattle.std.proofs.Common.{◌≡◌, inl, inr, ℕ, ◌<◌, ◌≤◌, true, false, List, [], ◌∷◌, ◌++◌, length, map, Option, Some, None, Ok, Err, Result, sym, ◌∙◌, ap, subst, arith}
 use Rattle.std.specs.Prelude.{All, IfOk, is_some}
 use Rattle.std.specs.List.{AllByRecursion}
 use Rattle.std.specs.Option.{option_map}
@@ -14,13 +14,15 @@ use Rattle.protocol.specs.World.{Fits}
 use Rattle.protocol.specs.Operations.{Outcome}
 use Rattle.protocol.specs.Seen.{block_of, work_of}
 use Rattle.disk_model.specs.Crash.{Pending, MayLeave}
+use Rattle.version_disk.specs.declared.prune.Prune.{Prune}
 use Rattle.batch_clients.specs.Batches.{Running, begun, end_of}
 use Rattle.store_device.specs.Stores.{SeenStore, Nodes, IsSound, IsStore, IsFound, kept_in, seat_at, down_in, is_up}
 use Rattle.store_device.specs.Told.{AreApart, IsTold}
 use Rattle.store_device.specs.Going.{IsGoing, MayBegin}
-use Rattle.store_device.specs.Calls.{HasPerformed, HaveEndedIf, StaysStore, told_each}
+use Rattle.store_device.specs.Calls.{HasPerformed, HaveEndedIf, StaysStore, prunes_of, told_each, with_room}
 use Rattle.store_device.specs.Answered.{AreFew, IsEnough}
 use Rattle.store_device.specs.Phased.{GoThrough}
+use Rattle.store_device.proofs.Memory.{few_with, stays_with, through_with, with_memory}
 use Rattle.store_device.proofs.Seats.{found_is_left}
 use Rattle.store_device.proofs.Batches.{stored_all}
 use Rattle.store_device.proofs.Carrying.{all_is_told, none_is_told}
@@ -79,14 +81,15 @@ module _ {D : Type 0} (pending : D → Pending) (seen : D → List ℕ) (moment 
           × (items v ≡ map (λ (r : Running). end_of r.stand) after))
           → IfOk result (λ v. AreFew old ops → IsEnough seen most (length ops) new
           → AllByRecursion (λ (o : Option Outcome). is_some o ≡ true) (items v))
-          → HaveEndedIf pending seen most moment left_since ops (option_map items (result_ok result)) old new
-      have_ended items (Ok v) gone_through answered = record {
+          → (before after : List Prune)
+          → HaveEndedIf pending seen most moment left_since ops (option_map items (result_ok result)) (with_memory before old) (with_memory after new)
+      have_ended items (Ok v) gone_through answered before after = record {
         runs = gone_through.0;
-        phases = gone_through.1;
+        phases = through_with pending seen most moment left_since before gone_through.1;
         ends = gone_through.2;
-        answered = answered;
+        answered = λ few enough. answered (few_with before old ops few) enough;
       }
-      have_ended items (Err e) gone_through answered = tt
+      have_ended items (Err e) gone_through answered before after = tt
 
       pub has_performed : {V E : Type 0} (items : V → List (Option Outcome)) (result : Result V E)
           → IfOk result (λ v. items v ≡ map (λ (r : Running). end_of r.stand) runs)
@@ -95,12 +98,15 @@ module _ {D : Type 0} (pending : D → Pending) (seen : D → List ℕ) (moment 
           × (items v ≡ map (λ (r : Running). end_of r.stand) after))
           → IfOk result (λ v. AreFew old ops → IsEnough seen most (length ops) new
           → AllByRecursion (λ (o : Option Outcome). is_some o ≡ true) (items v))
-          → HasPerformed pending seen most moment left_since ops (option_map items (result_ok result)) old new
-      has_performed items result are gone_through answered = record {
+          → (before after : List Prune)
+          → after ≡ with_room (length ops) before ++ prunes_of ops (told_each ops (option_map items (result_ok result)))
+          → HasPerformed pending seen most moment left_since ops (option_map items (result_ok result)) (with_memory before old) (with_memory after new)
+      has_performed items result are gone_through answered before after remembered = record {
         batch = record { few = few; fit = all_fit ops (recursion_from_All (MayBegin old.config) ops may); apart = apart };
         stored = stored_all pending seen moment left_since old new 1 ops runs going.operations;
         told = tells items result are;
         any_moment = none_is_told pending seen moment left_since counts_now old new ops runs going;
-        ended = have_ended items result gone_through answered;
-        stays = stays;
+        ended = have_ended items result gone_through answered before after;
+        stays = stays_with pending seen before after old new stays;
+        acknowledged = remembered;
       }

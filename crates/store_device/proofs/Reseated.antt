@@ -19,7 +19,7 @@ use Rattle.version_disk.specs.Deeds.{Prunes, after_deed, after_deeds, pruning}
 use Rattle.version_disk.specs.declared.prune.Prune.{Prune}
 use Rattle.version_disk.proofs.lemmas.Answering.{deeds_config}
 use Rattle.store_device.specs.Stores.{SeenStore, Nodes, IsSound, IsStore, IsLeft, IsLeftAt, kept_at, kept_in, seat_at, is_up}
-use Rattle.store_device.specs.Going.{store_of}
+use Rattle.store_device.specs.Going.{store_of, store_with}
 use Rattle.store_device.specs.Calls.{ArePruned}
 use Rattle.store_device.specs.Working.{HasGoneOn}
 use Rattle.store_device.specs.Answered.{has_room}
@@ -29,7 +29,7 @@ use Rattle.store_device.proofs.Asked.{IsNodeOf}
 use Rattle.store_device.proofs.LifeOperations.{apart_first, apart_rest}
 use Rattle.store_device.proofs.Seats.{held_is_node, found_is_left, when_true, when_false, at_true, at_false, not_false, not_true}
 
-module _ {D X : Type 0} (node : X → Option (Stored D)) (c : Numbers) (value : SeenStore D) (items : List X) (is : store_of c (map node items) ≡ value) where
+module _ {D X : Type 0} {memory : List Prune} (node : X → Option (Stored D)) (c : Numbers) (value : SeenStore D) (items : List X) (is : store_with c (map node items) memory ≡ value) where
   -- what sits at a seat that is there
   pub seat_there : (i : ℕ) (d : X) → i < length items → seat_at value i ≡ node (get_or items i d)
   seat_there i d l = ap (λ (s : SeenStore D). seat_at s i) (sym is) ∙ get_or-map node items i d None l
@@ -39,12 +39,12 @@ module _ {D X : Type 0} (node : X → Option (Stored D)) (c : Numbers) (value : 
   seat_past i l = ap (λ (s : SeenStore D). seat_at s i) (sym is) ∙ get_or_past (map node items) i None (let m = length-map items node in omega arith)
 
   -- another sits there
-  pub reseated : (i : ℕ) (x : X) → store_of c (map node (set items i x)) ≡ with_seat value i (node x)
-  reseated i x = ap (store_of c) (map-set node items i x) ∙ ap (λ (s : SeenStore D). with_seat s i (node x)) is
+  pub reseated : (i : ℕ) (x : X) → store_with c (map node (set items i x)) memory ≡ with_seat value i (node x)
+  reseated i x = ap (λ (l : List (Option (Stored D))). store_with c l memory) (map-set node items i x) ∙ ap (λ (s : SeenStore D). with_seat s i (node x)) is
 
   -- where there is no such seat, nobody can sit on it
   pub no_seat : (i : ℕ) (seat : Option (Stored D)) → length items ≤ i → value ≡ with_seat value i seat
-  no_seat i seat l = sym is ∙ ap (store_of c) (sym (set_past (map node items) i seat (let m = length-map items node in omega arith))) ∙ ap (λ (s : SeenStore D). with_seat s i seat) is
+  no_seat i seat l = sym is ∙ ap (λ (s : List (Option (Stored D))). store_with c s memory) (sym (set_past (map node items) i seat (let m = length-map items node in omega arith))) ∙ ap (λ (s : SeenStore D). with_seat s i seat) is
 
 -- ---- what prunes leave of a node
 
@@ -254,20 +254,21 @@ module _ {D : Type 0} (pending : D → Pending) (seen : D → List ℕ) where
           }
 
       -- what the call was
-      pub has_pruned : (most : D → ℕ) → All (λ (p : Prune). p.block < old.config.blocks) prunes
+      pub has_pruned : (most : D → ℕ) → new.acknowledged ≡ old.acknowledged → All (λ (p : Prune). p.block < old.config.blocks) prunes
           → ArePrunesApart prunes
           → ((disk : D) (t : ℕ) (bytes : List ℕ) → t ≤ moment disk → MayLeave (pending disk) bytes → left_since disk t bytes)
           → HasPrunedBlocks pending seen most moment left_since prunes old new
-      has_pruned most there apart counts_now = record {
+      has_pruned most same there apart counts_now = record {
         done = λ gone kept found. left_pruned there apart gone kept (λ i l. found_is_left pending seen moment left_since old.config i counts_now
             (seat_at old i) (seat_at new i) (gone i) (kept i) (gone_on old.config i (seat_at old i) (seat_at new i) (has.sound i) (tried i))
             (found i l));
         any_moment = left_pruned there apart;
         stays = record { store = still_store; config = config; down = λ i. down (seat_at old i) (seat_at new i) (tried i) };
+        acknowledged = same;
       }
 
     -- a call's seats, as they were and as they are
-    module _ {X : Type 0} (node : X → Option (Stored D)) (c : Numbers) (value : SeenStore D) (items first new : List X) (len : ℕ) (lent : first ≡ items) (is : store_of c (map node items) ≡ value) (long : length first ≡ len) (count : length new ≡ length first) where
+    module _ {X : Type 0} {memory : List Prune} (node : X → Option (Stored D)) (c : Numbers) (value : SeenStore D) (items first new : List X) (len : ℕ) (lent : first ≡ items) (is : store_with c (map node items) memory ≡ value) (long : length first ≡ len) (count : length new ≡ length first) where
       abbrev back : List X
       back = take len (new ++ drop (length new) items)
 
@@ -277,41 +278,41 @@ module _ {D : Type 0} (pending : D → Pending) (seen : D → List ℕ) where
       pub back_count : length (map node back) ≡ length value.seats
       back_count = length-map back node ∙ ap length back_is ∙ count ∙ ap length lent ∙ sym (length-map items node) ∙ ap (λ (s : SeenStore D). length s.seats) is
 
-      pub tried_back : ((i : ℕ) (d : X) → i < length first → Tries (node (get_or first i d)) (node (get_or new i d))) → (i : ℕ) → Tries (seat_at value i) (seat_at (store_of c (map node back)) i)
+      pub tried_back : ((i : ℕ) (d : X) → i < length first → Tries (node (get_or first i d)) (node (get_or new i d))) → (i : ℕ) → Tries (seat_at value i) (seat_at (store_with c (map node back) memory) i)
       tried_back each i =
           let m : length items ≡ length first = ap length (sym lent) in
-          let now : store_of c (map node new) ≡ store_of c (map node back) = ap (λ (l : List X). store_of c (map node l)) (sym back_is) in
+          let now : store_with c (map node new) memory ≡ store_with c (map node back) memory = ap (λ (l : List X). store_with c (map node l) memory) (sym back_is) in
           elim (cases_lt i (length first)) [
             | inl l ↦ (
                 let d = (at_place first i l).0 in
                 let old_is : node (get_or first i d) ≡ seat_at value i = ap (λ (l : List X). node (get_or l i d)) lent ∙ sym (seat_there node c value items is i d (omega arith)) in
-                let new_is : node (get_or new i d) ≡ seat_at (store_of c (map node back)) i = sym (seat_there node c (store_of c (map node back)) new now i d (let n = count in omega arith)) in
-                subst (λ (s : Option (Stored D)). Tries s (seat_at (store_of c (map node back)) i)) old_is (subst (Tries (node (get_or first i d))) new_is (each i d l)))
+                let new_is : node (get_or new i d) ≡ seat_at (store_with c (map node back) memory) i = sym (seat_there node c (store_with c (map node back) memory) new now i d (let n = count in omega arith)) in
+                subst (λ (s : Option (Stored D)). Tries s (seat_at (store_with c (map node back) memory) i)) old_is (subst (Tries (node (get_or first i d))) new_is (each i d l)))
             | inr l ↦ (
                 let old_is : seat_at value i ≡ None = seat_past node c value items is i (omega arith) in
-                let new_is : seat_at (store_of c (map node back)) i ≡ None = seat_past node c (store_of c (map node back)) new now i (let n = count in omega arith) in
-                subst (λ (s : Option (Stored D)). Tries s (seat_at (store_of c (map node back)) i)) (sym old_is) new_is)
+                let new_is : seat_at (store_with c (map node back) memory) i ≡ None = seat_past node c (store_with c (map node back) memory) new now i (let n = count in omega arith) in
+                subst (λ (s : Option (Stored D)). Tries s (seat_at (store_with c (map node back) memory) i)) (sym old_is) new_is)
           ]
 
       -- and each node that is up and has room has pruned
       pub wholly_back : (most : D → ℕ)
           → ((i : ℕ) (d : X) → i < length first
           → PrunesWholly pending seen most prunes false (node (get_or first i d)) (node (get_or new i d))) → (i : ℕ)
-          → PrunesWholly pending seen most prunes false (seat_at value i) (seat_at (store_of c (map node back)) i)
+          → PrunesWholly pending seen most prunes false (seat_at value i) (seat_at (store_with c (map node back) memory) i)
       wholly_back most each i =
           let m : length items ≡ length first = ap length (sym lent) in
-          let now : store_of c (map node new) ≡ store_of c (map node back) = ap (λ (l : List X). store_of c (map node l)) (sym back_is) in
+          let now : store_with c (map node new) memory ≡ store_with c (map node back) memory = ap (λ (l : List X). store_with c (map node l) memory) (sym back_is) in
           elim (cases_lt i (length first)) [
             | inl l ↦ (
                 let d = (at_place first i l).0 in
                 let old_is : node (get_or first i d) ≡ seat_at value i = ap (λ (l : List X). node (get_or l i d)) lent ∙ sym (seat_there node c value items is i d (omega arith)) in
-                let new_is : node (get_or new i d) ≡ seat_at (store_of c (map node back)) i = sym (seat_there node c (store_of c (map node back)) new now i d (let n = count in omega arith)) in
-                subst (λ (s : Option (Stored D)). PrunesWholly pending seen most prunes false s (seat_at (store_of c (map node back)) i)) old_is
+                let new_is : node (get_or new i d) ≡ seat_at (store_with c (map node back) memory) i = sym (seat_there node c (store_with c (map node back) memory) new now i d (let n = count in omega arith)) in
+                subst (λ (s : Option (Stored D)). PrunesWholly pending seen most prunes false s (seat_at (store_with c (map node back) memory) i)) old_is
                 (subst (PrunesWholly pending seen most prunes false (node (get_or first i d))) new_is (each i d l)))
             | inr l ↦ record {
               wholly = λ fed room. (
-                  let new_is : seat_at (store_of c (map node back)) i ≡ None = seat_past node c (store_of c (map node back)) new now i (let n = count in omega arith) in
-                  let e : has_room seen most (length prunes) (seat_at (store_of c (map node back)) i) ≡ false = ap (has_room seen most (length prunes)) new_is in
+                  let new_is : seat_at (store_with c (map node back) memory) i ≡ None = seat_past node c (store_with c (map node back) memory) new now i (let n = count in omega arith) in
+                  let e : has_room seen most (length prunes) (seat_at (store_with c (map node back) memory) i) ≡ false = ap (has_room seen most (length prunes)) new_is in
                   absurd cc);
             }
           ]

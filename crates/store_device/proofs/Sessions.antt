@@ -19,12 +19,13 @@ use Rattle.store_device.specs.Stores.{SeenStore, Nodes, IsSound, IsStore, IsFoun
 use Rattle.store_device.specs.Told.{IsTold, kept_of, untold}
 use Rattle.store_device.specs.Lives.{Turn, Moment, IsBatch, IsWhole, KeepAlike, turn_on, nodes_of, first_nodes, standing_on}
 use Rattle.store_device.specs.Lives.Turn.{Performed, Pruned, Changed, Gone, Back, Lost, Failed, Renewed}
-use Rattle.store_device.specs.Calls.{Deed, Acknowledged, ArePruned, HasDone, StaysStore, MayDo, MayDoAll, AreTurnsBy, IsTurnBy, IsTurnCut, given_after, given_on, told_each}
+use Rattle.store_device.specs.Calls.{Deed, Acknowledged, ArePruned, HasDone, StaysStore, MayDo, MayDoAll, MayPrune, RemembersOnly, AreTurnsBy, IsTurnBy, IsTurnCut, given_after, given_on, told_each}
 use Rattle.store_device.specs.Calls.Deed.{Performs, Prunes}
 use Rattle.store_device.specs.Seating.{IsReseatedAt, IsReseated}
 use Rattle.store_device.specs.Steps.{Step, StepsLead, AreFound, calls_among, gone_after}
 use Rattle.store_device.specs.Steps.Step.{Called, Reseated}
 use Rattle.store_device.specs.Sessions.{given_in, IsPresent, HasLived, LivesBegin, NodesAreLost, NodesAreRebuilt, NodesAreGone, NodesAreBack, NodesFail, NodesAreChanged, HasComeTo, StoresOpen, StoresAreLeft, StepsAreLives, CrashesAreLives, CallsKeepPresent}
+use Rattle.store_device.proofs.Stamps.{call_remembers, may_alike}
 use Rattle.store_device.proofs.Calling.{alike_back, alike_on, found_is_kept, found_same}
 use Rattle.store_device.proofs.LifeOnBlocks.{KeptOf, kept_end, kept_is, nodes_append, one_more, standing_more, batch, prune, given_batch, given_prune, away_batch, away_prune, lengths}
 
@@ -149,10 +150,11 @@ module _ {D : Type 0} (pending : D → Pending) (seen : D → List ℕ) where
   past store i has l = get_or_past store.seats i None (let e = has.count in omega (arith, e, l))
 
   pub stores_open : StoresOpen pending seen
-  stores_open life kept store has sound up = record {
+  stores_open life kept store has sound nothing up = record {
     lived = lived_alike store.config life kept (kept_in store kept) has (λ i block l. alike i block l (seat_at store i) refl);
     present = λ i is. present i is (seat_at store i) refl;
     sound = sound;
+    remembered = subst (MayPrune (given_in store.config life)) (sym nothing) tt;
   }
     where
       alike : (i block : ℕ) → i < store.config.n → (seat : Option (Stored D)) → seat_at store i ≡ seat
@@ -230,6 +232,10 @@ module _ {D : Type 0} (pending : D → Pending) (seen : D → List ℕ) where
       sound = λ i n there whole. subst (λ (c : Numbers). IsSound pending seen c i n) (sym is.config)
           (still_sound old.config i (seat_at old i) (seat_at new i) (has.sound.sound i) (is.each i) n there whole);
     };
+    remembered = subst (λ (c : Numbers). RemembersOnly (given_in c life) new) (sym is.config) (elim is.acknowledged [
+      | inl same ↦ subst (MayPrune (given_in old.config life)) (sym same) has.remembered
+      | inr none ↦ subst (MayPrune (given_in old.config life)) (sym none) tt
+    ]);
   }
 
   -- ---- who is present stays so
@@ -303,8 +309,9 @@ module _ {D : Type 0} (pending : D → Pending) (seen : D → List ℕ) where
         pub agrees : (block : ℕ) → given_after given deed block ≡ given_in new.config (life ++ then ∷ []) block
 
       come : (deed : Deed) (new : SeenStore D) (kept : Nodes) (m : Moment) → StaysStore pending seen old new
-          → IsFound pending old new gone kept → IsTurnBy deed m.turn → HasLived c (life ++ m ∷ []) kept → On (life ++ m ∷ []) new kept
-      come deed new kept m stays found is lived = record {
+          → IsFound pending old new gone kept → IsTurnBy deed m.turn → RemembersOnly (given_in new.config (life ++ m ∷ [])) new
+          → HasLived c (life ++ m ∷ []) kept → On (life ++ m ∷ []) new kept
+      come deed new kept m stays found is remembered lived = record {
         lived = subst (λ (d : Numbers). HasLived d (life ++ m ∷ []) (kept_in new kept)) (sym stays.config)
             (lived_alike c (life ++ m ∷ []) kept (kept_in new kept) lived
             (subst (λ (d : Numbers). KeepAlike d kept (kept_in new kept)) stays.config
@@ -313,6 +320,7 @@ module _ {D : Type 0} (pending : D → Pending) (seen : D → List ℕ) where
         present = λ i up. subst (λ (d : Numbers). IsPresent d (life ++ m ∷ []) i) (sym stays.config)
             (present_turn c life deed m i is (has.present i (was_up i up)));
         sound = stays.store;
+        remembered = remembered;
       }
         where
           was_up : (i : ℕ) → is_up (seat_at new i) ≡ true → is_up (seat_at old i) ≡ true
@@ -321,6 +329,14 @@ module _ {D : Type 0} (pending : D → Pending) (seen : D → List ℕ) where
             | inr down ↦ absurd (let f : is_up (seat_at new i) ≡ false = ap is_up (stays.down i down) ∙ down in cc)
           ]
 
+      -- what is remembered then is acknowledged
+      remembers : (deed : Deed) (new : SeenStore D) (other : Acknowledged) → Does deed old new → ((block : ℕ) → given_after given deed block ≡ other block)
+          → RemembersOnly other new
+      remembers deed new other done same =
+          may_alike (given_after given deed) other new.acknowledged same
+          (call_remembers pending seen most moment left_since given deed old new done
+          (may_alike (given_in c life) given old.acknowledged (λ block. sym (known block)) has.remembered))
+
       call_over : (deed : Deed) (new : SeenStore D) (kept : Nodes) → MayDo given deed → Does deed old new → IsFound pending old new gone kept
           → IsOver deed new kept
       call_over (Performs ops told) new kept may done found =
@@ -328,26 +344,32 @@ module _ {D : Type 0} (pending : D → Pending) (seen : D → List ℕ) where
           let m : Moment = record { turn = Performed ops outcomes done.stored; nodes = kept } in
           let is = done.told gone kept found in
           let long = lengths c (down_in old) 1 ops outcomes done.stored (kept_in old gone) kept is.done in
+          let agrees : (block : ℕ) → given_after given (Performs ops told) block ≡ given_in new.config (life ++ m ∷ []) block = λ block. (
+          ap (given_on block ops outcomes) (known block)
+          ∙ sym (given_batch c block (standing_on c block life) 1 ops outcomes done.stored long.0 long.1)
+          ∙ sym (ap (λ (b : Standing). b.ended) (standing_more c block life (m ∷ [])))
+          ∙ ap (λ (d : Numbers). given_in d (life ++ m ∷ []) block) (sym done.stays.config)) in
           record {
             then = m;
             turn = (done.stored, refl);
-            on = come (Performs ops told) new kept m done.stays found (done.stored, refl) (performed ops outcomes done.stored kept done.batch is);
-            agrees = λ block. (
-                ap (given_on block ops outcomes) (known block)
-                ∙ sym (given_batch c block (standing_on c block life) 1 ops outcomes done.stored long.0 long.1)
-                ∙ sym (ap (λ (b : Standing). b.ended) (standing_more c block life (m ∷ [])))
-                ∙ ap (λ (d : Numbers). given_in d (life ++ m ∷ []) block) (sym done.stays.config));
+            on = come (Performs ops told) new kept m done.stays found (done.stored, refl)
+                (remembers (Performs ops told) new (given_in new.config (life ++ m ∷ [])) done agrees)
+                (performed ops outcomes done.stored kept done.batch is);
+            agrees = agrees;
           }
       call_over (Prunes prunes) new kept may done found =
           let m : Moment = record { turn = Pruned prunes; nodes = kept } in
+          let agrees : (block : ℕ) → given_after given (Prunes prunes) block ≡ given_in new.config (life ++ m ∷ []) block = λ block. (
+          known block ∙ sym (given_prune c block (standing_on c block life) prunes)
+          ∙ sym (ap (λ (b : Standing). b.ended) (standing_more c block life (m ∷ [])))
+          ∙ ap (λ (d : Numbers). given_in d (life ++ m ∷ []) block) (sym done.stays.config)) in
           record {
             then = m;
             turn = refl;
-            on = come (Prunes prunes) new kept m done.stays found refl (pruned_then prunes kept may (done.done gone kept found));
-            agrees = λ block. (
-                known block ∙ sym (given_prune c block (standing_on c block life) prunes)
-                ∙ sym (ap (λ (b : Standing). b.ended) (standing_more c block life (m ∷ [])))
-                ∙ ap (λ (d : Numbers). given_in d (life ++ m ∷ []) block) (sym done.stays.config));
+            on = come (Prunes prunes) new kept m done.stays found refl
+                (remembers (Prunes prunes) new (given_in new.config (life ++ m ∷ [])) done agrees)
+                (pruned_then prunes kept may (done.done gone kept found));
+            agrees = agrees;
           }
 
       -- a call that a crash cut off

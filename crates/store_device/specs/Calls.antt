@@ -1,5 +1,5 @@
 -- Calls of a store, and what they are in its life.
-use Rattle.std.specs.Prelude.{◌≡◌, ◌≢◌, ◌⊎◌, ◌==◌, ℕ, ◌<◌, ⊤, true, false, if◌then◌else◌, is_some, map, List, [], ◌∷◌, ◌++◌, length, Option}
+use Rattle.std.specs.Prelude.{◌≡◌, ◌≢◌, ◌⊎◌, ◌==◌, ℕ, ◌+◌, ◌<◌, ⊤, true, false, nat_le, if◌then◌else◌, is_some, map, List, [], ◌∷◌, ◌++◌, length, Option}
 use Rattle.std.specs.declared.option.Option.TheVariants.{None, Some}
 use Rattle.std.specs.List.{AllByRecursion, Contains}
 use Rattle.quorum_rules.specs.Limits.{Numbers}
@@ -37,6 +37,35 @@ abbrev pub told_each : List Op → Option (List (Option Outcome)) → List (Opti
 told_each ops None = untold ops
 told_each ops (Some outcomes) = outcomes
 
+-- ---- what operations acknowledged
+
+-- what acknowledged operations read or wrote on each block, the latest first
+abbrev pub Acknowledged : Type 0
+Acknowledged = ℕ → List StampedValue
+
+-- what an operation read or wrote, if its outcome was told
+abbrev pub given_by : Op → Option Outcome → Option StampedValue
+given_by op None = None
+given_by op (Some outcome) = stamped_by (work_of op) outcome
+
+-- the prune of a block that this allows, if it is anything
+abbrev pub prune_of : ℕ → Option StampedValue → List Prune
+prune_of block None = []
+prune_of block (Some x) = record { block = block; stamp = x.stamp } ∷ []
+
+-- and those that operations allow with these outcomes, in order
+abbrev pub prunes_of : List Op → List (Option Outcome) → List Prune
+prunes_of (op ∷ ops) (outcome ∷ outcomes) = prune_of (block_of op) (given_by op outcome) ++ prunes_of ops outcomes
+prunes_of _ _ = []
+
+-- how many a store remembers at most
+abbrev pub most_remembered : ℕ
+most_remembered = 131_072
+
+-- those that it remembers still where so many more come: all of them, or none where these would be too many
+abbrev pub with_room : ℕ → List Prune → List Prune
+with_room more old = if nat_le (length old + more) most_remembered then old else []
+
 -- ---- what a call does
 
 module _ (c : Numbers) where
@@ -63,7 +92,7 @@ module _ {D : Type 0} (pending : D → Pending) (seen : D → List ℕ) where
     -- n-t nodes are up in the end and have room for a slot for each operation, and nodes keep few versions.
     pub record HaveEnded (ops : List Op) (outcomes : List (Option Outcome)) (old new : SeenStore D) : Type 0 where
       pub runs : List Running
-      pub phases : GoThrough pending seen most moment left_since old (begun (setting old.config) 1 ops) new runs
+      pub phases : GoThrough pending seen most moment left_since old (begun (setting old.config) 1 ops) (record new { acknowledged = old.acknowledged }) runs
       pub ends : outcomes ≡ map (λ r. end_of r.stand) runs
       pub answered : AreFew old ops → IsEnough seen most (length ops) new → AllByRecursion (λ outcome. is_some outcome ≡ true) outcomes
 
@@ -72,7 +101,8 @@ module _ {D : Type 0} (pending : D → Pending) (seen : D → List ℕ) where
     HaveEndedIf ops (Some outcomes) old new = HaveEnded ops outcomes old new
 
     -- The store was asked to perform these operations, and told this. Each was completed or given up between what nodes kept and what
-    -- they are found to keep; nodes that weren't up answered nothing. A crash at any moment leaves operations that weren't told of.
+    -- they are found to keep; nodes that weren't up answered nothing. A crash at any moment leaves operations that weren't told of. The store
+    -- remembers by which stamp each operation that was acknowledged lets its block be pruned.
     pub record HasPerformed (ops : List Op) (outcomes : Option (List (Option Outcome))) (old new : SeenStore D) : Type 0 where
       pub batch : IsBatch old.config ops
       pub stored : List (Option StampedValue)
@@ -82,6 +112,7 @@ module _ {D : Type 0} (pending : D → Pending) (seen : D → List ℕ) where
           → IsTold old.config (down_in old) ops (untold ops) stored (kept_in old gone) kept
       pub ended : HaveEndedIf ops outcomes old new
       pub stays : StaysStore old new
+      pub acknowledged : new.acknowledged ≡ with_room (length ops) old.acknowledged ++ prunes_of ops (told_each ops outcomes)
 
     -- The store was asked to prune blocks. Each node keeps of each block what it kept, or what the block's prune leaves of that, after the
     -- call and at any moment of it.
@@ -89,6 +120,7 @@ module _ {D : Type 0} (pending : D → Pending) (seen : D → List ℕ) where
       pub done : (gone kept : Nodes) → IsFound pending old new gone kept → ArePruned old.config prunes (kept_in old gone) kept
       pub any_moment : (gone kept : Nodes) → IsLeft moment left_since old new gone kept → ArePruned old.config prunes (kept_in old gone) kept
       pub stays : StaysStore old new
+      pub acknowledged : new.acknowledged ≡ old.acknowledged
 
     -- the store did this
     abbrev pub HasDone : Deed → SeenStore D → SeenStore D → Type 0
@@ -132,15 +164,6 @@ AreTurnsBy _ _ = ⊥
 
 -- ---- by which stamps blocks may be pruned
 
--- what acknowledged operations read or wrote on each block, the latest first
-abbrev pub Acknowledged : Type 0
-Acknowledged = ℕ → List StampedValue
-
--- what an operation read or wrote, if its outcome was told
-abbrev pub given_by : Op → Option Outcome → Option StampedValue
-given_by op None = None
-given_by op (Some outcome) = stamped_by (work_of op) outcome
-
 -- what is acknowledged on the block after a batch with these outcomes
 abbrev pub given_on : ℕ → List Op → List (Option Outcome) → List StampedValue → List StampedValue
 given_on block (op ∷ ops) (outcome ∷ outcomes) xs =
@@ -161,12 +184,20 @@ given_through given (call ∷ calls) = given_through (given_after given call.dee
 abbrev pub IsStampOf : List StampedValue → Stamp → Type 0
 IsStampOf xs stamp = (x : StampedValue) × Contains xs x × (x.stamp ≡ stamp)
 
+-- by these stamps blocks may be pruned: each is that of an acknowledged operation on its block
+abbrev pub MayPrune : Acknowledged → List Prune → Type 0
+MayPrune given prunes = AllByRecursion (λ p. IsStampOf (given p.block) p.stamp) prunes
+
 -- blocks are pruned by no other stamps than those of acknowledged operations
 abbrev pub MayDo : Acknowledged → Deed → Type 0
 MayDo given (Performs ops told) = ⊤
-MayDo given (Prunes prunes) = AllByRecursion (λ p. IsStampOf (given p.block) p.stamp) prunes
+MayDo given (Prunes prunes) = MayPrune given prunes
 
 -- so it is in each of the calls
 abbrev pub MayDoAll : {D : Type 0} → Acknowledged → List (Call D) → Type 0
 MayDoAll given [] = ⊤
 MayDoAll given (call ∷ calls) = MayDo given call.deed × MayDoAll (given_after given call.deed) calls
+
+-- what a store remembers are stamps of acknowledged operations
+abbrev pub RemembersOnly : {D : Type 0} → Acknowledged → SeenStore D → Type 0
+RemembersOnly given store = MayPrune given store.acknowledged

@@ -11,6 +11,7 @@ use Rattle.protocol.specs.Seen.{SeenTask, block_of, work_of}
 use Rattle.disk_model.specs.Crash.{Pending}
 use Rattle.node_core.specs.Seen.{SeenNode, versions_in}
 use Rattle.version_disk.specs.Stored.{Stored}
+use Rattle.version_disk.specs.declared.prune.Prune.{Prune}
 use Rattle.block_phases.specs.Executions.{StampedValue, IsRunning}
 use Rattle.batch_clients.specs.Batches.{Stand, Running}
 use Rattle.batch_clients.specs.Batches.Stand.{Asks, Ended, Lost}
@@ -23,9 +24,13 @@ pub record MayBegin (c : Numbers) (op : Op) : Type 0 where
   pub there : block_of op < c.blocks
   pub fits : Fits (setting c) (work_of op)
 
--- what contracts see of seats
+-- what contracts see of seats, and of what is remembered
+abbrev pub store_with : {D : Type 0} → Numbers → List (Option (Stored D)) → List Prune → SeenStore D
+store_with c seats acknowledged = record { config = c; seats = seats; acknowledged = acknowledged }
+
+-- of seats alone
 abbrev pub store_of : {D : Type 0} → Numbers → List (Option (Stored D)) → SeenStore D
-store_of c seats = record { config = c; seats = seats }
+store_of c seats = store_with c seats []
 
 module _ {D : Type 0} (pending : D → Pending) (seen : D → List ℕ) (moment : D → ℕ) (left_since : D → ℕ → List ℕ → Type 0)
     (start now : SeenStore D) where

@@ -1,5 +1,5 @@
 -- Who sits on a store's seats, and what prunes leave of a node.
-use Rattle.std.specs.Prelude.{◌≡◌, ◌≢◌, ◌<◌, ◌≤◌, ◌⊎◌, ℕ, ⊤, Bool, true, false, cond, All, List, length, Option, Some, None, slice_set}
+use Rattle.std.specs.Prelude.{◌≡◌, ◌≢◌, ◌<◌, ◌≤◌, ◌⊎◌, ℕ, ⊤, Bool, true, false, cond, All, List, [], length, Option, Some, None, slice_set}
 use Rattle.std.specs.List.{AllPairs}
 use Rattle.quorum_rules.specs.Limits.{Numbers}
 use Rattle.disk_model.specs.Crash.{Pending, LeavesOnly, settled}
@@ -19,6 +19,10 @@ module _ {D : Type 0} where
   -- the store, where this sits at that seat
   abbrev pub with_seat : SeenStore D → ℕ → Option (Stored D) → SeenStore D
   with_seat store i seat = record store { seats = slice_set store.seats i seat }
+
+  -- the store, which remembers no stamps any more
+  abbrev pub forgetting : SeenStore D → SeenStore D
+  forgetting store = record store { acknowledged = [] }
 
   -- a node that sits there and is up has the blocks
   abbrev pub HasBlocks : List Prune → Option (Stored D) → Type 0
@@ -82,8 +86,9 @@ module _ {D : Type 0} where
         ⊎ ((was : Stored D) × (is : Stored D) × (old ≡ Some was) × (new ≡ Some is) × GoesOn c i was is)
         ⊎ (new ≡ None)
 
-    -- so it is at each seat, and the cluster is the same
+    -- so it is at each seat, and the cluster is the same; and all that the store remembered it remembers still, or nothing
     pub record IsReseated (old new : SeenStore D) : Type 0 where
       pub config : new.config ≡ old.config
       pub count : length new.seats ≡ length old.seats
       pub each : (i : ℕ) → IsReseatedAt old.config i (seat_at old i) (seat_at new i)
+      pub acknowledged : (new.acknowledged ≡ old.acknowledged) ⊎ (new.acknowledged ≡ [])

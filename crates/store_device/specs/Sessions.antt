@@ -13,7 +13,7 @@ use Rattle.block_turns.specs.Lives.{HasTaken, renewed}
 use Rattle.store_device.specs.Stores.{SeenStore, Nodes, IsStore, IsFound, IsLeft, kept_in, seat_at, is_up}
 use Rattle.store_device.specs.Lives.{Moment, IsLife, KeepAlike, nodes_of, standing_on}
 use Rattle.store_device.specs.Lives.Turn.{Changed, Gone, Back, Lost, Failed, Renewed}
-use Rattle.store_device.specs.Calls.{Call, Acknowledged, given_through, IsCall, MayDoAll, AreTurnsBy, IsTurnCut}
+use Rattle.store_device.specs.Calls.{Call, Acknowledged, given_through, IsCall, MayDoAll, RemembersOnly, AreTurnsBy, IsTurnCut}
 use Rattle.store_device.specs.Steps.{Step, StepsLead, AreFound, calls_among, gone_after}
 
 module _ (c : Numbers) where
@@ -114,19 +114,22 @@ module _ (c : Numbers) where
       → HasLived (life ++ record { turn = Changed; nodes = new } ∷ []) new
 
 module _ {D : Type 0} (pending : D → Pending) (seen : D → List ℕ) where
-  -- A life has come to what a store's nodes keep, where those that aren't up keep this. Each node that is up is present.
+  -- A life has come to what a store's nodes keep, where those that aren't up keep this. Each node that is up is present, and each stamp that
+  -- the store remembers is that of an acknowledged operation of the life on its block.
   pub record HasComeTo (life : List Moment) (store : SeenStore D) (gone : Nodes) : Type 0 where
     pub lived : HasLived store.config life (kept_in store gone)
     pub present : (i : ℕ) → is_up (seat_at store i) ≡ true → IsPresent store.config life i
     pub sound : IsStore pending seen store
+    pub remembered : RemembersOnly (given_in store.config life) store
 
   -- A store is opened on what a life has left: each node that is up keeps what it is known to keep, and is present. What the other nodes
-  -- keep may be known as well, or they are lost.
+  -- keep may be known as well, or they are lost. It remembers no stamps yet.
   abbrev pub StoresOpen : Type 0
   StoresOpen =
       (life : List Moment) (kept : Nodes) (store : SeenStore D)
       → HasLived store.config life kept
       → IsStore pending seen store
+      → store.acknowledged ≡ []
       → ((i : ℕ) (node : Stored D) → i < store.config.n → seat_at store i ≡ Some node → is_up (seat_at store i) ≡ true
       → ((block : ℕ) → versions_in node.node block ≡ versions_in (kept i) block) × IsPresent store.config life i)
       → HasComeTo life store kept

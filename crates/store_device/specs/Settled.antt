@@ -1,5 +1,5 @@
 -- When a block of a store is settled: no write that was cut off before can take effect any more.
-use Rattle.std.specs.Prelude.{◌≡◌, ◌≢◌, ◌⊎◌, ℕ, ◌+◌, ◌<◌, ◌≤◌, Bool, true, false, not, ◌&&◌, List, [], ◌∷◌, ◌++◌, Option, slice_get}
+use Rattle.std.specs.Prelude.{◌≡◌, ◌≢◌, ◌⊎◌, ℕ, ◌+◌, ◌<◌, ◌≤◌, ⊤, Bool, true, false, not, ◌&&◌, List, [], ◌∷◌, ◌++◌, Option, slice_get}
 use Rattle.std.specs.declared.option.Option.TheVariants.{None, Some}
 use Rattle.std.specs.List.{AllByRecursion, Contains}
 use Rattle.quorum_rules.specs.Limits.{Numbers, IsValid}
@@ -15,15 +15,16 @@ use Rattle.protocol.specs.Messages.{Version}
 use Rattle.protocol.specs.Nodes.{keeps}
 use Rattle.protocol.specs.Operations.{Outcome}
 use Rattle.protocol.specs.Seen.{block_of, work_of}
+use Rattle.protocol.specs.Setting.{Sound}
 use Rattle.node_core.specs.Seen.{versions_in}
 use Rattle.disk_model.specs.Crash.{Pending}
 use Rattle.version_disk.specs.Stored.{Stored}
 use Rattle.block_phases.specs.Executions.{StampedValue}
-use Rattle.block_turns.specs.Settled.{IsSettled, IsHeld}
-use Rattle.block_turns.specs.Turns.{stamped_by}
+use Rattle.block_turns.specs.Settled.{IsSettled, IsHeld, StaysHeld}
+use Rattle.block_turns.specs.Turns.{Turn as BlockTurn, Standing, stamped_by, turns_of}
 use Rattle.store_device.specs.Stores.{SeenStore, Nodes, is_up, seat_at}
 use Rattle.store_device.specs.Told.{kept_of}
-use Rattle.store_device.specs.Lives.{Turn, Moment, IsLife, NoneClash, WasTold, nodes_of, standing_on}
+use Rattle.store_device.specs.Lives.{Turn, Moment, IsLife, NoneClash, WasTold, life_on, nodes_of, standing_on}
 use Rattle.store_device.specs.Lives.Turn.{Performed, Pruned}
 use Rattle.store_device.specs.Sessions.{HasComeTo}
 
@@ -32,6 +33,16 @@ abbrev pub LeavesAlone : ℕ → Turn → Type 0
 LeavesAlone block (Performed ops outcomes stored) = AllByRecursion (λ op. block_of op ≢ block) ops
 LeavesAlone block (Pruned prunes) = AllByRecursion (λ p. p.block ≢ block) prunes
 LeavesAlone block _ = ⊥
+
+-- what happens to the block in these turns
+abbrev pub turns_on : ℕ → List Moment → List BlockTurn
+turns_on block life = turns_of (life_on block life)
+
+-- the turn performs or prunes, as calls do, whole or cut off by a crash
+abbrev pub IsOfCall : Turn → Type 0
+IsOfCall (Performed ops outcomes stored) = ⊤
+IsOfCall (Pruned prunes) = ⊤
+IsOfCall _ = ⊥
 
 -- an operation of the turn on the block was acknowledged, and read or wrote this
 pub record HasAcknowledged (block : ℕ) (turn : Turn) (x : StampedValue) : Type 0 where
@@ -88,6 +99,34 @@ module _ (c : Numbers) where
       → (x : StampedValue)
       → HasAcknowledged block m.turn x
       → IsSettledOn block (before ++ (alone ++ m ∷ [])) x
+
+  -- Whatever operations are cut off later, before one is acknowledged or after: each later read of the block returns the stamp's value,
+  -- or one that a later write of the block was to write, if no node was rebuilt on the block before an operation was acknowledged there
+  -- (`StaysHeld`).
+  abbrev pub HeldBlocksForget : Type 0
+  HeldBlocksForget =
+      IsValid c
+      → (before after : List Moment)
+      → IsLife c (before ++ after)
+      → (block : ℕ)
+      → block < c.blocks
+      → NoneClash c block (before ++ after)
+      → (stamp : Stamp)
+      → IsHeldOn block before stamp
+      → StaysHeld (setting c) stamp (standing_on c block before) (turns_on block after)
+      → (value : List ℕ)
+      × Sound (setting c) stamp value
+      × ((k rounds : ℕ) (at : Stamp) (given : List ℕ) (how : How)
+      → WasTold after k (ReadOp block) (Some (Gave at given how rounds))
+      → (given ≡ value) ⊎ ((j : ℕ) × (outcome : Option Outcome) × WasTold after j (WriteOp block given) outcome))
+
+  -- no such node is rebuilt by calls, nor by those that a crash cuts off
+  abbrev pub CallsStayHeld : Type 0
+  CallsStayHeld =
+      (turns : List Moment)
+      → AllByRecursion (λ m. IsOfCall m.turn) turns
+      → (block : ℕ) (stamp : Stamp) (b : Standing)
+      → StaysHeld (setting c) stamp b (turns_on block turns)
 
 module _ {D : Type 0} where
   -- the node that sits there is up, and keeps this stamp of the block

@@ -5,7 +5,7 @@ use Rattle.wire_forms.specs.declared.op.Op.{Op}
 use Rattle.wire_forms.specs.declared.op.Op.TheVariants.{Read, Write}
 use Rattle.disk_model.specs.Crash.{Pending}
 use Rattle.store_device.specs.Stores.{SeenStore, Nodes, IsFound, kept_in}
-use Rattle.store_device.specs.Calls.{Deed, Call, Acknowledged, IsCall, MayDoAll}
+use Rattle.store_device.specs.Calls.{Deed, Call, Acknowledged, IsCall, MayDoAll, RemembersOnly, given_through}
 use Rattle.store_device.specs.Calls.Deed.{Performs, Prunes}
 use Rattle.store_device.specs.Seating.{IsReseated}
 
@@ -67,12 +67,20 @@ module _ {D : Type 0} where
         → StepsLead mid more new
         → StepsLead old (steps ++ more) new
 
+    -- what a store remembers behind steps are stamps of acknowledged operations, if it was so before them
+    abbrev pub StepsRemember : Type 0
+    StepsRemember =
+        (given : Acknowledged) (steps : List (Step D)) (old new : SeenStore D)
+        → StepsLead old steps new
+        → RemembersOnly given old
+        → RemembersOnly (given_through given (calls_among steps)) new
+
     -- The one store became the other by steps that may be taken at any time: whatever was acknowledged before, each block is pruned by the
-    -- stamp of an operation that was acknowledged among them.
+    -- stamp of an operation that was acknowledged among them, or by one that the store remembered.
     pub record TakesSteps (old new : SeenStore D) : Type 0 where
       pub steps : List (Step D)
       pub lead : StepsLead old steps new
-      pub may : (given : Acknowledged) → MayDoAll given (calls_among steps)
+      pub may : (given : Acknowledged) → RemembersOnly given old → MayDoAll given (calls_among steps)
 
     -- The store was looked after: blocks were read and pruned, and nodes went on on other disks, or were taken out. Nothing was written to
     -- blocks.

@@ -1,16 +1,24 @@
 -- A store: a seat for each node of a cluster, on which a node with its disk may sit, and what a crash may leave of it.
 use Rattle.std.specs.Prelude.{◌≡◌, ℕ, ◌<◌, Bool, false, not, cond, if◌then◌else◌, List, length, Option, slice_index_or}
 use Rattle.std.specs.declared.option.Option.TheVariants.{None, Some}
+use Rattle.std.specs.List.{AllByRecursion}
 use Rattle.quorum_rules.specs.Limits.{Numbers, IsValid}
 use Rattle.disk_model.specs.Crash.{Pending, MayLeave, settled}
 use Rattle.node_core.specs.Seen.{SeenNode}
 use Rattle.version_disk.specs.Held.{held}
 use Rattle.version_disk.specs.Stored.{Stored}
+use Rattle.version_disk.specs.declared.prune.Prune.{Prune}
 
--- the cluster's numbers, and for each number of a node that node, where one sits there
+-- the cluster's numbers, and for each number of a node that node, where one sits there; and by which stamps blocks may be pruned, each that
+-- of an operation that was acknowledged, the latest last
 pub record SeenStore (D : Type 0) : Type 0 where
   pub config : Numbers
   pub seats : List (Option (Stored D))
+  pub acknowledged : List Prune
+
+-- these are stamps of blocks of the device
+abbrev pub AreOfDevice : Numbers → List Prune → Type 0
+AreOfDevice c prunes = AllByRecursion (λ p. p.block < c.blocks) prunes
 
 -- what each node keeps
 abbrev pub Nodes : Type 0

@@ -5,8 +5,8 @@ ghost use Rattle.store_device.specs.Lives.{LivesAreLinearizable, LivesAreLineari
 ghost use Rattle.store_device.specs.Lives.{AcknowledgedWritesAreRead};
 ghost use Rattle.store_device.specs.Arrays.{LivesAreArrays, AcknowledgedAreDone};
 ghost use Rattle.store_device.specs.Calls.{CallsGoOn, CallsKeepStores};
-ghost use Rattle.store_device.specs.Steps.{StepsGoOn};
-ghost use Rattle.store_device.specs.Settled.{SettledBlocksForget, HeldBlocksSettle, StoresHold};
+ghost use Rattle.store_device.specs.Steps.{StepsGoOn, StepsRemember};
+ghost use Rattle.store_device.specs.Settled.{SettledBlocksForget, HeldBlocksSettle, HeldBlocksForget, CallsStayHeld, StoresHold};
 ghost use Rattle.store_device.specs.Sessions.{LivesBegin, NodesAreLost, NodesAreRebuilt, NodesAreReplaced, StoresOpen};
 ghost use Rattle.store_device.specs.Sessions.{NodesAreGone, NodesAreBack, NodesFail, NodesAreChanged};
 ghost use Rattle.store_device.specs.Sessions.{StepsAreLives, StoresAreLeft, CrashesAreLives, CallsAcknowledge, CallsKeepPresent};
@@ -49,20 +49,25 @@ pub fn lives_are_arrays()
 /// A block is settled when no node keeps a version above what its latest acknowledged operation read or wrote, or may still store one;
 /// lying and lost nodes don't matter. A later read returns that value, or one that a later write was to write: no write that was cut off
 /// before takes effect. After a crash nobody knows the latest value. Then it is enough that `n-t` nodes that are up keep one stamp and none
-/// keeps a greater one (`holds`): the first operation on the block settles it, if it is acknowledged (`settles`).
+/// keeps a greater one (`holds`): the first operation on the block settles it, if it is acknowledged (`settles`). If operations on it are
+/// cut off first, still nothing that was cut off before takes effect (`held_forgets`), over whatever calls follow (`calls`).
 pub fn settled_blocks_forget<D: Disk>()
     ensures forgets { (c : Numbers) → SettledBlocksForget c }
     ensures settles { (c : Numbers) → HeldBlocksSettle c }
+    ensures held_forgets { (c : Numbers) → HeldBlocksForget c }
+    ensures calls { (c : Numbers) → CallsStayHeld c }
     ensures holds { StoresHold D.pending D.seen }
 {
     block_turns::settled_lives();
 }
 
-/// Calls after calls are calls, and leave a store of the same cluster. Steps after steps are steps.
+/// Calls after calls are calls, and leave a store of the same cluster. Steps after steps are steps. What a store remembers behind them are
+/// stamps of acknowledged operations, each of its block, if it was so before.
 pub fn calls_follow<D: Disk>()
     ensures calls { CallsGoOn D.pending D.seen D.most D.moment D.left_since }
     ensures keep { CallsKeepStores D.pending D.seen D.most D.moment D.left_since }
     ensures steps { StepsGoOn D.pending D.seen D.most D.moment D.left_since }
+    ensures remember { StepsRemember D.pending D.seen D.most D.moment D.left_since }
 {}
 
 /// A store's life goes on over calls, and between them over nodes that go on on other disks or are taken out; and over a crash at any

@@ -7,8 +7,10 @@
 mod forms;
 pub mod laws;
 mod phase;
+mod remembering;
 mod seat;
 pub mod seating;
 pub mod store;
 
+pub use remembering::MOST_REMEMBERED;
 pub use store::{MOST_OPERATIONS, Store};

@@ -1,4 +1,4 @@
-ghost use Rattle.std.specs.Prelude.{◌≡◌, ◌≤◌, ◌<◌, ◌+◌, ◌-◌, ◌^◌, ℕ, true, is_some, List, Option, length, map, All, IfOk, OnOk};
+ghost use Rattle.std.specs.Prelude.{◌≡◌, ◌≤◌, ◌<◌, ◌+◌, ◌-◌, ◌^◌, ◌++◌, ℕ, true, is_some, List, Option, length, map, All, IfOk, OnOk};
 ghost use Rattle.std.specs.List.{AllByRecursion};
 ghost use Rattle.quorum_rules.specs.Limits.{IsValid};
 ghost use Rattle.protocol.specs.Instance.{setting};
@@ -12,8 +12,12 @@ ghost use Rattle.store_device.specs.Working.{AreHanded};
 ghost use Rattle.store_device.specs.Answered.{AllCome, AreFew, HaveReplied, IsEnough};
 ghost use Rattle.store_device.specs.Going.{IsGoing, MayBegin, store_of};
 ghost use Rattle.store_device.specs.Phased.{GoThrough};
+ghost use Rattle.store_device.specs.Calls.{prunes_of, told_each, with_room};
+ghost use Rattle.std.specs.Option.{option_map};
+ghost use Rattle.std.specs.Result.{result_ok};
 
 use crate::forms::form_ops;
+use crate::remembering::{make_room, remember_all};
 use crate::seat::{Seat, gather, hand_out, none_starved, work};
 use batch_clients::{Asks, Batch};
 use block_phases::endings;
@@ -23,6 +27,7 @@ use lists::NoMemory;
 use quorum_rules::Config;
 use std::alloc::Global;
 use std::thread::Threads;
+use version_disk::Prune;
 use wire_forms::Op;
 
 /// In how many threads at most nodes write at once, and operations hear at once what was answered.
@@ -115,7 +120,8 @@ fn go_through<D: Disk + Send, R: Threads + Sync>(
     batch.hear(rt, threads.operations, answers)
 }
 
-/// Carries out operations, each by a client of its own, in step. Gives how each of them ended.
+/// Carries out operations, each by a client of its own, in step. Gives how each of them ended, and remembers the stamps of those that were
+/// acknowledged. The room for these is taken before anything is asked of a node.
 pub(crate) fn carry_out<D: Disk + Send, R: Threads + Sync>(
     rt: &R,
     alloc: Global,
@@ -123,6 +129,7 @@ pub(crate) fn carry_out<D: Disk + Send, R: Threads + Sync>(
     config: &Config,
     idle: &Client,
     seats: &mut [Seat<D>],
+    acknowledged: &mut Vec<Prune>,
     ops: &[Op],
 ) -> Result<Vec<Option<Outcome>>, NoMemory>
     requires store { IsStore D.pending D.seen
@@ -149,10 +156,15 @@ pub(crate) fn carry_out<D: Disk + Send, R: Threads + Sync>(
         → IsEnough D.seen D.most (length ops.now)
         (store_of config.now (map (λ seat. seat.node) seats.new))
         → AllByRecursion (λ outcome. is_some outcome ≡ true) ends.items) }
+    ensures acknowledged { acknowledged.new.items ≡ with_room (length ops.now) acknowledged.old.items
+        ++ prunes_of ops.now (told_each ops.now (option_map (λ ends. ends.items) (result_ok result))) }
 {
     endings();
     form_ops(config, ops);
+    make_room(acknowledged, ops.len())?;
     let (mut batch, asks) = Batch::begin(alloc, config, idle, ops)?;
     go_on(rt, alloc, threads, seats, &mut batch, asks)?;
-    batch.into_ends()
+    let ends = batch.into_ends()?;
+    remember_all(acknowledged, ops, &ends);
+    Ok(ends)
 }

@@ -16,13 +16,14 @@ use quorum_rules::Config;
 use std::alloc::Global;
 use std::marker::Model;
 use std::thread::Threads;
-use version_disk::StoredNode;
+use version_disk::{Prune, StoredNode};
 use wire_forms::Op;
 
 /// How many operations a batch has at most.
 pub const MOST_OPERATIONS: usize = 64;
 
-/// A device over nodes on disks. Contracts see the cluster's numbers, and for each number of a node that node, where one sits there.
+/// A device over nodes on disks. Contracts see the cluster's numbers, for each number of a node that node, where one sits there, and by which
+/// stamps of acknowledged operations blocks may be pruned.
 #[derive(Drop)]
 pub struct Store<D: Disk> {
     pub(crate) alloc: Global,
@@ -31,18 +32,21 @@ pub struct Store<D: Disk> {
     idle: Client,
     pub(crate) seats: Vec<Seat<D>>,
     pub(crate) threads: ThreadCounts,
+    pub(crate) acknowledged: Vec<Prune>,
 }
 
 impl<D: Disk> Model for Store<D> {
     ghost use Rattle.std.specs.Prelude.{◌≡◌, map};
-    ghost use Rattle.store_device.specs.Stores.{SeenStore, IsStore};
+    ghost use Rattle.store_device.specs.Stores.{SeenStore, AreOfDevice, IsStore};
+    ghost use Rattle.store_device.specs.Going.{store_with};
 
     ghost Value = { SeenStore D };
 
-    ghost view = { λ s. record { config = s.config; seats = map (λ seat. seat.node) s.seats.items } };
+    ghost view = { λ s. store_with s.config (map (λ seat. seat.node) s.seats.items) s.acknowledged.items };
 
-    ghost invariant = { λ s. IsStore D.pending D.seen (record { config = s.config; seats = map (λ seat. seat.node) s.seats.items })
-        × (s.idle.config ≡ s.config) };
+    ghost invariant = { λ s. IsStore D.pending D.seen
+        (store_with s.config (map (λ seat. seat.node) s.seats.items) s.acknowledged.items)
+        × (s.idle.config ≡ s.config) × AreOfDevice s.config s.acknowledged.items };
 }
 
 impl<D: Disk> Store<D> {
@@ -70,6 +74,7 @@ impl<D: Disk> Store<D> {
             idle,
             seats,
             threads,
+            acknowledged: Vec::new(alloc),
         })
     }
 
@@ -99,7 +104,8 @@ impl<D: Disk> Store<D> {
         // What the call was in a store's life, after it and at any moment of it. Each operation was completed or given up as it is told.
         // Every node that is up was handed what all operations ask, phase by phase. All of them have an outcome if at least n-t nodes are
         // up in the end and have room for a slot for each operation, and nodes keep fewer than some 499,000 versions of each block. The
-        // store is still one of its cluster, on disks that have what its nodes keep.
+        // store is still one of its cluster, on disks that have what its nodes keep. It remembers the stamp of each operation that was
+        // acknowledged.
         ensures performed { HasPerformed D.pending D.seen D.most D.moment D.left_since ops.now
             (option_map (λ outcomes. outcomes.items) (result_ok result)) self.old self.new }
         ensures config { self.new.config ≡ self.old.config }
@@ -110,7 +116,8 @@ impl<D: Disk> Store<D> {
             idle,
             seats,
             threads,
+            acknowledged,
         } = self;
-        carry_out(rt, *alloc, *threads, config, idle, seats, ops)
+        carry_out(rt, *alloc, *threads, config, idle, seats, acknowledged, ops)
     }
 }

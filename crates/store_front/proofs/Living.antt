@@ -6,10 +6,10 @@ use Rattle.disk_model.specs.Crash.{Pending}
 use Rattle.nbd_front.specs.declared.ending.SessionEnd.{SessionEnd}
 use Rattle.nbd_front.specs.declared.ending.SessionEnd.TheVariants.{NoMemory, ReadFault, WriteFault, BadMagic, CutRequest, TooManyRequests}
 use Rattle.store_device.specs.Stores.{SeenStore}
-use Rattle.store_device.specs.Calls.{Acknowledged, Deed, Call, MayDo, MayDoAll, given_after}
+use Rattle.store_device.specs.Calls.{Acknowledged, Deed, Call, Leads, MayDo, MayDoAll, given_after}
 use Rattle.store_device.specs.Calls.Deed.{Performs}
-use Rattle.store_device.specs.Steps.{Step, called, calls_among, StepsLead, IsTended}
-use Rattle.store_device.proofs.lemmas.Steps.{among_called, calls_lead, calls_then, lead_then, may_then}
+use Rattle.store_device.specs.Steps.{Step, called, StepsLead, IsTended}
+use Rattle.store_device.proofs.lemmas.Steps.{May as MayFrom, among_called, calls_lead, lead_then, may_both}
 use Rattle.store_front.specs.Asking.{IsPerformed}
 use Rattle.store_front.specs.Rounds.{Exchange, IsExchange, IsBegun, calls_of}
 use Rattle.store_front.specs.Sessions.{RoundsLead, LeavesStore, steps_in, steps_left, IsTendedSession, steps_of}
@@ -32,22 +32,27 @@ module _ {D : Type 0} where
   begun : (c : Numbers) (e : Exchange D) → IsBegun c e → AllByRecursion Performed (calls_of e)
   begun c e h = all_then Performed e.reads e.writes h.reads.only h.writes.only
 
-  abbrev May : List (Step D) → Type 0
-  May steps = (given : Acknowledged) → MayDoAll given (calls_among steps)
-
-  may_both : (steps more : List (Step D)) → May steps → May more → May (steps ++ more)
-  may_both steps more may then given =
-      subst (MayDoAll given) (sym (calls_then steps more)) (may_then given (calls_among steps) (calls_among more) (may given) then)
-
-  may_called : (calls : List (Call D)) → AllByRecursion Performed calls → May (called calls)
-  may_called calls all given = subst (MayDoAll given) (sym (among_called calls)) (may_do_all given calls all)
-
   module _ (pending : D → Pending) (seen : D → List ℕ) (capacity : D → ℕ) (moment : D → ℕ) (left_since : D → ℕ → List ℕ → Type 0) where
     abbrev Tends : SeenStore D → SeenStore D → Type 0
     Tends old new = IsTended pending seen capacity moment left_since old new
 
     abbrev Lead : SeenStore D → List (Step D) → SeenStore D → Type 0
     Lead old steps new = StepsLead pending seen capacity moment left_since old steps new
+
+    abbrev May : SeenStore D → List (Step D) → Type 0
+    May old steps = MayFrom pending seen capacity moment left_since old steps
+
+    may_called : (old : SeenStore D) (calls : List (Call D)) → AllByRecursion Performed calls → May old (called calls)
+    may_called old calls all given knows = subst (MayDoAll given) (sym (among_called calls)) (may_do_all given calls all)
+
+    -- the store is looked after, calls are made, and more is done
+    may_three : (steps : List (Step D)) (calls : List (Call D)) (more : List (Step D)) (old kept mid : SeenStore D) → Lead old steps kept
+        → Leads pending seen capacity moment left_since kept calls mid → May old steps → AllByRecursion Performed calls → May mid more
+        → May old (steps ++ (called calls ++ more))
+    may_three steps calls more old kept mid tended led may all then =
+        may_both pending seen capacity moment left_since steps (called calls ++ more) old kept tended may
+        (may_both pending seen capacity moment left_since (called calls) more kept mid
+        (calls_lead pending seen capacity moment left_since calls kept mid led) (may_called kept calls all) then)
 
     -- ---- rounds
 
@@ -62,12 +67,12 @@ module _ {D : Type 0} where
         (rounds_lead rounds led.1 new led.4))
 
     rounds_may : (c : Numbers) (rounds : List (Exchange D)) → AllByRecursion (IsExchange c) rounds → (old new : SeenStore D) (led : RoundsLead pending seen capacity moment left_since Tends old rounds new)
-        → May (steps_in pending seen capacity moment left_since rounds old new led)
-    rounds_may c [] done old new led = λ given. tt
+        → May old (steps_in pending seen capacity moment left_since rounds old new led)
+    rounds_may c [] done old new led = λ given knows. tt
     rounds_may c (round ∷ rounds) done old new led =
         let rest : List (Step D) = steps_in pending seen capacity moment left_since rounds led.1 new led.4 in
-        may_both led.2.taken.steps (called (calls_of round) ++ rest) led.2.taken.may
-        (may_both (called (calls_of round)) rest (may_called (calls_of round) (performed c round done.0)) (rounds_may c rounds done.1 led.1 new led.4))
+        may_three led.2.taken.steps (calls_of round) rest old led.0 led.1 led.2.taken.lead led.3 led.2.taken.may (performed c round done.0)
+        (rounds_may c rounds done.1 led.1 new led.4)
 
     -- ---- what is behind them
 
@@ -85,12 +90,13 @@ module _ {D : Type 0} where
     left_lead (Ok done) c rest old new left = left.taken.lead
 
     left_may : (result : Result Unit SessionEnd) (c : Numbers) (rest : List ℕ) (old new : SeenStore D) (left : LeavesStore pending seen capacity moment left_since Tends result c rest old new)
-        → May (steps_left pending seen capacity moment left_since result c rest old new left)
-    left_may (Err NoMemory) c rest old new (inl same) = λ given. tt
+        → May old (steps_left pending seen capacity moment left_since result c rest old new left)
+    left_may (Err NoMemory) c rest old new (inl same) = λ given knows. tt
     left_may (Err NoMemory) c rest old new (inr cut) =
-        may_both cut.2.taken.steps (called (calls_of cut.1)) cut.2.taken.may (may_called (calls_of cut.1) (begun c cut.1 cut.3.is))
-    left_may (Err WriteFault) c rest old new left = λ given. tt
-    left_may (Err TooManyRequests) c rest old new left = λ given. tt
+        may_both pending seen capacity moment left_since cut.2.taken.steps (called (calls_of cut.1)) old cut.0 cut.2.taken.lead cut.2.taken.may
+        (may_called cut.0 (calls_of cut.1) (begun c cut.1 cut.3.is))
+    left_may (Err WriteFault) c rest old new left = λ given knows. tt
+    left_may (Err TooManyRequests) c rest old new left = λ given knows. tt
     left_may (Err ReadFault) c rest old new left = left.taken.may
     left_may (Err (BadMagic at)) c rest old new left = left.taken.may
     left_may (Err (CutRequest at)) c rest old new left = left.taken.may
@@ -110,9 +116,10 @@ module _ {D : Type 0} where
           (rounds_lead session.rounds old session.store session.calls)
           (left_lead result c session.rest session.store new session.left_store)
 
-      pub session_may : May steps
+      pub session_may : May old steps
       session_may =
-          may_both (steps_in pending seen capacity moment left_since session.rounds old session.store session.calls)
-          (steps_left pending seen capacity moment left_since result c session.rest session.store new session.left_store)
+          may_both pending seen capacity moment left_since (steps_in pending seen capacity moment left_since session.rounds old session.store session.calls)
+          (steps_left pending seen capacity moment left_since result c session.rest session.store new session.left_store) old session.store
+          (rounds_lead session.rounds old session.store session.calls)
           (rounds_may c session.rounds session.done old session.store session.calls)
           (left_may result c session.rest session.store new session.left_store)

@@ -11,7 +11,7 @@ use Rattle.nbd_front.specs.declared.ending.SessionEnd.{SessionEnd}
 use Rattle.nbd_front.specs.declared.ending.SessionEnd.TheVariants.{NoMemory, ReadFault, WriteFault, BadMagic, CutRequest, TooManyRequests}
 use Rattle.store_device.specs.Stores.{SeenStore, Nodes}
 use Rattle.store_device.specs.Lives.{Moment}
-use Rattle.store_device.specs.Calls.{Acknowledged, Leads, MayDoAll, AreTurnsBy}
+use Rattle.store_device.specs.Calls.{Acknowledged, Leads, MayDoAll, RemembersOnly, AreTurnsBy}
 use Rattle.store_device.specs.Steps.{Step, called, calls_among, gone_after, AreFound, StepsLead, IsTended}
 use Rattle.store_device.specs.Sessions.{HasComeTo}
 use Rattle.store_front.specs.declared.waiting.Came.{Came}
@@ -187,13 +187,14 @@ module _ {D : Type 0} (pending : D → Pending) (seen : D → List ℕ) (capacit
     steps_of session =
         steps_in session.rounds old session.store session.calls ++ steps_left result c session.rest session.store new session.left_store
 
-  -- It is steps that lead from the one store to the other, and that may be taken at any time.
+  -- It is steps that lead from the one store to the other, and that may be taken at any time: each block is pruned by the stamp of an operation
+  -- that was acknowledged among them, or by one that the store remembered before them.
   abbrev pub SessionsAreSteps : Type 0
   SessionsAreSteps =
       (c : Numbers) (old new : SeenStore D) (result : Result Unit SessionEnd) (left left_after taken taken_after : Option (List ℕ))
       (session : IsTendedSession c old new result left left_after taken taken_after)
       → StepsLead pending seen capacity moment left_since old (steps_of c old new result left left_after taken taken_after session) new
-      × ((given : Acknowledged) → MayDoAll given (calls_among (steps_of c old new result left left_after taken taken_after session)))
+      × ((given : Acknowledged) → RemembersOnly given old → MayDoAll given (calls_among (steps_of c old new result left left_after taken taken_after session)))
 
   -- A life that has come to the store when a session begins goes on over all that is done in it, to the store when it ends.
   abbrev pub SessionsAreLives : Type 0

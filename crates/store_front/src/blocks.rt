@@ -16,7 +16,7 @@ pub(crate) struct Blocks {
 /// How many bytes the device has.
 pub(crate) fn device_len(config: &Config) -> u64
     ensures is { result ≡ config.now.size * config.now.blocks }
-    ensures small { result ≤ 2 ^ 30 }
+    ensures small { result ≤ 2 ^ 44 }
 {
     u64::from(config.size()) * u64::from(config.blocks())
 }
@@ -34,7 +34,7 @@ pub(crate) fn blocks_of(config: &Config, request: &Request) -> Blocks
     ensures end { result.end ≡ end_of config.now request.now }
     ensures order { result.first ≤ result.end }
     ensures within { result.end ≤ config.now.blocks }
-    ensures most { result.end ≤ 65536 }
+    ensures most { result.end ≤ 268435456 }
     ensures reached { (k : ℕ) → result.first ≤ k → k < result.end → Reaches config.now request.now k }
 {
     if !is_served(config, request) {

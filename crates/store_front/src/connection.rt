@@ -72,7 +72,7 @@ fn export_of(config: &Config) -> Export
 
 /// The block size that clients of a store are to prefer: a whole block needs no other bytes of it.
 fn preferred(size: u32) -> u32
-    requires { size ≤ 16384 }
+    requires { size ≤ 65536 }
     ensures { IsPreferred size result }
 {
     match size {
@@ -81,6 +81,8 @@ fn preferred(size: u32) -> u32
         1025..=2048 => 2048,
         2049..=4096 => 4096,
         4097..=8192 => 8192,
-        _ => 16384,
+        8193..=16384 => 16384,
+        16385..=32768 => 32768,
+        _ => 65536,
     }
 }

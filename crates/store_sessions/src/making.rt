@@ -1,5 +1,6 @@
 //! A store on disks in memory.
 ghost use Rattle.std.specs.Prelude.{◌≡◌, ◌<◌, replicate, None, IfOk};
+ghost use Rattle.store_device.specs.Going.{store_of};
 ghost use Rattle.store_device.specs.Stores.{IsStore};
 
 use disk_model::{Disk, MemoryDisk};
@@ -34,7 +35,7 @@ pub fn made_store(alloc: Global, size: u32, blocks: u32) -> io::Result<Device> {
 // No node on any seat.
 fn nobody<D: Disk + Drop>(alloc: Global, config: &Config) -> io::Result<Vec<Option<StoredNode<D>>>>
     ensures { IfOk result (λ nodes. IsStore D.pending D.seen
-        (record { config = config.now; seats = nodes.items })) }
+        (store_of config.now nodes.items)) }
 {
     let nodes = no_nodes(alloc, config.n())?;
     Ok(nodes)

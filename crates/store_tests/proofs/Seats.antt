@@ -5,6 +5,7 @@ use Rattle.std.proofs.lemmas.List.{length-replicate, get_or-replicate, get_or_pa
 use Rattle.quorum_rules.specs.Limits.{Numbers, IsValid}
 use Rattle.disk_model.specs.Crash.{Pending}
 use Rattle.version_disk.specs.Stored.{Stored}
+use Rattle.store_device.specs.Going.{store_of}
 use Rattle.store_device.specs.Stores.{IsStore}
 
 module _ {D : Type 0} (pending : D → Pending) (seen : D → List ℕ) (c : Numbers) where
@@ -20,7 +21,7 @@ module _ {D : Type 0} (pending : D → Pending) (seen : D → List ℕ) (c : Num
 
   -- no node is one that isn't sound
   pub nobody_sits : (seats : List (Option (Stored D))) → IsValid c → seats ≡ replicate c.n None
-      → IsStore pending seen (record { config = c; seats = seats })
+      → IsStore pending seen (store_of c seats)
   nobody_sits seats valid same = record {
     valid = valid;
     count = ap length same ∙ length-replicate {A = Option (Stored D)} c.n None;

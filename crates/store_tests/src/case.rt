@@ -9,9 +9,19 @@
 //! | 12, 13 | disks of which a call fails in a session, at most, and how many calls it is one of |
 //! | 14 | nodes that are gone for a session, at most |
 //! | 15 | nodes whose journals others change before sessions |
-//! | 16 | 1 where nodes prune after batches |
+//! | 16 | what is pruned after each batch: 1 where it is blocks from a drawn one on, by the stamps that reads gave; 2 where it is what the store remembers; k above 2 where it is what the store remembers of blocks of which a node keeps more than k-2 versions |
 //! | 17 | where it isn't 0, the case is played for each node and each of so many calls of its disk, which fails in the first session |
 //! | 18 | where it isn't 0, so many disks are replaced before each session, first those of nodes whose journals others change, and then filled; others change other journals from then on |
+
+/// What is pruned after each batch.
+#[derive(Clone, Copy)]
+pub enum Pruning {
+    Nothing,
+    /// Blocks from a drawn one on, by the stamps that reads gave.
+    ByReads,
+    /// The blocks of which the store remembers stamps, and a node keeps more than so many versions.
+    ByRemembered(usize),
+}
 
 /// What is done in a session.
 #[derive(Clone, Copy)]
@@ -23,7 +33,7 @@ pub struct Session {
     pub calls: u32,
     /// So many nodes are gone at most.
     pub gone: u32,
-    pub prunes: bool,
+    pub pruning: Pruning,
     /// Others change so many nodes' journals.
     pub changed: u32,
     /// So many disks are replaced before.
@@ -57,6 +67,14 @@ pub fn case_of(line: &str) -> Option<Case<'_>> {
     Some(with_numbers(name, numbers))
 }
 
+fn pruning_of(number: u32) -> Pruning {
+    match number {
+        0 => Pruning::Nothing,
+        1 => Pruning::ByReads,
+        _ => Pruning::ByRemembered(number.saturating_sub(2) as usize),
+    }
+}
+
 fn with_numbers(name: &str, numbers: [u32; 17]) -> Case<'_> {
     let [
         n,
@@ -87,7 +105,7 @@ fn with_numbers(name: &str, numbers: [u32; 17]) -> Case<'_> {
             faults,
             calls,
             gone,
-            prunes: prunes == 1,
+            pruning: pruning_of(prunes),
             changed,
             replaced,
         },

@@ -18,6 +18,7 @@ pub struct Counts {
     lost: u64,
     unopened: u64,
     up: u64,
+    kept: u64,
     rebuilt: u64,
     otherwise: u64,
     sum: Hash,
@@ -34,6 +35,7 @@ impl Counts {
             lost: 0,
             unopened: 0,
             up: 0,
+            kept: 0,
             rebuilt: 0,
             otherwise: 0,
             sum: [0; 32],
@@ -100,6 +102,11 @@ impl Counts {
         self.up = self.up.saturating_add(u64::from(up));
     }
 
+    /// A node that is up at the end of a session keeps so many versions beside the first ones.
+    pub fn add_kept(&mut self, kept: u64) {
+        self.kept = self.kept.saturating_add(kept);
+    }
+
     /// A new disk was filled: so many blocks are rebuilt there. None may be missed.
     pub fn add_filled(&mut self, filled: &Filled) {
         self.rebuilt = self.rebuilt.saturating_add(filled.kept);
@@ -131,13 +138,14 @@ impl fmt::Display for Counts {
             lost,
             unopened,
             up,
+            kept,
             rebuilt,
             otherwise,
             sum: _sum,
         } = *self;
         write!(
             f,
-            "operations={operations} gave={gave} repaired={repaired} rounds={rounds} wrote={wrote} lost={lost} unopened={unopened} up={up} rebuilt={rebuilt} otherwise={otherwise}"
+            "operations={operations} gave={gave} repaired={repaired} rounds={rounds} wrote={wrote} lost={lost} unopened={unopened} up={up} kept={kept} rebuilt={rebuilt} otherwise={otherwise}"
         )
     }
 }

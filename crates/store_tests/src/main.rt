@@ -8,6 +8,7 @@ mod changes;
 mod counts;
 mod draws;
 mod noted;
+mod overwritten;
 mod register;
 mod step;
 mod trial;
@@ -22,13 +23,14 @@ use trial::play;
 use unmade::Unmade;
 
 /// The files, in the order in which they are told.
-const FILES: [&str; 6] = [
+const FILES: [&str; 7] = [
     "arrays.cases",
     "faults.cases",
     "crashes.cases",
     "gone.cases",
     "changed.cases",
     "replaced.cases",
+    "remembered.cases",
 ];
 
 // What came of a case: its counts, or that it could not be made.
@@ -74,8 +76,18 @@ fn tell_step<R: Print + AllocGlobal + Threads + Sync>(rt: &R) -> io::Result<()> 
     }
 }
 
+// What came of blocks that were written over and over, and pruned.
+fn tell_overwritten<R: Print + AllocGlobal + Threads + Sync>(rt: &R) -> io::Result<()> {
+    match overwritten::goes_as_told(rt, rt.alloc()) {
+        Ok(true) => println!(rt; "pruned without a read: ok"),
+        Ok(false) => println!(rt; "pruned without a read: otherwise"),
+        Err(Unmade) => println!(rt; "pruned without a read: not made"),
+    }
+}
+
 fn main(rt: HostRuntime) -> io::Result<()> {
     tell_step(&rt)?;
+    tell_overwritten(&rt)?;
     for path in FILES {
         run_file(&rt, path)?;
     }

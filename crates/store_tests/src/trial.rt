@@ -2,9 +2,10 @@
 ghost use Rattle.std.specs.Prelude.{◌≡◌, ◌<◌, All, replicate, None, IfOk};
 ghost use Rattle.store_device.specs.Seating.{ArePrunesApart};
 ghost use Rattle.store_device.specs.Stores.{IsStore};
+ghost use Rattle.store_device.specs.Going.{store_of};
 
 use crate::batch::{all_reads, drawn_batch};
-use crate::case::{Case, Session};
+use crate::case::{Case, Pruning, Session};
 use crate::changes::changed;
 use crate::counts::Counts;
 use crate::draws::Draws;
@@ -19,7 +20,7 @@ use quorum_rules::Config;
 use stamp_order::Stamp;
 use std::alloc::Global;
 use std::thread::Threads;
-use store_care::{FilledDisk, fill_disk};
+use store_care::{FilledDisk, fill_disk, later_versions, prune_acknowledged};
 use store_device::Store;
 use version_disk::{OpenRefusal, Prune, StoredNode};
 use wire_forms::Op;
@@ -119,7 +120,7 @@ fn nobody<D: Disk + Drop>(
     config: &Config,
 ) -> Result<Vec<Option<StoredNode<D>>>, Unmade>
     ensures { IfOk result (λ nodes. IsStore D.pending D.seen
-        (record { config = config.now; seats = nodes.items })) }
+        (store_of config.now nodes.items)) }
 {
     let nodes = no_nodes(alloc, config.n())?;
     Ok(nodes)
@@ -187,8 +188,12 @@ impl Trial {
         let mut store = self.open(&away, &failing)?;
         for _ in 0..session.batches {
             self.play_batch(rt, &mut store)?;
-            if session.prunes {
-                self.prune(rt, &mut store)?;
+            match session.pruning {
+                Pruning::Nothing => {}
+                Pruning::ByReads => self.prune(rt, &mut store)?,
+                Pruning::ByRemembered(most) => {
+                    prune_acknowledged(rt, self.alloc, &mut store, most)?;
+                }
             }
         }
         self.close(&mut store)
@@ -434,6 +439,7 @@ impl Trial {
         self.counts.add_up(up);
         for (i, shelf) in self.shelves.iter_mut().enumerate() {
             let sits = store.node(i).is_some();
+            self.counts.add_kept(later_versions(store, i));
             let taken = store.take_node(i);
             if sits != taken.is_some() || store.node(i).is_some() {
                 self.counts.tell_otherwise();

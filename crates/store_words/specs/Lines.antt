@@ -5,7 +5,7 @@ use Rattle.quorum_rules.specs.declared.ConfigFault.TheVariants.{NodesOutOfRange,
 use Rattle.file_disk.specs.declared.refusal.FileRefusal.{FileRefusal}
 use Rattle.file_disk.specs.declared.refusal.FileRefusal.TheVariants.{Missing, NotPlain, Locked, Replaced, TooLong, NoMemory as NoRoom, Fault as SystemFault}
 use Rattle.store_words.specs.declared.refusal.BadWords.{BadWords}
-use Rattle.store_words.specs.declared.refusal.BadWords.TheVariants.{NoCommand, WrongCount, BadNumber, BadCluster, NoNode}
+use Rattle.store_words.specs.declared.refusal.BadWords.TheVariants.{NoCommand, WrongCount, BadNumber, BadCluster, NoNode, NoPlace}
 use Rattle.store_words.specs.declared.refusal.Refusal.{Refusal}
 use Rattle.store_words.specs.declared.refusal.Refusal.TheVariants.{BadWords as Words, NoText, NoMemory, NoStore, TooManyDown, Unread}
 use Rattle.store_words.specs.declared.down.Down.{Down}
@@ -26,8 +26,8 @@ fault_text LiarsAboveFaults = codes "B is at most T"
 fault_text QuorumLow = codes "QC is at least T + B + 1"
 fault_text QuorumHigh = codes "QC is at most N - T - B"
 fault_text ShareCount = codes "M is 1 to QC - T"
-fault_text SizeOutOfRange = codes "SIZE is 1 to 16384"
-fault_text BlocksOutOfRange = codes "BLOCKS is 1 to 65536"
+fault_text SizeOutOfRange = codes "SIZE is 1 to 65536"
+fault_text BlocksOutOfRange = codes "BLOCKS is 1 to 268435456"
 
 -- why words are refused
 abbrev pub words_text : BadWords → List ℕ
@@ -36,6 +36,7 @@ words_text WrongCount = codes "words are missing, or there are too many"
 words_text BadNumber = codes "a number is wanted where none stands"
 words_text (BadCluster fault) = codes "the numbers make no cluster: " ++ fault_text fault
 words_text NoNode = codes "there is no such node"
+words_text NoPlace = codes "renew needs the directory of the node, not -"
 
 -- why a command isn't done
 abbrev pub refusal_text : Refusal → List ℕ

@@ -20,6 +20,8 @@ pub enum BadWords {
     BadCluster(ConfigFault),
     /// The number of `renew` is that of no directory.
     NoNode,
+    /// The word `-` stands in the place of the directory of `renew`.
+    NoPlace,
 }
 
 /// Why a command isn't done, or not all of it.
@@ -102,6 +104,7 @@ impl fmt::Display for BadWords {
                 write!(f, "the numbers make no cluster: {}", rule(*fault))
             }
             BadWords::NoNode => write!(f, "there is no such node"),
+            BadWords::NoPlace => write!(f, "renew needs the directory of the node, not -"),
         }
     }
 }
@@ -116,7 +119,7 @@ fn rule(fault: ConfigFault) -> &'static str
         ConfigFault::QuorumLow => "QC is at least T + B + 1",
         ConfigFault::QuorumHigh => "QC is at most N - T - B",
         ConfigFault::ShareCount => "M is 1 to QC - T",
-        ConfigFault::SizeOutOfRange => "SIZE is 1 to 16384",
-        ConfigFault::BlocksOutOfRange => "BLOCKS is 1 to 65536",
+        ConfigFault::SizeOutOfRange => "SIZE is 1 to 65536",
+        ConfigFault::BlocksOutOfRange => "BLOCKS is 1 to 268435456",
     }
 }

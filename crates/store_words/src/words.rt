@@ -1,8 +1,8 @@
-ghost use Rattle.std.specs.Prelude.{◌≡◌, ◌==◌, ◌<◌, ◌^◌, ℕ, Bool, [], ◌∷◌, nat_lt, length, Some, None, IfOk, IfErr, OnOk, MatchResult};
+ghost use Rattle.std.specs.Prelude.{◌≡◌, ◌≢◌, ◌==◌, ◌<◌, ◌^◌, ℕ, Bool, [], ◌∷◌, nat_lt, length, Some, None, IfOk, IfErr, OnOk, MatchResult, codes};
 ghost use Rattle.quorum_rules.specs.Limits.{Numbers, IsValid};
 ghost use Rattle.text_lines.specs.Fields.{number_of};
 ghost use Rattle.store_words.specs.Words.{texts, number_words, Asks, Creates, Renews};
-ghost use Rattle.store_words.specs.Causes.{cause, counted, cluster_of, numbers_cause, create_cause, renew_cause};
+ghost use Rattle.store_words.specs.Causes.{cause, counted, cluster_of, numbers_cause, create_cause, place_cause, renew_cause};
 
 use crate::refusal::BadWords;
 use quorum_rules::Config;
@@ -127,7 +127,7 @@ fn config_of(
     let m = number(m)?;
     let size = number(size)?;
     let blocks = number(blocks)?;
-    match Config::third(n, t, b, qc, m, size, blocks) {
+    match Config::fourth(n, t, b, qc, m, size, blocks) {
         Ok(config) => Ok(config),
         Err(fault) => Err(BadWords::BadCluster(fault)),
     }
@@ -146,8 +146,20 @@ fn to_renew(words: &[String]) -> Result<Asked<'_>, BadWords>
     if node as usize >= folders.len() {
         return Err(BadWords::NoNode);
     }
+    check_place(folders[node as usize].as_str())?;
     let command = Command::Renew(node);
     Ok(Asked { command, folders })
+}
+
+// The word in the place of the directory of `renew` names one.
+fn check_place(folder: &str) -> Result<(), BadWords>
+    ensures named { OnOk result (folder.now ≢ codes "-") }
+    ensures cause { MatchResult result (λ _. place_cause folder.now ≡ None) (λ why. place_cause folder.now ≡ Some why) }
+{
+    if folder == "-" {
+        return Err(BadWords::NoPlace);
+    }
+    Ok(())
 }
 
 // The number that a word spells.

@@ -5,7 +5,7 @@ use Rattle.std.specs.Str.{bytes_eq}
 use Rattle.std.proofs.lemmas.Bool.{eq-eqb}
 use Rattle.quorum_rules.specs.Limits.{Numbers}
 use Rattle.quorum_rules.specs.declared.Edition.{Edition}
-use Rattle.quorum_rules.specs.declared.Edition.TheVariants.{One, Two, Three}
+use Rattle.quorum_rules.specs.declared.Edition.TheVariants.{One, Two, Three, Four}
 use Rattle.text_lines.specs.Lines.{fields_of, line_of_fields}
 use Rattle.text_lines.specs.Fields.{value_text}
 use Rattle.text_lines.proofs.lemmas.Values.{value_of-text}
@@ -38,6 +38,7 @@ late_form : (edition : Edition) (form : List Kind) (fields : List (List â„•)) â†
 late_form One form fields late h = absurd (late refl)
 late_form Two form fields late h = only_form form fields h
 late_form Three form fields late h = only_form form fields h
+late_form Four form fields late h = only_form form fields h
 
 -- ---- fields
 

@@ -3,16 +3,16 @@ use Rattle.std.proofs.Common.{◌≡◌, ℕ, ◌^◌, ◌<◌, false, List, [],
 use Rattle.std.specs.Prelude.{codes, decimal}
 use Rattle.std.specs.List.{list_any, AllByRecursion}
 use Rattle.std.proofs.lemmas.Fmt.{decimal_nonempty}
-use Rattle.quorum_rules.specs.Limits.{Numbers, IsValid}
+use Rattle.quorum_rules.specs.Limits.{Numbers, IsValid, IsOfScripts}
 use Rattle.quorum_rules.specs.declared.Edition.{Edition}
-use Rattle.quorum_rules.specs.declared.Edition.TheVariants.{One, Two, Three}
+use Rattle.quorum_rules.specs.declared.Edition.TheVariants.{One, Two, Three, Four}
 use Rattle.quorum_rules.proofs.lemmas.FaultLaws.{none_of_valid, size_at_most, blocks_at_most}
 use Rattle.text_lines.specs.Lines.{parts_of, fields_of, line_of_fields, Lacks, AllLack}
 use Rattle.text_lines.proofs.lemmas.Numbers.{number_of-decimal}
 use Rattle.text_lines.proofs.lemmas.Joined.{parts-joined, part_before, Lacks-append, Lacks-decimal}
 use Rattle.line_forms.specs.Kinds.{has_empty_field}
 use Rattle.line_forms.specs.Texts.{ReadsTo}
-use Rattle.line_forms.specs.Heads.{Body, IsOfScripts, script, header, edition_of, head_lines, head_text, cluster_fields, cluster_cause, config_cause, numbers_at, numbers_in, u32_of, is_no_u32}
+use Rattle.line_forms.specs.Heads.{Body, script, header, edition_of, head_lines, head_text, cluster_fields, cluster_cause, config_cause, numbers_at, numbers_in, u32_of, is_no_u32}
 use Rattle.line_forms.proofs.lemmas.Clusters.{cluster_spelled}
 use Rattle.line_forms.proofs.Heads.{edition_back, header_read, head_read, head_apart}
 use Rattle.lists.proofs.lemmas.Tests.{not_zero}
@@ -84,6 +84,7 @@ header_lacks : (edition : Edition) → Lacks 10 (header edition)
 header_lacks One = refl
 header_lacks Two = refl
 header_lacks Three = refl
+header_lacks Four = refl
 
 -- a text that begins with a valid head is read so far, whatever may follow
 pub head_accepted : (body : Body) (c : Numbers) (rest : List ℕ) → IsValid c → IsOfScripts c → ReadsTo (script body) (head_text c ++ rest) (head_lines c) rest

@@ -5,10 +5,10 @@ use Rattle.std.specs.List.{AllByRecursion, IsDistinct, filter_map}
 use Rattle.std.specs.Set.{is_member}
 use Rattle.std.proofs.lemmas.List.{append-nil, map_push, map-append}
 use Rattle.std.proofs.lemmas.List.Concat.{flat_map-append}
-use Rattle.quorum_rules.specs.Limits.{Numbers, IsValid}
+use Rattle.quorum_rules.specs.Limits.{Numbers, IsValid, IsOfScripts}
 use Rattle.text_lines.specs.Lines.{fields_of, line_of_fields, text_of_lines}
 use Rattle.wire_forms.specs.Liars.{Liars}
-use Rattle.line_forms.specs.Heads.{IsOfScripts, head_lines, head_text, header, edition_of, cluster_fields, numbers_in}
+use Rattle.line_forms.specs.Heads.{head_lines, head_text, header, edition_of, cluster_fields, numbers_in}
 use Rattle.line_forms.specs.Tables.{or_then}
 use Rattle.line_forms.specs.Texts.{IsFaultless, ReadsTo}
 use Rattle.line_forms.proofs.lemmas.Accepted.{head_accepted, numbers_back}

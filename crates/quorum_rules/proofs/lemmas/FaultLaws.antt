@@ -1,9 +1,9 @@
 -- Numbers have no fault exactly where they are valid.
 use Rattle.std.proofs.Common.{◌≡◌, ◌↔◌, ℕ, ◌≤◌, Bool, true, false, not, ◌&&◌, nat_lt, nat_le, if◌then◌else◌, Option, refl, ◌∙◌, arith, lit≤}
 use Rattle.std.specs.declared.option.Option.TheVariants.{None, Some}
-use Rattle.quorum_rules.specs.Limits.{Numbers, IsValid, most_size, most_blocks}
+use Rattle.quorum_rules.specs.Limits.{Numbers, IsValid, IsOfScripts, is_of_scripts, most_size, most_blocks}
 use Rattle.quorum_rules.specs.declared.Edition.{Edition}
-use Rattle.quorum_rules.specs.declared.Edition.TheVariants.{One, Two, Three}
+use Rattle.quorum_rules.specs.declared.Edition.TheVariants.{One, Two, Three, Four}
 use Rattle.quorum_rules.specs.Faults.{fault, is_outside}
 use Rattle.quorum_rules.specs.declared.ConfigFault.{ConfigFault}
 
@@ -67,20 +67,36 @@ none_of_valid c v =
 pub fault-valid : (c : Numbers) → (fault c ≡ None) ↔ IsValid c
 fault-valid c = (valid_of_none c, none_of_valid c)
 
-pub most_of_all : (edition : Edition) → most_size edition ≤ 16384
+pub most_of_all : (edition : Edition) → most_size edition ≤ 65536
 most_of_all One = lit≤ tt
 most_of_all Two = lit≤ tt
 most_of_all Three = lit≤ tt
+most_of_all Four = lit≤ tt
 
 -- in no edition has a block more bytes
-pub size_at_most : (c : Numbers) → IsValid c → c.size ≤ 16384
+pub size_at_most : (c : Numbers) → IsValid c → c.size ≤ 65536
 size_at_most c v = omega (arith, v.size.1, most_of_all c.edition)
 
-pub most_blocks_of_all : (edition : Edition) → most_blocks edition ≤ 65536
+pub most_blocks_of_all : (edition : Edition) → most_blocks edition ≤ 268435456
 most_blocks_of_all One = lit≤ tt
 most_blocks_of_all Two = lit≤ tt
 most_blocks_of_all Three = lit≤ tt
+most_blocks_of_all Four = lit≤ tt
 
 -- in no edition are there more blocks
-pub blocks_at_most : (c : Numbers) → IsValid c → c.blocks ≤ 65536
+pub blocks_at_most : (c : Numbers) → IsValid c → c.blocks ≤ 268435456
 blocks_at_most c v = omega (arith, v.blocks.1, most_blocks_of_all c.edition)
+
+most_of_scripts : (edition : Edition) → is_of_scripts edition ≡ true → (most_size edition ≤ 16384) × (most_blocks edition ≤ 4096)
+most_of_scripts One named = (lit≤ tt, lit≤ tt)
+most_of_scripts Two named = (lit≤ tt, lit≤ tt)
+most_of_scripts Three named = cc
+most_of_scripts Four named = cc
+
+-- where a script can describe the cluster a block has no more bytes
+pub script_size_at_most : (c : Numbers) → IsValid c → IsOfScripts c → c.size ≤ 16384
+script_size_at_most c v named = omega (arith, v.size.1, (most_of_scripts c.edition named).0)
+
+-- and there are no more blocks
+pub script_blocks_at_most : (c : Numbers) → IsValid c → IsOfScripts c → c.blocks ≤ 4096
+script_blocks_at_most c v named = omega (arith, v.blocks.1, (most_of_scripts c.edition named).1)

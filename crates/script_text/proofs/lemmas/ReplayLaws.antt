@@ -12,11 +12,11 @@ use Rattle.std.proofs.lemmas.Fmt.{decimal_nonempty}
 use Rattle.std.proofs.lemmas.List.{append-nil, map_push}
 use Rattle.std.proofs.lemmas.List.Concat.{flat_map-append}
 use Rattle.std.proofs.lemmas.List.Elements.{recursion_from_All}
-use Rattle.quorum_rules.specs.Limits.{Numbers, IsValid}
+use Rattle.quorum_rules.specs.Limits.{Numbers, IsValid, IsOfScripts}
 use Rattle.text_lines.specs.Lines.{fields_of, line_of_fields, text_of_lines}
 use Rattle.text_lines.proofs.lemmas.Numbers.{number_of-decimal}
 use Rattle.wire_forms.specs.Liars.{Liars, has_number, IsClientNumber}
-use Rattle.line_forms.specs.Heads.{IsOfScripts, head_lines, head_text, header, cluster_fields}
+use Rattle.line_forms.specs.Heads.{head_lines, head_text, header, cluster_fields}
 use Rattle.line_forms.specs.Texts.{IsFaultless, ReadsTo}
 use Rattle.line_forms.proofs.lemmas.Accepted.{head_accepted, one_head}
 use Rattle.line_forms.proofs.lemmas.Tables.{or_none}

@@ -7,10 +7,11 @@ use Rattle.std.proofs.lemmas.List.{length-set, get_or-set_same, get_or-set_other
 use Rattle.disk_model.specs.Crash.{Pending}
 use Rattle.version_disk.specs.Stored.{Stored}
 use Rattle.store_device.specs.Stores.{SeenStore, seat_at}
-use Rattle.store_device.specs.Calls.{Acknowledged, Call, Leads, MayDoAll, given_after}
-use Rattle.store_device.specs.Seating.{with_seat, IsReseatedAt, IsReseated}
+use Rattle.store_device.specs.Calls.{Acknowledged, Call, Leads, MayDoAll, RemembersOnly, given_after, given_through}
+use Rattle.store_device.specs.Seating.{with_seat, forgetting, IsReseatedAt, IsReseated}
 use Rattle.store_device.specs.Steps.{Step, WritesNone, called, calls_among, StepsLead, TakesSteps, IsTended}
 use Rattle.store_device.specs.Steps.Step.{Called, Reseated}
+use Rattle.store_device.proofs.Stamps.{steps_remember}
 
 all_then : {X : Type 0} (P : X → Type 0) (xs ys : List X) → AllByRecursion P xs → AllByRecursion P ys → AllByRecursion P (xs ++ ys)
 all_then P [] ys h k = k
@@ -26,9 +27,9 @@ module _ {D : Type 0} where
   among_called [] = refl
   among_called (call ∷ calls) = ap (λ (more : List (Call D)). call ∷ more) (among_called calls)
 
-  -- what may be done, and then what may be done at any time
-  pub may_then : (given : Acknowledged) (calls more : List (Call D)) → MayDoAll given calls → ((given : Acknowledged) → MayDoAll given more) → MayDoAll given (calls ++ more)
-  may_then given [] more may then = then given
+  -- what may be done, and then what may be done behind that
+  pub may_then : (given : Acknowledged) (calls more : List (Call D)) → MayDoAll given calls → MayDoAll (given_through given calls) more → MayDoAll given (calls ++ more)
+  may_then given [] more may then = then
   may_then given (call ∷ calls) more may then = (may.0, may_then (given_after given call.deed) calls more may.1 then)
 
   abbrev WritesNot : Call D → Type 0
@@ -53,29 +54,40 @@ module _ {D : Type 0} where
     calls_lead [] old new led = led
     calls_lead (call ∷ calls) old new led = (led.0, calls_lead calls call.store new led.1)
 
+    -- steps that may be taken from this store on
+    abbrev pub May : SeenStore D → List (Step D) → Type 0
+    May old steps = (given : Acknowledged) → RemembersOnly given old → MayDoAll given (calls_among steps)
+
+    pub may_both : (steps more : List (Step D)) (old mid : SeenStore D) → Lead old steps mid → May old steps → May mid more → May old (steps ++ more)
+    may_both steps more old mid led may then given knows =
+        subst (MayDoAll given) (sym (calls_then steps more))
+        (may_then given (calls_among steps) (calls_among more) (may given knows)
+        (then (given_through given (calls_among steps)) (steps_remember pending seen most moment left_since given steps old mid led knows)))
+
     -- none
     pub none_taken : (old new : SeenStore D) → new ≡ old → Takes old new
-    none_taken old new same = record { steps = []; lead = same; may = λ given. tt }
+    none_taken old new same = record { steps = []; lead = same; may = λ given knows. tt }
 
     -- some, and then others
     pub taken_then : (old mid new : SeenStore D) → Takes old mid → Takes mid new → Takes old new
     taken_then old mid new first then = record {
       steps = first.steps ++ then.steps;
       lead = lead_then first.steps then.steps old mid new first.lead then.lead;
-      may = λ given. subst (MayDoAll given) (sym (calls_then first.steps then.steps)) (may_then given (calls_among first.steps) (calls_among then.steps) (first.may given) then.may);
+      may = may_both first.steps then.steps old mid first.lead first.may then.may;
     }
 
     -- calls that may be made at any time
-    pub calls_taken : (old new : SeenStore D) (calls : List (Call D)) → Leads pending seen most moment left_since old calls new → ((given : Acknowledged) → MayDoAll given calls) → Takes old new
+    pub calls_taken : (old new : SeenStore D) (calls : List (Call D)) → Leads pending seen most moment left_since old calls new
+        → ((given : Acknowledged) → RemembersOnly given old → MayDoAll given calls) → Takes old new
     calls_taken old new calls led may = record {
       steps = called calls;
       lead = calls_lead calls old new led;
-      may = λ given. subst (MayDoAll given) (sym (among_called calls)) (may given);
+      may = λ given knows. subst (MayDoAll given) (sym (among_called calls)) (may given knows);
     }
 
     -- others sit on the seats
     pub seats_taken : (old new : SeenStore D) → IsReseated pending seen old new → Takes old new
-    seats_taken old new is = record { steps = Reseated new ∷ []; lead = (is, refl); may = λ given. tt }
+    seats_taken old new is = record { steps = Reseated new ∷ []; lead = (is, refl); may = λ given knows. tt }
 
     -- ---- what a store's upkeep is
 
@@ -91,8 +103,8 @@ module _ {D : Type 0} where
           (all_then WritesNot (calls_among first.taken.steps) (calls_among then.taken.steps) first.none then.none);
     }
 
-    pub calls_tend : (old new : SeenStore D) (calls : List (Call D)) → Leads pending seen most moment left_since old calls new → ((given : Acknowledged) → MayDoAll given calls)
-        → AllByRecursion WritesNot calls → Tends old new
+    pub calls_tend : (old new : SeenStore D) (calls : List (Call D)) → Leads pending seen most moment left_since old calls new
+        → ((given : Acknowledged) → RemembersOnly given old → MayDoAll given calls) → AllByRecursion WritesNot calls → Tends old new
     unfolding calls_taken
     calls_tend old new calls led may none = record {
       taken = calls_taken old new calls led may;
@@ -112,6 +124,16 @@ module _ {D : Type 0} where
       config = ap (λ (s : SeenStore D). s.config) same;
       count = ap (λ (s : SeenStore D). length s.seats) same;
       each = λ i. inl (ap (λ (s : SeenStore D). seat_at s i) same);
+      acknowledged = inl (ap (λ (s : SeenStore D). s.acknowledged) same);
+    }
+
+    -- nothing but that the store remembers no stamps any more
+    pub stamps_forgotten : (old new : SeenStore D) → new ≡ forgetting old → IsReseated pending seen old new
+    stamps_forgotten old new is = record {
+      config = ap (λ (s : SeenStore D). s.config) is;
+      count = ap (λ (s : SeenStore D). length s.seats) is;
+      each = λ i. inl (ap (λ (s : SeenStore D). seat_at s i) is);
+      acknowledged = inr (ap (λ (s : SeenStore D). s.acknowledged) is);
     }
 
     -- another sits on one of them
@@ -127,4 +149,5 @@ module _ {D : Type 0} where
           | inr l ↦ inl (ap (λ (s : List (Option (Stored D))). slice_index_or s i None) (set_past old.seats i seat l))
         ])
       ]);
+      acknowledged = inl (ap (λ (s : SeenStore D). s.acknowledged) is);
     }

@@ -35,7 +35,7 @@ returns-clause-run c =
     }
 
 pub returns-clause-told : goal.returns-clause-told
-returns-clause-told c = told_lines c.told_lines.ensures c.args.plan.now c.args.journals.now (c.args.drawn, c.requires.run) c.in_ok-merged.merged.lines c.in_ok-merged.ensures.lines
+returns-clause-told c = told_lines c.told_lines.ensures c.args.plan.now c.args.journals.now c.requires.of_scripts (c.args.drawn, c.requires.run) c.in_ok-merged.merged.lines c.in_ok-merged.ensures.lines
 
 pub returns-clause-fits : goal.returns-clause-fits
 returns-clause-fits c =

@@ -1,8 +1,8 @@
-use Rattle.std.proofs.Common.{◌≡◌, Some, sym, ◌∙◌}
-use Rattle.quorum_rules.specs.Limits.{Numbers}
+use Rattle.std.proofs.Common.{◌≡◌, Some, sym, ap, ◌∙◌}
+use Rattle.quorum_rules.specs.Limits.{Numbers, is_of_scripts}
 use Rattle.text_lines.specs.Lines.{fields_of}
 use Rattle.line_forms.specs.Heads.{script, IsSpelled, edition_in}
-use Rattle.line_forms.proofs.Heads.{bad_header, header_read, never_third, cluster_fault, head_read}
+use Rattle.line_forms.proofs.Heads.{bad_header, header_read, names_scripts, cluster_fault, head_read}
 use Rattle.line_forms.proofs.lemmas.Tables.{refusal_here}
 use Rattle.line_forms.proofs.lemmas.Texts.{rest_of_two}
 use Rattle.line_forms.proofs.head.read_head.Goals as goal
@@ -28,7 +28,7 @@ returns-in-Ok-clause-head c =
 pub returns-in-Ok-clause-of_scripts : goal.returns-in-Ok-clause-of_scripts
 returns-in-Ok-clause-of_scripts c =
     let named : edition_in c.in_ok-first.first.now ≡ Some c.in-Some.edition = sym c.edition_in.ensures ∙ c.in-Some.is in
-    λ third. never_third c.in_ok-first.first.now c.in-Some.edition named (sym c.in-Ok.ensures.1.0 ∙ third)
+    ap is_of_scripts c.in-Ok.ensures.1.0 ∙ names_scripts c.in_ok-first.first.now c.in-Some.edition named
 
 pub returns-in-Err-clause-fault : goal.returns-in-Err-clause-fault
 returns-in-Err-clause-fault c =

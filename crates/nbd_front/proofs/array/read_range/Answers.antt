@@ -8,6 +8,10 @@ use Rattle.nbd_front.proofs.Progress.{reached, step}
 use Rattle.nbd_front.proofs.Steps.{read_more, read_same}
 use Rattle.nbd_front.proofs.array.read_range.Goals as goal
 
+pub read-requires-clause-fresh : goal.read-requires-clause-fresh
+read-requires-clause-fresh c =
+    omega (arith, c.loop-block.invariant.steps, c.loop-block-test.true, c.blocks_of-blocks.ensures.within, ap (λ (k : Numbers). k.blocks) c.config.ensures, c.requires.order.few, c.requires.steps)
+
 pub loop-block-preserved : goal.loop-block-preserved
 loop-block-preserved c =
     let d0 = c.args.device in
@@ -28,3 +32,10 @@ loop-block-preserved c =
           ∙ ap (λ n. c.args.text.now.items ++ slice_range (array_of d0.held) start (block * d0.config.size + n)) last
           ∙ ap (λ n. c.args.text.now.items ++ slice_range (array_of d0.held) start n) s.next;
     }
+
+pub returns-clause-read : goal.returns-clause-read
+returns-clause-read c =
+    let inv = c.loop-block.invariant in
+    let made = c.blocks_of-blocks.ensures in
+    let far = c.loop-block.auto.block-end made.order in
+    record { same = inv.same; steps = omega (arith, inv.steps, far, c.loop-block-test.false, made.within, ap (λ (k : Numbers). k.blocks) c.config.ensures, c.requires.order.few) }

@@ -30,6 +30,10 @@ loop-block-init c =
       times = walk_begins first d0;
     }
 
+pub write_piece-requires-clause-steps : goal.write_piece-requires-clause-steps
+write_piece-requires-clause-steps c =
+    omega (arith, c.loop-block.invariant.steps, c.loop-block-test.true, c.blocks_of-blocks.ensures.within, ap (λ (k : Numbers). k.blocks) c.config.ensures, c.requires.order.few, c.requires.steps)
+
 pub write_piece-requires-clause-times : goal.write_piece-requires-clause-times
 write_piece-requires-clause-times c =
     let d0 = c.args.device in
@@ -98,5 +102,5 @@ returns c =
       life = inv.life;
       bytes = inv.array ∙ ap (λ n. merged (array_of d0.held) start (take n bytes)) all ∙ ap (λ z. merged (array_of d0.held) start z) (take-length bytes);
       times = λ k l. walk_ends d0.config start (length bytes) blocks.first blocks.end d0 d begun ended (λ j low high. subst (λ n. Reaches n start (length bytes) j) c.config.ensures (made.reached j low high)) walked k;
-      steps = omega (arith, inv.steps, done, made.most);
+      steps = omega (arith, inv.steps, done, made.within, ap (λ (k : Numbers). k.blocks) c.config.ensures, c.requires.order.few);
     }

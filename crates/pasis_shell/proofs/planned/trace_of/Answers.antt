@@ -3,6 +3,9 @@ use Rattle.command_texts.specs.PlanRuns.{Traces}
 use Rattle.pasis_shell.proofs.RunsOfPlans.{is_plan}
 use Rattle.pasis_shell.proofs.planned.trace_of.Goals as goal
 
+pub trace_text-requires-clause-of_scripts : goal.trace_text-requires-clause-of_scripts
+trace_text-requires-clause-of_scripts g c = c.in_ok-plan.ensures.spelled.of_scripts
+
 pub trace_text-requires-clause-run : goal.trace_text-requires-clause-run
 trace_text-requires-clause-run g c = rw c.count-drawn.ensures.count c.in_ok-ran.ensures.followed
 

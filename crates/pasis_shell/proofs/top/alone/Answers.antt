@@ -1,10 +1,18 @@
-use Rattle.std.proofs.Common.{refl, subst}
+use Rattle.std.proofs.Common.{◌≡◌, true, refl, subst, ap, arith}
+use Rattle.quorum_rules.specs.Limits.{is_of_scripts}
+use Rattle.quorum_rules.proofs.lemmas.FaultLaws.{script_blocks_at_most}
 use Rattle.command_texts.specs.Words.{texts, AreOfForm}
 use Rattle.command_texts.specs.declared.words.Form.{Form}
 use Rattle.command_texts.specs.declared.words.Form.TheVariants.{Text, Session}
 use Rattle.pasis_shell.specs.Calls.{call_of}
 use Rattle.pasis_shell.proofs.Called.{called, called_badly, asked}
 use Rattle.pasis_shell.proofs.top.alone.Goals as goal
+
+pub serve_device-requires : goal.serve_device-requires
+serve_device-requires g c =
+    let of : AreOfForm (texts c.args.words.now) (Session c.in-Session.config) = subst (λ (f : Form). AreOfForm (texts c.args.words.now) f) c.in-Session.is c.in-Some.ensures.some in
+    let named : is_of_scripts c.in-Session.config.edition ≡ true = ap is_of_scripts of.edition in
+    omega (arith, script_blocks_at_most c.in-Session.config of.valid named)
 
 pub returns-in_default-clause-called : goal.returns-in_default-clause-called
 returns-in_default-clause-called g c = called_badly (texts c.args.words.now) (call_of g.S.Source g.K.Sink c.args.source.now c.args.source.now c.args.sink.now c.args.sink.now) c.in_default.ensures.none refl refl

@@ -1,5 +1,9 @@
 use Rattle.slab_index.proofs.Holding.{slots_hold}
+use Rattle.slab_index.proofs.Changing.{are_counted}
 use Rattle.slab_index.proofs.laws.slots_hold_versions.Goals as goal
 
-pub returns : goal.returns
-returns c = slots_hold
+pub returns-clause-hold : goal.returns-clause-hold
+returns-clause-hold c = slots_hold
+
+pub returns-clause-counted : goal.returns-clause-counted
+returns-clause-counted c = are_counted

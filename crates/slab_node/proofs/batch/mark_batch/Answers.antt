@@ -1,9 +1,9 @@
-use Rattle.std.proofs.Common.{◌≡◌, ◌⊎◌, inl, inr, ◌≤◌, ℕ, List, length, sym, ◌∙◌, ap, arith}
-use Rattle.disk_model.specs.Crash.{LeavesOnly}
+use Rattle.std.proofs.Common.{◌⊎◌, inl, inr, ℕ, List}
 use Rattle.sqlite_disk.specs.Disk.{Only}
 use Rattle.slab_file.proofs.lemmas.Moments.{leaves_more, leaves_both}
 use Rattle.slot_disk.proofs.lemmas.Moments.{leaves_only_weaker}
-use Rattle.slab_node.specs.Left.{Agrees, nothing}
+use Rattle.slab_node.specs.Left.{nothing}
+use Rattle.slab_node.specs.Changes.{ChangesOnly}
 use Rattle.slab_node.specs.Batches.{is_in}
 use Rattle.slab_node.proofs.Batching.{begins, at_end}
 use Rattle.slab_node.proofs.batch.mark_batch.Goals as goal
@@ -12,9 +12,9 @@ pub returns-in_err-sync-clause-any_moment : goal.returns-in_err-sync-clause-any_
 returns-in_err-sync-clause-any_moment g c =
     let F = g.F.SlabFile in
     let old = c.args.file.now in
-    let P : List ℕ → Type 0 = λ b. F.may_leave old b ⊎ Agrees c.args.shape (is_in c.args.batch.now) nothing (F.seen old) b in
+    let P : List ℕ → Type 0 = λ b. F.may_leave old b ⊎ ChangesOnly c.args.shape nothing (is_in c.args.batch.now) nothing (F.seen old) b in
     let before : (b : List ℕ) → F.may_leave old b → P b = λ b may. inl may in
-    let after : (b : List ℕ) → Agrees c.args.shape (is_in c.args.batch.now) nothing (F.seen old) b → P b = λ b agrees. inr agrees in
+    let after : (b : List ℕ) → ChangesOnly c.args.shape nothing (is_in c.args.batch.now) nothing (F.seen old) b → P b = λ b agrees. inr agrees in
     leaves_more F.moment F.left_since F.may_leave old old c.sync.new.self P (begins F.moment F.left_since F.may_leave old P (g.met.F.SlabFile.only_now old) before) c.sync.ensures.time
     (λ b may. before b (c.sync.ensures.crash b may))
 
@@ -22,11 +22,11 @@ pub returns-in_err-put_marks-clause-any_moment : goal.returns-in_err-put_marks-c
 returns-in_err-put_marks-clause-any_moment g c =
     let F = g.F.SlabFile in
     let old = c.args.file.now in
-    let P : List ℕ → Type 0 = λ b. F.may_leave old b ⊎ Agrees c.args.shape (is_in c.args.batch.now) nothing (F.seen old) b in
+    let P : List ℕ → Type 0 = λ b. F.may_leave old b ⊎ ChangesOnly c.args.shape nothing (is_in c.args.batch.now) nothing (F.seen old) b in
     let before : (b : List ℕ) → F.may_leave old b → P b = λ b may. inl may in
-    let after : (b : List ℕ) → Agrees c.args.shape (is_in c.args.batch.now) nothing (F.seen old) b → P b = λ b agrees. inr agrees in
+    let after : (b : List ℕ) → ChangesOnly c.args.shape nothing (is_in c.args.batch.now) nothing (F.seen old) b → P b = λ b agrees. inr agrees in
     let mid = c.sync.new.self in
-    let marks : List ℕ → Type 0 = Agrees c.args.shape (is_in c.args.batch.now) nothing (F.seen mid) in
+    let marks : List ℕ → Type 0 = ChangesOnly c.args.shape nothing (is_in c.args.batch.now) nothing (F.seen mid) in
     let only : Only (F.seen mid) (F.may_leave mid) = rw (c.sync.ensures.bytes) c.in_ok-sync.ensures.durable in
     let first =
     leaves_more F.moment F.left_since F.may_leave old old mid P (begins F.moment F.left_since F.may_leave old P (g.met.F.SlabFile.only_now old) before) c.sync.ensures.time
@@ -38,11 +38,11 @@ pub returns-clause-any_moment : goal.returns-clause-any_moment
 returns-clause-any_moment g c =
     let F = g.F.SlabFile in
     let old = c.args.file.now in
-    let P : List ℕ → Type 0 = λ b. F.may_leave old b ⊎ Agrees c.args.shape (is_in c.args.batch.now) nothing (F.seen old) b in
+    let P : List ℕ → Type 0 = λ b. F.may_leave old b ⊎ ChangesOnly c.args.shape nothing (is_in c.args.batch.now) nothing (F.seen old) b in
     let before : (b : List ℕ) → F.may_leave old b → P b = λ b may. inl may in
-    let after : (b : List ℕ) → Agrees c.args.shape (is_in c.args.batch.now) nothing (F.seen old) b → P b = λ b agrees. inr agrees in
+    let after : (b : List ℕ) → ChangesOnly c.args.shape nothing (is_in c.args.batch.now) nothing (F.seen old) b → P b = λ b agrees. inr agrees in
     let mid = c.sync.new.self in
-    let marks : List ℕ → Type 0 = Agrees c.args.shape (is_in c.args.batch.now) nothing (F.seen mid) in
+    let marks : List ℕ → Type 0 = ChangesOnly c.args.shape nothing (is_in c.args.batch.now) nothing (F.seen mid) in
     let only : Only (F.seen mid) (F.may_leave mid) = rw (c.sync.ensures.bytes) c.in_ok-sync.ensures.durable in
     let first =
     leaves_more F.moment F.left_since F.may_leave old old mid P (begins F.moment F.left_since F.may_leave old P (g.met.F.SlabFile.only_now old) before) c.sync.ensures.time

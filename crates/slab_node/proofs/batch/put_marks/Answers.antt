@@ -2,12 +2,13 @@ use Rattle.std.proofs.Common.{ℕ, ◌<◌, ◌≤◌, ◌≡◌, inl, inr, true
 use Rattle.std.proofs.lemmas.Bool.{cases_lt, cases_Bool, eqb-false}
 use Rattle.std.proofs.lemmas.Grind.{common_steps}
 use Rattle.std.proofs.Common.{eqb, eqb-true}
-use Rattle.slab_layout.specs.Shapes.{mark_at, is_marked, slab_len}
+use Rattle.slab_layout.specs.Shapes.{is_marked, slab_len}
 use Rattle.slab_node.specs.declared.batch.Fresh.{Fresh}
-use Rattle.slab_node.specs.Left.{Agrees, AllMay, nothing}
+use Rattle.slab_node.specs.Left.{nothing}
+use Rattle.slab_node.specs.Changes.{ChangesOnly, AreAllOf}
 use Rattle.slab_node.specs.Batches.{is_in}
-use Rattle.slab_node.proofs.Torn.{agrees_torn}
-use Rattle.slab_node.proofs.Batching.{is_in_at, mark_may, at_end, writes_on, mark_comes, mark_stays}
+use Rattle.slab_node.proofs.Changing.{changes_torn, mark_is, writes_on}
+use Rattle.slab_node.proofs.Batching.{is_in_at, at_end, mark_comes, mark_stays}
 use Rattle.slab_node.proofs.batch.put_marks.Goals as goal
 
 default_same : (xs : List Fresh) (i : ℕ) (d e : Fresh) → i < length xs → get_or xs i d ≡ get_or xs i e
@@ -23,8 +24,8 @@ returns-in_err-write_at-clause-bytes g c =
     let lt : i < length batch = omega (arith, c.loop-fresh-test.true, c.loop-fresh.auto.fresh-index-end) in
     let slot : f.slot < s.count = rw c.fresh-item.is ((c.requires.slots i f lt).slot) in
     let loose : is_in batch f.slot ≡ true = rw c.fresh-item.is (is_in_at batch i f lt) in
-    agrees_torn s (is_in batch) nothing base c.mark_at.result 1 (g.F.SlabFile.seen c.loop-fresh.file) (g.F.SlabFile.seen c.write_at.new.self) c.loop-fresh.invariant.bytes
-    (mark_may s base (is_in batch) f.slot c.mark_at.result slot loose c.mark_at.ensures.place) c.write_at.ensures.others
+    changes_torn s nothing (is_in batch) nothing base c.mark_at.result 1 (g.F.SlabFile.seen c.loop-fresh.file) (g.F.SlabFile.seen c.write_at.new.self) c.loop-fresh.invariant.bytes
+    (mark_is s nothing (is_in batch) nothing f.slot c.mark_at.result slot loose c.mark_at.ensures.place) c.write_at.ensures.others
 
 pub returns-in_err-write_at-clause-any_moment : goal.returns-in_err-write_at-clause-any_moment
 returns-in_err-write_at-clause-any_moment g c only =
@@ -40,9 +41,9 @@ returns-in_err-write_at-clause-any_moment g c only =
     let slot : f.slot < s.count = rw c.fresh-item.is ((c.requires.slots i f lt).slot) in
     let loose : is_in batch f.slot ≡ true = rw c.fresh-item.is (is_in_at batch i f lt) in
     let so_far = c.loop-fresh.invariant.time only in
-    writes_on F.moment F.left_since F.may_leave s (is_in batch) base c.mark_at.result 1 old mid c.write_at.new.self so_far
-    (at_end F.moment F.left_since F.may_leave old mid (Agrees s (is_in batch) nothing base) so_far (g.met.F.SlabFile.counts_now mid))
-    (mark_may s base (is_in batch) f.slot c.mark_at.result slot loose c.mark_at.ensures.place) c.write_at.ensures.crash c.write_at.ensures.time
+    writes_on s nothing (is_in batch) nothing F.moment F.left_since F.may_leave base c.mark_at.result 1 old mid c.write_at.new.self so_far
+    (at_end F.moment F.left_since F.may_leave old mid (ChangesOnly s nothing (is_in batch) nothing base) so_far (g.met.F.SlabFile.counts_now mid))
+    (mark_is s nothing (is_in batch) nothing f.slot c.mark_at.result slot loose c.mark_at.ensures.place) c.write_at.ensures.crash c.write_at.ensures.time
 
 pub loop-fresh-preserved : goal.loop-fresh-preserved
 loop-fresh-preserved g c =
@@ -59,13 +60,13 @@ loop-fresh-preserved g c =
     let lt : i < length batch = omega (arith, c.loop-fresh-test.true, c.loop-fresh.auto.fresh-index-end) in
     let slot : f.slot < s.count = rw c.fresh-item.is ((c.requires.slots i f lt).slot) in
     let loose : is_in batch f.slot ≡ true = rw c.fresh-item.is (is_in_at batch i f lt) in
-    let may : AllMay s (is_in batch) nothing base c.mark_at.result 1 = mark_may s base (is_in batch) f.slot c.mark_at.result slot loose c.mark_at.ensures.place in
+    let may : AreAllOf s nothing (is_in batch) nothing c.mark_at.result 1 = mark_is s nothing (is_in batch) nothing f.slot c.mark_at.result slot loose c.mark_at.ensures.place in
     record {
       usable = c.write_at.ensures.usable;
       clean = c.write_at.ensures.clean ∙ inv.clean;
       calm = c.in_ok-write_at.ensures.faults ∙ inv.calm;
       longer = omega (arith, inv.longer, c.write_at.ensures.others.no_shorter);
-      bytes = agrees_torn s (is_in batch) nothing base c.mark_at.result 1 (F.seen mid) (F.seen new) inv.bytes may c.write_at.ensures.others;
+      bytes = changes_torn s nothing (is_in batch) nothing base c.mark_at.result 1 (F.seen mid) (F.seen new) inv.bytes may c.write_at.ensures.others;
       marked = λ clean j d low.
           let below : j < length batch = omega (arith, low, lt) in
           let g_slot = (c.requires.slots j d below).slot in
@@ -86,7 +87,7 @@ loop-fresh-preserved g c =
           ];
       time = λ only.
           let so_far = inv.time only in
-          writes_on F.moment F.left_since F.may_leave s (is_in batch) base c.mark_at.result 1 old mid new so_far
-          (at_end F.moment F.left_since F.may_leave old mid (Agrees s (is_in batch) nothing base) so_far (g.met.F.SlabFile.counts_now mid)) may
+          writes_on s nothing (is_in batch) nothing F.moment F.left_since F.may_leave base c.mark_at.result 1 old mid new so_far
+          (at_end F.moment F.left_since F.may_leave old mid (ChangesOnly s nothing (is_in batch) nothing base) so_far (g.met.F.SlabFile.counts_now mid)) may
           c.write_at.ensures.crash c.write_at.ensures.time;
     }

@@ -7,7 +7,7 @@ abbrev pub invariant-loop-group : goal.invariant-loop-group
 invariant-loop-group g l = record {
   config : l.store.config ≡ l.fn.store.config;
   blocks : l.blocks ≡ l.fn.store.config.blocks;
-  most : l.blocks ≤ 65536;
+  most : l.blocks ≤ 268435456;
   ends : l.group-end ≡ groups_of l.blocks;
   calls : (calls : List (Call _)) × Leads g.D.Disk.pending g.D.Disk.seen g.D.Disk.most g.D.Disk.moment g.D.Disk.left_since l.fn.store calls l.store
       × AreGroups l.fn.store.config.blocks 0 calls × (length calls ≡ l.group)

@@ -13,5 +13,5 @@ returns-clause-lives g a life gone found c old new result left left_after taken 
     (session_leads g.D.Disk.pending g.D.Disk.seen g.D.Disk.most g.D.Disk.moment g.D.Disk.left_since c old new result left left_after taken
     taken_after session)
     (session_may g.D.Disk.pending g.D.Disk.seen g.D.Disk.most g.D.Disk.moment g.D.Disk.left_since c old new result left left_after taken
-    taken_after session _)
+    taken_after session _ has.remembered)
     are

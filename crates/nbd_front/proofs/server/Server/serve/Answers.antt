@@ -1,9 +1,10 @@
-use Rattle.std.proofs.Common.{rules, ◌≡◌, ◌≢◌, ◌∙◌, Ok, Err, Some, ap, subst, ℕ, []}
+use Rattle.std.proofs.Common.{rules, ◌≡◌, ◌≢◌, ◌∙◌, Ok, Err, Some, ap, sym, subst, ℕ, []}
 use Rattle.outside_io.specs.Causes.{Rose}
 use Rattle.nbd_front.specs.declared.ending.Served.TheVariants.{Next, Over}
 use Rattle.nbd_front.specs.Servers.{HasStepped}
 use Rattle.nbd_front.proofs.Stepping.{next_gone, finished, step_ended}
 use Rattle.nbd_front.proofs.Completing.{completes}
+use Rattle.nbd_front.specs.Outcomes.{closing}
 use Rattle.nbd_front.proofs.server.Server.serve.Goals as goal
 
 pub returns-in_err-next-clause-session : goal.returns-in_err-next-clause-session
@@ -12,6 +13,13 @@ returns-in_err-next-clause-session g c =
     let is : c.from_residual.result ≡ Err x = first_of (search rules, cc) in
     let calls = c.in_err-next.ensures in
     rw is (step_ended c.args.self c.loop-next.server c.loop-next.server _ _ _ _ _ _ c.loop-next.invariant.gone x.end x.server (λ n. ap g.K.Sink.taken (calls.unwritten (λ e. cc) (λ e. n cc))) calls.step)
+
+pub returns-in_err-next-clause-write_fault : goal.returns-in_err-next-clause-write_fault
+returns-in_err-next-clause-write_fault g c e =
+    let x = c.in_err-next.field-0.0 in
+    let is : c.from_residual.result ≡ Err x = first_of (search rules, cc) in
+    let write_at = λ (n : ℕ). Rose g.K.Sink.last n (g.K.Sink.faults c.serve_one.new.sink) in
+    subst write_at c.loop-next.invariant.writes (c.in_err-next.ensures.write_fault (sym (ap closing is) ∙ e))
 
 pub loop-next-preserved : goal.loop-next-preserved
 loop-next-preserved g c =

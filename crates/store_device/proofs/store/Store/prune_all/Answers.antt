@@ -1,7 +1,7 @@
 use Rattle.std.proofs.Common.{◌++◌, length, map, take, drop, refl, ap, subst}
 use Rattle.store_device.specs.declared.seat.Seat.{Seat}
 use Rattle.store_device.specs.Stores.{SeenStore, IsStore, seat_at}
-use Rattle.store_device.specs.Going.{store_of}
+use Rattle.store_device.specs.Going.{store_with}
 use Rattle.store_device.proofs.Reseated.{all_have, tried_back, back_count, still_store, has_pruned, prunes_in, wholly_back}
 use Rattle.store_device.proofs.Carrying.{on_ok_then}
 use Rattle.store_device.proofs.store.Store.prune_all.Goals as goal
@@ -23,14 +23,14 @@ invariant_of-self g c =
     let own = c.self.inside in
     let now = c.args.self.now in
     let new = c.prune_seats.new.seats in
-    let then = store_of own.config (map node (take own.seats.len (new ++ drop (length new) own.seats.items))) in
+    let then = store_with own.config (map node (take own.seats.len (new ++ drop (length new) own.seats.items))) own.acknowledged.items in
     let tried = tried_back D.pending D.seen c.args.prunes.now D.moment D.left_since node own.config now own.seats.items c.deref_mut.result.now new own.seats.len
     c.deref_mut.ensures.value c.self.view_is c.deref_mut.ensures.len c.prune_seats.ensures.count c.prune_seats.ensures.each in
     let store : IsStore D.pending D.seen now = subst (λ (s : SeenStore g.row.D.Denot). IsStore D.pending D.seen s) c.self.view_is c.self.invariant.0 in
     let count = back_count D.pending D.seen c.args.prunes.now D.moment D.left_since node own.config now own.seats.items c.deref_mut.result.now new own.seats.len
     c.deref_mut.ensures.value c.self.view_is c.deref_mut.ensures.len c.prune_seats.ensures.count in
     let same = ap (λ (s : SeenStore g.row.D.Denot). s.config) c.self.view_is in
-    (still_store D.pending D.seen c.args.prunes.now D.moment D.left_since now then same count store tried, c.self.invariant.1)
+    (still_store D.pending D.seen c.args.prunes.now D.moment D.left_since now then same count store tried, c.self.invariant.1, c.self.invariant.2)
 
 pub returns-clause-seats : goal.returns-clause-seats
 returns-clause-seats g c =
@@ -39,7 +39,7 @@ returns-clause-seats g c =
     let own = c.self.inside in
     let now = c.args.self.now in
     let new = c.prune_seats.new.seats in
-    let then = store_of own.config (map node (take own.seats.len (new ++ drop (length new) own.seats.items))) in
+    let then = store_with own.config (map node (take own.seats.len (new ++ drop (length new) own.seats.items))) own.acknowledged.items in
     let tried = tried_back D.pending D.seen c.args.prunes.now D.moment D.left_since node own.config now own.seats.items c.deref_mut.result.now new own.seats.len
     c.deref_mut.ensures.value c.self.view_is c.deref_mut.ensures.len c.prune_seats.ensures.count c.prune_seats.ensures.each in
     λ i. prunes_in D.pending D.seen c.args.prunes.now D.moment D.left_since (seat_at now i) (seat_at then i) (tried i)
@@ -52,14 +52,15 @@ returns-clause-pruned g c =
     let own = c.self.inside in
     let now = c.args.self.now in
     let new = c.prune_seats.new.seats in
-    let then = store_of own.config (map node (take own.seats.len (new ++ drop (length new) own.seats.items))) in
+    let then = store_with own.config (map node (take own.seats.len (new ++ drop (length new) own.seats.items))) own.acknowledged.items in
     let tried = tried_back D.pending D.seen c.args.prunes.now D.moment D.left_since node own.config now own.seats.items c.deref_mut.result.now new own.seats.len
     c.deref_mut.ensures.value c.self.view_is c.deref_mut.ensures.len c.prune_seats.ensures.count c.prune_seats.ensures.each in
     let store : IsStore D.pending D.seen now = subst (λ (s : SeenStore g.row.D.Denot). IsStore D.pending D.seen s) c.self.view_is c.self.invariant.0 in
     let count = back_count D.pending D.seen c.args.prunes.now D.moment D.left_since node own.config now own.seats.items c.deref_mut.result.now new own.seats.len
     c.deref_mut.ensures.value c.self.view_is c.deref_mut.ensures.len c.prune_seats.ensures.count in
     let same = ap (λ (s : SeenStore g.row.D.Denot). s.config) c.self.view_is in
-    has_pruned D.pending D.seen c.args.prunes.now D.moment D.left_since now then same count store tried D.most c.requires.there c.requires.apart disk.counts_now
+    has_pruned D.pending D.seen c.args.prunes.now D.moment D.left_since now then same count store tried D.most
+    (ap (λ (s : SeenStore g.row.D.Denot). s.acknowledged) c.self.view_is) c.requires.there c.requires.apart disk.counts_now
 
 pub returns-clause-whole : goal.returns-clause-whole
 returns-clause-whole g c =

@@ -17,7 +17,7 @@ invariant_of-self g c =
     let same : n ≡ m = cc in
     subst (IsSound D.pending D.seen now.config c.args.seat) same (c.requires.sound (ap (λ (x : Stored g.row.D.Denot). x.broken) same ∙ whole))) in
     let then = reseated node own.config now own.seats.items c.self.view_is c.args.seat (record { node = Some n; asks = c.index_mut.result.now.asks; replies = c.index_mut.result.now.replies; starved = c.index_mut.result.now.starved }) in
-    (subst (λ (s : SeenStore g.row.D.Denot). IsStore D.pending D.seen s) (sym then) (still_seats D.pending D.seen now store c.args.seat (Some n) sound), c.self.invariant.1)
+    (subst (λ (s : SeenStore g.row.D.Denot). IsStore D.pending D.seen s) (sym then) (still_seats D.pending D.seen now store c.args.seat (Some n) sound), c.self.invariant.1, c.self.invariant.2)
 
 pub returns : goal.returns
 returns g c =

@@ -19,7 +19,7 @@ invariant_of-self-2 g c =
     let nobody = λ (n : Stored g.row.D.Denot) (there : None ≡ Some n) (whole : n.broken ≡ false). absurd cc in
     let then = reseated node own.config now own.seats.items c.self.view_is i (record { node = c.take.new.self; asks = was.asks; replies = was.replies; starved = was.starved })
     ∙ ap (λ (seat : Option (Stored g.row.D.Denot)). with_seat now i seat) c.take.ensures.after in
-    (subst (λ (s : SeenStore g.row.D.Denot). IsStore D.pending D.seen s) (sym then) (still_seats D.pending D.seen now store i None nobody), c.self.invariant.1)
+    (subst (λ (s : SeenStore g.row.D.Denot). IsStore D.pending D.seen s) (sym then) (still_seats D.pending D.seen now store i None nobody), c.self.invariant.1, c.self.invariant.2)
 
 pub returns-clause-gone : goal.returns-clause-gone
 returns-clause-gone g c =

@@ -1,0 +1,17 @@
+pub mod Adding
+pub mod Changes
+pub mod Crashing
+pub mod Dropping
+pub mod Ending
+pub mod Facts
+pub mod Filtered
+pub mod Growing
+pub mod Joining
+pub mod Lists
+pub mod Picking
+pub mod Planned
+pub mod Planning
+pub mod Pruning
+pub mod Saying
+pub mod Sizes
+pub mod Writing

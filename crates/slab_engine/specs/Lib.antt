@@ -1,0 +1,10 @@
+pub mod Batches
+pub mod Laws
+pub mod Moves
+pub mod Plans
+pub mod Prunes
+pub mod Refusals
+pub mod Replies
+pub mod Seen
+pub mod Whole
+pub mod Written

@@ -1,0 +1,4 @@
+mod Checks
+mod Going
+mod Pieces
+mod Recording
