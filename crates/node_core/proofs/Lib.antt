@@ -2,6 +2,5 @@ pub mod lemmas
 pub mod Listing
 pub mod Finding
 pub mod Last
-pub mod Refusals
 pub mod Firsts
 pub mod Undoing

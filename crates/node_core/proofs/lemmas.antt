@@ -1,5 +1,6 @@
 -- What proofs of other crates may cite.
-pub mod Changes
 pub mod Accepting
 pub mod Blocks
+pub mod Changes
+pub mod Refusals
 pub mod Sending

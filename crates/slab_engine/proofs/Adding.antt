@@ -11,7 +11,7 @@ use Rattle.slab_layout.proofs.lemmas.Codec.{head_of_bytes, data_back}
 use Rattle.slab_node.specs.declared.batch.Fresh.{Fresh}
 use Rattle.slab_node.specs.Batches.{IsThere, is_in}
 use Rattle.slab_node.specs.Answers.{AtMostOne}
-use Rattle.slab_node.proofs.Batching.{is_in_at}
+use Rattle.slab_node.proofs.lemmas.Batching.{is_in_at}
 use Rattle.slab_index.specs.declared.kept.Kept.{Kept}
 use Rattle.slab_index.specs.Slots.{head_of, kept_of, version_at}
 use Rattle.slab_engine.specs.declared.batch.NewSlots.{NewSlots}

@@ -11,8 +11,8 @@ use Rattle.slab_index.specs.declared.kept.Kept.{Kept}
 use Rattle.slab_index.specs.Kept.{stamp_of, put_kept}
 use Rattle.slab_index.specs.Slots.{head_of, kept_of, is_of, slots_by, version_at, AreCounted}
 use Rattle.slab_engine.specs.Written.{IsStep}
-use Rattle.slab_index.proofs.Holding.{slots_hold}
-use Rattle.slab_index.proofs.Changing.{same_slots, one_more, put_last, below_slots, are_counted}
+use Rattle.slab_index.proofs.lemmas.Holding.{slots_hold}
+use Rattle.slab_index.proofs.lemmas.Changing.{same_slots, one_more, put_last, below_slots, are_counted}
 
 both_false : (a b : Bool) → (a && false) ≡ (b && false)
 both_false true true = refl

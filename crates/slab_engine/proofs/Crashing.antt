@@ -22,8 +22,8 @@ use Rattle.slab_node.specs.Changes.{ChangesOnly, AreUnmarked}
 use Rattle.slab_node.specs.Batches.{IsThere as HasFresh, is_in, IsHalfway, IsMidwayOver}
 use Rattle.slab_node.specs.Answers.{AreAnsweredInPart, IsAnsweredOrNot}
 use Rattle.slab_node.specs.Freed.{KeepsSome, none, keeps, drops}
-use Rattle.slab_node.proofs.Node.{versions_at, count_of}
-use Rattle.slab_node.proofs.Changing.{mark_same, answer_same, head_same, data_same}
+use Rattle.slab_node.proofs.lemmas.Node.{versions_at, count_of}
+use Rattle.slab_node.proofs.lemmas.Changing.{mark_same, answer_same, head_same, data_same}
 use Rattle.slab_index.specs.declared.kept.Kept.{Kept}
 use Rattle.slab_index.specs.Slots.{head_of}
 use Rattle.slab_engine.specs.declared.batch.NewSlots.{NewSlots}

@@ -13,8 +13,8 @@ use Rattle.slab_layout.specs.Shapes.{is_marked, shape_of, part, head_at, data_at
 use Rattle.slab_node.specs.Held.{entry_at, entry_version, held_by, held_with, versions}
 use Rattle.slab_node.specs.Left.{nothing}
 use Rattle.slab_node.specs.Freed.{KeepsSome, keeps}
-use Rattle.slab_node.proofs.Node.{versions_at, count_of}
-use Rattle.slab_node.proofs.Freeing.{versions_part}
+use Rattle.slab_node.proofs.lemmas.Node.{versions_at, count_of}
+use Rattle.slab_node.proofs.lemmas.Freeing.{versions_part}
 use Rattle.slab_engine.specs.Seen.{Leaving, has_slot, counted, IsOneOf, IsLessLeaving}
 use Rattle.slab_engine.specs.Whole.{IsItsHead}
 use Rattle.slab_engine.proofs.Lists.{slot_of}

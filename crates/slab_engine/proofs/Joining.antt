@@ -10,8 +10,8 @@ use Rattle.slab_layout.specs.Shapes.{is_marked, shape_of, slab_len, part, head_a
 use Rattle.slab_node.specs.declared.batch.Fresh.{Fresh}
 use Rattle.slab_node.specs.Left.{nothing}
 use Rattle.slab_node.specs.Batches.{IsThere as HasFresh, is_in, IsWritten}
-use Rattle.slab_node.proofs.Batching.{in_batch}
-use Rattle.slab_node.proofs.Changing.{mark_same, head_same, data_same}
+use Rattle.slab_node.proofs.lemmas.Batching.{in_batch}
+use Rattle.slab_node.proofs.lemmas.Changing.{mark_same, head_same, data_same}
 use Rattle.slab_index.specs.declared.kept.Kept.{Kept}
 use Rattle.slab_engine.specs.declared.batch.NewSlots.{NewSlots}
 use Rattle.slab_engine.specs.declared.batch.Batch.{Batch}

@@ -13,11 +13,11 @@ use Rattle.wire_forms.specs.declared.Reason.TheVariants.{BadLength}
 use Rattle.node_core.specs.Seen.{SeenNode, versions_in, reply_of, accepts_of}
 use Rattle.slab_layout.specs.Shapes.{shape_of}
 use Rattle.slab_node.specs.Held.{held_by}
-use Rattle.slab_node.proofs.Node.{versions_at}
+use Rattle.slab_node.proofs.lemmas.Node.{versions_at}
 use Rattle.slab_index.specs.declared.kept.Kept.{Kept}
 use Rattle.slab_index.specs.Kept.{kept_in}
 use Rattle.slab_index.specs.Slots.{version_at, IsIndexBy}
-use Rattle.slab_index.proofs.Holding.{slots_hold}
+use Rattle.slab_index.proofs.lemmas.Holding.{slots_hold}
 use Rattle.slab_engine.specs.declared.plan.Plan.{Plan}
 use Rattle.slab_engine.specs.declared.plan.Plan.TheVariants.{Silent, Tells, First, Empty, Reads, Acks, Refuses, Adds}
 use Rattle.slab_engine.specs.Plans.{said, plan_in, IsPlan, AddsAsPlanned}

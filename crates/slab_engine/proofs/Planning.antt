@@ -12,7 +12,7 @@ use Rattle.wire_forms.specs.declared.Request.TheVariants.{Time, Read, Write}
 use Rattle.wire_forms.specs.declared.Reply.TheVariants.{TimeIs}
 use Rattle.slab_index.specs.declared.kept.Kept.{Kept}
 use Rattle.slab_index.specs.Kept.{stamp_of, later_kept, greatest_kept, keeps_stamp, SlotsTellThem}
-use Rattle.slab_index.proofs.Telling.{slots_tell}
+use Rattle.slab_index.proofs.lemmas.Telling.{slots_tell}
 use Rattle.slab_engine.specs.Plans.{later_slot, read_plan, write_plan, plan_in, IsPlan}
 
 behind : (x : Kept) (xs : List Kept) (k : Kept) → Contains xs k → Contains (x ∷ xs) k

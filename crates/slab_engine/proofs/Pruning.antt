@@ -11,7 +11,7 @@ use Rattle.protocol.specs.Setting.{Setting, first_stamp}
 use Rattle.protocol.specs.Nodes.{greatest_in, later, carries}
 use Rattle.slab_index.specs.declared.kept.Kept.{Kept}
 use Rattle.slab_index.specs.Kept.{stamp_of, greatest_kept}
-use Rattle.slab_index.proofs.Telling.{slots_tell}
+use Rattle.slab_index.proofs.lemmas.Telling.{slots_tell}
 use Rattle.slab_engine.specs.Plans.{later_slot}
 use Rattle.slab_engine.specs.Prunes.{read_stamp, greatest_stamp_of, is_stamp, PrunesAreTold}
 

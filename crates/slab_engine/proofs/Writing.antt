@@ -16,7 +16,7 @@ use Rattle.slab_node.specs.declared.batch.Fresh.{Fresh}
 use Rattle.slab_node.specs.Held.{held_by, held_with, versions}
 use Rattle.slab_node.specs.Batches.{IsThere as HasFresh, is_in}
 use Rattle.slab_node.specs.Answers.{AreAnswered, AtMostOne}
-use Rattle.slab_node.proofs.Node.{versions_at, count_of}
+use Rattle.slab_node.proofs.lemmas.Node.{versions_at, count_of}
 use Rattle.slab_index.specs.declared.kept.Kept.{Kept}
 use Rattle.slab_index.specs.Kept.{put_kept}
 use Rattle.slab_index.specs.Slots.{head_of, slots_by, kept_of}

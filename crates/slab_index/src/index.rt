@@ -38,7 +38,7 @@ impl SlotList {
     }
 
     // Adds a slot before the first one of a greater number. The list has place for no more than it has.
-    #[tactic(auto, using(crate::proofs::Telling::put_at))]
+    #[tactic(auto, using(crate::proofs::lemmas::Telling::put_at))]
     fn put(&mut self, kept: Kept) -> Result<(), NoMemory>
         ensures ok { OnOk result (self.new ≡ put_kept kept self.old) }
         ensures err { OnErr result (self.new ≡ self.old) }
@@ -50,7 +50,7 @@ impl SlotList {
     }
 
     // A copy with one more slot, before the first one of a greater number.
-    #[tactic(auto, using(crate::proofs::Telling::put_at))]
+    #[tactic(auto, using(crate::proofs::lemmas::Telling::put_at))]
     fn with(&self, alloc: Global, kept: Kept) -> Result<SlotList, NoMemory>
         ensures { IfOk result (λ list. list ≡ put_kept kept self.now) }
     {

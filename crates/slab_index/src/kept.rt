@@ -51,7 +51,7 @@ impl Kept {
 }
 
 /// The one of greatest stamp in the bound.
-#[tactic(auto, using(crate::proofs::Telling::last_first))]
+#[tactic(auto, using(crate::proofs::lemmas::Telling::last_first))]
 pub fn greatest_in(kept: &[Kept], bound: &Bound) -> Option<Kept>
     ensures { result ≡ greatest_kept bound.now kept.now }
 {
@@ -91,7 +91,7 @@ fn later(one: Kept, other: Option<Kept>) -> Kept
 }
 
 /// Whether one has this stamp.
-#[tactic(auto, using(crate::proofs::Telling::last_first))]
+#[tactic(auto, using(crate::proofs::lemmas::Telling::last_first))]
 pub fn keeps(kept: &[Kept], stamp: &Stamp) -> bool
     ensures { result ≡ keeps_stamp kept.now stamp.now }
 {
@@ -111,7 +111,7 @@ pub fn same(stamp: &Stamp, other: &Stamp) -> bool
 }
 
 /// The greatest time of their stamps, or 0 where there are none.
-#[tactic(auto, using(crate::proofs::Telling::last_first))]
+#[tactic(auto, using(crate::proofs::lemmas::Telling::last_first))]
 pub fn latest_time(kept: &[Kept]) -> u64
     ensures { result ≡ latest_time kept.now }
 {

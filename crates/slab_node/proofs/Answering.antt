@@ -13,7 +13,7 @@ use Rattle.slab_layout.specs.Shapes.{is_marked, shape_of}
 use Rattle.slab_node.specs.Held.{Entry, entry_at, entry_version, counts, entries_from, entries, versions, versions_of, held_by, held_with, with_set}
 use Rattle.slab_node.specs.Answers.{IsAnsweredOrNot, AreAnsweredInPart, AreAnswered, AreForOthers, HaveSlots, IsBatchWith}
 use Rattle.slab_node.proofs.Entries.{find, entries_same}
-use Rattle.slab_node.proofs.Node.{versions_at, count_of}
+use Rattle.slab_node.proofs.lemmas.Node.{versions_at, count_of}
 use Rattle.slab_node.proofs.Order.{AreBelow, versions_one, with_one, are_below}
 
 -- where the slots that count have what they had, the entries are those

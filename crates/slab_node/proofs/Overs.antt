@@ -22,9 +22,9 @@ use Rattle.slab_node.specs.Batches.{IsThere, IsMidwayOver, IsWritten, is_in}
 use Rattle.slab_node.specs.Answers.{IsBatchWith, IsBatchIn, IsBatchOf, AreAllIn, HaveSlots, entry_of, AreAnsweredInPart, AreAnswered, AreForOthers}
 use Rattle.slab_node.specs.Freed.{KeepsSome, none, keeps, drops, IsOf, IsLessSome}
 use Rattle.slab_node.proofs.Entries.{entries_same}
-use Rattle.slab_node.proofs.Batching.{in_batch, is_in_at}
-use Rattle.slab_node.proofs.Changing.{itself_within, mark_same, head_same, data_same, changes_agree}
-use Rattle.slab_node.proofs.Node.{held_same, less_left, less_all}
+use Rattle.slab_node.proofs.lemmas.Batching.{in_batch, is_in_at}
+use Rattle.slab_node.proofs.lemmas.Changing.{itself_within, mark_same, head_same, data_same, changes_agree}
+use Rattle.slab_node.proofs.lemmas.Node.{held_same, less_left, less_all}
 use Rattle.slab_node.proofs.Answering.{answered_left, all_answered}
 
 set_false : (set marked : ℕ → Bool) (k : ℕ) → with_set set marked k ≡ false → marked k ≡ false

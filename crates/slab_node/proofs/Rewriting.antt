@@ -16,8 +16,8 @@ use Rattle.slab_node.specs.Batches.{IsThere, IsHalfway, IsMidwayOver, is_in}
 use Rattle.slab_node.specs.Answers.{entry_of}
 use Rattle.slab_node.specs.Renewals.{IsSilenced, IsRewritten, IsRenewalOf, AreRenewed, AreAsBefore, RenewalsRenew, WrittenRenewalsRenew}
 use Rattle.slab_node.proofs.Entries.{entries_same}
-use Rattle.slab_node.proofs.Changing.{itself_within, mark_same, answer_same}
-use Rattle.slab_node.proofs.Node.{versions_at}
+use Rattle.slab_node.proofs.lemmas.Changing.{itself_within, mark_same, answer_same}
+use Rattle.slab_node.proofs.lemmas.Node.{versions_at}
 use Rattle.slab_node.proofs.Overs.{found_in, all_at, entry_kept, uncounted}
 
 other_block : (blocks : ℕ → Bool) (b block : ℕ) → blocks b ≡ true → blocks block ≡ false → (b == block) ≡ false

@@ -6,7 +6,7 @@ use Rattle.slab_node.specs.Left.{nothing}
 use Rattle.slab_node.specs.Rules.{FreeSlotsDontCount, MarksAnswer, FreedMarksPrune, GoingMarksMayStay, UncountedSlotsDontCount, BatchesAnswer, WrittenBatchesAnswer}
 use Rattle.slab_node.proofs.Torn.{is_left}
 use Rattle.slab_node.proofs.Crash.{kept_if_left, entry_same}
-use Rattle.slab_node.proofs.Node.{held_left, pruned_left, less_left}
+use Rattle.slab_node.proofs.lemmas.Node.{held_left, pruned_left, less_left}
 use Rattle.slab_node.proofs.Answering.{answered_left}
 use Rattle.slab_node.proofs.Overs.{uncounted, midway, whole}
 

@@ -1,3 +1,3 @@
 pub mod Pieces
-pub mod ReadCalls
 pub mod Steps
+pub mod lemmas

@@ -115,6 +115,16 @@ IfDamaged P NoMemory = Unit {0}
 IfDamaged P (Failed fault) = Unit {0}
 IfDamaged P (Damaged slot) = P slot
 
+-- this holds where a call of the file failed
+abbrev pub IfReadFailed : Type 0 → ReadFault → Type 0
+IfReadFailed P ReadNoMemory = Unit {0}
+IfReadFailed P (ReadFailed fault) = P
+
+abbrev pub IfFailed : Type 0 → OpenFault → Type 0
+IfFailed P NoMemory = Unit {0}
+IfFailed P (Failed fault) = P
+IfFailed P (Damaged slot) = Unit {0}
+
 -- what was not read, as a reason not to open
 abbrev pub open_fault : ReadFault → OpenFault
 open_fault ReadNoMemory = NoMemory

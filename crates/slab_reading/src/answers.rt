@@ -1,6 +1,7 @@
-ghost use Rattle.std.specs.Prelude.{◌≡◌, ◌≤◌, ◌<◌, ◌^◌, ◌==◌, map, IsTrue, IfOk};
+ghost use Rattle.std.specs.Prelude.{◌≡◌, ◌≤◌, ◌<◌, ◌^◌, ◌==◌, length, map, IsTrue, IfOk, IfErr};
+ghost use Rattle.sqlite_disk.specs.Disk.{MoreFaults};
 ghost use Rattle.slab_layout.specs.Shapes.{slab_len};
-ghost use Rattle.slab_reading.specs.Opened.{AreAnswers};
+ghost use Rattle.slab_reading.specs.Opened.{AreAnswers, IfReadFailed};
 ghost use Rattle.slab_reading.specs.Reading.{OnlyReads};
 
 use crate::fault::ReadFault;
@@ -21,6 +22,9 @@ pub fn read_answers<F: SlabFile>(
     requires some { 1 ≤ shape.blocks }
     ensures answers { IfOk result (λ answers. IsTrue (F.SlabFile.is_clean file.new)
         → AreAnswers shape (F.SlabFile.seen file.old) answers.items) }
+    ensures cause { IfErr result (IfReadFailed (IsTrue (F.SlabFile.is_clean file.new)
+        → slab_len shape ≤ length (F.SlabFile.seen file.old)
+        → MoreFaults (F.SlabFile.faults file.old) (F.SlabFile.faults file.new))) }
     ensures reads { OnlyReads F.SlabFile.seen F.SlabFile.may_leave F.SlabFile.moment
         F.SlabFile.left_since F.SlabFile.is_usable F.SlabFile.is_clean file.old file.new }
 {
@@ -30,7 +34,8 @@ pub fn read_answers<F: SlabFile>(
 
 // Whether each byte is 1.
 fn are_one(alloc: Global, bytes: &[u8]) -> Result<Vec<bool>, ReadFault>
-    ensures { IfOk result (λ list. list.items ≡ map (λ b. b == 1) bytes.now) }
+    ensures list { IfOk result (λ list. list.items ≡ map (λ b. b == 1) bytes.now) }
+    ensures cause { IfErr result (λ fault. fault ≡ ReadFault.NoMemory) }
 {
     match bytes.iter().map(|byte| *byte == 1).collect(alloc) {
         Ok(list) => Ok(list),

@@ -1,7 +1,7 @@
-ghost use Rattle.std.specs.Prelude.{◌≡◌, ◌⊎◌, ◌≤◌, ◌<◌, ◌^◌, false, length, IsTrue, IfOk};
+ghost use Rattle.std.specs.Prelude.{◌≡◌, ◌⊎◌, ◌≤◌, ◌<◌, ◌^◌, false, length, IsTrue, IfOk, IfErr};
 ghost use Rattle.sqlite_disk.specs.Disk.{MoreFaults};
 ghost use Rattle.slab_layout.specs.Shapes.{data_len, slab_len};
-ghost use Rattle.slab_reading.specs.Opened.{SlotFits, SlotDataFit, IsNoHead};
+ghost use Rattle.slab_reading.specs.Opened.{SlotFits, SlotDataFit, IsNoHead, IfReadFailed};
 ghost use Rattle.slab_reading.specs.Reading.{OnlyReads};
 
 use crate::fault::ReadFault;
@@ -31,6 +31,9 @@ pub fn check_slot<F: SlabFile>(
         → IsNoHead shape key (F.SlabFile.seen file.old) slot
         ⊎ (slab_len shape ≤ length (F.SlabFile.seen file.old)
         → SlotDataFit shape key (F.SlabFile.seen file.old) slot
+        → MoreFaults (F.SlabFile.faults file.old) (F.SlabFile.faults file.new))) }
+    ensures cause { IfErr result (IfReadFailed (IsTrue (F.SlabFile.is_clean file.new)
+        → slab_len shape ≤ length (F.SlabFile.seen file.old)
         → MoreFaults (F.SlabFile.faults file.old) (F.SlabFile.faults file.new))) }
     ensures reads { OnlyReads F.SlabFile.seen F.SlabFile.may_leave F.SlabFile.moment
         F.SlabFile.left_since F.SlabFile.is_usable F.SlabFile.is_clean file.old file.new }

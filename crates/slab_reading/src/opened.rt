@@ -1,4 +1,4 @@
-ghost use Rattle.std.specs.Prelude.{◌≡◌, ◌<◌, length, IfOk, OnOk};
+ghost use Rattle.std.specs.Prelude.{◌≡◌, ◌<◌, length, IfOk, IfErr, OnOk};
 ghost use Rattle.slab_index.specs.Slots.{with_slot};
 ghost use Rattle.slab_reading.specs.Opened.{IsEmpty, AddsFree, AddsMarked};
 
@@ -22,7 +22,8 @@ impl Opened {
     // What is known before a slot was read.
     #[tactic(auto, using(crate::proofs::Steps::none_yet, crate::proofs::Steps::length_none))]
     pub(crate) fn empty(alloc: Global, shape: Shape) -> Result<Opened, ReadFault>
-        ensures { IfOk result (λ opened. IsEmpty shape opened) }
+        ensures empty { IfOk result (λ opened. IsEmpty shape opened) }
+        ensures cause { IfErr result (λ fault. fault ≡ ReadFault.NoMemory) }
     {
         let Ok(index) = SlabIndex::new(alloc, shape.blocks as usize) else {
             return Err(ReadFault::NoMemory);
@@ -49,6 +50,7 @@ impl Opened {
     pub(crate) fn add_marked(&mut self, slot: u32, head: &Head) -> Result<(), ReadFault>
         ensures added { OnOk result (AddsMarked slot head.now self.old self.new) }
         ensures free { self.new.free ≡ self.old.free }
+        ensures cause { IfErr result (λ fault. fault ≡ ReadFault.NoMemory) }
     {
         add_to_block(&mut self.index, slot, head)?;
         self.last_number = self.last_number.max(head.number);
@@ -58,7 +60,8 @@ impl Opened {
 
 // Adds a slot to its block, if there is such a block.
 fn add_to_block(index: &mut SlabIndex, slot: u32, head: &Head) -> Result<(), ReadFault>
-    ensures { OnOk result (index.new ≡ with_slot slot head.now index.old) }
+    ensures put { OnOk result (index.new ≡ with_slot slot head.now index.old) }
+    ensures cause { IfErr result (λ fault. fault ≡ ReadFault.NoMemory) }
 {
     if (head.block as usize) < index.len() && index.put(head.block, Kept::of(slot, head)).is_err() {
         return Err(ReadFault::NoMemory);

@@ -1,7 +1,8 @@
 ghost use Rattle.std.specs.Prelude.{◌≡◌, ◌≤◌, ◌<◌, ◌^◌, true, length, IsTrue, IfOk, IfErr, OnOk};
+ghost use Rattle.sqlite_disk.specs.Disk.{MoreFaults};
 ghost use Rattle.slab_layout.specs.Shapes.{is_marked, slab_len};
 ghost use Rattle.slab_index.specs.Slots.{IsIndexOf};
-ghost use Rattle.slab_reading.specs.Opened.{AreFree, IsLastNumber, HeadsFit, IsNoHead, IfDamaged, IsOpenedFrom};
+ghost use Rattle.slab_reading.specs.Opened.{AreFree, IsLastNumber, HeadsFit, IsNoHead, IfDamaged, IfFailed, IsOpenedFrom};
 ghost use Rattle.slab_reading.specs.Reading.{OnlyReads};
 
 use crate::fault::OpenFault;
@@ -37,6 +38,9 @@ pub fn read_index<F: SlabFile>(
         × (IsTrue (F.SlabFile.is_clean file.new)
         → (is_marked shape (F.SlabFile.seen file.old) slot ≡ true)
         × IsNoHead shape key (F.SlabFile.seen file.old) slot))) }
+    ensures cause { IfErr result (IfFailed (IsTrue (F.SlabFile.is_clean file.new)
+        → slab_len shape ≤ length (F.SlabFile.seen file.old)
+        → MoreFaults (F.SlabFile.faults file.old) (F.SlabFile.faults file.new))) }
     ensures reads { OnlyReads F.SlabFile.seen F.SlabFile.may_leave F.SlabFile.moment
         F.SlabFile.left_since F.SlabFile.is_usable F.SlabFile.is_clean file.old file.new }
 {
@@ -64,6 +68,9 @@ fn read_runs<F: SlabFile>(
         × (IsTrue (F.SlabFile.is_clean file.new)
         → (is_marked shape (F.SlabFile.seen file.old) slot ≡ true)
         × IsNoHead shape key (F.SlabFile.seen file.old) slot))) }
+    ensures cause { IfErr result (IfFailed (IsTrue (F.SlabFile.is_clean file.new)
+        → slab_len shape ≤ length (F.SlabFile.seen file.old)
+        → MoreFaults (F.SlabFile.faults file.old) (F.SlabFile.faults file.new))) }
     ensures reads { OnlyReads F.SlabFile.seen F.SlabFile.may_leave F.SlabFile.moment
         F.SlabFile.left_since F.SlabFile.is_usable F.SlabFile.is_clean file.old file.new }
 {

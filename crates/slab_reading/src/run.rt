@@ -1,7 +1,7 @@
 ghost use Rattle.std.specs.Prelude.{◌≡◌, ◌≤◌, ◌<◌, ◌+◌, ◌*◌, ◌^◌, ℕ, List, true, false, length, slice_index, IsTrue, IfOk, IfErr, OnOk};
-ghost use Rattle.sqlite_disk.specs.Disk.{Holds};
+ghost use Rattle.sqlite_disk.specs.Disk.{Holds, MoreFaults};
 ghost use Rattle.slab_layout.specs.Shapes.{head_at, mark_at, is_marked, slab_len};
-ghost use Rattle.slab_reading.specs.Opened.{AddsSlot, AreNoHead, IsRun, IsNoHead, IsOpenedFrom, IfDamaged};
+ghost use Rattle.slab_reading.specs.Opened.{AddsSlot, AreNoHead, IsRun, IsNoHead, IsOpenedFrom, IfDamaged, IfFailed, IfReadFailed};
 ghost use Rattle.slab_reading.specs.Reading.{OnlyReads};
 
 use crate::fault::{OpenFault, ReadFault};
@@ -35,6 +35,10 @@ pub(crate) fn read_run<F: SlabFile>(
         × (IsTrue (F.SlabFile.is_clean file.new)
         → (is_marked shape (F.SlabFile.seen file.old) slot ≡ true)
         × IsNoHead shape key (F.SlabFile.seen file.old) slot))) }
+    ensures calm { OnOk result (F.SlabFile.faults file.new ≡ F.SlabFile.faults file.old) }
+    ensures cause { IfErr result (IfFailed (IsTrue (F.SlabFile.is_clean file.new)
+        → slab_len shape ≤ length (F.SlabFile.seen file.old)
+        → MoreFaults (F.SlabFile.faults file.old) (F.SlabFile.faults file.new))) }
     ensures reads { OnlyReads F.SlabFile.seen F.SlabFile.may_leave F.SlabFile.moment
         F.SlabFile.left_since F.SlabFile.is_usable F.SlabFile.is_clean file.old file.new }
     ensures count { length opened.new.free.items ≡ shape.count }
@@ -60,6 +64,10 @@ fn read_heads<F: SlabFile>(
     ensures read { IfOk result (λ heads. IsTrue (F.SlabFile.is_clean file.new)
         → (i : ℕ) → i < length marks.now → slice_index marks.now i ≡ 1
         → Holds (F.SlabFile.seen file.old) (head_at shape first) heads.items) }
+    ensures calm { OnOk result (F.SlabFile.faults file.new ≡ F.SlabFile.faults file.old) }
+    ensures cause { IfErr result (IfReadFailed (IsTrue (F.SlabFile.is_clean file.new)
+        → slab_len shape ≤ length (F.SlabFile.seen file.old)
+        → MoreFaults (F.SlabFile.faults file.old) (F.SlabFile.faults file.new))) }
     ensures reads { OnlyReads F.SlabFile.seen F.SlabFile.may_leave F.SlabFile.moment
         F.SlabFile.left_since F.SlabFile.is_usable F.SlabFile.is_clean file.old file.new }
 {
@@ -102,6 +110,7 @@ fn add_run(
     ensures damaged { IfErr result (IfDamaged (λ slot. (slot < shape.count)
         × ((bytes : List ℕ) → IsRun shape bytes first marks.now heads.now
         → (is_marked shape bytes slot ≡ true) × IsNoHead shape key bytes slot))) }
+    ensures cause { IfErr result (IfFailed ⊥) }
     ensures count { length opened.new.free.items ≡ shape.count }
 {
     for i in 0..marks.len() {
@@ -125,6 +134,7 @@ fn add_slot(
     requires few { slot < 2 ^ 32 }
     ensures added { OnOk result (AddsSlot key slot mark head.now opened.old opened.new) }
     ensures count { length opened.new.free.items ≡ length opened.old.free.items }
+    ensures cause { IfErr result (IfFailed ⊥) }
     ensures damaged { IfErr result (IfDamaged (λ damaged. (damaged ≡ slot) × (mark ≡ 1)
         × AreNoHead key head.now)) }
 {

@@ -1,9 +1,9 @@
-ghost use Rattle.std.specs.Prelude.{◌≡◌, ◌≤◌, ◌<◌, ◌+◌, ◌^◌, ◌==◌, false, length, IsTrue, IfOk, IfSome, IfNone};
+ghost use Rattle.std.specs.Prelude.{◌≡◌, ◌≤◌, ◌<◌, ◌+◌, ◌^◌, ◌==◌, false, length, IsTrue, IfOk, IfErr, IfSome, IfNone};
 ghost use Rattle.sqlite_disk.specs.Disk.{Holds, MoreFaults};
 ghost use Rattle.sqlite_disk.specs.Digest.{digest};
 ghost use Rattle.slab_layout.specs.Shapes.{part, data_len, slab_len};
 ghost use Rattle.slab_index.specs.Slots.{version_at};
-ghost use Rattle.slab_reading.specs.Opened.{DataFit};
+ghost use Rattle.slab_reading.specs.Opened.{DataFit, IfReadFailed};
 ghost use Rattle.slab_reading.specs.Reading.{OnlyReads};
 
 use crate::fault::ReadFault;
@@ -39,6 +39,9 @@ pub fn read_slot<F: SlabFile>(
         → slab_len shape ≤ length (F.SlabFile.seen file.old)
         → DataFit shape key (F.SlabFile.seen file.old) kept.now
         → MoreFaults (F.SlabFile.faults file.old) (F.SlabFile.faults file.new))) }
+    ensures cause { IfErr result (IfReadFailed (IsTrue (F.SlabFile.is_clean file.new)
+        → slab_len shape ≤ length (F.SlabFile.seen file.old)
+        → MoreFaults (F.SlabFile.faults file.old) (F.SlabFile.faults file.new))) }
     ensures reads { OnlyReads F.SlabFile.seen F.SlabFile.may_leave F.SlabFile.moment
         F.SlabFile.left_since F.SlabFile.is_usable F.SlabFile.is_clean file.old file.new }
 {
@@ -70,6 +73,9 @@ pub(crate) fn read_data<F: SlabFile>(
         → at + length room.old ≤ length (F.SlabFile.seen file.old)
         → check ≡ digest key (part (F.SlabFile.seen file.old) at (length room.old))
         → MoreFaults (F.SlabFile.faults file.old) (F.SlabFile.faults file.new)) }
+    ensures cause { IfErr result (IfReadFailed (IsTrue (F.SlabFile.is_clean file.new)
+        → at + length room.old ≤ length (F.SlabFile.seen file.old)
+        → MoreFaults (F.SlabFile.faults file.old) (F.SlabFile.faults file.new))) }
     ensures reads { OnlyReads F.SlabFile.seen F.SlabFile.may_leave F.SlabFile.moment
         F.SlabFile.left_since F.SlabFile.is_usable F.SlabFile.is_clean file.old file.new }
 {

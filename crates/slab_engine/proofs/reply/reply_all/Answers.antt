@@ -5,7 +5,7 @@ use Rattle.std.proofs.lemmas.List.{get_or_default}
 use Rattle.protocol.specs.Messages.{Ask, Reply, Version}
 use Rattle.slab_layout.specs.Shapes.{shape_of}
 use Rattle.slab_index.specs.Slots.{version_at}
-use Rattle.slab_reading.proofs.ReadCalls.{reads_both}
+use Rattle.slab_reading.proofs.lemmas.ReadCalls.{reads_both}
 use Rattle.slab_engine.specs.declared.plan.Plan.{Plan}
 use Rattle.slab_engine.specs.declared.plan.Plan.TheVariants.{Silent}
 use Rattle.slab_engine.specs.Seen.{listed}

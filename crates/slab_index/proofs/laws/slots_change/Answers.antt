@@ -1,4 +1,4 @@
-use Rattle.slab_index.proofs.Changing.{same_slots, one_more, one_less}
+use Rattle.slab_index.proofs.lemmas.Changing.{same_slots, one_more, one_less}
 use Rattle.slab_index.proofs.laws.slots_change.Goals as goal
 
 pub returns-clause-same : goal.returns-clause-same

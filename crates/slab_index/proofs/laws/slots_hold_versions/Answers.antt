@@ -1,5 +1,5 @@
-use Rattle.slab_index.proofs.Holding.{slots_hold}
-use Rattle.slab_index.proofs.Changing.{are_counted}
+use Rattle.slab_index.proofs.lemmas.Holding.{slots_hold}
+use Rattle.slab_index.proofs.lemmas.Changing.{are_counted}
 use Rattle.slab_index.proofs.laws.slots_hold_versions.Goals as goal
 
 pub returns-clause-hold : goal.returns-clause-hold

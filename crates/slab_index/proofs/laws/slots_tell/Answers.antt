@@ -1,4 +1,4 @@
-use Rattle.slab_index.proofs.Telling.{slots_tell}
+use Rattle.slab_index.proofs.lemmas.Telling.{slots_tell}
 use Rattle.slab_index.proofs.laws.slots_tell.Goals as goal
 
 pub returns : goal.returns

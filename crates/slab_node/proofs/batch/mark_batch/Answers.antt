@@ -5,7 +5,7 @@ use Rattle.slot_disk.proofs.lemmas.Moments.{leaves_only_weaker}
 use Rattle.slab_node.specs.Left.{nothing}
 use Rattle.slab_node.specs.Changes.{ChangesOnly}
 use Rattle.slab_node.specs.Batches.{is_in}
-use Rattle.slab_node.proofs.Batching.{begins, at_end}
+use Rattle.slab_node.proofs.lemmas.Batching.{begins, at_end}
 use Rattle.slab_node.proofs.batch.mark_batch.Goals as goal
 
 pub returns-in_err-sync-clause-any_moment : goal.returns-in_err-sync-clause-any_moment

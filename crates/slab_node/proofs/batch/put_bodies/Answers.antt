@@ -6,8 +6,8 @@ use Rattle.slab_node.specs.declared.batch.Fresh.{Fresh}
 use Rattle.slab_node.specs.Left.{nothing}
 use Rattle.slab_node.specs.Changes.{ChangesOnly}
 use Rattle.slab_node.specs.Batches.{IsThere, is_in}
-use Rattle.slab_node.proofs.Batching.{at_end, begins, is_in_at}
-use Rattle.slab_node.proofs.Changing.{itself_within, nothing_within, changes_more, changes_nothing}
+use Rattle.slab_node.proofs.lemmas.Batching.{at_end, begins, is_in_at}
+use Rattle.slab_node.proofs.lemmas.Changing.{itself_within, nothing_within, changes_more, changes_nothing}
 use Rattle.slab_node.proofs.batch.put_bodies.Goals as goal
 
 default_same : (xs : List Fresh) (i : ℕ) (d e : Fresh) → i < length xs → get_or xs i d ≡ get_or xs i e

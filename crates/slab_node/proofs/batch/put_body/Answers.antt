@@ -3,8 +3,8 @@ use Rattle.std.proofs.lemmas.Result.{on_ok_weaker}
 use Rattle.slab_layout.specs.Shapes.{slab_len}
 use Rattle.slab_node.specs.Left.{nothing}
 use Rattle.slab_node.specs.Changes.{ChangesOnly}
-use Rattle.slab_node.proofs.Batching.{begins, stays_there, comes_there}
-use Rattle.slab_node.proofs.Changing.{head_is, data_is, changes_torn, changes_follow, writes_on}
+use Rattle.slab_node.proofs.lemmas.Batching.{begins, stays_there, comes_there}
+use Rattle.slab_node.proofs.lemmas.Changing.{head_is, data_is, changes_torn, changes_follow, writes_on}
 use Rattle.slab_node.proofs.batch.put_body.Goals as goal
 
 pub returns-in_err-write_at-clause-bytes : goal.returns-in_err-write_at-clause-bytes

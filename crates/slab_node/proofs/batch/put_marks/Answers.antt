@@ -7,8 +7,8 @@ use Rattle.slab_node.specs.declared.batch.Fresh.{Fresh}
 use Rattle.slab_node.specs.Left.{nothing}
 use Rattle.slab_node.specs.Changes.{ChangesOnly, AreAllOf}
 use Rattle.slab_node.specs.Batches.{is_in}
-use Rattle.slab_node.proofs.Changing.{changes_torn, mark_is, writes_on}
-use Rattle.slab_node.proofs.Batching.{is_in_at, at_end, mark_comes, mark_stays}
+use Rattle.slab_node.proofs.lemmas.Changing.{changes_torn, mark_is, writes_on}
+use Rattle.slab_node.proofs.lemmas.Batching.{is_in_at, at_end, mark_comes, mark_stays}
 use Rattle.slab_node.proofs.batch.put_marks.Goals as goal
 
 default_same : (xs : List Fresh) (i : ℕ) (d e : Fresh) → i < length xs → get_or xs i d ≡ get_or xs i e

@@ -4,7 +4,7 @@ use Rattle.slot_disk.proofs.lemmas.Moments.{leaves_only_weaker}
 use Rattle.slab_node.specs.Left.{nothing}
 use Rattle.slab_node.specs.Changes.{ChangesOnly}
 use Rattle.slab_node.specs.Batches.{IsMidway, is_in}
-use Rattle.slab_node.proofs.Batching.{at_end, half_of}
+use Rattle.slab_node.proofs.lemmas.Batching.{at_end, half_of}
 use Rattle.slab_node.proofs.batch.write_batch.Goals as goal
 
 pub mark_batch-requires-clause-long : goal.mark_batch-requires-clause-long

@@ -4,8 +4,8 @@ use Rattle.std.proofs.lemmas.Grind.{common_steps}
 use Rattle.slab_layout.specs.Shapes.{is_marked, slab_len}
 use Rattle.slab_node.specs.Left.{nothing}
 use Rattle.slab_node.specs.Changes.{ChangesOnly, AreAllOf, is_among}
-use Rattle.slab_node.proofs.Batching.{at_end, mark_goes, mark_same_at}
-use Rattle.slab_node.proofs.Changing.{among_at, among_place, changes_torn, changes_between, mark_is, writes_on}
+use Rattle.slab_node.proofs.lemmas.Batching.{at_end, mark_goes, mark_same_at}
+use Rattle.slab_node.proofs.lemmas.Changing.{among_at, among_place, changes_torn, changes_between, mark_is, writes_on}
 use Rattle.slab_node.proofs.clearing.clear_marks.Goals as goal
 
 default_same : (xs : List ℕ) (i d e : ℕ) → i < length xs → get_or xs i d ≡ get_or xs i e

@@ -4,8 +4,8 @@ use Rattle.std.proofs.lemmas.Grind.{common_steps}
 use Rattle.slab_layout.specs.Shapes.{answer_at, answers_for, slab_len}
 use Rattle.slab_node.specs.Left.{nothing}
 use Rattle.slab_node.specs.Changes.{ChangesOnly, AreAllOf, is_among}
-use Rattle.slab_node.proofs.Batching.{at_end, answer_comes, answer_same_at}
-use Rattle.slab_node.proofs.Changing.{among_at, changes_torn, answer_is, writes_on}
+use Rattle.slab_node.proofs.lemmas.Batching.{at_end, answer_comes, answer_same_at}
+use Rattle.slab_node.proofs.lemmas.Changing.{among_at, changes_torn, answer_is, writes_on}
 use Rattle.slab_node.proofs.clearing.put_answers.Goals as goal
 
 default_same : (xs : List ℕ) (i d e : ℕ) → i < length xs → get_or xs i d ≡ get_or xs i e

@@ -5,11 +5,11 @@ use Rattle.slab_layout.specs.Shapes.{slab_len}
 use Rattle.slab_node.specs.Left.{nothing}
 use Rattle.slab_node.specs.Changes.{ChangesOnly, AreUnmarked, is_among}
 use Rattle.slab_node.specs.Batches.{IsMidway, IsMidwayOver, is_in}
-use Rattle.slab_node.proofs.Batching.{at_end, then_bodies, half_over, midway_over, unmarked_still}
+use Rattle.slab_node.proofs.lemmas.Batching.{at_end, then_bodies, half_over, midway_over, unmarked_still}
 use Rattle.slab_node.specs.declared.batch_fault.BatchFault.{BatchFault}
 use Rattle.slab_node.specs.declared.batch_fault.BatchFault.TheVariants.{Unwritten, Broken}
 use Rattle.slab_node.specs.Faults.{IfUnwritten}
-use Rattle.slab_node.proofs.Changing.{itself_within, nothing_within, changes_more}
+use Rattle.slab_node.proofs.lemmas.Changing.{itself_within, nothing_within, changes_more}
 use Rattle.slab_node.proofs.over.write_over.Goals as goal
 
 if_unwritten_more : (f : BatchFault) (P Q R : Type 0) → IfUnwritten P f → Q → R → IfUnwritten (P × Q × R) f

@@ -2,7 +2,7 @@ use Rattle.std.proofs.Common.{ℕ, List}
 use Rattle.slab_file.proofs.lemmas.Moments.{leaves_more}
 use Rattle.slab_node.specs.Left.{nothing}
 use Rattle.slab_node.specs.Changes.{ChangesOnly, is_among}
-use Rattle.slab_node.proofs.Batching.{at_end}
+use Rattle.slab_node.proofs.lemmas.Batching.{at_end}
 use Rattle.slab_node.proofs.renewing.answer_safely.Goals as goal
 
 pub returns-clause-any_moment : goal.returns-clause-any_moment

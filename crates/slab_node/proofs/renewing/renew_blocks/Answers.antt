@@ -8,7 +8,7 @@ use Rattle.slab_node.specs.Left.{nothing}
 use Rattle.slab_node.specs.Changes.{ChangesOnly, is_among}
 use Rattle.slab_node.specs.Batches.{IsMidwayOver}
 use Rattle.slab_node.specs.Renewals.{IsSilenced, IsRewrittenInPart}
-use Rattle.slab_node.proofs.Changing.{among_place}
+use Rattle.slab_node.proofs.lemmas.Changing.{among_place}
 use Rattle.slab_node.proofs.renewing.renew_blocks.Goals as goal
 
 silenced_by : (s : Shape) (blocks : List ℕ) (old mid : List ℕ) → ChangesOnly s nothing nothing (is_among blocks) old mid → All (λ b. answers_for s mid b ≡ false) blocks → IsSilenced s (is_among blocks) old mid

@@ -8,7 +8,7 @@ use Rattle.slab_layout.specs.Heads.{head_in, head_bytes}
 use Rattle.slab_layout.specs.declared.head.Head.{Head}
 use Rattle.slab_reading.specs.Opened.{SlotFits, IsNoHead, SlotDataFit}
 use Rattle.slab_reading.proofs.Pieces.{part_read, data_were_read}
-use Rattle.slab_reading.proofs.ReadCalls.{reads_both}
+use Rattle.slab_reading.proofs.lemmas.ReadCalls.{reads_both}
 use Rattle.slab_reading.proofs.checking.check_slot.Goals as goal
 
 if_ok_both : {E : Type 0} (r : Result Bool E) (P Q R : Bool → Type 0) → ((b : Bool) → P b → Q b → R b) → IfOk r P → IfOk r Q → IfOk r R
@@ -41,7 +41,7 @@ returns-clause-fits g c =
     ap (λ (n : ℕ). part base n 72) (sym c.head_at.ensures.place)
     ∙ part_read base c.head_at.result 72 c.in_ok-bytes.bytes.items (sym c.in_ok-bytes.ensures.len) (c.in_ok-bytes.ensures.read mid_clean (omega arith)) ∙ sym c.deref.ensures.value in
     let its_head = ap head_in head_read ∙ sym c.in-Some.ensures.is in
-    let long : length room ≡ data_len s = omega (arith, c.read_data.auto.room, c.deref_mut.ensures.value, c.in_ok-room.ensures, c.data_len.ensures) in
+    let long : length room ≡ data_len s = omega (arith, c.read_data.auto.room, c.deref_mut.ensures.value, c.in_ok-room.ensures.len, c.data_len.ensures) in
     let there : Holds base c.data_at.result room = subst (λ (l : List ℕ). Holds l c.data_at.result room) c.read_piece.ensures.reads.bytes (holds yes clean) in
     let data_read : part base (data_at s c.args.slot) (data_len s) ≡ room = data_were_read s base c.args.slot c.data_at.result room c.data_at.ensures.place long there in
     let same : digest c.args.key room ≡ check = eqb-true _ _ (sym is ∙ yes) in
@@ -71,7 +71,7 @@ returns-clause-damaged g c =
     ∙ part_read base c.head_at.result 72 c.in_ok-bytes.bytes.items (sym c.in_ok-bytes.ensures.len) (c.in_ok-bytes.ensures.read mid_clean (omega arith)) ∙ sym c.deref.ensures.value in
     let its_head = ap head_in head_read ∙ sym c.in-Some.ensures.is in
     let bytes : F.seen mid ≡ base = c.read_piece.ensures.reads.bytes in
-    let long : length room ≡ data_len s = omega (arith, c.deref_mut.ensures.value, c.in_ok-room.ensures, c.data_len.ensures) in
+    let long : length room ≡ data_len s = omega (arith, c.deref_mut.ensures.value, c.in_ok-room.ensures.len, c.data_len.ensures) in
     let place : c.data_at.result ≡ data_at s c.args.slot = c.data_at.ensures.place in
     inr (λ within fit.
     let same : check ≡ digest c.args.key (part (F.seen mid) c.data_at.result (length room)) =

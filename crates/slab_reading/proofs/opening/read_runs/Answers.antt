@@ -1,6 +1,6 @@
-use Rattle.std.proofs.Common.{◌≡◌, ℕ, ◌+◌, ◌-◌, ◌*◌, List, sym, subst, arith}
+use Rattle.std.proofs.Common.{◌≡◌, ℕ, ◌+◌, ◌-◌, ◌*◌, List, sym, ◌∙◌, subst, arith}
 use Rattle.slab_reading.specs.Opened.{IsOpenedFrom}
-use Rattle.slab_reading.proofs.ReadCalls.{reads_both}
+use Rattle.slab_reading.proofs.lemmas.ReadCalls.{reads_both}
 use Rattle.slab_reading.proofs.opening.read_runs.Goals as goal
 
 pub loop-i-preserved : goal.loop-i-preserved
@@ -19,6 +19,7 @@ loop-i-preserved g c =
     let new = c.read_run.new.opened in
     record {
       reads = reads_both F.seen F.may_leave F.moment F.left_since F.is_usable F.is_clean c.args.file.now c.loop-i.file c.read_run.new.file inv.reads c.read_run.ensures.reads;
+      faults = c.in_ok-read_run.ensures.calm ∙ inv.faults;
       count = c.read_run.ensures.count;
       opened = λ clean was.
           let before : IsOpenedFrom s key base end c.loop-i.opened = inv.opened (c.read_run.ensures.reads.clean clean) was in

@@ -9,6 +9,7 @@ invariant-loop-i g l =
     let start = l.fn.file in
     record {
       reads : OnlyReads F.seen F.may_leave F.moment F.left_since F.is_usable F.is_clean start l.file;
+      faults : F.faults l.file ≡ F.faults start;
       count : length l.opened.free.items ≡ l.shape.count;
       opened : IsTrue (F.is_clean l.file) → IsOpenedFrom l.shape l.key (F.seen start) l.shape.count l.fn.opened
           → IsOpenedFrom l.shape l.key (F.seen start) (l.shape.count - 1024 * l.i) l.opened;

@@ -1,4 +1,4 @@
-use Rattle.slab_reading.proofs.ReadCalls.{reads_once}
+use Rattle.slab_reading.proofs.lemmas.ReadCalls.{reads_once}
 use Rattle.slab_reading.proofs.piece.fill.Goals as goal
 
 pub returns-in-Ok-clause-reads : goal.returns-in-Ok-clause-reads

@@ -3,7 +3,7 @@ use Rattle.std.specs.Prelude.{slice_range}
 use Rattle.std.proofs.lemmas.Result.{err_from_is_err_and}
 use Rattle.slab_layout.specs.Shapes.{is_marked, head_at, part}
 use Rattle.slab_reading.specs.Opened.{AreNoHead, IsRun, IsNoHead, IsOpenedFrom}
-use Rattle.slab_reading.proofs.ReadCalls.{damaged_weaker}
+use Rattle.slab_reading.proofs.lemmas.ReadCalls.{damaged_weaker}
 use Rattle.slab_reading.proofs.Steps.{slot_added, slot_marked, head_read}
 use Rattle.slab_reading.proofs.run.add_run.Goals as goal
 

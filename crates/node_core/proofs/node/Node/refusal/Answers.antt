@@ -1,6 +1,6 @@
 use Rattle.std.proofs.Common.{sym, ◌∙◌, inl, inr, ◌<◌, length}
 use Rattle.protocol.specs.Instance.{setting}
-use Rattle.node_core.proofs.Refusals.{bad_length, time_zero, bad_verifier, bad_digest, fine, differ, agree, matched, unmatched}
+use Rattle.node_core.proofs.lemmas.Refusals.{bad_length, time_zero, bad_verifier, bad_digest, fine, differ, agree, matched, unmatched}
 use Rattle.node_core.proofs.node.Node.refusal.Goals as goal
 use Rattle.node_core.proofs.node.Node.refusal.Goals.{then-len-n-via-then-len-n, then-len-n-via-else-len-n+then-len-share}
 

@@ -1,6 +1,6 @@
 use Rattle.std.proofs.Common.{◌∙◌, ap}
 use Rattle.slab_index.specs.Kept.{put_kept}
-use Rattle.slab_index.proofs.Telling.{put_between}
+use Rattle.slab_index.proofs.lemmas.Telling.{put_between}
 use Rattle.slab_index.proofs.index.SlotList.with.Goals as goal
 
 pub returns : goal.returns

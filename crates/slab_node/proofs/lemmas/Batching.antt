@@ -13,7 +13,7 @@ use Rattle.slab_node.specs.Left.{nothing}
 use Rattle.slab_node.specs.Changes.{ChangesOnly, AreUnmarked}
 use Rattle.slab_node.specs.Batches.{HasSizes, IsThere, is_in, IsHalfway, IsMidway, IsMidwayOver}
 use Rattle.slab_node.proofs.Torn.{part_same, steps}
-use Rattle.slab_node.proofs.Changing.{itself_within, nothing_within, changes_more, changes_then, mark_same}
+use Rattle.slab_node.proofs.lemmas.Changing.{itself_within, nothing_within, changes_more, changes_then, mark_same}
 
 pub is_in_at : (fs : List Fresh) (i : ℕ) (d : Fresh) → i < length fs → is_in fs (get_or fs i d).slot ≡ true
 is_in_at [] i d lt = absurd (omega arith)

@@ -15,7 +15,7 @@ use Rattle.slab_node.specs.Freed.{KeepsSome, keeps, IsPrunedInPart, ArePrunable,
 use Rattle.slab_node.proofs.Entries.{marks_same}
 use Rattle.slab_node.proofs.Torn.{is_left}
 use Rattle.slab_node.proofs.Crash.{marked_now}
-use Rattle.slab_node.proofs.Freeing.{versions_part}
+use Rattle.slab_node.proofs.lemmas.Freeing.{versions_part}
 
 -- the versions of one of the blocks
 block_in : (s : Shape) (m : ℕ → Bool) (bytes : List ℕ) (first : Version) (i n k : ℕ) → k < n → get_or (blocks_from s m bytes first i n) k [] ≡ first ∷ versions s m bytes (i + k)

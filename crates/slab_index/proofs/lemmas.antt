@@ -1,0 +1,4 @@
+-- What proofs of other crates may cite.
+pub mod Changing
+pub mod Holding
+pub mod Telling

@@ -1,0 +1,2 @@
+-- What proofs of other crates may cite.
+pub mod ReadCalls
